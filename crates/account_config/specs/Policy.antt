@@ -1,0 +1,266 @@
+-- The policy that a text writes, or its first fault (docs/POLICY.md).
+-- A null counts as a value of another kind, and not as absent.
+use Rattle.std.specs.Prelude.{⊤, ◌==◌, ◌&&◌, ◌∷◌, ℕ, suc, Bool, true, false, not, List, [], codes, length, take, if◌then◌else◌, Option, Some, None, Ok, Err, is_some, nat_lt, nat_le, option_and_then}
+use Rattle.std.specs.List.{list_all}
+use Rattle.std.specs.Option.{ok_or}
+use Rattle.std.specs.Str.{is_utf8, bytes_eq}
+use Rattle.serde_json.specs.Data.{Data, Items, no_items, item, Members, no_members, member}
+use Rattle.serde_json.specs.Find.{get, as_str, as_array, as_object, as_number, as_u64}
+use Rattle.serde_json.specs.Read.{read}
+use Rattle.subjects.specs.Subject.{tokens_of}
+use Rattle.subjects.specs.Fault.{pattern_fault}
+use Rattle.subjects.specs.declared.error.SubjectError.{SubjectError}
+use Rattle.subjects.specs.declared.error.SubjectError.TheVariants as subjects
+use Rattle.policy_doc.specs.Accounts.{with_account}
+use Rattle.policy_doc.specs.Document.{entry_of}
+use Rattle.policy_doc.specs.declared.document.PolicyDoc.{PolicyDoc}
+use Rattle.policy_doc.specs.declared.document.NamedAccount.{NamedAccount}
+use Rattle.policy_doc.specs.declared.document.AccountDoc.{AccountDoc}
+use Rattle.policy_doc.specs.declared.document.UserDoc.{UserDoc}
+use Rattle.policy_doc.specs.declared.document.PermDoc.{PermDoc}
+use Rattle.policy_doc.specs.declared.document.Direction.{Direction}
+use Rattle.policy_doc.specs.declared.document.PermEntry.{PermEntry}
+use Rattle.account_config.specs.declared.fault.ConfigFault.TheVariants.{TooLarge, NotJson, WrongType, BadSubject, BadName, HashedPassword}
+use Rattle.account_config.specs.Fault.{Read, ◌>>=◌}
+use Rattle.account_config.specs.Path.{Path, at_key, at_index}
+use Rattle.account_config.specs.Object.{Row, judged, members_at, required_at}
+
+-- ---- the tables: a key of each object, and whether it must be there
+
+abbrev pub top_rows : List Row
+top_rows = (codes "accounts", true) ∷ (codes "version", false) ∷ []
+
+abbrev pub account_rows : List Row
+account_rows = (codes "users", false) ∷ []
+
+abbrev pub user_rows : List Row
+user_rows = (codes "user", true) ∷ (codes "password", true) ∷ (codes "permissions", false) ∷ []
+
+abbrev pub permission_rows : List Row
+permission_rows = (codes "publish", false) ∷ (codes "pub", false) ∷ (codes "subscribe", false) ∷ (codes "sub", false) ∷ []
+
+abbrev pub direction_rows : List Row
+direction_rows = (codes "allow", false) ∷ (codes "deny", false) ∷ []
+
+-- ---- texts and lists
+
+abbrev pub text_at : Path → Data → Read (List ℕ)
+text_at path d = ok_or (as_str d) (WrongType path)
+
+abbrev pub items_at : Path → Data → Read Items
+items_at path d = ok_or (as_array d) (WrongType path)
+
+-- each value of a list from an index on, read in order
+abbrev pub each : {X : Type 0} → (Path → Data → Read X) → Path → ℕ → Items → Read (List X)
+each reader path i no_items = Ok []
+each reader path i (item d ds) = do
+  x ← reader (at_index path i) d
+  xs ← each reader path (suc i) ds
+  Ok (x ∷ xs)
+
+-- ---- permissions
+
+-- an entry is a pattern; one with a space, as a queue's part would need, is none
+abbrev pub entry_from : Path → List ℕ → Read PermEntry
+entry_from path text = if is_some (pattern_fault text) then Err (BadSubject path) else Ok (entry_of (tokens_of text))
+
+-- a refusal for want of memory says nothing of the text
+abbrev pub is_memory_fault : SubjectError → Bool
+is_memory_fault subjects.NoMemory = true
+is_memory_fault subjects.Empty = false
+is_memory_fault subjects.EmptyToken = false
+is_memory_fault subjects.BadByte = false
+is_memory_fault subjects.WildcardNotLast = false
+is_memory_fault subjects.TooManyTokens = false
+is_memory_fault subjects.Wildcard = false
+
+unfoldable pub entry_at : Path → Data → Read PermEntry
+entry_at path d = do
+  text ← text_at path d
+  entry_from path text
+
+-- one entry that is a text, or a list of them
+unfoldable pub entries_at : Path → Data → Read (List PermEntry)
+entries_at path d =
+    if is_some (as_str d) then (do
+      entry ← entry_at path d
+      Ok (entry ∷ []))
+    else (do
+      items ← items_at path d
+      each entry_at path 0 items)
+
+-- the entries under a key, if it is there
+abbrev pub entries_under : Path → Option Data → Read (Option (List PermEntry))
+entries_under path None = Ok None
+entries_under path (Some d) = do
+  entries ← entries_at path d
+  Ok (Some entries)
+
+abbrev pub or_empty : {X : Type 0} → Option (List X) → List X
+or_empty None = []
+or_empty (Some xs) = xs
+
+-- an allow and a deny list, each if it is there
+unfoldable pub lists_at : Path → Data → Read Direction
+lists_at path d = do
+  known ← judged direction_rows path d
+  allow ← entries_under (at_key path (codes "allow")) (get (codes "allow") d)
+  deny ← entries_under (at_key path (codes "deny")) (get (codes "deny") d)
+  Ok (record { allow = allow; deny = or_empty deny })
+
+-- a text or a list of texts is an allow list
+unfoldable pub allow_at : Path → Data → Read Direction
+allow_at path d = do
+  entries ← entries_at path d
+  Ok (record { allow = Some entries; deny = [] })
+
+abbrev pub direction_at : Path → Data → Read Direction
+direction_at path d = if is_some (as_object d) then lists_at path d else allow_at path d
+
+-- a direction has two spellings of its key, of which one may be there; without either it allows all
+abbrev pub spelled_from : Path → Path → Option Data → Option Data → Read Direction
+spelled_from long short None None = Ok (record { allow = None; deny = [] })
+spelled_from long short (Some d) None = direction_at long d
+spelled_from long short None (Some d) = direction_at short d
+spelled_from long short (Some d) (Some e) = Err (WrongType short)
+
+abbrev pub spelled_at : List ℕ → List ℕ → Path → Data → Read Direction
+spelled_at long short path d = spelled_from (at_key path long) (at_key path short) (get long d) (get short d)
+
+unfoldable pub permissions_at : Path → Data → Read PermDoc
+permissions_at path d = do
+  known ← judged permission_rows path d
+  publish ← spelled_at (codes "publish") (codes "pub") path d
+  subscribe ← spelled_at (codes "subscribe") (codes "sub") path d
+  Ok (record { publish = publish; subscribe = subscribe })
+
+abbrev pub permissions_under : Path → Option Data → Read (Option PermDoc)
+permissions_under path None = Ok None
+permissions_under path (Some d) = do
+  permissions ← permissions_at path d
+  Ok (Some permissions)
+
+-- ---- users
+
+abbrev pub has_name_length : List ℕ → Bool
+has_name_length name = not (length name == 0) && nat_le (length name) 256
+
+abbrev pub user_name_from : Path → List ℕ → Read (List ℕ)
+user_name_from path name = if has_name_length name then Ok name else Err (BadName path)
+
+-- a password is in clear; a hashed one begins with `$2`
+abbrev pub is_hashed : List ℕ → Bool
+is_hashed password = bytes_eq (take 2 password) (codes "$2")
+
+abbrev pub password_from : Path → List ℕ → Read (List ℕ)
+password_from path password = if is_hashed password then Err (HashedPassword path) else Ok password
+
+-- a text under a key that must be there
+unfoldable pub required_text_at : List ℕ → Path → Data → Read (List ℕ)
+required_text_at key path d = do
+  value ← required_at key path d
+  text_at (at_key path key) value
+
+unfoldable pub user_name_at : Path → Data → Read (List ℕ)
+user_name_at path d = do
+  name ← required_text_at (codes "user") path d
+  user_name_from (at_key path (codes "user")) name
+
+unfoldable pub password_at : Path → Data → Read (List ℕ)
+password_at path d = do
+  password ← required_text_at (codes "password") path d
+  password_from (at_key path (codes "password")) password
+
+unfoldable pub user_permissions_at : Path → Data → Read (Option PermDoc)
+user_permissions_at path d = permissions_under (at_key path (codes "permissions")) (get (codes "permissions") d)
+
+unfoldable pub user_at : Path → Data → Read UserDoc
+user_at path d = do
+  known ← judged user_rows path d
+  user ← user_name_at path d
+  password ← password_at path d
+  permissions ← user_permissions_at path d
+  Ok (record { user = user; password = password; permissions = permissions })
+
+-- ---- accounts
+
+unfoldable pub users_at : Path → Data → Read (List UserDoc)
+users_at path d = do
+  items ← items_at path d
+  each user_at path 0 items
+
+-- absent users are none
+abbrev pub users_under : Path → Option Data → Read (List UserDoc)
+users_under path None = Ok []
+users_under path (Some d) = users_at path d
+
+unfoldable pub account_at : Path → Data → Read AccountDoc
+account_at path d = do
+  known ← judged account_rows path d
+  users ← users_under (at_key path (codes "users")) (get (codes "users") d)
+  Ok (record { users = users })
+
+-- no control byte, no space, no DEL
+abbrev pub is_account_byte : ℕ → Bool
+is_account_byte b = not (nat_lt b 33) && not (b == 127)
+
+abbrev pub account_name_from : Path → List ℕ → Read (List ℕ)
+account_name_from path name = if has_name_length name && list_all is_account_byte name then Ok name else Err (BadName path)
+
+-- an account's name is judged before what the account has
+unfoldable pub named_account_at : Path → List ℕ → Data → Read NamedAccount
+named_account_at path key d = do
+  name ← account_name_from (at_key path key) key
+  account ← account_at (at_key path key) d
+  Ok (record { name = name; account = account })
+
+-- the accounts under their names, beside those that were read before
+abbrev pub accounts_from : List NamedAccount → Path → Members → Read (List NamedAccount)
+accounts_from before path no_members = Ok before
+accounts_from before path (member key d ms) = do
+  named ← named_account_at path key d
+  accounts_from (with_account named.name named.account before) path ms
+
+unfoldable pub accounts_at : Path → Data → Read (List NamedAccount)
+accounts_at path d = do
+  members ← members_at path d
+  accounts_from [] path members
+
+-- ---- the whole
+
+-- the version is the whole number 1
+abbrev pub is_one : Option ℕ → Bool
+is_one None = false
+is_one (Some n) = n == 1
+
+abbrev pub is_version : Data → Bool
+is_version d = is_one (option_and_then as_u64 (as_number d))
+
+abbrev pub version_under : Path → Option Data → Read ⊤
+version_under path None = Ok tt
+version_under path (Some d) = if is_version d then Ok tt else Err (WrongType path)
+
+unfoldable pub document_at : Path → Data → Read PolicyDoc
+document_at path d = do
+  known ← judged top_rows path d
+  value ← required_at (codes "accounts") path d
+  accounts ← accounts_at (at_key path (codes "accounts")) value
+  version ← version_under (at_key path (codes "version")) (get (codes "version") d)
+  Ok (record { accounts = accounts })
+
+-- the JSON value of a text; of members with equal keys the last stays
+abbrev pub json_of : List ℕ → Option Data
+json_of text = if is_utf8 text then read text else None
+
+abbrev pub json_at : List ℕ → Read Data
+json_at text = ok_or (json_of text) NotJson
+
+-- a policy has at most 1,048,576 bytes
+abbrev pub json_from : List ℕ → Read Data
+json_from text = if nat_lt 1048576 (length text) then Err TooLarge else json_at text
+
+-- the document that a text writes, or its first fault
+unfoldable pub policy_of : List ℕ → Read PolicyDoc
+policy_of text = do
+  d ← json_from text
+  document_at [] d

@@ -1,0 +1,119 @@
+use lists::{Items, NoMemory};
+use std::alloc::{AllocError, AllocFailed, Global};
+use std::error::Error;
+use std::{fmt, str};
+
+/// Why a text is no policy document. A path says where: a `/` before each key and index, from the outermost
+/// on, and in a key `~0` for `~` and `~1` for `/`. Which fault comes first: `read_policy`.
+#[derive(Debug, Drop)]
+pub enum ConfigFault {
+    /// The text has more than 1,048,576 bytes.
+    TooLarge,
+    /// The text is no JSON, or isn't UTF-8.
+    NotJson,
+    /// An object has a key that it may not have; the path is the key's.
+    UnknownKey(Items<u8>),
+    /// A value is of another kind than the one that is wanted, or a key that must be there isn't; the path is
+    /// the value's, or that key's. Or both spellings of a direction are there; the path is the shorter's.
+    WrongType(Items<u8>),
+    /// A text is no pattern.
+    BadSubject(Items<u8>),
+    /// A name has another length than 1 to 256 bytes, or an account's name a byte that it may not have.
+    BadName(Items<u8>),
+    /// A password begins as a hashed one does, with `$2`.
+    HashedPassword(Items<u8>),
+    /// Memory could not be had for reading, or for keeping what was read.
+    NoMemory,
+}
+
+impl ConfigFault {
+    ghost use Rattle.std.specs.Prelude.{◌≡◌, IfOk};
+    ghost use Rattle.account_config.specs.Fault.{fault_line, fault_path, fault_title};
+
+    /// The line that tells an operator of the fault, without the line's end: the fault's name and,
+    /// where it has one, its path. `NoMemory` where memory could not be had.
+    pub fn line(&self, alloc: Global) -> Result<Vec<u8>, NoMemory>
+        ensures { IfOk result (λ line. line.items ≡ fault_line self.now) }
+    {
+        let mut line = Vec::from_slice(alloc, self.title().as_bytes())?;
+        line.extend_from_slice(self.path())?;
+        Ok(line)
+    }
+
+    /// The fault's name, with a space where a path follows.
+    fn title(&self) -> &'static str
+        ensures { result.now ≡ fault_title self.now }
+    {
+        match self {
+            ConfigFault::TooLarge => "config TooLarge",
+            ConfigFault::NotJson => "config NotJson",
+            ConfigFault::UnknownKey(_) => "config UnknownKey ",
+            ConfigFault::WrongType(_) => "config WrongType ",
+            ConfigFault::BadSubject(_) => "config BadSubject ",
+            ConfigFault::BadName(_) => "config BadName ",
+            ConfigFault::HashedPassword(_) => "config HashedPassword ",
+            ConfigFault::NoMemory => "no memory",
+        }
+    }
+
+    /// Where the fault stands, or nothing.
+    fn path(&self) -> &[u8]
+        ensures { result.now ≡ fault_path self.now }
+    {
+        match self {
+            ConfigFault::TooLarge => b"",
+            ConfigFault::NotJson => b"",
+            ConfigFault::UnknownKey(path) => path.as_slice(),
+            ConfigFault::WrongType(path) => path.as_slice(),
+            ConfigFault::BadSubject(path) => path.as_slice(),
+            ConfigFault::BadName(path) => path.as_slice(),
+            ConfigFault::HashedPassword(path) => path.as_slice(),
+            ConfigFault::NoMemory => b"",
+        }
+    }
+}
+
+impl fmt::Display for ConfigFault {
+    fn fmt<W: fmt::Write>(&self, f: &mut fmt::Formatter<W>) -> fmt::Result {
+        f.write_str(self.title())?;
+        match str::from_utf8(self.path()) {
+            Ok(path) => f.write_str(path),
+            Err(_) => Err(fmt::Error),
+        }
+    }
+}
+
+impl Error for ConfigFault {}
+
+impl From<AllocError> for ConfigFault {
+    ghost use Rattle.std.specs.Prelude.{◌≡◌};
+    ghost use Rattle.account_config.specs.declared.fault.ConfigFault.TheVariants.{NoMemory};
+
+    ghost from_gives = { λ _ e. e ≡ NoMemory };
+
+    fn from(_refused: AllocError) -> ConfigFault {
+        ConfigFault::NoMemory
+    }
+}
+
+impl<T: Drop> From<AllocFailed<T>> for ConfigFault {
+    ghost use Rattle.std.specs.Prelude.{◌≡◌};
+    ghost use Rattle.account_config.specs.declared.fault.ConfigFault.TheVariants.{NoMemory};
+
+    ghost from_gives = { λ _ e. e ≡ NoMemory };
+
+    fn from(_refused: AllocFailed<T>) -> ConfigFault {
+        ConfigFault::NoMemory
+    }
+}
+
+impl From<NoMemory> for ConfigFault {
+    ghost use Rattle.std.specs.Prelude.{◌≡◌};
+    ghost use Rattle.account_config.specs.declared.fault.ConfigFault.TheVariants.{NoMemory};
+
+    ghost from_gives = { λ _ e. e ≡ NoMemory };
+
+    fn from(_refused: NoMemory) -> ConfigFault {
+        ConfigFault::NoMemory
+    }
+}

@@ -1,0 +1,16 @@
+//! Policies as an operator writes them: JSON text (docs/POLICY.md).
+#![tactic(auto)]
+
+mod account;
+mod direction;
+mod document;
+mod fault;
+mod object;
+mod path;
+#[cfg(test)]
+mod tests;
+mod text;
+mod user;
+
+pub use document::read_policy;
+pub use fault::ConfigFault;

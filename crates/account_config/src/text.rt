@@ -1,0 +1,70 @@
+//! Texts and lists of a policy.
+ghost use Rattle.std.specs.Prelude.{◌≡◌};
+ghost use Rattle.serde_json.specs.View.{view, items_view};
+ghost use Rattle.account_config.specs.Fault.{Gives};
+ghost use Rattle.account_config.specs.Object.{required_at};
+ghost use Rattle.account_config.specs.Policy.{items_at, required_text_at, text_at};
+
+use crate::ConfigFault;
+use crate::path::path_of_key;
+use lists::Items;
+use serde_json::Value;
+use std::alloc::Global;
+
+/// What has to be a text.
+pub(crate) fn text_of<'v>(
+    alloc: Global,
+    path: &[u8],
+    value: &'v Value,
+) -> Result<&'v str, ConfigFault>
+    ensures { Gives (λ text. text.now) result (text_at path.now (view value.now)) }
+{
+    match value.as_str() {
+        Some(text) => Ok(text),
+        None => Err(ConfigFault::WrongType(Items::from_vec(Vec::from_slice(alloc, path)?))),
+    }
+}
+
+/// What has to be a list.
+pub(crate) fn items_of<'v>(
+    alloc: Global,
+    path: &[u8],
+    value: &'v Value,
+) -> Result<&'v [Value], ConfigFault>
+    ensures { Gives (λ items. items_view items.now) result (items_at path.now (view value.now)) }
+{
+    match value.as_array() {
+        Some(items) => Ok(items.as_slice()),
+        None => Err(ConfigFault::WrongType(Items::from_vec(Vec::from_slice(alloc, path)?))),
+    }
+}
+
+/// What an object has under a key that must be there.
+pub(crate) fn required_of<'v>(
+    alloc: Global,
+    key: &str,
+    path: &[u8],
+    value: &'v Value,
+) -> Result<&'v Value, ConfigFault>
+    ensures { Gives (λ found. view found.now) result (required_at key.now path.now (view value.now)) }
+{
+    match value.get(key) {
+        Some(found) => Ok(found),
+        None => Err(ConfigFault::WrongType(Items::from_vec(path_of_key(alloc, path, key)?))),
+    }
+}
+
+/// The text that an object has under a key that must be there.
+#[tactic(auto, unfolding(crate::specs::Policy::required_text_at))]
+pub(crate) fn required_text_of<'v>(
+    alloc: Global,
+    key: &str,
+    path: &[u8],
+    value: &'v Value,
+) -> Result<&'v str, ConfigFault>
+    ensures { Gives (λ text. text.now) result (required_text_at key.now path.now (view value.now)) }
+{
+    let found = required_of(alloc, key, path, value)?;
+    let below = path_of_key(alloc, path, key)?;
+    Ok(text_of(alloc, &below, found)?)
+}

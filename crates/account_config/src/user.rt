@@ -1,0 +1,105 @@
+//! A user of a policy.
+ghost use Rattle.std.specs.Prelude.{◌≡◌, codes, option_map};
+ghost use Rattle.serde_json.specs.View.{view};
+ghost use Rattle.account_config.specs.Fault.{Gives};
+ghost use Rattle.account_config.specs.Policy.{has_name_length, is_hashed, password_at, password_from, user_at, user_name_at, user_name_from, user_permissions_at};
+
+use crate::ConfigFault;
+use crate::direction::permissions_under;
+use crate::object::judge;
+use crate::path::path_of_key;
+use crate::text::required_text_of;
+use bytes::Bytes;
+use lists::Items;
+use policy_doc::{PermDoc, UserDoc};
+use serde_json::Value;
+use std::alloc::Global;
+
+/// A user: its name, its password and, if they are there, its permissions.
+#[tactic(auto, unfolding(crate::specs::Policy::user_at))]
+pub(crate) fn user_of(alloc: Global, path: &[u8], value: &Value) -> Result<UserDoc, ConfigFault>
+    ensures { Gives (λ x. x) result (user_at path.now (view value.now)) }
+{
+    let rows = [("user", true), ("password", true), ("permissions", false)];
+    judge(alloc, &rows, path, value)?;
+    let user = user_name_of(alloc, path, value)?;
+    let password = password_of(alloc, path, value)?;
+    let permissions = user_permissions_of(alloc, path, value)?;
+    Ok(UserDoc {
+        user,
+        password,
+        permissions,
+    })
+}
+
+/// The name under `user`.
+#[tactic(auto, unfolding(crate::specs::Policy::user_name_at))]
+fn user_name_of(alloc: Global, path: &[u8], value: &Value) -> Result<Bytes, ConfigFault>
+    ensures { Gives (λ x. x) result (user_name_at path.now (view value.now)) }
+{
+    let name = required_text_of(alloc, "user", path, value)?;
+    let below = path_of_key(alloc, path, "user")?;
+    Ok(user_name_from(alloc, &below, name.as_bytes())?)
+}
+
+/// The password under `password`.
+#[tactic(auto, unfolding(crate::specs::Policy::password_at))]
+fn password_of(alloc: Global, path: &[u8], value: &Value) -> Result<Bytes, ConfigFault>
+    ensures { Gives (λ x. x) result (password_at path.now (view value.now)) }
+{
+    let password = required_text_of(alloc, "password", path, value)?;
+    let below = path_of_key(alloc, path, "password")?;
+    Ok(password_from(alloc, &below, password.as_bytes())?)
+}
+
+/// What is under `permissions`, if it is there.
+#[tactic(auto, unfolding(crate::specs::Policy::user_permissions_at))]
+fn user_permissions_of(
+    alloc: Global,
+    path: &[u8],
+    value: &Value,
+) -> Result<Option<PermDoc>, ConfigFault>
+    ensures { Gives (λ x. x) result (user_permissions_at path.now (view value.now)) }
+{
+    let below = path_of_key(alloc, path, "permissions")?;
+    Ok(permissions_under(alloc, &below, value.get("permissions"))?)
+}
+
+/// A user's name. `BadName` where it hasn't 1 to 256 bytes.
+fn user_name_from(alloc: Global, path: &[u8], name: &[u8]) -> Result<Bytes, ConfigFault>
+    ensures { Gives (λ x. x) result (user_name_from path.now name.now) }
+{
+    if has_name_length(name) {
+        Ok(Bytes::copy_from_slice(alloc, name)?)
+    } else {
+        Err(ConfigFault::BadName(Items::from_vec(Vec::from_slice(alloc, path)?)))
+    }
+}
+
+/// A password in clear. `HashedPassword` where it begins as a hashed one does.
+fn password_from(alloc: Global, path: &[u8], password: &[u8]) -> Result<Bytes, ConfigFault>
+    ensures { Gives (λ x. x) result (password_from path.now password.now) }
+{
+    if is_hashed(password) {
+        Err(ConfigFault::HashedPassword(Items::from_vec(Vec::from_slice(alloc, path)?)))
+    } else {
+        Ok(Bytes::copy_from_slice(alloc, password)?)
+    }
+}
+
+/// Whether a name has 1 to 256 bytes.
+pub(crate) fn has_name_length(name: &[u8]) -> bool
+    ensures { result ≡ has_name_length name.now }
+{
+    !name.is_empty() && name.len() <= 256
+}
+
+/// Whether a password is a hashed one: these begin with `$2`.
+fn is_hashed(password: &[u8]) -> bool
+    ensures { result ≡ is_hashed password.now }
+{
+    match password {
+        [b'$', b'2', ..] => true,
+        _ => false,
+    }
+}

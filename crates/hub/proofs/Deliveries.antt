@@ -1,0 +1,278 @@
+-- Deliveries offered in turn, told for each session by itself.
+use Rattle.std.proofs.Common.{◌≡◌, ◌∙◌, ◌==◌, ◌||◌, ◌⊎◌, inl, inr, ℕ, ◌+◌, ◌-◌, ◌<◌, ◌≤◌, suc, zero, Bool, true, false, cond, List, [], ◌∷◌, ◌++◌, map, length, take, Option, Some, None, ap, sym, refl, subst, arith, nat_lt}
+use Rattle.std.specs.Prelude.{All, AllPairs, ◌≢◌}
+use Rattle.std.specs.Option.{option_map}
+use Rattle.std.proofs.lemmas.List.{append_assoc, append-nil, length-append}
+use Rattle.std.proofs.lemmas.Bool.{eqb-true, eq-eqb, ne_eqb, ltb-true, ltb-false, lt-ltb, le-ltb, cases_eq}
+use Rattle.std.proofs.lemmas.List.Elements.{All-head, All-tail}
+use Rattle.subjects.specs.Subject.{Token}
+use Rattle.hub.specs.World.{session_of, with_session}
+use Rattle.hub.specs.Routing.{offered, addressed_to, after_offer, item_of, delivered, has_room}
+use Rattle.hub.specs.Guarantee.{receives, delivery_to, of_connection, room_in, items_of, items_with_room, item_names, names_of}
+use Rattle.hub.specs.declared.tables.Session.{Session}
+use Rattle.hub.specs.declared.tables.Subscription.{Subscription}
+use Rattle.hub.specs.declared.answer.Delivery.{Delivery}
+use Rattle.hub.specs.declared.answer.Item.{Item}
+use Rattle.hub.specs.declared.answer.Item.TheVariants.{Entered, Full}
+use Rattle.hub.proofs.Finds.{AllPairs-head, AllPairs-tail, AllPairs-map}
+
+-- ---- one session among all
+
+-- a change of the sessions of one connection
+abbrev pub only : (Session → Session) → ℕ → Session → Session
+only f conn z = cond (z.conn == conn) (f z) z
+
+only-none : (f : Session → Session) (conn : ℕ) (zs : List Session) → All (λ (z : Session). (z.conn == conn) ≡ false) zs → map (only f conn) zs ≡ zs
+only-none f conn [] none = refl
+only-none f conn (z ∷ zs) none =
+    ap (λ b. cond b (f z) z ∷ map (only f conn) zs) (All-head (λ (y : Session). (y.conn == conn) ≡ false) z zs none)
+    ∙ ap (λ rest. z ∷ rest) (only-none f conn zs (All-tail (λ (y : Session). (y.conn == conn) ≡ false) z zs none))
+
+-- where each connection has one session, a change of the first is a change of all
+pub with_session-map : (f : Session → Session) (conn : ℕ) (zs : List Session) → AllPairs (λ (y z : Session). y.conn ≢ z.conn) zs → with_session f conn zs ≡ map (only f conn) zs
+with_session-map f conn [] apart = refl
+with_session-map f conn (z ∷ zs) apart =
+    here (z.conn == conn) refl (with_session-map f conn zs (AllPairs-tail (λ (y z : Session). y.conn ≢ z.conn) z zs apart))
+  where
+    others : (z.conn == conn) ≡ true → All (λ (y : Session). (y.conn == conn) ≡ false) zs
+    others is k d h = ne_eqb _ _ (λ same. AllPairs-head (λ (y z : Session). y.conn ≢ z.conn) z zs apart k d h (eqb-true z.conn conn is ∙ sym same))
+
+    here : (b : Bool) → (z.conn == conn) ≡ b → with_session f conn zs ≡ map (only f conn) zs → cond b (f z ∷ zs) (z ∷ with_session f conn zs) ≡ cond b (f z) z ∷ map (only f conn) zs
+    here true is later = ap (λ rest. f z ∷ rest) (sym (only-none f conn zs (others is)))
+    here false is later = ap (λ rest. z ∷ rest) later
+
+-- the changed session is found in its place, and each other one as before
+pub session_of-changed : (f : Session → Session) (conn : ℕ) (zs : List Session) → ((z : Session) → (f z).conn ≡ z.conn) → session_of (with_session f conn zs) conn ≡ option_map f (session_of zs conn)
+session_of-changed f conn [] same = refl
+session_of-changed f conn (z ∷ zs) same = here (z.conn == conn) refl (session_of-changed f conn zs same)
+  where
+    here : (b : Bool) → (z.conn == conn) ≡ b → session_of (with_session f conn zs) conn ≡ option_map f (session_of zs conn) →
+        session_of (cond b (f z ∷ zs) (z ∷ with_session f conn zs)) conn ≡ option_map f (cond b (Some z) (session_of zs conn))
+    here true is later = ap (λ n. cond (n == conn) (Some (f z)) (session_of zs conn)) (same z) ∙ ap (λ b. cond b (Some (f z)) (session_of zs conn)) is
+    here false is later = ap (λ b. cond b (Some z) (session_of (with_session f conn zs) conn)) is ∙ later
+
+pub session_of-other : (f : Session → Session) (conn other : ℕ) (zs : List Session) → ((z : Session) → (f z).conn ≡ z.conn) → conn ≢ other → session_of (with_session f conn zs) other ≡ session_of zs other
+session_of-other f conn other [] same apart = refl
+session_of-other f conn other (z ∷ zs) same apart = here (z.conn == conn) refl (session_of-other f conn other zs same apart)
+  where
+    here : (b : Bool) → (z.conn == conn) ≡ b → session_of (with_session f conn zs) other ≡ session_of zs other →
+        session_of (cond b (f z ∷ zs) (z ∷ with_session f conn zs)) other ≡ cond (z.conn == other) (Some z) (session_of zs other)
+    here true is later =
+        let no : (z.conn == other) ≡ false = ne_eqb _ _ (λ e. apart (sym (eqb-true z.conn conn is) ∙ e)) in
+        ap (λ n. cond (n == other) (Some (f z)) (session_of zs other)) (same z)
+        ∙ ap (λ b. cond b (Some (f z)) (session_of zs other)) no
+        ∙ sym (ap (λ b. cond b (Some z) (session_of zs other)) no)
+    here false is later = ap (λ o. cond (z.conn == other) (Some z) o) later
+
+offered-conn : (d : Delivery) (z : Session) → (offered d z).conn ≡ z.conn
+offered-conn d z = here (nat_lt (length z.outbox.waiting) z.outbox.capacity)
+  where
+    here : (b : Bool) → (cond b (record z { outbox = record z.outbox { waiting = z.outbox.waiting ++ d ∷ [] } }) (record z { missed = true })).conn ≡ z.conn
+    here true = refl
+    here false = refl
+
+-- ---- the outboxes
+
+-- a session with this in its outbox, and this told of missed deliveries
+abbrev holding : Session → List Delivery → Bool → Session
+holding z waiting missed = record z { outbox = record z.outbox { waiting = waiting }; missed = missed }
+
+same_holding : (z : Session) (v w : List Delivery) (m n : Bool) → v ≡ w → m ≡ n → holding z v m ≡ holding z w n
+same_holding z v w m n e f = ap (λ x. holding z x m) e ∙ ap (λ b. holding z w b) f
+
+less-suc : (m n : ℕ) → nat_lt m n ≡ nat_lt (suc m) (suc n)
+less-suc m n = here (nat_lt m n) refl
+  where
+    here : (b : Bool) → nat_lt m n ≡ b → b ≡ nat_lt (suc m) (suc n)
+    here true is = sym (lt-ltb (suc m) (suc n) (let h = ltb-true m n is in omega arith))
+    here false is = sym (le-ltb (suc m) (suc n) (let h = ltb-false m n is in omega arith))
+
+-- what is missed once, stays missed
+or-true : (b : Bool) → (b || true) ≡ true
+or-true true = refl
+or-true false = refl
+
+-- a delivery for which there is room, then the others
+waiting-more : (ws ds : List Delivery) (d : Delivery) (capacity : ℕ) → length ws < capacity →
+    (ws ++ d ∷ []) ++ take (capacity - length (ws ++ d ∷ [])) ds ≡ ws ++ take (capacity - length ws) (d ∷ ds)
+waiting-more ws ds d capacity h =
+    let m : ℕ = capacity - (length ws + 1) in
+    let less : capacity - length (ws ++ d ∷ []) ≡ m = omega (arith, length-append ws (d ∷ [])) in
+    let more : capacity - length ws ≡ suc m = omega arith in
+    ap (λ n. (ws ++ d ∷ []) ++ take n ds) less
+    ∙ append_assoc ws (d ∷ []) (take m ds)
+    ∙ sym (ap (λ n. ws ++ take n (d ∷ ds)) more)
+
+missed-more : (ws ds : List Delivery) (d : Delivery) (capacity : ℕ) → length ws < capacity →
+    nat_lt (capacity - length (ws ++ d ∷ [])) (length ds) ≡ nat_lt (capacity - length ws) (length (d ∷ ds))
+missed-more ws ds d capacity h =
+    let m : ℕ = capacity - (length ws + 1) in
+    let less : capacity - length (ws ++ d ∷ []) ≡ m = omega (arith, length-append ws (d ∷ [])) in
+    let more : capacity - length ws ≡ suc m = omega arith in
+    ap (λ n. nat_lt n (length ds)) less
+    ∙ less-suc m (length ds)
+    ∙ sym (ap (λ n. nat_lt n (length (d ∷ ds))) more)
+
+-- one for which there is none
+waiting-full : (ws ds : List Delivery) (d : Delivery) (capacity : ℕ) → capacity ≤ length ws →
+    ws ++ take (capacity - length ws) ds ≡ ws ++ take (capacity - length ws) (d ∷ ds)
+waiting-full ws ds d capacity h =
+    let none : capacity - length ws ≡ 0 = omega arith in
+    ap (λ n. ws ++ take n ds) none ∙ sym (ap (λ n. ws ++ take n (d ∷ ds)) none)
+
+missed-full : (missed : Bool) (ws ds : List Delivery) (d : Delivery) (capacity : ℕ) → capacity ≤ length ws →
+    true ≡ (missed || nat_lt (capacity - length ws) (length (d ∷ ds)))
+missed-full missed ws ds d capacity h =
+    sym (ap (λ b. missed || b) (lt-ltb (capacity - length ws) (length (d ∷ ds)) (omega arith)) ∙ or-true missed)
+
+-- one delivery, then the others
+receives-more : (d : Delivery) (ds : List Delivery) (z : Session) → receives ds (offered d z) ≡ receives (d ∷ ds) z
+receives-more d ds z = here (nat_lt (length z.outbox.waiting) z.outbox.capacity) refl
+  where
+    here : (b : Bool) → nat_lt (length z.outbox.waiting) z.outbox.capacity ≡ b →
+        receives ds (cond b (record z { outbox = record z.outbox { waiting = z.outbox.waiting ++ d ∷ [] } }) (record z { missed = true })) ≡ receives (d ∷ ds) z
+    here true is =
+        let h = ltb-true (length z.outbox.waiting) z.outbox.capacity is in
+        same_holding z _ _ _ _ (waiting-more z.outbox.waiting ds d z.outbox.capacity h) (ap (λ b. z.missed || b) (missed-more z.outbox.waiting ds d z.outbox.capacity h))
+    here false is =
+        let h = ltb-false (length z.outbox.waiting) z.outbox.capacity is in
+        same_holding z _ _ _ _ (waiting-full z.outbox.waiting ds d z.outbox.capacity h) (missed-full z.missed z.outbox.waiting ds d z.outbox.capacity h)
+
+or-false : (b : Bool) → (b || false) ≡ b
+or-false true = refl
+or-false false = refl
+
+take-none : (n : ℕ) → take n (let none : List Delivery = [] in none) ≡ []
+take-none zero = refl
+take-none (suc n) = refl
+
+receives-none : (z : Session) → receives [] z ≡ z
+receives-none z =
+    same_holding z _ _ _ _ (ap (λ ds. z.outbox.waiting ++ ds) (take-none (z.outbox.capacity - length z.outbox.waiting)) ∙ append-nil z.outbox.waiting)
+    (ap (λ b. z.missed || b) (le-ltb (z.outbox.capacity - length z.outbox.waiting) 0 (omega arith)) ∙ or-false z.missed)
+
+map-itself : {X : Type 0} (f : X → X) (xs : List X) → ((x : X) → f x ≡ x) → map f xs ≡ xs
+map-itself f [] same = refl
+map-itself f (x ∷ xs) same = ap (λ y. y ∷ map f xs) (same x) ∙ ap (λ ys. x ∷ ys) (map-itself f xs same)
+
+map-twice : {X Y Z : Type 0} (f : X → Y) (g : Y → Z) (h : X → Z) (xs : List X) → ((x : X) → g (f x) ≡ h x) → map g (map f xs) ≡ map h xs
+map-twice f g h [] same = refl
+map-twice f g h (x ∷ xs) same = ap (λ y. y ∷ map g (map f xs)) (same x) ∙ ap (λ ys. h x ∷ ys) (map-twice f g h xs same)
+
+-- what a session gets of a message
+abbrev pub gets : List Token → List ℕ → List Subscription → Session → Session
+gets s body subs z = receives (map (delivery_to s body) (of_connection z.conn subs)) z
+
+only-conn : (d : Delivery) (conn : ℕ) (z : Session) → (only (offered d) conn z).conn ≡ z.conn
+only-conn d conn z = here (z.conn == conn)
+  where
+    here : (b : Bool) → (cond b (offered d z) z).conn ≡ z.conn
+    here true = offered-conn d z
+    here false = refl
+
+gets-more : (s : List Token) (body : List ℕ) (sub : Subscription) (subs : List Subscription) (z : Session) →
+    gets s body subs (only (offered (delivery_to s body sub)) sub.conn z) ≡ gets s body (sub ∷ subs) z
+gets-more s body sub subs z = here (cases_eq z.conn sub.conn)
+  where
+    own : List Subscription
+    own = of_connection z.conn subs
+
+    here : (z.conn ≡ sub.conn) ⊎ (z.conn ≡ sub.conn → ⊥) → gets s body subs (only (offered (delivery_to s body sub)) sub.conn z) ≡ gets s body (sub ∷ subs) z
+    here (inl e) =
+        let d : Delivery = delivery_to s body sub in
+        ap (λ b. gets s body subs (cond b (offered d z) z)) (eq-eqb z.conn sub.conn e)
+        ∙ ap (λ n. receives (map (delivery_to s body) (of_connection n subs)) (offered d z)) (offered-conn d z)
+        ∙ receives-more d (map (delivery_to s body) (of_connection z.conn subs)) z
+        ∙ sym (ap (λ b. receives (map (delivery_to s body) (cond b (sub ∷ of_connection z.conn subs) (of_connection z.conn subs))) z) (eq-eqb sub.conn z.conn (sym e)))
+    here (inr ne) =
+        ap (λ b. gets s body subs (cond b (offered (delivery_to s body sub) z) z)) (ne_eqb z.conn sub.conn ne)
+        ∙ sym (ap (λ b. receives (map (delivery_to s body) (cond b (sub ∷ of_connection z.conn subs) (of_connection z.conn subs))) z) (ne_eqb sub.conn z.conn (λ e. ne (sym e))))
+
+abbrev AreApart : List Session → Type 0
+AreApart zs = AllPairs (λ (y z : Session). y.conn ≢ z.conn) zs
+
+pub outboxes : (s : List Token) (body : List ℕ) (subs : List Subscription) (zs : List Session) → AreApart zs →
+    (delivered (map (addressed_to s body) subs) zs).0 ≡ map (gets s body subs) zs
+outboxes s body [] zs apart = sym (map-itself (gets s body []) zs receives-none)
+outboxes s body (sub ∷ subs) zs apart =
+    let d : Delivery = delivery_to s body sub in
+    let changed = with_session-map (offered d) sub.conn zs apart in
+    let still : AreApart (map (only (offered d) sub.conn) zs) =
+    AllPairs-map (λ (y z : Session). y.conn ≢ z.conn) (only (offered d) sub.conn) zs (λ y z ne e. ne (sym (only-conn d sub.conn y) ∙ e ∙ only-conn d sub.conn z)) apart in
+    outboxes s body subs (after_offer (addressed_to s body sub) zs) (subst AreApart (sym changed) still)
+    ∙ ap (map (gets s body subs)) changed
+    ∙ map-twice (only (offered d) sub.conn) (gets s body subs) (gets s body (sub ∷ subs)) zs (gets-more s body sub subs)
+
+-- ---- the items
+
+pub one_each : (s : List Token) (body : List ℕ) (subs : List Subscription) (zs : List Session) → map item_names (delivered (map (addressed_to s body) subs) zs).1 ≡ map names_of subs
+one_each s body [] zs = refl
+one_each s body (sub ∷ subs) zs =
+    ap (λ n. n ∷ map item_names (delivered (map (addressed_to s body) subs) (after_offer (addressed_to s body sub) zs)).1) (here (has_room (session_of zs sub.conn)))
+    ∙ ap (λ rest. names_of sub ∷ rest) (one_each s body subs (after_offer (addressed_to s body sub) zs))
+  where
+    here : (b : Bool) → item_names (cond b (Entered sub.conn sub.sid) (Full sub.conn sub.sid)) ≡ names_of sub
+    here true = refl
+    here false = refl
+
+abbrev pub items_after : List Token → List ℕ → List Subscription → List Session → List Item
+items_after s body subs zs = (delivered (map (addressed_to s body) subs) zs).1
+
+-- the item of one delivery to the connection, before the items of the others
+with_room-more : (o : Option Session) (d : Delivery) (sub : Subscription) (own : List Subscription) →
+    cond (has_room o) (Entered sub.conn sub.sid) (Full sub.conn sub.sid) ∷ items_with_room (room_in (option_map (offered d) o)) own ≡ items_with_room (room_in o) (sub ∷ own)
+with_room-more None d sub own = refl
+with_room-more (Some z) d sub own = here (nat_lt (length z.outbox.waiting) z.outbox.capacity) refl
+  where
+    here : (b : Bool) → nat_lt (length z.outbox.waiting) z.outbox.capacity ≡ b →
+        cond b (Entered sub.conn sub.sid) (Full sub.conn sub.sid) ∷ items_with_room (room_in (Some (cond b (record z { outbox = record z.outbox { waiting = z.outbox.waiting ++ d ∷ [] } }) (record z { missed = true })))) own
+        ≡ items_with_room (room_in (Some z)) (sub ∷ own)
+    here true is =
+        let h = ltb-true (length z.outbox.waiting) z.outbox.capacity is in
+        let m : ℕ = z.outbox.capacity - (length z.outbox.waiting + 1) in
+        let less : z.outbox.capacity - length (z.outbox.waiting ++ d ∷ []) ≡ m = omega (arith, length-append z.outbox.waiting (d ∷ [])) in
+        let more : z.outbox.capacity - length z.outbox.waiting ≡ suc m = omega arith in
+        ap (λ n. Entered sub.conn sub.sid ∷ items_with_room n own) less ∙ sym (ap (λ n. items_with_room n (sub ∷ own)) more)
+    here false is =
+        let h = ltb-false (length z.outbox.waiting) z.outbox.capacity is in
+        let none : z.outbox.capacity - length z.outbox.waiting ≡ 0 = omega arith in
+        ap (λ n. Full sub.conn sub.sid ∷ items_with_room n own) none ∙ sym (ap (λ n. items_with_room n (sub ∷ own)) none)
+
+item-conn : (o : Option Session) (sub : Subscription) → (item_names (cond (has_room o) (Entered sub.conn sub.sid) (Full sub.conn sub.sid))).0 ≡ sub.conn
+item-conn o sub = here (has_room o)
+  where
+    here : (b : Bool) → (item_names (cond b (Entered sub.conn sub.sid) (Full sub.conn sub.sid))).0 ≡ sub.conn
+    here true = refl
+    here false = refl
+
+pub with_room : (s : List Token) (body : List ℕ) (subs : List Subscription) (zs : List Session) (conn : ℕ) →
+    items_of conn (items_after s body subs zs) ≡ items_with_room (room_in (session_of zs conn)) (of_connection conn subs)
+with_room s body [] zs conn = none (room_in (session_of zs conn))
+  where
+    none : (n : ℕ) → [] ≡ items_with_room n []
+    none zero = refl
+    none (suc n) = refl
+with_room s body (sub ∷ subs) zs conn = here (cases_eq sub.conn conn) (with_room s body subs (after_offer (addressed_to s body sub) zs) conn)
+  where
+    here : (sub.conn ≡ conn) ⊎ (sub.conn ≡ conn → ⊥) →
+        items_of conn (items_after s body subs (after_offer (addressed_to s body sub) zs)) ≡ items_with_room (room_in (session_of (after_offer (addressed_to s body sub) zs) conn)) (of_connection conn subs) →
+        items_of conn (items_after s body (sub ∷ subs) zs) ≡ items_with_room (room_in (session_of zs conn)) (of_connection conn (sub ∷ subs))
+    here (inl e) later =
+        let d : Delivery = delivery_to s body sub in
+        let item : Item = item_of (addressed_to s body sub) zs in
+        let rest : List Item = items_after s body subs (after_offer (addressed_to s body sub) zs) in
+        let changed : session_of (after_offer (addressed_to s body sub) zs) conn ≡ option_map (offered d) (session_of zs conn) =
+        subst (λ n. session_of (with_session (offered d) sub.conn zs) n ≡ option_map (offered d) (session_of zs n)) e (session_of-changed (offered d) sub.conn zs (offered-conn d)) in
+        ap (λ b. cond b (item ∷ items_of conn rest) (items_of conn rest)) (eq-eqb _ conn (item-conn (session_of zs sub.conn) sub ∙ e))
+        ∙ ap (λ n. cond (has_room (session_of zs n)) (Entered sub.conn sub.sid) (Full sub.conn sub.sid) ∷ items_of conn rest) e
+        ∙ ap (λ left. cond (has_room (session_of zs conn)) (Entered sub.conn sub.sid) (Full sub.conn sub.sid) ∷ left) (later ∙ ap (λ o. items_with_room (room_in o) (of_connection conn subs)) changed)
+        ∙ with_room-more (session_of zs conn) d sub (of_connection conn subs)
+        ∙ sym (ap (λ b. items_with_room (room_in (session_of zs conn)) (cond b (sub ∷ of_connection conn subs) (of_connection conn subs))) (eq-eqb sub.conn conn e))
+    here (inr ne) later =
+        let d : Delivery = delivery_to s body sub in
+        let item : Item = item_of (addressed_to s body sub) zs in
+        let rest : List Item = items_after s body subs (after_offer (addressed_to s body sub) zs) in
+        ap (λ b. cond b (item ∷ items_of conn rest) (items_of conn rest)) (ne_eqb _ conn (λ is. ne (sym (item-conn (session_of zs sub.conn) sub) ∙ is)))
+        ∙ later
+        ∙ ap (λ o. items_with_room (room_in o) (of_connection conn subs)) (session_of-other (offered d) sub.conn conn zs (offered-conn d) ne)
+        ∙ sym (ap (λ b. items_with_room (room_in (session_of zs conn)) (cond b (sub ∷ of_connection conn subs) (of_connection conn subs))) (ne_eqb sub.conn conn ne))

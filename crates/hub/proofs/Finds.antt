@@ -1,0 +1,81 @@
+-- The first element that passes a test, in a longer list, a filtered one or a mapped one.
+use Rattle.std.proofs.Common.{◌≡◌, ◌∙◌, suc, ◌<◌, ◌||◌, Bool, true, false, cond, List, [], ◌∷◌, ◌++◌, map, filter, length, Some, None, ap, refl, subst, arith}
+use Rattle.std.specs.Prelude.{find, All, AllPairs}
+use Rattle.std.specs.List.{list_any}
+use Rattle.std.specs.Option.{option_map}
+use Rattle.std.proofs.lemmas.List.{get_or-map, length-map}
+use Rattle.std.proofs.lemmas.List.Elements.{All-head, All-tail, All-cons, All-nil}
+
+pub find-passes : {X : Type 0} (t : X → Bool) (xs : List X) (y : X) → find t xs ≡ Some y → t y ≡ true
+find-passes t [] y e = absurd (cc)
+find-passes t (x ∷ xs) y e = here (t x) refl e (find-passes t xs y)
+  where
+    here : (b : Bool) → t x ≡ b → cond b (Some x) (find t xs) ≡ Some y → (find t xs ≡ Some y → t y ≡ true) → t y ≡ true
+    here true h e' later = cc
+    here false h e' later = later e'
+
+pub find-All : {X : Type 0} (P : X → Type 0) (t : X → Bool) (xs : List X) (y : X) → All P xs → find t xs ≡ Some y → P y
+find-All P t [] y all e = absurd (cc)
+find-All {X} P t (x ∷ xs) y all e = here (t x) e (find-All P t xs y (All-tail P x xs all))
+  where
+    here : (b : Bool) → cond b (Some x) (find t xs) ≡ Some y → (find t xs ≡ Some y → P y) → P y
+    here true e' later = let same : x ≡ y = cc in subst P same (All-head P x xs all)
+    here false e' later = later e'
+
+pub find-none : {X : Type 0} (t : X → Bool) (xs : List X) → find t xs ≡ None → All (λ x. t x ≡ false) xs
+find-none t [] e = All-nil (λ x. t x ≡ false)
+find-none t (x ∷ xs) e = here (t x) refl e (find-none t xs)
+  where
+    here : (b : Bool) → t x ≡ b → cond b (Some x) (find t xs) ≡ None → (find t xs ≡ None → All (λ x. t x ≡ false) xs) → All (λ x. t x ≡ false) (x ∷ xs)
+    here true h e' later = absurd (cc)
+    here false h e' later = All-cons (λ x. t x ≡ false) x xs h (later e')
+
+-- where a test finds nothing, each element fails it
+pub any-none : {X : Type 0} (t : X → Bool) (xs : List X) → list_any t xs ≡ false → All (λ x. t x ≡ false) xs
+any-none t [] e = All-nil (λ x. t x ≡ false)
+any-none t (x ∷ xs) e = here (t x) refl e (any-none t xs)
+  where
+    here : (b : Bool) → t x ≡ b → (b || list_any t xs) ≡ false → (list_any t xs ≡ false → All (λ x. t x ≡ false) xs) → All (λ x. t x ≡ false) (x ∷ xs)
+    here true h e' later = absurd (cc)
+    here false h e' later = All-cons (λ x. t x ≡ false) x xs h (later e')
+
+pub find-append : {X : Type 0} (t : X → Bool) (xs ys : List X) (y : X) → find t xs ≡ Some y → find t (xs ++ ys) ≡ Some y
+find-append t [] ys y e = absurd (cc)
+find-append t (x ∷ xs) ys y e = here (t x) e (find-append t xs ys y)
+  where
+    here : (b : Bool) → cond b (Some x) (find t xs) ≡ Some y → (find t xs ≡ Some y → find t (xs ++ ys) ≡ Some y) → cond b (Some x) (find t (xs ++ ys)) ≡ Some y
+    here true e' later = e'
+    here false e' later = later e'
+
+-- a filter that lets through all that the test finds
+pub find-filter : {X : Type 0} (t p : X → Bool) (xs : List X) → ((x : X) → t x ≡ true → p x ≡ true) → find t (filter p xs) ≡ find t xs
+find-filter t p [] kept = refl
+find-filter t p (x ∷ xs) kept = here (p x) (t x) refl refl (find-filter t p xs kept)
+  where
+    here : (b c : Bool) → p x ≡ b → t x ≡ c → find t (filter p xs) ≡ find t xs → find t (cond b (x ∷ filter p xs) (filter p xs)) ≡ cond c (Some x) (find t xs)
+    here true true h k later = ap (λ d. cond d (Some x) (find t (filter p xs))) k
+    here true false h k later = ap (λ d. cond d (Some x) (find t (filter p xs))) k ∙ later
+    here false true h k later = let q : p x ≡ true = kept x k in absurd (cc)
+    here false false h k later = later
+
+-- a map that the test doesn't see
+pub find-map : {X : Type 0} (t : X → Bool) (f : X → X) (xs : List X) → ((x : X) → t (f x) ≡ t x) → find t (map f xs) ≡ option_map f (find t xs)
+find-map t f [] same = refl
+find-map t f (x ∷ xs) same = ap (λ b. cond b (Some (f x)) (find t (map f xs))) (same x) ∙ here (t x) (find-map t f xs same)
+  where
+    here : (b : Bool) → find t (map f xs) ≡ option_map f (find t xs) → cond b (Some (f x)) (find t (map f xs)) ≡ option_map f (cond b (Some x) (find t xs))
+    here true later = refl
+    here false later = later
+
+-- what holds of all pairs holds of the first and each other one
+pub AllPairs-head : {X : Type 0} (R : X → X → Type 0) (x : X) (xs : List X) → AllPairs R (x ∷ xs) → All (R x) xs
+AllPairs-head R x xs all k d h = all 0 (suc k) d (omega arith) (omega arith)
+
+pub AllPairs-tail : {X : Type 0} (R : X → X → Type 0) (x : X) (xs : List X) → AllPairs R (x ∷ xs) → AllPairs R xs
+AllPairs-tail R x xs all i j d h k = all (suc i) (suc j) d (omega arith) (omega arith)
+
+-- a map that the relation doesn't see
+pub AllPairs-map : {X : Type 0} (R : X → X → Type 0) (f : X → X) (xs : List X) → ((x y : X) → R x y → R (f x) (f y)) → AllPairs R xs → AllPairs R (map f xs)
+AllPairs-map R f xs kept all i j d h k =
+    let lj : j < length xs = omega (arith, length-map xs f) in
+    rw (get_or-map f xs i d d (omega arith), get_or-map f xs j d d lj) (kept _ _ (all i j d h lj))

@@ -1,0 +1,12 @@
+-- Steps of loops over lists.
+use Rattle.std.proofs.Common.{◌≡◌, ◌∙◌, ℕ, ◌+◌, ◌<◌, Bool, List, [], ◌∷◌, ◌++◌, take, map, filter, length, get_or, ap, sym}
+use Rattle.std.proofs.lemmas.List.{take_more, map-append}
+use Rattle.std.proofs.lemmas.List.Elements.{filter-append}
+
+-- one more element, mapped if it passes
+pub map_filter_more : {X Y : Type 0} (f : X → Y) (p : X → Bool) (xs : List X) (i : ℕ) (x : X) → i < length xs → x ≡ get_or xs i x →
+    map f (filter p (take (i + 1) xs)) ≡ map f (filter p (take i xs)) ++ map f (filter p (x ∷ []))
+map_filter_more f p xs i x h is =
+    ap (λ ys. map f (filter p ys)) (take_more xs i x h ∙ ap (λ y. take i xs ++ y ∷ []) (sym is))
+    ∙ ap (map f) (filter-append p (take i xs) (x ∷ []))
+    ∙ map-append f (filter p (take i xs)) (filter p (x ∷ []))

@@ -1,0 +1,66 @@
+-- In a valid policy a user is found again by its name.
+use Rattle.std.proofs.Common.{◌≡◌, ◌∙◌, ◌&&◌, ℕ, Bool, true, false, cond, List, [], ◌∷◌, ◌++◌, map, Option, Some, None, ap, sym, refl, subst}
+use Rattle.std.specs.Prelude.{find, All, nat_eq}
+use Rattle.std.specs.List.{flat_map, IsDistinct, AllByRecursion}
+use Rattle.std.specs.Str.{bytes_eq}
+use Rattle.std.specs.Cmp.Lexicographic.{pointwise}
+use Rattle.std.proofs.lemmas.List.{map-append}
+use Rattle.std.proofs.lemmas.List.Elements.{All-nil, All-cons}
+use Rattle.std.proofs.lemmas.Map.Keys.{IsDistinct-head, IsDistinct-tail}
+use Rattle.std.proofs.lemmas.Slice.Eq.{bytes_eq-Decides}
+use Rattle.policy_doc.specs.Document.{users_of as users_of_accounts, user_name, IsValidPolicy}
+use Rattle.policy_doc.specs.declared.document.PolicyDoc.{PolicyDoc}
+use Rattle.policy_doc.specs.declared.document.NamedAccount.{NamedAccount}
+use Rattle.policy_doc.specs.declared.document.UserDoc.{UserDoc}
+use Rattle.hub.specs.Users.{user_in, users_in, users_of, user_with_password}
+use Rattle.hub.specs.Sound.{user_named}
+use Rattle.hub.specs.declared.ready.User.{User}
+use Rattle.hub.proofs.Finds.{find-All}
+
+abbrev name_of : User → List ℕ
+name_of u = u.user
+
+names-in : (account : List ℕ) (us : List UserDoc) → map name_of (map (user_in account) us) ≡ map user_name us
+names-in account [] = refl
+names-in account (u ∷ us) = ap (λ rest. u.user ∷ rest) (names-in account us)
+
+-- the names are those of the document
+names : (accounts : List NamedAccount) → map name_of (flat_map users_in accounts) ≡ map user_name (users_of_accounts accounts)
+names [] = refl
+names (a ∷ more) =
+    map-append name_of (users_in a) (flat_map users_in more)
+    ∙ ap (λ front. front ++ map name_of (flat_map users_in more)) (names-in a.name a.account.users)
+    ∙ ap (λ rest. map user_name a.account.users ++ rest) (names more)
+    ∙ sym (map-append user_name a.account.users (users_of_accounts more))
+
+unlike : (name : List ℕ) (us : List User) → AllByRecursion (λ y. bytes_eq name y ≡ false) (map name_of us) → All (λ (u : User). bytes_eq name u.user ≡ false) us
+unlike name [] all = All-nil (λ (u : User). bytes_eq name u.user ≡ false)
+unlike name (u ∷ us) all = All-cons (λ (v : User). bytes_eq name v.user ≡ false) u us all.0 (unlike name us all.1)
+
+-- where no name stands twice, whoever is found by more than the name is found by the name
+again : (name password : List ℕ) (us : List User) (u : User) → IsDistinct bytes_eq (map name_of us) →
+    find (λ (v : User). pointwise nat_eq v.user name && pointwise nat_eq v.password password) us ≡ Some u →
+    find (λ (v : User). pointwise nat_eq v.user u.user) us ≡ Some u
+again name password [] u apart e = absurd (cc)
+again name password (v ∷ us) u apart e =
+    here (pointwise nat_eq v.user name && pointwise nat_eq v.password password) e (again name password us u (IsDistinct-tail bytes_eq v.user (map name_of us) apart))
+  where
+    test : User → Bool
+    test x = pointwise nat_eq x.user name && pointwise nat_eq x.password password
+
+    here : (b : Bool) → cond b (Some v) (find (λ (x : User). pointwise nat_eq x.user name && pointwise nat_eq x.password password) us) ≡ Some u →
+        (find (λ (x : User). pointwise nat_eq x.user name && pointwise nat_eq x.password password) us ≡ Some u → find (λ (x : User). pointwise nat_eq x.user u.user) us ≡ Some u) →
+        cond (pointwise nat_eq v.user u.user) (Some v) (find (λ (x : User). pointwise nat_eq x.user u.user) us) ≡ Some u
+    here true e' later =
+        let same : v ≡ u = cc in
+        ap (λ b. cond b (Some v) (find (λ (x : User). pointwise nat_eq x.user u.user) us)) ((bytes_eq-Decides v.user u.user).1 (ap name_of same)) ∙ ap (λ (x : User). Some x) same
+    here false e' later =
+        ap (λ b. cond b (Some v) (find (λ (x : User). pointwise nat_eq x.user u.user) us))
+        (find-All (λ (x : User). bytes_eq v.user x.user ≡ false) (λ (x : User). pointwise nat_eq x.user name && pointwise nat_eq x.password password) us u (unlike v.user us (IsDistinct-head bytes_eq v.user (map name_of us) apart)) e')
+        ∙ later e'
+
+pub user_named-again : (doc : PolicyDoc) (name : Option (List ℕ)) (password : List ℕ) (u : User) → IsValidPolicy doc → user_with_password doc name password ≡ Some u → user_named doc u.user ≡ Some u
+user_named-again doc None password u valid e = absurd (cc)
+user_named-again doc (Some name) password u valid e =
+    let apart : IsDistinct bytes_eq (map name_of (users_of doc)) = subst (IsDistinct bytes_eq) (sym (names doc.accounts)) valid in
+    again name password (users_of doc) u apart e

@@ -1,0 +1,154 @@
+-- What every hub keeps is kept by each kind of change.
+use Rattle.std.proofs.Common.{◌≡◌, ◌∙◌, ◌==◌, ℕ, ◌+◌, ◌<◌, ◌≤◌, Bool, true, false, not, List, [], ◌∷◌, ◌++◌, map, filter, length, get_or, Option, Some, None, ap, sym, refl, arith, max}
+use Rattle.std.specs.Prelude.{All, ◌≢◌, nat_le}
+use Rattle.std.specs.Option.{option_map}
+use Rattle.std.proofs.lemmas.Bool.{eqb-true, eqb-false, leb-false}
+use Rattle.std.proofs.lemmas.List.{length-map, length-append}
+use Rattle.std.proofs.lemmas.List.Filters.{length-filter_both}
+use Rattle.std.proofs.lemmas.List.Elements.{All-push, All-map, All-filter, filter_passes}
+use Rattle.std.proofs.lemmas.List.Kept.{AllPairs-filter}
+use Rattle.std.proofs.lemmas.List.Quantifiers.{all_pairs_push}
+use Rattle.subjects.specs.Subject.{Token}
+use Rattle.policy_doc.specs.declared.document.PolicyDoc.{PolicyDoc}
+use Rattle.hub.specs.World.{World, session_of}
+use Rattle.hub.specs.Sound.{IsSound, has_same_sid, user_named, user_behind, user_at, may_subscribe}
+use Rattle.hub.specs.Transition.{new_session, subscription_of, stands}
+use Rattle.hub.specs.declared.ready.User.{User}
+use Rattle.hub.specs.declared.tables.Session.{Session}
+use Rattle.hub.specs.declared.tables.Subscription.{Subscription}
+use Rattle.hub.proofs.Finds.{find-All, find-none, find-append, find-filter, find-map, any-none, AllPairs-map}
+
+-- the world after an answered step that left these sessions and subscriptions
+abbrev pub next : World → ℕ → List Session → List Subscription → World
+next w now zs subs = record w { moment = max w.moment now; number = w.number + 1; sessions = zs; subscriptions = subs }
+
+-- the facts of a session by itself, under a policy and a capacity
+abbrev IsOfPolicy : PolicyDoc → Session → Type 0
+IsOfPolicy doc z = user_named doc z.user.user ≡ Some z.user
+
+abbrev HasBound : ℕ → Session → Type 0
+HasBound capacity z = (z.outbox.capacity ≡ capacity) × (length z.outbox.waiting ≤ capacity)
+
+abbrev IsApart : Session → Session → Type 0
+IsApart y z = y.conn ≢ z.conn
+
+abbrev IsAllowed : PolicyDoc → List Session → Subscription → Type 0
+IsAllowed doc zs s = may_subscribe (user_behind doc (session_of zs s.conn)) s.subject ≡ true
+
+-- the user that a connection acts for is that of its session
+pub user_at-session : (w : World) → IsSound w → (conn : ℕ) (z : Session) → session_of w.sessions conn ≡ Some z → user_at w conn ≡ Some z.user
+user_at-session w sound conn z e =
+    ap (user_behind w.policy) e ∙ find-All (IsOfPolicy w.policy) (λ y. y.conn == conn) w.sessions z sound.users e
+
+-- the numbers are at most the next
+numbers-next : (w : World) → IsSound w → All (λ (s : Subscription). s.id ≤ w.number + 1) w.subscriptions
+numbers-next w sound = λ k d h. let p = sound.numbers k d h in omega arith
+
+-- nothing has changed
+pub sound-same : (w : World) (now : ℕ) → IsSound w → IsSound (next w now w.sessions w.subscriptions)
+sound-same w now sound = record {
+  policy = sound.policy;
+  limit = sound.limit;
+  connections = sound.connections;
+  users = sound.users;
+  outboxes = sound.outboxes;
+  subscriptions = sound.subscriptions;
+  sids = sound.sids;
+  ids = sound.ids;
+  numbers = numbers-next w sound;
+}
+
+-- outboxes have changed
+pub record KeepsSession (capacity : ℕ) (f : Session → Session) : Type 0 where
+  pub conn : (z : Session) → (f z).conn ≡ z.conn
+  pub user : (z : Session) → (f z).user ≡ z.user
+  pub outbox : (z : Session) → HasBound capacity z → HasBound capacity (f z)
+
+user_behind-map : (doc : PolicyDoc) (f : Session → Session) → ((z : Session) → (f z).user ≡ z.user) → (o : Option Session) → user_behind doc (option_map f o) ≡ user_behind doc o
+user_behind-map doc f same None = refl
+user_behind-map doc f same (Some z) = ap (λ (u : User). user_named doc u.user) (same z)
+
+allowed-map : (doc : PolicyDoc) (f : Session → Session) (zs : List Session) → ((z : Session) → (f z).conn ≡ z.conn) → ((z : Session) → (f z).user ≡ z.user) → (s : Subscription) → IsAllowed doc zs s → IsAllowed doc (map f zs) s
+allowed-map doc f zs conn user s is =
+    ap (λ o. may_subscribe (user_behind doc o) s.subject) (find-map (λ (z : Session). z.conn == s.conn) f zs (λ z. ap (λ n. n == s.conn) (conn z)))
+    ∙ ap (λ u. may_subscribe u s.subject) (user_behind-map doc f user (session_of zs s.conn))
+    ∙ is
+
+pub sound-map : (w : World) (now : ℕ) (f : Session → Session) → KeepsSession w.capacity f → IsSound w → IsSound (next w now (map f w.sessions) w.subscriptions)
+sound-map w now f keeps sound = record {
+  policy = sound.policy;
+  limit = omega (arith, length-map w.sessions f, sound.limit);
+  connections = AllPairs-map IsApart f w.sessions (λ y z apart same. apart (sym (keeps.conn y) ∙ same ∙ keeps.conn z)) sound.connections;
+  users = All-map (IsOfPolicy w.policy) f w.sessions (λ k d h. of_policy (get_or w.sessions k d) (sound.users k d h));
+  outboxes = All-map (HasBound w.capacity) f w.sessions (λ k d h. keeps.outbox _ (sound.outboxes k d h));
+  subscriptions = λ k d h. allowed-map w.policy f w.sessions keeps.conn keeps.user (get_or w.subscriptions k d) (sound.subscriptions k d h);
+  sids = sound.sids;
+  ids = sound.ids;
+  numbers = numbers-next w sound;
+}
+  where
+    of_policy : (z : Session) → IsOfPolicy w.policy z → IsOfPolicy w.policy (f z)
+    of_policy z is = ap (λ (u : User). user_named w.policy u.user) (keeps.user z) ∙ is ∙ ap (λ (u : User). Some u) (sym (keeps.user z))
+
+-- a session is opened
+allowed-open : (doc : PolicyDoc) (zs : List Session) (y : Session) (s : Subscription) → IsAllowed doc zs s → IsAllowed doc (zs ++ y ∷ []) s
+allowed-open doc zs y s is = by_session (session_of zs s.conn) refl is
+  where
+    by_session : (o : Option Session) → session_of zs s.conn ≡ o → may_subscribe (user_behind doc o) s.subject ≡ true → IsAllowed doc (zs ++ y ∷ []) s
+    by_session None e h = absurd (cc)
+    by_session (Some z) e h = ap (λ o. may_subscribe (user_behind doc o) s.subject) (find-append (λ (z : Session). z.conn == s.conn) zs (y ∷ []) z e) ∙ h
+
+pub sound-open : (w : World) (now conn : ℕ) (u : User) → session_of w.sessions conn ≡ None → nat_le 4096 (length w.sessions) ≡ false → user_named w.policy u.user ≡ Some u → IsSound w → IsSound (next w now (w.sessions ++ new_session conn u w.capacity ∷ []) w.subscriptions)
+sound-open w now conn u free room is sound = record {
+  policy = sound.policy;
+  limit = omega (arith, length-append w.sessions (new_session conn u w.capacity ∷ []), leb-false 4096 (length w.sessions) room);
+  connections = all_pairs_push IsApart w.sessions (new_session conn u w.capacity) sound.connections (λ k d h same. eqb-false _ _ (find-none (λ (z : Session). z.conn == conn) w.sessions free k d h) same);
+  users = All-push (IsOfPolicy w.policy) w.sessions (new_session conn u w.capacity) sound.users is;
+  outboxes = All-push (HasBound w.capacity) w.sessions (new_session conn u w.capacity) sound.outboxes (refl, omega arith);
+  subscriptions = λ k d h. allowed-open w.policy w.sessions (new_session conn u w.capacity) (get_or w.subscriptions k d) (sound.subscriptions k d h);
+  sids = sound.sids;
+  ids = sound.ids;
+  numbers = numbers-next w sound;
+}
+
+-- a subscription is added
+pub sound-add : (w : World) (now conn : ℕ) (p : List Token) (sid : List ℕ) → may_subscribe (user_at w conn) p ≡ true → stands w.subscriptions conn sid ≡ false → IsSound w →
+    IsSound (next w now w.sessions (w.subscriptions ++ subscription_of (w.number + 1) conn p sid ∷ []))
+sound-add w now conn p sid may free sound = record {
+  policy = sound.policy;
+  limit = sound.limit;
+  connections = sound.connections;
+  users = sound.users;
+  outboxes = sound.outboxes;
+  subscriptions = All-push (IsAllowed w.policy w.sessions) w.subscriptions (subscription_of (w.number + 1) conn p sid) sound.subscriptions may;
+  sids = all_pairs_push (λ (s t : Subscription). has_same_sid s t ≡ false) w.subscriptions (subscription_of (w.number + 1) conn p sid) sound.sids (any-none (λ (s : Subscription). has_same_sid s (subscription_of (w.number + 1) conn p sid)) w.subscriptions free);
+  ids = all_pairs_push (λ (s t : Subscription). s.id < t.id) w.subscriptions (subscription_of (w.number + 1) conn p sid) sound.ids (λ k d h. let n = sound.numbers k d h in omega arith);
+  numbers = All-push (λ (s : Subscription). s.id ≤ w.number + 1) w.subscriptions (subscription_of (w.number + 1) conn p sid) (numbers-next w sound) (omega arith);
+}
+
+-- a connection's session and subscriptions go
+not_of : (c conn : ℕ) → not (c == conn) ≡ true → (n : ℕ) → (n == c) ≡ true → not (n == conn) ≡ true
+not_of c conn other n is = ap (λ m. not (m == conn)) (eqb-true n c is) ∙ other
+
+allowed-close : (doc : PolicyDoc) (zs : List Session) (conn : ℕ) (s : Subscription) → not (s.conn == conn) ≡ true → IsAllowed doc zs s → IsAllowed doc (filter (λ (z : Session). not (z.conn == conn)) zs) s
+allowed-close doc zs conn s other is =
+    ap (λ o. may_subscribe (user_behind doc o) s.subject) (find-filter (λ (z : Session). z.conn == s.conn) (λ (z : Session). not (z.conn == conn)) zs (λ z. not_of s.conn conn other z.conn))
+    ∙ is
+
+not_not : (b : Bool) → b ≡ not (not b)
+not_not true = refl
+not_not false = refl
+
+pub sound-close : (w : World) (now conn : ℕ) → IsSound w →
+    IsSound (next w now (filter (λ (z : Session). not (z.conn == conn)) w.sessions) (filter (λ (s : Subscription). not (s.conn == conn)) w.subscriptions))
+sound-close w now conn sound = record {
+  policy = sound.policy;
+  limit = omega (arith, length-filter_both (λ (z : Session). not (z.conn == conn)) (λ (z : Session). z.conn == conn) (λ z. not_not (z.conn == conn)) w.sessions, sound.limit);
+  connections = AllPairs-filter IsApart (λ (z : Session). not (z.conn == conn)) w.sessions sound.connections;
+  users = All-filter (λ (z : Session). not (z.conn == conn)) (IsOfPolicy w.policy) w.sessions sound.users;
+  outboxes = All-filter (λ (z : Session). not (z.conn == conn)) (HasBound w.capacity) w.sessions sound.outboxes;
+  subscriptions = λ k d h. allowed-close w.policy w.sessions conn (get_or (filter (λ (s : Subscription). not (s.conn == conn)) w.subscriptions) k d) (filter_passes (λ (s : Subscription). not (s.conn == conn)) w.subscriptions k d h) (All-filter (λ (s : Subscription). not (s.conn == conn)) (IsAllowed w.policy w.sessions) w.subscriptions sound.subscriptions k d h);
+  sids = AllPairs-filter (λ (s t : Subscription). has_same_sid s t ≡ false) (λ (s : Subscription). not (s.conn == conn)) w.subscriptions sound.sids;
+  ids = AllPairs-filter (λ (s t : Subscription). s.id < t.id) (λ (s : Subscription). not (s.conn == conn)) w.subscriptions sound.ids;
+  numbers = All-filter (λ (s : Subscription). not (s.conn == conn)) (λ (s : Subscription). s.id ≤ w.number + 1) w.subscriptions (numbers-next w sound);
+}

@@ -1,0 +1,12 @@
+-- what every hub keeps, stays through the run
+use Rattle.std.proofs.Common.{List, subst}
+use Rattle.hub.specs.Sound.{IsSound}
+use Rattle.hub.specs.Guarantee.{IsGuarded}
+use Rattle.hub.specs.declared.event.Event.{Event}
+use Rattle.hub.proofs.Guaranteed.{sound-run}
+use Rattle.hub.proofs.hub.Hub.run.Goals as goal
+
+pub returns-in-Ok-clause-sound : goal.returns-in-Ok-clause-sound
+returns-in-Ok-clause-sound c =
+    let P : List Event → Type 0 = λ es. IsGuarded c.args.self.now es c.run_each.result.items c.run_each.new.self in
+    sound-run c.args.self.now c.args.events.items c.run_each.result.items c.run_each.new.self (subst IsSound c.self.view_is c.self.invariant) (subst P c.from.ensures.0 c.run_each.ensures.guarantee)

@@ -1,0 +1,260 @@
+-- The routing guarantee: what each step of a hub keeps, in terms of the policy in force, which is that of the
+-- world before the step (docs/GUARANTEE.md, "The guarantee").
+use Rattle.std.specs.Prelude.{◌≡◌, ◌==◌, ◌+◌, ◌-◌, ◌&&◌, ◌||◌, ◌∷◌, ◌++◌, ℕ, List, [], Bool, true, false, Option, Some, None, Result, Ok, Err, if◌then◌else◌, filter, map, not, length, is_some, IsSomeAnd, nat_lt, nat_le, nat_eq, max, take, drop}
+use Rattle.std.specs.Cmp.Lexicographic.{pointwise}
+use Rattle.subjects.specs.Subject.{Token, in_set}
+use Rattle.permissions.specs.Verdicts.{publish_verdict, subscribe_verdict, delivery_verdict, is_allowed, IsJustifiedPublish, IsJustifiedSubscribe}
+use Rattle.permissions.specs.declared.verdict.Verdict.{Verdict}
+use Rattle.permissions.specs.declared.verdict.Verdict.TheVariants.{Allowed}
+use Rattle.hub.specs.Users.{user_with_password}
+use Rattle.hub.specs.World.{World, session_of}
+use Rattle.hub.specs.Sound.{IsSound, user_at, may_subscribe}
+use Rattle.hub.specs.Run.{EachStep}
+use Rattle.hub.specs.Transition.{new_session, subscription_of, stands, drained}
+use Rattle.hub.specs.declared.ready.User.{User}
+use Rattle.hub.specs.declared.tables.Session.{Session}
+use Rattle.hub.specs.declared.tables.Subscription.{Subscription}
+use Rattle.hub.specs.declared.event.Event.{Event}
+use Rattle.hub.specs.declared.event.Command.{Command}
+use Rattle.hub.specs.declared.event.Command.TheVariants.{Connect, Sub, Pub, Take, Close}
+use Rattle.hub.specs.declared.answer.Answer.{Answer}
+use Rattle.hub.specs.declared.answer.Delivery.{Delivery}
+use Rattle.hub.specs.declared.answer.Item.{Item}
+use Rattle.hub.specs.declared.answer.Item.TheVariants.{Entered, Full}
+use Rattle.hub.specs.declared.answer.Outcome.{Outcome}
+use Rattle.hub.specs.declared.answer.Outcome.TheVariants.{Connected, AuthViolation, Subscribed, SameSid, Denied, Published, Taken, Closed}
+use Rattle.hub.specs.declared.answer.HubRefusal.{HubRefusal}
+use Rattle.hub.specs.declared.answer.HubRefusal.TheVariants.{HistoryFull, NoSession, SessionTaken, SessionLimit, NoMemory}
+
+-- ---- accepted and allowed
+
+-- whether an outcome accepts its command
+abbrev pub accepts : Outcome → Bool
+accepts Connected = true
+accepts AuthViolation = false
+accepts Subscribed = true
+accepts SameSid = true
+accepts (Denied verdict) = false
+accepts (Published by items) = true
+accepts (Taken deliveries missed) = true
+accepts Closed = true
+
+-- whether a user may publish on a subject
+abbrev pub may_publish : Option User → List Token → Bool
+may_publish None s = false
+may_publish (Some u) s = is_allowed (publish_verdict u.rules s)
+
+-- Whether the policy in force allows a command: a Connect, where a user has that name and password; a Sub and
+-- a Pub, by the permissions of the connection's user; the others always.
+abbrev pub allows : World → Command → Bool
+allows w (Connect conn name password) = is_some (user_with_password w.policy name password)
+allows w (Sub conn p sid) = may_subscribe (user_at w conn) p
+allows w (Pub conn s body) = may_publish (user_at w conn) s
+allows w (Take conn most) = true
+allows w (Close conn) = true
+
+-- ---- denials
+
+-- A denial is the verdict of the user's permissions in the policy in force, and it has its reason: the entry it
+-- names is the least deny entry that has all that was asked; or no deny entry has it, an allow list is given, and
+-- each of its entries lacks some of it. Only a Sub and a Pub are denied.
+abbrev pub IsDenial : World → Command → Verdict → Type 0
+IsDenial w (Connect conn name password) v = ⊥
+IsDenial w (Sub conn p sid) v =
+    IsSomeAnd (user_at w conn) (λ (u : User). (v ≡ subscribe_verdict u.rules p)
+    × IsJustifiedSubscribe p u.rules.subscribe v)
+IsDenial w (Pub conn s body) v =
+    IsSomeAnd (user_at w conn) (λ (u : User). (v ≡ publish_verdict u.rules s)
+    × IsJustifiedPublish s u.rules.publish v)
+IsDenial w (Take conn most) v = ⊥
+IsDenial w (Close conn) v = ⊥
+
+-- what is denied is denied with reason
+abbrev pub HasReason : World → Command → Outcome → Type 0
+HasReason w c (Denied v) = IsDenial w c v
+HasReason w c _ = Unit {0}
+
+-- ---- delivery
+
+-- whether a user is of the account, and may be sent a message on the subject
+abbrev pub may_receive : List ℕ → List Token → Option User → Bool
+may_receive account s None = false
+may_receive account s (Some u) = pointwise nat_eq u.account account && is_allowed (delivery_verdict u.rules s)
+
+-- a message of an account is for a subscription that has its subject, and whose user in the policy in force is of
+-- that account and may be sent it
+abbrev pub is_for : World → List ℕ → List Token → Subscription → Bool
+is_for w account s sub = in_set sub.subject s && may_receive account s (user_at w sub.conn)
+
+-- the subscriptions that a message is for, oldest first
+abbrev pub recipients : World → List ℕ → List Token → List Subscription
+recipients w account s = filter (is_for w account s) w.subscriptions
+
+-- those of one connection
+abbrev pub of_connection : ℕ → List Subscription → List Subscription
+of_connection conn subs = filter (λ (sub : Subscription). sub.conn == conn) subs
+
+-- how many more deliveries the outbox of a connection's session has room for
+abbrev pub room_in : Option Session → ℕ
+room_in None = 0
+room_in (Some z) = z.outbox.capacity - length z.outbox.waiting
+
+-- what a subscriber is sent
+abbrev pub delivery_to : List Token → List ℕ → Subscription → Delivery
+delivery_to s body sub = record { subject = s; sid = sub.sid; body = body }
+
+-- A session after deliveries: its outbox holds what it held, and as many of them, oldest first, as it had room
+-- for; one was missed if it has missed one before, or there was no room for all.
+abbrev pub receives : List Delivery → Session → Session
+receives ds z = record z {
+  outbox = record z.outbox { waiting = z.outbox.waiting ++ take (room_in (Some z)) ds };
+  missed = z.missed || nat_lt (room_in (Some z)) (length ds);
+}
+
+-- the item of a subscription that its delivery has entered, and of one that found the outbox full
+abbrev pub entered : Subscription → Item
+entered sub = Entered sub.conn sub.sid
+
+abbrev pub found_full : Subscription → Item
+found_full sub = Full sub.conn sub.sid
+
+-- the items of subscriptions of one session: as many have entered as there was room for, and the others not
+abbrev pub items_with_room : ℕ → List Subscription → List Item
+items_with_room room subs = map entered (take room subs) ++ map found_full (drop room subs)
+
+-- the connection and the id that an item names
+abbrev pub item_names : Item → ℕ × List ℕ
+item_names (Entered conn sid) = (conn, sid)
+item_names (Full conn sid) = (conn, sid)
+
+abbrev pub names_of : Subscription → ℕ × List ℕ
+names_of sub = (sub.conn, sub.sid)
+
+-- the items of one connection
+abbrev pub items_of : ℕ → List Item → List Item
+items_of conn items = filter (λ (item : Item). (item_names item).0 == conn) items
+
+-- A message on its way to those that it is for.
+pub record IsDelivered (w : World) (s : List Token) (body : List ℕ) (subs : List Subscription) (items : List Item) (after : List Session) : Type 0 where
+  -- each of them has one item, oldest first, and nobody else has one
+  pub one_each : map item_names items ≡ map names_of subs
+  -- those of a connection have entered as long as there was room in its outbox; Full is reported of the others
+  pub with_room : (conn : ℕ) → items_of conn items ≡ items_with_room (room_in (session_of w.sessions conn)) (of_connection conn subs)
+  -- and these deliveries are what came into the outboxes
+  pub outboxes : after ≡ map (λ (z : Session). receives (map (delivery_to s body) (of_connection z.conn subs)) z) w.sessions
+
+-- ---- what a step does
+
+-- no session, outbox or subscription has changed
+pub record IsUntouched (w after : World) : Type 0 where
+  pub sessions : after.sessions ≡ w.sessions
+  pub subscriptions : after.subscriptions ≡ w.subscriptions
+
+-- What an answered command does to the sessions and subscriptions, by what it was answered.
+abbrev pub IsEffect : World → Command → Outcome → World → Type 0
+-- a session of the user stands, the last, with nothing in its outbox
+IsEffect w (Connect conn name password) Connected after =
+    IsSomeAnd (user_with_password w.policy name password) (λ (u : User). after.sessions ≡ w.sessions ++ new_session conn u w.capacity ∷ [])
+    × (after.subscriptions ≡ w.subscriptions)
+IsEffect w (Connect conn name password) AuthViolation after = IsUntouched w after
+-- the subscription stands, the youngest, where none of that id stood; else nothing changes
+IsEffect w (Sub conn p sid) Subscribed after =
+    (stands w.subscriptions conn sid ≡ false) × (after.sessions ≡ w.sessions)
+    × (after.subscriptions ≡ w.subscriptions ++ subscription_of after.number conn p sid ∷ [])
+IsEffect w (Sub conn p sid) SameSid after = (stands w.subscriptions conn sid ≡ true) × IsUntouched w after
+IsEffect w (Sub conn p sid) (Denied v) after = IsUntouched w after
+-- the message, by the rule that allows it, to those of the user's account that it is for, and to nobody else
+IsEffect w (Pub conn s body) (Published by items) after =
+    IsSomeAnd (user_at w conn) (λ (u : User). (publish_verdict u.rules s ≡ Allowed by)
+    × IsDelivered w s body (recipients w u.account s) items after.sessions)
+    × (after.subscriptions ≡ w.subscriptions)
+IsEffect w (Pub conn s body) (Denied v) after = IsUntouched w after
+-- the oldest deliveries of the connection's session leave its outbox, and what was missed has been told
+IsEffect w (Take conn most) (Taken deliveries missed) after =
+    IsSomeAnd (session_of w.sessions conn) (λ (z : Session). (deliveries ≡ take most z.outbox.waiting) × (missed ≡ z.missed))
+    × (after.sessions ≡ map (λ (z : Session). if z.conn == conn then drained most z else z) w.sessions)
+    × (after.subscriptions ≡ w.subscriptions)
+-- the connection's session and subscriptions go, and no others
+IsEffect w (Close conn) Closed after =
+    (after.sessions ≡ filter (λ (z : Session). not (z.conn == conn)) w.sessions)
+    × (after.subscriptions ≡ filter (λ (sub : Subscription). not (sub.conn == conn)) w.subscriptions)
+-- no command has another's answer
+IsEffect w command outcome after = ⊥
+
+-- ---- refusals
+
+-- the connection that a command names, and whether the command is to begin its session
+abbrev pub connection : Command → ℕ
+connection (Connect conn name password) = conn
+connection (Sub conn p sid) = conn
+connection (Pub conn s body) = conn
+connection (Take conn most) = conn
+connection (Close conn) = conn
+
+abbrev pub is_connect : Command → Bool
+is_connect (Connect conn name password) = true
+is_connect (Sub conn p sid) = false
+is_connect (Pub conn s body) = false
+is_connect (Take conn most) = false
+is_connect (Close conn) = false
+
+abbrev pub has_session : World → Command → Bool
+has_session w c = is_some (session_of w.sessions (connection c))
+
+-- the last number, 2^64 - 1, has been given
+abbrev pub is_history_full : World → Bool
+is_history_full w = w.number == 18446744073709551615
+
+-- 4,096 sessions stand
+abbrev pub is_at_limit : World → Bool
+is_at_limit w = nat_le 4096 (length w.sessions)
+
+-- Whether a command can be carried out: a number is left, and it is a Connect of a connection without a session,
+-- while there is room for one more, or another command of a connection with one.
+abbrev pub is_in_order : World → Command → Bool
+is_in_order w c = not (is_history_full w)
+    && (if is_connect c then not (has_session w c) && not (is_at_limit w) else has_session w c)
+
+-- Where a refusal may be answered: no number is left; a Connect of a connection that has a session; another
+-- command of one that has none; a Connect of one that has none, while 4,096 sessions stand; and want of memory
+-- only where the command could be carried out.
+abbrev pub is_due : World → Command → HubRefusal → Bool
+is_due w c HistoryFull = is_history_full w
+is_due w c SessionTaken = not (is_history_full w) && is_connect c && has_session w c
+is_due w c NoSession = not (is_history_full w) && not (is_connect c) && not (has_session w c)
+is_due w c SessionLimit = not (is_history_full w) && is_connect c && not (has_session w c) && is_at_limit w
+is_due w c NoMemory = is_in_order w c
+
+-- ---- the guarantee
+
+-- An answered step.
+pub record IsRouted (w : World) (e : Event) (a : Answer) (after : World) : Type 0 where
+  -- no refusal was due
+  pub in_order : is_in_order w e.what ≡ true
+  -- a command is accepted exactly where the policy in force allows it
+  pub accepted : accepts a.outcome ≡ allows w e.what
+  -- each denial names its deciding rule, or the missing allow
+  pub reason : HasReason w e.what a.outcome
+  -- sessions, outboxes and subscriptions change as the command asks, and in no other way
+  pub effect : IsEffect w e.what a.outcome after
+  -- the clock goes on to the event's moment, and the number rises by one; policy, epoch and capacity stay
+  pub others : (after ≡ record w { moment = max w.moment e.now; number = w.number + 1; sessions = after.sessions; subscriptions = after.subscriptions })
+  pub number : a.number ≡ w.number + 1
+  pub epoch : a.epoch ≡ w.epoch
+  -- no standing subscription is refused by the policy in force
+  pub sound : IsSound after
+
+-- A refused step hands the event back and changes nothing, where its refusal is due.
+pub record IsRefused (w : World) (e : Event) (refused : Event × HubRefusal) (after : World) : Type 0 where
+  pub back : refused.0 ≡ e
+  pub same : after ≡ w
+  pub due : is_due w e.what refused.1 ≡ true
+
+-- one step keeps the guarantee
+abbrev pub KeepsGuarantee : World → Event → Result Answer (Event × HubRefusal) → World → Type 0
+KeepsGuarantee w e (Ok a) after = IsRouted w e a after
+KeepsGuarantee w e (Err refused) after = IsRefused w e refused after
+
+-- Each step of a run keeps the guarantee, whatever the events.
+abbrev pub IsGuarded : World → List Event → List (Result Answer (Event × HubRefusal)) → World → Type 0
+IsGuarded = EachStep KeepsGuarantee

@@ -1,0 +1,9 @@
+pub mod Bounded
+pub mod Users
+pub mod World
+pub mod Routing
+pub mod Transition
+pub mod Run
+pub mod Shown
+pub mod Sound
+pub mod Guarantee

@@ -1,0 +1,55 @@
+-- What holds of the world of every hub (docs/GUARANTEE.md, "What always holds").
+use Rattle.std.specs.Prelude.{◌≡◌, ◌≢◌, ◌==◌, ◌&&◌, ◌<◌, ◌≤◌, ℕ, List, Bool, true, false, Option, Some, None, find, length, All, AllPairs}
+use Rattle.std.specs.Cmp.Lexicographic.{pointwise}
+use Rattle.std.specs.Prelude.{nat_eq}
+use Rattle.subjects.specs.Subject.{Token}
+use Rattle.policy_doc.specs.Document.{IsValidPolicy}
+use Rattle.policy_doc.specs.declared.document.PolicyDoc.{PolicyDoc}
+use Rattle.permissions.specs.Verdicts.{subscribe_verdict, is_allowed}
+use Rattle.hub.specs.Users.{users_of}
+use Rattle.hub.specs.World.{World, session_of}
+use Rattle.hub.specs.declared.ready.User.{User}
+use Rattle.hub.specs.declared.tables.Session.{Session}
+use Rattle.hub.specs.declared.tables.Subscription.{Subscription}
+
+-- the user of that name
+abbrev pub user_named : PolicyDoc → List ℕ → Option User
+user_named doc name = find (λ (u : User). pointwise nat_eq u.user name) (users_of doc)
+
+-- the user that a session acts for: whom the policy has under the name of the session's user
+abbrev pub user_behind : PolicyDoc → Option Session → Option User
+user_behind doc None = None
+user_behind doc (Some z) = user_named doc z.user.user
+
+-- the user that a connection acts for, as the policy in force has it
+abbrev pub user_at : World → ℕ → Option User
+user_at w conn = user_behind w.policy (session_of w.sessions conn)
+
+-- whether a user may subscribe to a pattern
+abbrev pub may_subscribe : Option User → List Token → Bool
+may_subscribe None p = false
+may_subscribe (Some u) p = is_allowed (subscribe_verdict u.rules p)
+
+-- whether two subscriptions have the same connection and sid
+abbrev pub has_same_sid : Subscription → Subscription → Bool
+has_same_sid s t = (s.conn == t.conn) && pointwise nat_eq s.sid t.sid
+
+-- What every hub keeps: from its opening, through each step.
+pub record IsSound (w : World) : Type 0 where
+  -- the policy in force is valid
+  pub policy : IsValidPolicy w.policy
+  -- at most 4,096 sessions stand
+  pub limit : length w.sessions ≤ 4096
+  -- no connection has two sessions
+  pub connections : AllPairs (λ (y z : Session). y.conn ≢ z.conn) w.sessions
+  -- the user of a session is, with its account and permissions, whom the policy in force has under its name
+  pub users : All (λ (z : Session). user_named w.policy z.user.user ≡ Some z.user) w.sessions
+  -- an outbox holds no more than the hub's capacity
+  pub outboxes : All (λ (z : Session). (z.outbox.capacity ≡ w.capacity) × (length z.outbox.waiting ≤ w.capacity)) w.sessions
+  -- the policy in force refuses no standing subscription: its connection has a session, whose user may have it
+  pub subscriptions : All (λ (s : Subscription). may_subscribe (user_at w s.conn) s.subject ≡ true) w.subscriptions
+  -- no connection has two of one sid
+  pub sids : AllPairs (λ (s t : Subscription). has_same_sid s t ≡ false) w.subscriptions
+  -- their ids rise, and none is above the last number
+  pub ids : AllPairs (λ (s t : Subscription). s.id < t.id) w.subscriptions
+  pub numbers : All (λ (s : Subscription). s.id ≤ w.number) w.subscriptions

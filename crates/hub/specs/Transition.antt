@@ -1,0 +1,128 @@
+-- The transition: what one event makes of the world (docs/GUARANTEE.md, "The step").
+use Rattle.std.specs.Prelude.{◌==◌, ◌+◌, ◌&&◌, ◌∷◌, ◌++◌, ◌≡◌, ℕ, List, [], Bool, false, Option, Some, None, Result, Ok, Err, if◌then◌else◌, filter, map, not, length, nat_le, nat_eq, take, drop, IsSomeAnd}
+use Rattle.std.specs.List.{list_any}
+use Rattle.std.specs.Cmp.Lexicographic.{pointwise}
+use Rattle.subjects.specs.Subject.{Token}
+use Rattle.permissions.specs.Verdicts.{publish_verdict, subscribe_verdict, IsJustifiedPublish, IsJustifiedSubscribe}
+use Rattle.permissions.specs.declared.verdict.Verdict.{Verdict}
+use Rattle.permissions.specs.declared.verdict.Verdict.TheVariants.{Allowed, DeniedBy, NoAllow}
+use Rattle.hub.specs.Users.{user_with_password}
+use Rattle.hub.specs.World.{World, session_of, with_session, advanced}
+use Rattle.hub.specs.Routing.{admitted, addressed_to, delivered}
+use Rattle.hub.specs.declared.ready.User.{User}
+use Rattle.hub.specs.declared.tables.Session.{Session}
+use Rattle.hub.specs.declared.tables.Subscription.{Subscription}
+use Rattle.hub.specs.declared.event.Event.{Event}
+use Rattle.hub.specs.declared.event.Command.{Command}
+use Rattle.hub.specs.declared.event.Command.TheVariants.{Connect, Sub, Pub, Take, Close}
+use Rattle.hub.specs.declared.answer.Answer.{Answer}
+use Rattle.hub.specs.declared.answer.Outcome.{Outcome}
+use Rattle.hub.specs.declared.answer.Outcome.TheVariants.{Connected, AuthViolation, Subscribed, SameSid, Denied, Published, Taken, Closed}
+use Rattle.hub.specs.declared.answer.HubRefusal.{HubRefusal}
+use Rattle.hub.specs.declared.answer.HubRefusal.TheVariants.{HistoryFull, NoSession, SessionTaken, SessionLimit, NoMemory}
+
+-- a session with nothing in its outbox
+abbrev pub new_session : ℕ → User → ℕ → Session
+new_session conn u capacity = record { conn = conn; user = u; missed = false; outbox = record { capacity = capacity; waiting = [] } }
+
+-- a session with an empty outbox, where a user has that name and password
+abbrev pub connected : World → ℕ → Option User → Outcome × World
+connected w conn None = (AuthViolation, w)
+connected w conn (Some u) =
+    (Connected, record w { sessions = w.sessions ++ new_session conn u w.capacity ∷ [] })
+
+-- whether a subscription of the connection stands under that id
+abbrev pub stands : List Subscription → ℕ → List ℕ → Bool
+stands subs conn sid = list_any (λ s. (s.conn == conn) && pointwise nat_eq s.sid sid) subs
+
+abbrev pub subscription_of : ℕ → ℕ → List Token → List ℕ → Subscription
+subscription_of id conn p sid = record { id = id; conn = conn; subject = p; sid = sid }
+
+-- the verdict first, then whether the id is taken
+abbrev pub subscribed : World → ℕ → List Token → List ℕ → Verdict → Outcome × World
+subscribed w conn p sid (Allowed by) =
+    if stands w.subscriptions conn sid then (SameSid, w)
+    else (Subscribed, record w { subscriptions = w.subscriptions ++ subscription_of (w.number + 1) conn p sid ∷ [] })
+subscribed w conn p sid (DeniedBy i) = (Denied (DeniedBy i), w)
+subscribed w conn p sid NoAllow = (Denied NoAllow, w)
+
+-- the verdict first, then the message to whom it is for
+abbrev pub published : World → Session → List Token → List ℕ → Verdict → Outcome × World
+published w z s body (Allowed by) =
+    let after = delivered (map (addressed_to s body) (admitted w z.user.account s)) w.sessions in
+    (Published by after.1, record w { sessions = after.0 })
+published w z s body (DeniedBy i) = (Denied (DeniedBy i), w)
+published w z s body NoAllow = (Denied NoAllow, w)
+
+-- a session after a Take: its oldest deliveries have left, and what was missed has been told
+abbrev pub drained : ℕ → Session → Session
+drained most z = record z { missed = false; outbox = record z.outbox { waiting = drop most z.outbox.waiting } }
+
+-- the oldest deliveries of a session, and whether one was missed since the last Take
+abbrev pub taken : List Session → ℕ → ℕ → Session → Outcome × List Session
+taken zs conn most z = (Taken (take most z.outbox.waiting) z.missed, with_session (drained most) conn zs)
+
+-- the session goes, with its outbox and its subscriptions
+abbrev pub closed : World → ℕ → Outcome × World
+closed w conn =
+    (Closed, record w { sessions = filter (λ z. not (z.conn == conn)) w.sessions; subscriptions = filter (λ s. not (s.conn == conn)) w.subscriptions })
+
+-- a command of a connection with a session, or NoSession
+abbrev pub in_session : {W : Type 0} → Option Session → (Session → Outcome × W) → Result (Outcome × W) HubRefusal
+in_session None _ = Err NoSession
+in_session (Some z) f = Ok (f z)
+
+-- a command that changes the sessions alone
+abbrev pub on_sessions : World → Result (Outcome × List Session) HubRefusal → Result (Outcome × World) HubRefusal
+on_sessions w (Ok r) = Ok (r.0, record w { sessions = r.1 })
+on_sessions w (Err e) = Err e
+
+-- a Connect of a connection without a session, while there is room for one more
+abbrev pub in_new_session : World → Option Session → Outcome × World → Result (Outcome × World) HubRefusal
+in_new_session w (Some z) _ = Err SessionTaken
+in_new_session w None r = if nat_le 4096 (length w.sessions) then Err SessionLimit else Ok r
+
+-- what a command makes of the world, or why it is refused
+abbrev pub moved : World → Command → Result (Outcome × World) HubRefusal
+moved w (Connect conn user pass) =
+    in_new_session w (session_of w.sessions conn) (connected w conn (user_with_password w.policy user pass))
+moved w (Sub conn p sid) =
+    in_session (session_of w.sessions conn) (λ z. subscribed w conn p sid (subscribe_verdict z.user.rules p))
+moved w (Pub conn s body) =
+    in_session (session_of w.sessions conn) (λ z. published w z s body (publish_verdict z.user.rules s))
+moved w (Take conn most) = on_sessions w (in_session (session_of w.sessions conn) (taken w.sessions conn most))
+moved w (Close conn) = in_session (session_of w.sessions conn) (λ z. closed w conn)
+
+-- each step raises the number by one
+abbrev pub numbered : ℕ → Result (Outcome × World) HubRefusal → Result (Outcome × World) HubRefusal
+numbered n (Ok r) = Ok (r.0, record r.1 { number = n })
+numbered n (Err e) = Err e
+
+-- the transition: outcome and world after, or the refusal. Numbers end at 2^64 - 1.
+abbrev pub transition : World → Event → Result (Outcome × World) HubRefusal
+transition w e = if w.number == 18446744073709551615 then Err HistoryFull else numbered (w.number + 1) (moved (advanced w e.now) e.what)
+
+-- What is denied has its reason in the lists of the session's user: the least deny entry that has all that was
+-- asked, or no deny entry has it, an allow list is given, and each of its entries lacks some of it.
+abbrev pub IsReasoned : World → Command → Outcome → Type 0
+IsReasoned w (Sub conn p sid) (Denied v) =
+    IsSomeAnd (session_of w.sessions conn) (λ (z : Session). IsJustifiedSubscribe p z.user.rules.subscribe v)
+IsReasoned w (Pub conn s body) (Denied v) =
+    IsSomeAnd (session_of w.sessions conn) (λ (z : Session). IsJustifiedPublish s z.user.rules.publish v)
+IsReasoned w command outcome = Unit {0}
+
+-- A refusal is the transition's, or want of memory where it refuses nothing.
+abbrev pub IsRefusal : {W : Type 0} → Result (Outcome × W) HubRefusal → HubRefusal → Type 0
+IsRefusal (Ok _) r = r ≡ NoMemory
+IsRefusal (Err e) r = r ≡ e
+
+-- What a call answered and left: the outcome and what it makes of the state, or a refusal that changes nothing.
+abbrev pub Gives : {W : Type 0} → W → Result (Outcome × W) HubRefusal → Result Outcome HubRefusal → W → Type 0
+Gives w t (Ok o) after = t ≡ Ok (o, after)
+Gives w t (Err r) after = (after ≡ w) × IsRefusal t r
+
+-- One step from a world to another: the transition, answered with its number and epoch; or a refusal that
+-- changes nothing and hands the event back.
+abbrev pub IsStep : World → Event → Result Answer (Event × HubRefusal) → World → Type 0
+IsStep w e (Ok a) after = (transition w e ≡ Ok (a.outcome, after)) × (a.number ≡ after.number) × (a.epoch ≡ after.epoch)
+IsStep w e (Err refused) after = (refused.0 ≡ e) × (after ≡ w) × IsRefusal (transition w e) refused.1

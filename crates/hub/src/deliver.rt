@@ -1,0 +1,189 @@
+//! A message to the subscriptions that it is for.
+ghost use Rattle.std.specs.Prelude.{◌≡◌, [], ◌∷◌, ◌++◌, ◌+◌, ◌≤◌, IfOk, OnOk, map, filter, length, vec_len, vec_capacity};
+ghost use Rattle.hub.specs.Routing.{lets_through, is_admitted, addressed_to, after_offer, item_of, delivered};
+ghost use Rattle.hub.specs.World.{session_of};
+ghost use Rattle.std.specs.Option.{option_copied};
+
+use crate::answer::{Delivery, Item};
+use crate::session::{find_session, place_of};
+use crate::tables::{Session, Subscription};
+use bytes::Bytes;
+use lists::{Copying, NoMemory};
+use permissions::By;
+use std::alloc::Global;
+use std::collections::VecDeque;
+use subjects::Subject;
+
+/// A delivery, and the subscription that it is for.
+#[derive(Debug, Drop)]
+pub struct Addressed {
+    /// The connection of the subscription.
+    pub conn: u64,
+    /// The client's own id for it.
+    pub sid: Bytes,
+    /// What is sent.
+    pub delivery: Delivery,
+}
+
+/// Whether a session is of the account, and its permissions let the subject through.
+fn is_open_to(session: Option<&Session>, account: &Bytes, subject: &Subject) -> bool
+    ensures { result ≡ lets_through account.now subject.now (option_copied session.entry) }
+{
+    match session {
+        None => false,
+        Some(session) => {
+            session.user.account == *account && session.user.rules.admits(subject).is_allowed()
+        }
+    }
+}
+
+/// Whether a message of the account on the subject is for the subscription.
+fn is_for(
+    sessions: &[Session],
+    account: &Bytes,
+    subject: &Subject,
+    subscription: &Subscription,
+) -> bool
+    ensures { result ≡ is_admitted sessions.now account.now subject.now subscription.now }
+{
+    subscription.subject.matches(subject)
+        && is_open_to(find_session(sessions, subscription.conn), account, subject)
+}
+
+/// The message, made ready to be handed to one subscription. Copies share its bytes.
+fn address(
+    alloc: Global,
+    subject: &Subject,
+    body: &Bytes,
+    subscription: &Subscription,
+) -> Result<Addressed, NoMemory>
+    ensures { IfOk result (λ made. made ≡ addressed_to subject.now body.now subscription.now) }
+{
+    Ok(Addressed {
+        conn: subscription.conn,
+        sid: subscription.sid.clone()?,
+        delivery: Delivery {
+            subject: subject.copy(alloc)?,
+            sid: subscription.sid.clone()?,
+            body: body.clone()?,
+        },
+    })
+}
+
+/// Adds the message for a subscription, if it is for it.
+fn address_if_for(
+    alloc: Global,
+    all: &mut VecDeque<Addressed>,
+    sessions: &[Session],
+    account: &Bytes,
+    subject: &Subject,
+    body: &Bytes,
+    subscription: &Subscription,
+) -> Result<(), NoMemory>
+    ensures { OnOk result (all.new.items ≡ all.old.items ++ map (addressed_to subject.now body.now)
+        (filter (is_admitted sessions.now account.now subject.now) (subscription.now ∷ []))) }
+{
+    if is_for(sessions, account, subject, subscription) {
+        all.push_back(address(alloc, subject, body, subscription)?)?;
+    }
+    Ok(())
+}
+
+/// The message for each subscription that it is for, oldest first.
+#[tactic(auto, using(crate::proofs::Lists::map_filter_more))]
+pub(crate) fn address_all(
+    alloc: Global,
+    sessions: &[Session],
+    subscriptions: &[Subscription],
+    account: &Bytes,
+    subject: &Subject,
+    body: &Bytes,
+) -> Result<VecDeque<Addressed>, NoMemory>
+    ensures { IfOk result (λ all. all.items ≡ map (addressed_to subject.now body.now)
+        (filter (is_admitted sessions.now account.now subject.now) subscriptions.now)) }
+{
+    let mut all = VecDeque::new(alloc);
+    for subscription in subscriptions {
+        address_if_for(
+            alloc,
+            &mut all,
+            sessions,
+            account,
+            subject,
+            body,
+            subscription,
+        )?;
+    }
+    Ok(all)
+}
+
+/// An accepted message, with all that handing it over takes.
+pub(crate) struct Routed {
+    /// What allowed it.
+    pub by: By,
+    /// For whom it is.
+    pub all: VecDeque<Addressed>,
+    /// No item yet, and room for one for each.
+    pub items: Vec<Item>,
+}
+
+/// An accepted message, addressed to each subscription that it is for.
+pub(crate) fn route(
+    alloc: Global,
+    by: By,
+    sessions: &[Session],
+    subscriptions: &[Subscription],
+    account: &Bytes,
+    subject: &Subject,
+    body: &Bytes,
+) -> Result<Routed, NoMemory>
+    ensures by { IfOk result (λ routed. routed.by ≡ by) }
+    ensures all { IfOk result (λ routed. routed.all.items ≡ map (addressed_to subject.now body.now)
+        (filter (is_admitted sessions.now account.now subject.now) subscriptions.now)) }
+    ensures items { IfOk result (λ routed. routed.items.items ≡ []) }
+    ensures room { IfOk result (λ routed. vec_len routed.items + length routed.all.items ≤ vec_capacity routed.items) }
+{
+    let all = address_all(alloc, sessions, subscriptions, account, subject, body)?;
+    let items = Vec::with_capacity(alloc, all.len())?;
+    Ok(Routed { by, all, items })
+}
+
+/// Hands one delivery to the session that it is for.
+fn hand_over(sessions: &mut [Session], addressed: Addressed) -> Item
+    ensures item { result ≡ item_of addressed sessions.old }
+    ensures after { sessions.new ≡ after_offer addressed sessions.old }
+{
+    let Addressed {
+        conn,
+        sid,
+        delivery,
+    } = addressed;
+    match place_of(sessions, conn) {
+        None => Item::Full { conn, sid },
+        Some(place) => {
+            let session = &mut sessions[place];
+            if session.offer(delivery) {
+                Item::Entered { conn, sid }
+            } else {
+                Item::Full { conn, sid }
+            }
+        }
+    }
+}
+
+/// Hands the deliveries over in turn. The items have room for what each met.
+pub(crate) fn hand_over_all(
+    sessions: &mut [Session],
+    mut all: VecDeque<Addressed>,
+    mut items: Vec<Item>,
+) -> Vec<Item>
+    requires { vec_len items + length all.items ≤ vec_capacity items }
+    ensures items { result.items ≡ items.items ++ (delivered all.items sessions.old).1 }
+    ensures after { sessions.new ≡ (delivered all.items sessions.old).0 }
+{
+    while let Some(next) = all.pop_front() {
+        let item = hand_over(sessions, next);
+        items.push_reserved(item);
+    }
+    items
+}

@@ -1,0 +1,213 @@
+//! The hub: one step of its tables, and a run of steps.
+use crate::answer::{Answer, HubRefusal};
+use crate::event::Event;
+use crate::ready::Ready;
+use crate::router::Router;
+use crate::session::find_session;
+use crate::tables::Subscription;
+use bytes::Bytes;
+use lists::{Copying, Items, NoMemory};
+use policy_doc::Policy;
+use std::alloc::Global;
+use std::collections::VecDeque;
+use std::marker::Model;
+use subjects::Pattern;
+
+/// What a hub is given once, at its opening.
+#[derive(Clone, Copy, Debug)]
+pub struct Caps {
+    /// How many deliveries may wait for a session, 1 to 65,536.
+    pub outbox: usize,
+}
+
+/// A standing subscription, as it is shown.
+#[derive(Drop)]
+pub struct Standing {
+    /// The number of the entry that made it.
+    pub id: u64,
+    /// The connection whose session has it.
+    pub conn: u64,
+    /// What it asks for.
+    pub subject: Pattern,
+    /// The client's own id for it.
+    pub sid: Bytes,
+}
+
+/// The router. A clause sees the world that its tables show. Of every hub it holds that the policy in force
+/// refuses no standing subscription, and what else `known` tells.
+#[derive(Drop)]
+pub struct Hub {
+    router: Router,
+}
+
+impl Model for Hub {
+    ghost use Rattle.hub.specs.World.{World};
+    ghost use Rattle.hub.specs.Sound.{IsSound};
+
+    ghost Value = { World };
+
+    ghost view = { λ h. h.router };
+
+    ghost invariant = { λ h. IsSound h.router };
+}
+
+impl Hub {
+    ghost use Rattle.std.specs.Prelude.{◌≡◌, ◌≤◌, IfOk, IfErr};
+    ghost use Rattle.hub.specs.World.{opening_world};
+    ghost use Rattle.hub.specs.Sound.{IsSound};
+
+    /// A hub over a policy, with nobody connected. `NoMemory` hands the policy back.
+    pub fn new(alloc: Global, ready: Ready, caps: Caps) -> Result<Hub, (Ready, NoMemory)>
+        requires low { 1 ≤ caps.outbox }
+        requires high { caps.outbox ≤ 65536 }
+        ensures ok { IfOk result (λ hub. hub ≡ opening_world ready caps.outbox) }
+        ensures err { IfErr result (λ refused. refused.0 ≡ ready) }
+    {
+        Ok(Hub {
+            router: Router {
+                alloc,
+                ready,
+                capacity: caps.outbox,
+                epoch: 1,
+                moment: 0,
+                number: 0,
+                sessions: Vec::new(alloc),
+                subscriptions: Vec::new(alloc),
+            },
+        })
+    }
+
+    ghost use Rattle.hub.specs.Transition.{IsStep};
+    ghost use Rattle.hub.specs.Guarantee.{KeepsGuarantee, IsGuarded};
+
+    /// Tells what holds of every hub (docs/GUARANTEE.md, "What always holds"): the policy in force is valid and
+    /// refuses no standing subscription; at most 4,096 sessions stand, each of a user of that policy; no connection
+    /// has two sessions, or two subscriptions of one sid; no outbox holds more than the hub's capacity; the ids of
+    /// subscriptions rise, and none is above the last number.
+    pub fn known(&self)
+        ensures { IsSound self.now }
+    {
+        // The loan tells the prover what the type keeps.
+        let _ = &self.router;
+    }
+
+    /// One event, whole: the outcome and the world after it are the transition's. A refusal changes
+    /// nothing and hands the event back: `HistoryFull` where number 2^64 - 1 has been given, `SessionTaken`
+    /// to a Connect of a connection with a session, `NoSession` to any other command of one without,
+    /// `SessionLimit` to a Connect while 4,096 sessions stand, `NoMemory` where memory could not be had.
+    /// The step keeps the routing guarantee.
+    pub fn step(&mut self, event: Event) -> Result<Answer, (Event, HubRefusal)>
+        ensures transition { IsStep self.old event result self.new }
+        ensures guarantee { KeepsGuarantee self.old event result self.new }
+    {
+        self.router.step(event)
+    }
+
+    ghost use Rattle.std.specs.Prelude.{[], length, map, vec_capacity};
+    ghost use Rattle.hub.specs.Run.{IsRun};
+    ghost use Rattle.hub.specs.Shown.{standing_of, waiting_of};
+
+    /// Steps of the events in order: the answer or the refusal of each. Where the list of answers finds no
+    /// memory, the events are handed back before the first step.
+    ///
+    /// The routing guarantee (docs/GUARANTEE.md, "The guarantee"): for every list of events, a command is
+    /// accepted exactly when the policy in force at its step allows it; a message enters a subscription's
+    /// outbox exactly when account and permissions admit it there with room left, and Full is reported
+    /// otherwise; each denial names its deciding rule or the missing allow; no standing subscription is
+    /// refused by the policy in force.
+    pub fn run(
+        &mut self,
+        events: Vec<Event>,
+    ) -> Result<Vec<Result<Answer, (Event, HubRefusal)>>, (Vec<Event>, NoMemory)>
+        ensures ok { IfOk result (λ answers. IsRun self.old events.items answers.items self.new) }
+        ensures guarantee { IfOk result (λ answers. IsGuarded self.old events.items answers.items self.new) }
+        ensures sound { IsSound self.new }
+        ensures err { IfErr result (λ refused. (refused.0 ≡ events) × (self.new ≡ self.old)) }
+    {
+        match Vec::with_capacity(self.router.alloc, events.len()) {
+            Ok(answers) => Ok(self.run_each(VecDeque::from(events), answers)),
+            Err(_) => Err((events, NoMemory)),
+        }
+    }
+
+    /// The steps of what is left of the events.
+    fn run_each(
+        &mut self,
+        mut events: VecDeque<Event>,
+        mut answers: Vec<Result<Answer, (Event, HubRefusal)>>,
+    ) -> Vec<Result<Answer, (Event, HubRefusal)>>
+        requires empty { answers.items ≡ [] }
+        requires room { length events.items ≤ vec_capacity answers }
+        ensures run { IsRun self.old events.items result.items self.new }
+        ensures guarantee { IsGuarded self.old events.items result.items self.new }
+    {
+        while let Some(event) = events.pop_front() {
+            let answer = self.step(event);
+            answers.push_reserved(answer);
+        }
+        answers
+    }
+
+    /// The policy in force, made ready.
+    pub fn ready(&self) -> &Ready
+        ensures { result.now ≡ self.now.policy }
+    {
+        &self.router.ready
+    }
+
+    /// The policy in force.
+    pub fn policy(&self) -> &Policy
+        ensures { result.now ≡ self.now.policy }
+    {
+        self.router.ready.policy()
+    }
+
+    /// The epoch in force: which policy it is, counted from 1.
+    pub fn epoch(&self) -> u128
+        ensures { result ≡ self.now.epoch }
+    {
+        self.router.epoch
+    }
+
+    /// The standing subscriptions, oldest first. `NoMemory` where memory could not be had.
+    pub fn standing(&self) -> Result<Items<Standing>, NoMemory>
+        ensures { IfOk result (λ all. all ≡ map standing_of self.now.subscriptions) }
+    {
+        standing_all(self.router.alloc, &self.router.subscriptions)
+    }
+
+    /// How many deliveries wait for the connection's session, and whether one was missed since its Connect or
+    /// last Take; `None` where it has no session.
+    pub fn waiting(&self, conn: u64) -> Option<(usize, bool)>
+        ensures { result ≡ waiting_of self.now conn }
+    {
+        match find_session(&self.router.sessions, conn) {
+            None => None,
+            Some(session) => Some((session.outbox.len(), session.missed)),
+        }
+    }
+}
+
+ghost use Rattle.std.specs.Prelude.{◌≡◌, IfOk, map};
+ghost use Rattle.hub.specs.Shown.{standing_of};
+
+fn standing_all(alloc: Global, subscriptions: &[Subscription]) -> Result<Items<Standing>, NoMemory>
+    ensures { IfOk result (λ all. all ≡ map standing_of subscriptions.now) }
+{
+    let mut all = Vec::with_capacity(alloc, subscriptions.len())?;
+    for subscription in subscriptions {
+        all.push(show_standing(alloc, subscription)?)?;
+    }
+    Ok(Items::from_vec(all))
+}
+
+fn show_standing(alloc: Global, subscription: &Subscription) -> Result<Standing, NoMemory>
+    ensures { IfOk result (λ shown. shown ≡ standing_of subscription.now) }
+{
+    Ok(Standing {
+        id: subscription.id,
+        conn: subscription.conn,
+        subject: subscription.subject.copy(alloc)?,
+        sid: subscription.sid.clone()?,
+    })
+}

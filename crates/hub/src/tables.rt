@@ -1,0 +1,34 @@
+ghost use Rattle.std.specs.Prelude.{◌≡◌, position, ◌==◌};
+ghost use Rattle.std.specs.Option.{option_copied};
+
+use crate::answer::Delivery;
+use crate::outbox::Outbox;
+use crate::ready::User;
+use bytes::Bytes;
+use subjects::Pattern;
+
+/// A client that has shown who it is.
+#[derive(Drop)]
+pub struct Session {
+    /// The connection.
+    pub conn: u64,
+    /// Whom it acts for, as the policy in force has it.
+    pub user: User,
+    /// Whether a full outbox has lost a delivery since the Connect or last Take.
+    pub missed: bool,
+    /// What waits for the client.
+    pub outbox: Outbox<Delivery>,
+}
+
+/// A subscription that stands.
+#[derive(Drop)]
+pub struct Subscription {
+    /// The number of the entry that made it. They rise, so the oldest has the least.
+    pub id: u64,
+    /// The connection whose session has it.
+    pub conn: u64,
+    /// What it asks for.
+    pub subject: Pattern,
+    /// The client's own id for it.
+    pub sid: Bytes,
+}

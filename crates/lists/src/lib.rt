@@ -1,0 +1,13 @@
+//! What every crate of natsd shares: lists that clauses compare, the pieces of a text, and want of memory.
+#![tactic(auto)]
+
+mod items;
+mod no_memory;
+mod pieces;
+
+pub use items::{Copying, Items};
+pub use no_memory::NoMemory;
+pub use pieces::Pieces;
+
+#[cfg(test)]
+mod tests;

@@ -1,0 +1,47 @@
+use crate::{Copying, Items, NoMemory, Pieces};
+use std::alloc::Global;
+use std::test::Fail;
+
+#[derive(Clone, Copy, Debug, PartialEq, Eq)]
+struct Token(u8);
+
+impl Copying for Token {
+    fn copy(&self, _alloc: Global) -> Result<Token, NoMemory> {
+        Ok(*self)
+    }
+}
+
+#[test]
+fn items_are_a_vector_in_order(rt: HostRuntime) -> Result<(), Fail> {
+    let items = Items::from_vec([Token(3), Token(1), Token(2)].to_vec(rt.alloc())?);
+    let copy = items.copy(rt.alloc())?;
+    assert_eq!(rt; items.len(), 3);
+    assert!(rt; !items.is_empty());
+    assert_eq!(rt; items.as_slice(), [Token(3), Token(1), Token(2)].as_slice());
+    assert_eq!(rt; copy.as_slice(), items.as_slice());
+    let vector = items.into_vec();
+    assert_eq!(rt; vector.as_slice(), copy.as_slice());
+    let none = Items::<Token>::new(rt.alloc());
+    assert_eq!(rt; none.len(), 0);
+    assert!(rt; none.is_empty());
+    assert!(rt; none.copy(rt.alloc())?.is_empty());
+    Ok(())
+}
+
+#[test]
+fn want_of_memory_has_a_text(rt: HostRuntime) -> Result<(), Fail> {
+    let text = format!(in rt.alloc(); "{NoMemory}")?;
+    assert_eq!(rt; text.as_str(), "no memory");
+    Ok(())
+}
+
+#[test]
+fn pieces_of_a_text(rt: HostRuntime) {
+    let mut pieces = Pieces::of(b"a..b.", b'.');
+    assert_eq!(rt; pieces.next_piece(), Some(b"a".as_slice()));
+    assert_eq!(rt; pieces.next_piece(), Some(b"".as_slice()));
+    assert_eq!(rt; pieces.next_piece(), Some(b"b".as_slice()));
+    assert_eq!(rt; pieces.next_piece(), Some(b"".as_slice()));
+    assert_eq!(rt; pieces.next_piece(), None);
+    assert_eq!(rt; pieces.next_piece(), None);
+}

@@ -1,0 +1,216 @@
+-- How the drains of a line go on, connection by connection.
+use Rattle.std.proofs.Common.{◌≡◌, ◌∙◌, ◌+◌, ◌<◌, ◌++◌, ◌∷◌, [], ℕ, Bool, true, false, List, length, take, drop, get_or, set, cond, suc, ◌==◌, ◌≤◌, arith, ap, sym, refl, subst}
+use Rattle.std.proofs.lemmas.List.{append_assoc, append-nil, take-append-drop, take-set, drop-set, drop-set-lt, set-get_or, take_more, take_more_set}
+use Rattle.std.proofs.Math.Seq.{drop-cons}
+use Rattle.std.proofs.Math.ListN.{drop_of_length-le}
+use Rattle.hub.specs.World.{World}
+use Rattle.natsd.specs.declared.client.Client.{Client}
+use Rattle.natsd.specs.declared.stage.Stage.{Stage}
+use Rattle.natsd.specs.declared.stage.Next.{Next}
+use Rattle.natsd.specs.declared.stage.Next.TheVariants.{Goes, HistoryFull}
+use Rattle.natsd.specs.Session.{Turn, IsTurn}
+use Rattle.natsd.specs.Play.{Act, act, reached, beside, received, reader_after, bytes_turn, drain_turn, drained, sent, IsAct}
+
+-- what is left to come, behind what is printed and the connections that are done, is what all comes to
+pub record Leads (written : List ℕ) (front : List Client) (rest : Act) (start : List ℕ) (all : Act) : Type 0 where
+  pub text : written ++ rest.text ≡ start ++ all.text
+  pub clients : front ++ rest.clients ≡ all.clients
+  pub world : rest.world ≡ all.world
+  pub stops : rest.stops ≡ all.stops
+
+-- nothing is left to come
+pub leads_done : (written start : List ℕ) (front : List Client) (w : World) (all : Act) →
+    Leads written front (act [] [] w false) start all → IsAct all start written front w false
+leads_done written start front w all h = record {
+  text = sym (append-nil written) ∙ h.text;
+  clients_are = sym (append-nil front) ∙ h.clients;
+  world_is = h.world;
+  stops_is = h.stops;
+}
+
+-- a connection goes on, and then the rest
+pub leads_more : (written now start : List ℕ) (front : List Client) (k : Client) (t : Turn) (s : Stage) (w : World) (more : World → Act) (ks : List Client) (all : Act) →
+    IsTurn t written now (Goes s) w → Leads written front (reached k t t.next more ks) start all →
+    Leads now (front ++ record k { stage = s } ∷ []) (more w) start all
+leads_more written now start front k t s w more ks all is h =
+    let rest : World → Act = λ v. act (t.text ++ (more v).text) (record k { stage = s } ∷ (more v).clients) (more v).world (more v).stops in
+    let same : reached k t t.next more ks ≡ rest w =
+    ap (λ (n : Next). reached k t n more ks) (sym is.next_is) ∙ ap rest (sym is.world_is) in
+    record {
+      text = ap (λ (a : List ℕ). a ++ (more w).text) is.text ∙ append_assoc written t.text (more w).text ∙ ap (λ (a : Act). written ++ a.text) (sym same) ∙ h.text;
+      clients = append_assoc front (record k { stage = s } ∷ []) (more w).clients ∙ ap (λ (a : Act). front ++ a.clients) (sym same) ∙ h.clients;
+      world = ap (λ (a : Act). a.world) (sym same) ∙ h.world;
+      stops = ap (λ (a : Act). a.stops) (sym same) ∙ h.stops;
+    }
+
+-- the history is full, and the others are not reached
+pub leads_full : (written now start : List ℕ) (front : List Client) (k : Client) (t : Turn) (w : World) (more : World → Act) (ks : List Client) (all : Act) →
+    IsTurn t written now HistoryFull w → Leads written front (reached k t t.next more ks) start all →
+    IsAct all start now (front ++ k ∷ ks) w true
+leads_full written now start front k t w more ks all is h =
+    let same : reached k t t.next more ks ≡ act t.text (k ∷ ks) t.world true = ap (λ (n : Next). reached k t n more ks) (sym is.next_is) in
+    record {
+      text = is.text ∙ ap (λ (a : Act). written ++ a.text) (sym same) ∙ h.text;
+      clients_are = ap (λ (a : Act). front ++ a.clients) (sym same) ∙ h.clients;
+      world_is = is.world_is ∙ ap (λ (a : Act). a.world) (sym same) ∙ h.world;
+      stops_is = ap (λ (a : Act). a.stops) (sym same) ∙ h.stops;
+    }
+
+take_all : (ks : List Client) (i : ℕ) → length ks ≤ i → take i ks ≡ ks
+take_all ks i h =
+    sym (append-nil (take i ks)) ∙ ap (λ (l : List Client). take i ks ++ l) (sym (drop_of_length-le ks h)) ∙ take-append-drop i ks
+
+-- the elements about an index
+cut_at : (ks : List Client) (i : ℕ) (z : Client) → i < length ks → drop i ks ≡ get_or ks i z ∷ drop (i + 1) ks
+cut_at ks i z h = let e : i + 1 ≡ suc i = omega arith in drop-cons ks i z h ∙ ap (λ (n : ℕ). get_or ks i z ∷ drop n ks) (sym e)
+
+written_at : (ks : List Client) (i : ℕ) (k : Client) → i < length ks → set ks i k ≡ take i ks ++ k ∷ drop (i + 1) ks
+written_at ks i k h =
+    sym (take-append-drop i (set ks i k))
+    ∙ ap (λ (l : List Client). l ++ drop i (set ks i k)) (take-set ks i k)
+    ∙ ap (λ (l : List Client). take i ks ++ l) (drop-set ks i k h)
+
+whole_at : (ks : List Client) (i : ℕ) (z : Client) → i < length ks → ks ≡ take i ks ++ get_or ks i z ∷ drop (i + 1) ks
+whole_at ks i z h = sym (take-append-drop i ks) ∙ ap (λ (l : List Client). take i ks ++ l) (cut_at ks i z h)
+
+-- the drains from an index on, by the connection there
+drained_at : (ks : List Client) (i : ℕ) (z : Client) (w : World) → i < length ks →
+    drained (drop i ks) w ≡ reached (get_or ks i z) (drain_turn w (get_or ks i z)) (drain_turn w (get_or ks i z)).next (λ v. drained (drop (i + 1) ks) v) (drop (i + 1) ks)
+unfolding drained
+drained_at ks i z w h = ap (λ (l : List Client). drained l w) (cut_at ks i z h)
+
+-- a connection is drained and goes on
+pub draining_more : (ks : List Client) (i : ℕ) (z : Client) (s : Stage) (w w' : World) (written now start : List ℕ) (all : Act) → i < length ks →
+    IsTurn (drain_turn w (get_or ks i z)) written now (Goes s) w' →
+    Leads written (take i ks) (drained (drop i ks) w) start all →
+    Leads now (take (i + 1) (set ks i (record (get_or ks i z) { stage = s }))) (drained (drop (i + 1) (set ks i (record (get_or ks i z) { stage = s }))) w') start all
+draining_more ks i z s w w' written now start all h is leads =
+    let k = get_or ks i z in
+    let P : Act → Type 0 = λ a. Leads written (take i ks) a start all in
+    let next = leads_more written now start (take i ks) k (drain_turn w k) s w' (λ v. drained (drop (i + 1) ks) v) (drop (i + 1) ks) all is (subst P (drained_at ks i z w h) leads) in
+    let Q : List Client → Type 0 = λ l. Leads now l (drained (drop (i + 1) ks) w') start all in
+    let R : List Client → Type 0 = λ l. Leads now (take (i + 1) (set ks i (record k { stage = s }))) (drained l w') start all in
+    subst R (sym (drop-set-lt (i + 1) ks i (record k { stage = s }) (omega arith)))
+    (subst Q (sym (take_more_set ks i (record k { stage = s }) h)) next)
+
+-- a connection at which the history is full
+pub draining_full : (ks : List Client) (i : ℕ) (z : Client) (w w' : World) (written now start : List ℕ) (all : Act) → i < length ks →
+    IsTurn (drain_turn w (get_or ks i z)) written now HistoryFull w' →
+    Leads written (take i ks) (drained (drop i ks) w) start all →
+    IsAct all start now (set ks i (get_or ks i z)) w' true
+draining_full ks i z w w' written now start all h is leads =
+    let k = get_or ks i z in
+    let P : Act → Type 0 = λ a. Leads written (take i ks) a start all in
+    let Q : List Client → Type 0 = λ l. IsAct all start now l w' true in
+    subst Q (sym (whole_at ks i z h) ∙ sym (set-get_or ks i z))
+    (leads_full written now start (take i ks) k (drain_turn w k) w' (λ v. drained (drop (i + 1) ks) v) (drop (i + 1) ks) all is (subst P (drained_at ks i z w h) leads))
+
+-- all connections are drained
+pub draining_done : (ks : List Client) (i : ℕ) (w : World) (written start : List ℕ) (all : Act) → length ks ≤ i →
+    Leads written (take i ks) (drained (drop i ks) w) start all → IsAct all start written ks w false
+unfolding drained
+draining_done ks i w written start all h leads =
+    let P : List Client → Type 0 = λ l. Leads written (take i ks) (drained l w) start all in
+    let Q : List Client → Type 0 = λ l. IsAct all start written l w false in
+    subst Q (take_all ks i h) (leads_done written start (take i ks) w all (subst P (drop_of_length-le ks h) leads))
+
+-- the bytes from an index on, by the connection there
+sent_at : (conn : ℕ) (bytes : List ℕ) (w : World) (ks : List Client) (i : ℕ) (z : Client) → i < length ks →
+    sent conn bytes w (drop i ks) ≡ cond ((get_or ks i z).conn == conn) (received w (get_or ks i z) bytes (drop (i + 1) ks)) (beside (get_or ks i z ∷ []) (sent conn bytes w (drop (i + 1) ks)))
+unfolding sent
+sent_at conn bytes w ks i z h = ap (λ (l : List Client). sent conn bytes w l) (cut_at ks i z h)
+
+-- no connection before the index has the number
+pub record IsPast (conn : ℕ) (bytes : List ℕ) (w : World) (ks : List Client) (i : ℕ) : Type 0 where
+  pub left : sent conn bytes w ks ≡ beside (take i ks) (sent conn bytes w (drop i ks))
+
+-- nor the one at it
+pub past_more : (conn : ℕ) (bytes : List ℕ) (w : World) (ks : List Client) (i : ℕ) (z : Client) → i < length ks →
+    (get_or ks i z).conn == conn ≡ false → IsPast conn bytes w ks i → IsPast conn bytes w ks (i + 1)
+past_more conn bytes w ks i z h other past = record {
+  left =
+      past.left
+      ∙ ap (beside (take i ks)) (sent_at conn bytes w ks i z h
+      ∙ ap (λ (b : Bool). cond b (received w (get_or ks i z) bytes (drop (i + 1) ks)) (beside (get_or ks i z ∷ []) (sent conn bytes w (drop (i + 1) ks)))) other)
+      ∙ ap (λ (l : List Client). let a = sent conn bytes w (drop (i + 1) ks) in act a.text l a.world a.stops)
+      (sym (append_assoc (take i ks) (get_or ks i z ∷ []) (sent conn bytes w (drop (i + 1) ks)).clients)
+      ∙ ap (λ (l : List Client). l ++ (sent conn bytes w (drop (i + 1) ks)).clients) (sym (take_more ks i z h)));
+}
+
+-- the one at it has the number
+past_here : (conn : ℕ) (bytes : List ℕ) (w : World) (ks : List Client) (i : ℕ) (z : Client) → i < length ks →
+    (get_or ks i z).conn == conn ≡ true → IsPast conn bytes w ks i →
+    sent conn bytes w ks ≡ beside (take i ks) (received w (get_or ks i z) bytes (drop (i + 1) ks))
+past_here conn bytes w ks i z h same past =
+    past.left
+    ∙ ap (beside (take i ks)) (sent_at conn bytes w ks i z h
+    ∙ ap (λ (b : Bool). cond b (received w (get_or ks i z) bytes (drop (i + 1) ks)) (beside (get_or ks i z ∷ []) (sent conn bytes w (drop (i + 1) ks)))) same)
+
+-- no connection has it
+pub past_all : (conn : ℕ) (bytes : List ℕ) (w : World) (ks : List Client) (i : ℕ) (start : List ℕ) → length ks ≤ i →
+    IsPast conn bytes w ks i → IsAct (sent conn bytes w ks) start start ks w false
+unfolding sent
+past_all conn bytes w ks i start h past =
+    let none : sent conn bytes w ks ≡ beside (take i ks) (act [] [] w false) = past.left ∙ ap (λ (l : List Client). beside (take i ks) (sent conn bytes w l)) (drop_of_length-le ks h) in
+    record {
+      text = sym (append-nil start) ∙ ap (λ (a : Act). start ++ a.text) (sym none);
+      clients_are = sym (take_all ks i h) ∙ sym (append-nil (take i ks)) ∙ ap (λ (a : Act). a.clients) (sym none);
+      world_is = ap (λ (a : Act). a.world) (sym none);
+      stops_is = ap (λ (a : Act). a.stops) (sym none);
+    }
+
+-- the connection with its reader after the bytes
+abbrev pub fed : Client → List ℕ → Client
+fed k bytes = record k { reader = reader_after k.reader bytes }
+
+-- the connection of the number goes on
+pub sent_goes : (conn : ℕ) (bytes : List ℕ) (w w' : World) (ks : List Client) (i : ℕ) (z : Client) (s : Stage) (start now : List ℕ) → i < length ks →
+    (get_or ks i z).conn == conn ≡ true → IsPast conn bytes w ks i → IsTurn (bytes_turn w (get_or ks i z) bytes) start now (Goes s) w' →
+    IsAct (sent conn bytes w ks) start now (set ks i (record (fed (get_or ks i z) bytes) { stage = s })) w' false
+sent_goes conn bytes w w' ks i z s start now h same past is =
+    let k = get_or ks i z in
+    let t = bytes_turn w k bytes in
+    let rest = drop (i + 1) ks in
+    let gone : sent conn bytes w ks ≡ beside (take i ks) (act (t.text ++ []) (record (fed k bytes) { stage = s } ∷ rest) t.world false) =
+    past_here conn bytes w ks i z h same past
+    ∙ ap (λ (n : Next). beside (take i ks) (reached (fed k bytes) t n (λ v. act [] rest v false) rest)) (sym is.next_is) in
+    record {
+      text = is.text ∙ ap (λ (l : List ℕ). start ++ l) (sym (append-nil t.text)) ∙ ap (λ (a : Act). start ++ a.text) (sym gone);
+      clients_are = written_at ks i (record (fed k bytes) { stage = s }) h ∙ ap (λ (a : Act). a.clients) (sym gone);
+      world_is = is.world_is ∙ ap (λ (a : Act). a.world) (sym gone);
+      stops_is = ap (λ (a : Act). a.stops) (sym gone);
+    }
+
+-- the history is full
+pub sent_full : (conn : ℕ) (bytes : List ℕ) (w w' : World) (ks : List Client) (i : ℕ) (z : Client) (start now : List ℕ) → i < length ks →
+    (get_or ks i z).conn == conn ≡ true → IsPast conn bytes w ks i → IsTurn (bytes_turn w (get_or ks i z) bytes) start now HistoryFull w' →
+    IsAct (sent conn bytes w ks) start now (set ks i (fed (get_or ks i z) bytes)) w' true
+sent_full conn bytes w w' ks i z start now h same past is =
+    let k = get_or ks i z in
+    let t = bytes_turn w k bytes in
+    let rest = drop (i + 1) ks in
+    let gone : sent conn bytes w ks ≡ beside (take i ks) (act t.text (fed k bytes ∷ rest) t.world true) =
+    past_here conn bytes w ks i z h same past
+    ∙ ap (λ (n : Next). beside (take i ks) (reached (fed k bytes) t n (λ v. act [] rest v false) rest)) (sym is.next_is) in
+    record {
+      text = is.text ∙ ap (λ (a : Act). start ++ a.text) (sym gone);
+      clients_are = written_at ks i (fed k bytes) h ∙ ap (λ (a : Act). a.clients) (sym gone);
+      world_is = is.world_is ∙ ap (λ (a : Act). a.world) (sym gone);
+      stops_is = ap (λ (a : Act). a.stops) (sym gone);
+    }
+
+-- nothing has changed so far
+pub sent-same : (conn : ℕ) (bytes : List ℕ) (w w0 after : World) (ks ks0 left : List Client) (out out0 now : List ℕ) (stops : Bool) →
+    w ≡ w0 → ks ≡ ks0 → out ≡ out0 → IsAct (sent conn bytes w ks) out now left after stops → IsAct (sent conn bytes w0 ks0) out0 now left after stops
+sent-same conn bytes w w0 after ks ks0 left out out0 now stops ew ek eo h =
+    let P : World → Type 0 = λ v. IsAct (sent conn bytes v ks) out now left after stops in
+    let Q : List Client → Type 0 = λ l. IsAct (sent conn bytes w0 l) out now left after stops in
+    let R : List ℕ → Type 0 = λ o. IsAct (sent conn bytes w0 ks0) o now left after stops in
+    subst R eo (subst Q ek (subst P ew h))
+
+pub past-same : (conn : ℕ) (bytes : List ℕ) (w : World) (ks ks' : List Client) (i : ℕ) → ks ≡ ks' → IsPast conn bytes w ks i → IsPast conn bytes w ks' i
+past-same conn bytes w ks ks' i e h = let P : List Client → Type 0 = λ l. IsPast conn bytes w l i in subst P e h
+
+-- before the first index
+pub past_zero : (conn : ℕ) (bytes : List ℕ) (w : World) (ks : List Client) → IsPast conn bytes w ks 0
+past_zero conn bytes w ks = record { left = refl }

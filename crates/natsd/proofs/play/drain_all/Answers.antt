@@ -1,0 +1,28 @@
+-- each connection is drained in turn
+use Rattle.std.proofs.Common.{arith, ◌∙◌, ◌<◌, ◌≤◌, length}
+use Rattle.std.proofs.lemmas.List.{length-set}
+use Rattle.natsd.specs.Play.{drained}
+use Rattle.natsd.proofs.Drains.{draining_more, draining_full, draining_done}
+use Rattle.natsd.proofs.Takes.{IsTurn-same}
+use Rattle.natsd.proofs.play.drain_all.Goals as goal
+
+pub returns-in-HistoryFull : goal.returns-in-HistoryFull
+returns-in-HistoryFull c =
+    let within : c.draining.client-index < length c.draining.clients = omega arith in
+    draining_full c.draining.clients c.draining.client-index c.client-item.result c.draining.hub c.drain.new.hub c.draining.out.items c.drain.new.out.items c.args.out.now.items (drained c.args.clients.now c.args.hub.now)
+    within (IsTurn-same _ _ _ _ _ _ c.in-HistoryFull.is c.in_ok-stage.ensures) c.draining.invariant.leads
+
+pub draining-preserved : goal.draining-preserved
+draining-preserved c =
+    let within : c.draining.client-index < length c.draining.clients = omega arith in
+    record {
+      leads =
+          draining_more c.draining.clients c.draining.client-index c.client-item.result c.in-Goes.stage c.draining.hub c.drain.new.hub c.draining.out.items c.drain.new.out.items c.args.out.now.items (drained c.args.clients.now c.args.hub.now)
+          within (IsTurn-same _ _ _ _ _ _ c.in-Goes.is c.in_ok-stage.ensures) c.draining.invariant.leads;
+      len = length-set _ _ _ ∙ c.draining.invariant.len;
+    }
+
+pub returns : goal.returns
+returns c =
+    let past : length c.draining.clients ≤ c.draining.client-index = omega arith in
+    draining_done c.draining.clients c.draining.client-index c.draining.hub c.draining.out.items c.args.out.now.items (drained c.args.clients.now c.args.hub.now) past c.draining.invariant.leads

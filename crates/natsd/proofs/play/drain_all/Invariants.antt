@@ -1,0 +1,11 @@
+-- the connections from the index on are as they were, and their drains, behind what is done, are all drains
+use Rattle.std.proofs.Common.{◌≡◌, take, drop, length}
+use Rattle.natsd.specs.Play.{drained}
+use Rattle.natsd.proofs.Drains.{Leads}
+use Rattle.natsd.proofs.play.drain_all.Given as goal
+
+abbrev pub invariant-draining : goal.invariant-draining
+invariant-draining l = record {
+  leads : Leads l.out.items (take l.client-index l.clients) (drained (drop l.client-index l.clients) l.hub) l.initial.out.items (drained l.initial.clients l.initial.hub);
+  len : length l.clients ≡ length l.initial.clients;
+}

@@ -1,0 +1,27 @@
+-- How the reading and the writing of a script end (docs/SCRIPT.md, "Statuses").
+use Rattle.std.specs.Prelude.{ℕ, List, codes, Bool, true, false, Result, Ok, Err}
+use Rattle.natsd.specs.declared.fault.PlayFault.{PlayFault}
+use Rattle.natsd.specs.declared.fault.PlayFault.TheVariants.{ReadFailed, WriteFailed, NoMemory, ScriptTooLong}
+
+-- the source failed
+abbrev pub is_read_failed : {T : Type 0} → Result T PlayFault → Bool
+is_read_failed (Ok _) = false
+is_read_failed (Err ReadFailed) = true
+is_read_failed (Err WriteFailed) = false
+is_read_failed (Err NoMemory) = false
+is_read_failed (Err ScriptTooLong) = false
+
+-- the sink failed
+abbrev pub is_write_failed : {T : Type 0} → Result T PlayFault → Bool
+is_write_failed (Ok _) = false
+is_write_failed (Err ReadFailed) = false
+is_write_failed (Err WriteFailed) = true
+is_write_failed (Err NoMemory) = false
+is_write_failed (Err ScriptTooLong) = false
+
+-- what is said of a fault
+abbrev pub fault_text : PlayFault → List ℕ
+fault_text ReadFailed = codes "read failed"
+fault_text WriteFailed = codes "write failed"
+fault_text NoMemory = codes "no memory"
+fault_text ScriptTooLong = codes "script too long"

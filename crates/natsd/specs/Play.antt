@@ -1,0 +1,224 @@
+-- The meaning of a script: what `natsd play` prints and its status, line by line (docs/SCRIPT.md).
+use Rattle.std.specs.Prelude.{◌≡◌, ◌==◌, ◌+◌, ◌/◌, ◌++◌, ◌∷◌, ◌||◌, ℕ, zero, suc, Bool, true, false, not, List, [], Option, Some, None, Result, Ok, Err, length, filter, insert, if◌then◌else◌, nat_lt}
+use Rattle.std.specs.List.{list_any, position_or_len}
+use Rattle.lists.specs.Pieces.{pieces_of}
+use Rattle.policy_doc.specs.Document.{builtin_doc}
+use Rattle.wire_read.specs.Framing.{Reader, frames_of}
+use Rattle.wire_read.specs.declared.frame.Frame.{Frame}
+use Rattle.wire_write.specs.Texts.{info_line}
+use Rattle.hub.specs.World.{World, opening_world}
+use Rattle.hub.specs.Shown.{waiting_of}
+use Rattle.hub.specs.declared.event.Command.TheVariants as command
+use Rattle.hub.specs.declared.answer.Outcome.{Outcome}
+use Rattle.hub.specs.declared.answer.HubRefusal.{HubRefusal}
+use Rattle.hub.specs.declared.answer.HubRefusal.TheVariants as refusal
+use Rattle.natsd.specs.Session.{Turn, unasked, asked, behind, followed_by, answered, reply_to_take, frames_turn, IsTurn}
+use Rattle.natsd.specs.Script.{line_of}
+use Rattle.natsd.specs.Output.{shown_line, closed_line, refused_line, full_line}
+use Rattle.natsd.specs.declared.client.Client.{Client}
+use Rattle.natsd.specs.declared.script.Line.{Line}
+use Rattle.natsd.specs.declared.script.Line.TheVariants.{Skip, Open, Send, Other}
+use Rattle.natsd.specs.declared.stage.Stage.{Stage}
+use Rattle.natsd.specs.declared.stage.Stage.TheVariants as stage
+use Rattle.natsd.specs.declared.stage.Next.{Next}
+use Rattle.natsd.specs.declared.stage.Next.TheVariants.{Goes, HistoryFull}
+
+-- the moment of every event
+abbrev pub play_moment : ℕ
+play_moment = 0
+
+-- how many deliveries may wait for a session
+abbrev pub play_capacity : ℕ
+play_capacity = 1024
+
+-- the line of what a connection was sent, if it was sent anything
+abbrev pub shown_if : ℕ → List ℕ → List ℕ
+shown_if conn text = if length text == 0 then [] else shown_line conn text
+
+-- a turn that prints this
+abbrev pub printing : List ℕ → Next → World → Turn
+printing text next w = record { text = text; next = next; world = w }
+
+-- whether the hub takes no more events
+abbrev pub is_full : Result Outcome HubRefusal → Bool
+is_full (Ok _) = false
+is_full (Err refusal.HistoryFull) = true
+is_full (Err refusal.NoSession) = false
+is_full (Err refusal.SessionTaken) = false
+is_full (Err refusal.SessionLimit) = false
+is_full (Err refusal.NoMemory) = false
+
+-- the caller's Close, where a session may stand
+abbrev pub ended_by : Result Outcome HubRefusal × World → Turn
+ended_by a = if is_full a.0 then printing full_line HistoryFull a.1 else printing [] (Goes (stage.Closed false)) a.1
+
+abbrev pub ended : ℕ → World → Bool → Turn
+ended conn w false = printing [] (Goes (stage.Closed false)) w
+ended conn w true = ended_by (answered w (record { now = play_moment; what = command.Close conn }))
+
+-- what a call of a connection prints: what it was sent; whether it closed, and then its session goes; whether the history is full
+abbrev pub settled_by : ℕ → Next → List ℕ → World → Turn
+settled_by conn (Goes (stage.Closed session)) text w = behind (shown_if conn text ++ closed_line conn) (ended conn w session)
+settled_by conn (Goes stage.Fresh) text w = printing (shown_if conn text) (Goes stage.Fresh) w
+settled_by conn (Goes (stage.Connected verbose)) text w = printing (shown_if conn text) (Goes (stage.Connected verbose)) w
+settled_by conn HistoryFull text w = printing (shown_if conn text ++ full_line) HistoryFull w
+
+abbrev pub settled : ℕ → Turn → Turn
+settled conn t = settled_by conn t.next t.text t.world
+
+-- whether a connection is to be drained: something waits or was missed, or its session is gone
+abbrev pub is_pending : Option (ℕ × Bool) → Bool
+is_pending None = true
+is_pending (Some waiting) = waiting.1 || nat_lt 0 waiting.0
+
+-- a Take of 64
+abbrev pub take_turn : ℕ → World → Bool → Turn
+take_turn conn w verbose =
+    asked (reply_to_take verbose) (answered w (record { now = play_moment; what = command.Take conn 64 }))
+
+-- what one Take prints, if one is to be made
+abbrev pub pending_turn : ℕ → World → Stage → Option Turn
+pending_turn conn w stage.Fresh = None
+pending_turn conn w (stage.Closed session) = None
+pending_turn conn w (stage.Connected verbose) =
+    if is_pending (waiting_of w conn) then Some (settled conn (take_turn conn w verbose)) else None
+
+-- a turn and what follows it, or nothing
+abbrev pub if_any : Option Turn → (World → Stage → Turn) → World → Stage → Turn
+if_any None more w s = unasked w [] s
+if_any (Some t) more w s = followed_by t more
+
+-- Takes while something is pending, so many at most
+unfoldable pub takes : ℕ → ℕ → World → Stage → Turn
+takes zero conn w s = unasked w [] s
+takes (suc most) conn w s = if_any (pending_turn conn w s) (λ w' s'. takes most conn w' s') w s
+
+-- what a call wrote and left where there is a turn, and that it did nothing where there is none
+abbrev pub IsTurnIf : Option Turn → List ℕ → List ℕ → World → World → Option Next → Type 0
+IsTurnIf None before after old new None = (after ≡ before) × (new ≡ old)
+IsTurnIf (Some t) before after old new (Some next) = IsTurn t before after next new
+IsTurnIf None before after old new (Some next) = ⊥
+IsTurnIf (Some t) before after old new None = ⊥
+
+-- each Take but the last takes 64 deliveries, so these are enough
+abbrev pub enough_takes : Option (ℕ × Bool) → ℕ
+enough_takes None = 1
+enough_takes (Some waiting) = waiting.0 / 64 + 1
+
+abbrev pub drain_turn : World → Client → Turn
+drain_turn w k = takes (enough_takes (waiting_of w k.conn)) k.conn w k.stage
+
+-- what is printed, the connections and the world after, and whether the script stops there
+pub record Act : Type 0 where
+  pub text : List ℕ
+  pub clients : List Client
+  pub world : World
+  pub stops : Bool
+
+abbrev pub act : List ℕ → List Client → World → Bool → Act
+act text clients w stops = record { text = text; clients = clients; world = w; stops = stops }
+
+-- an act behind connections that it leaves as they are
+abbrev pub beside : List Client → Act → Act
+beside ks a = record a { clients = ks ++ a.clients }
+
+-- a turn of one connection, and then what becomes of the others; they are not reached where the history is full
+abbrev pub reached : Client → Turn → Next → (World → Act) → List Client → Act
+reached k t (Goes s) more ks =
+    let rest = more t.world in act (t.text ++ rest.text) (record k { stage = s } ∷ rest.clients) rest.world rest.stops
+reached k t HistoryFull more ks = act t.text (k ∷ ks) t.world true
+
+-- what a call printed behind what stood there, and what it left, is the act's
+pub record IsAct (a : Act) (before after : List ℕ) (clients : List Client) (w : World) (stops : Bool) : Type 0 where
+  pub text : after ≡ before ++ a.text
+  pub clients_are : clients ≡ a.clients
+  pub world_is : w ≡ a.world
+  pub stops_is : stops ≡ a.stops
+
+-- every connection is drained, in ascending order
+unfoldable pub drained : List Client → World → Act
+drained [] w = act [] [] w false
+drained (k ∷ ks) w = let t = drain_turn w k in reached k t t.next (drained ks) ks
+
+-- the frames that bytes complete, of a stream that has not failed
+abbrev pub frames_if : Reader → List ℕ → Option (List Frame)
+frames_if r bytes = if r.failed then None else Some (frames_of (r.rest ++ bytes)).frames
+
+-- what a client's bytes come to: the frames that they complete, in order. A stream that has failed gives none.
+abbrev pub bytes_turn : World → Client → List ℕ → Turn
+bytes_turn w k bytes =
+    if k.reader.failed then unasked w [] k.stage
+    else settled k.conn (frames_turn play_moment k.conn w k.stage (frames_of (k.reader.rest ++ bytes)).frames)
+
+-- the reader after the bytes
+abbrev pub reader_after : Reader → List ℕ → Reader
+reader_after r bytes = if r.failed then r else (let f = frames_of (r.rest ++ bytes) in record { rest = f.rest; failed = f.failed })
+
+-- the bytes to the connection of that number
+abbrev pub received : World → Client → List ℕ → List Client → Act
+received w k bytes ks =
+    let t = bytes_turn w k bytes in reached (record k { reader = reader_after k.reader bytes }) t t.next (λ w'. act [] ks w' false) ks
+
+unfoldable pub sent : ℕ → List ℕ → World → List Client → Act
+sent conn bytes w [] = act [] [] w false
+sent conn bytes w (k ∷ ks) = if k.conn == conn then received w k bytes ks else beside (k ∷ []) (sent conn bytes w ks)
+
+-- whether a connection of that number is open
+abbrev pub is_open : List Client → ℕ → Bool
+is_open ks conn = list_any (λ k. k.conn == conn) ks
+
+-- a new connection, before the first of a greater number
+abbrev pub with_client : Client → List Client → List Client
+with_client k ks = insert ks (position_or_len (λ x. nat_lt k.conn x.conn) ks) k
+
+abbrev pub new_client : ℕ → Client
+new_client conn = record { conn = conn; reader = record { rest = []; failed = false }; stage = stage.Fresh }
+
+-- what a line itself does
+abbrev pub line_act : ℕ → Line → World → List Client → Act
+line_act number Skip w ks = act [] ks w false
+line_act number (Open conn) w ks =
+    if is_open ks conn then act (refused_line number) ks w true
+    else act (shown_line conn (info_line conn)) (with_client (new_client conn) ks) w false
+line_act number (Send conn bytes) w ks = sent conn bytes w ks
+line_act number Other w ks = act (refused_line number) ks w true
+
+abbrev pub is_closed : Stage → Bool
+is_closed (stage.Closed _) = true
+is_closed stage.Fresh = false
+is_closed (stage.Connected _) = false
+
+-- the connections that are still open
+abbrev pub still_open : List Client → List Client
+still_open ks = filter (λ k. not (is_closed k.stage)) ks
+
+-- a line, and then the drains
+abbrev pub and_drains : Act → Bool → Act
+and_drains a true = a
+and_drains a false = let d = drained a.clients a.world in act (a.text ++ d.text) (still_open d.clients) d.world d.stops
+
+unfoldable pub line_and_drains : ℕ → List ℕ → World → List Client → Act
+line_and_drains number text w ks = let a = line_act number (line_of text) w ks in and_drains a a.stops
+
+-- what a script prints, and its status
+pub record Played : Type 0 where
+  pub text : List ℕ
+  pub status : ℕ
+
+abbrev pub stops_or : Act → Bool → (World → List Client → Played) → Played
+stops_or a true more = record { text = a.text; status = 1 }
+stops_or a false more = let rest = more a.world a.clients in record { text = a.text ++ rest.text; status = rest.status }
+
+-- the lines from a number on
+unfoldable pub played : ℕ → List (List ℕ) → World → List Client → Played
+played number [] w ks = record { text = []; status = 0 }
+played number (line ∷ lines) w ks =
+    let a = line_and_drains number line w ks in stops_or a a.stops (λ w' ks'. played (number + 1) lines w' ks')
+
+-- the lines of a script: what stands between its LFs. Behind a last LF there is one more, the empty one, which is skipped.
+abbrev pub lines_of : List ℕ → List (List ℕ)
+lines_of script = pieces_of 10 script
+
+-- what a script prints under the built-in policy
+unfoldable pub output_of : List ℕ → Played
+output_of script = played 1 (lines_of script) (opening_world builtin_doc play_capacity) []

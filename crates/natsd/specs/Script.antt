@@ -1,0 +1,108 @@
+-- The lines of a script (docs/SCRIPT.md).
+use Rattle.std.specs.Prelude.{◌==◌, ◌+◌, ◌*◌, ◌-◌, ◌^◌, ◌<◌, ℕ, Bool, true, ◌&&◌, List, [], ◌∷◌, take, drop, position, Option, Some, None, if◌then◌else◌, nat_lt, nat_le, nat_eq, codes, option_map, option_and_then}
+use Rattle.std.specs.List.{starts_with}
+use Rattle.std.specs.Str.{all_ascii_digits}
+use Rattle.std.specs.Str.Parse.{digits_value}
+use Rattle.natsd.specs.declared.script.Line.{Line}
+use Rattle.natsd.specs.declared.script.Line.TheVariants.{Skip, Open, Send, Other}
+use Rattle.natsd.specs.declared.script.Escape.{Escape}
+use Rattle.natsd.specs.declared.script.Escape.TheVariants.{Plain, Backslash, HighDigit, LowDigit}
+use Rattle.natsd.specs.declared.script.Step.{Step}
+use Rattle.natsd.specs.declared.script.Step.TheVariants.{Wrong, Within, Byte}
+
+-- an empty line and a comment say nothing
+abbrev pub is_skipped : List ℕ → Bool
+is_skipped [] = true
+is_skipped (b ∷ bs) = b == 35
+
+-- the decimal number of a text, which has a digit and fits 64 bits; leading zeros count for nothing
+abbrev pub number_of : List ℕ → Option ℕ
+number_of [] = None
+number_of (d ∷ ds) = number_of_digits (d ∷ ds) (digits_value 10 (d ∷ ds))
+  where
+    number_of_digits : List ℕ → ℕ → Option ℕ
+    number_of_digits ds n = if all_ascii_digits ds && nat_lt n (2 ^ 64) then Some n else None
+
+-- the value of a hexadecimal digit in either case
+abbrev pub hex_of : ℕ → Option ℕ
+hex_of c =
+    if nat_le 48 c && nat_le c 57 then Some (c - 48)
+    else if nat_le 97 c && nat_le c 102 then Some (c - 87)
+    else if nat_le 65 c && nat_le c 70 then Some (c - 55)
+    else None
+
+-- the same bytes after one more
+abbrev pub with_byte : ℕ → Option (List ℕ) → Option (List ℕ)
+with_byte b bytes = option_map (λ bs. b ∷ bs) bytes
+
+abbrev mutual
+  -- the bytes that a text stands for: each is itself, but a `\` begins an escape
+  pub unescaped : List ℕ → Option (List ℕ)
+  unescaped [] = Some []
+  unescaped (b ∷ bs) = if b == 92 then escape bs else with_byte b (unescaped bs)
+
+  -- after `\`: `r` is CR, `n` is LF, `\` is itself, and `x` has two hexadecimal digits
+  pub escape : List ℕ → Option (List ℕ)
+  escape [] = None
+  escape (b ∷ bs) =
+      if b == 114 then with_byte 13 (unescaped bs)
+      else if b == 110 then with_byte 10 (unescaped bs)
+      else if b == 92 then with_byte 92 (unescaped bs)
+      else if b == 120 then high_digit bs
+      else None
+
+  pub high_digit : List ℕ → Option (List ℕ)
+  high_digit [] = None
+  high_digit (b ∷ bs) = option_and_then (λ high. low_digit high bs) (hex_of b)
+
+  pub low_digit : ℕ → List ℕ → Option (List ℕ)
+  low_digit high [] = None
+  low_digit high (b ∷ bs) = option_and_then (λ low. with_byte (16 * high + low) (unescaped bs)) (hex_of b)
+
+-- the same of what follows when a part of an escape has been read
+abbrev pub after_part : Escape → List ℕ → Option (List ℕ)
+after_part Plain bs = unescaped bs
+after_part Backslash bs = escape bs
+after_part HighDigit bs = high_digit bs
+after_part (LowDigit high) bs = low_digit high bs
+
+-- a first hexadecimal digit is below 16
+abbrev pub IsHex : Escape → Type 0
+IsHex (LowDigit high) = high < 16
+IsHex _ = Unit {0}
+
+-- the bytes of the text whose first byte made this step, and whose rest is bs
+abbrev pub after_step : Step → List ℕ → Option (List ℕ)
+after_step Wrong bs = None
+after_step (Within state) bs = after_part state bs
+after_step (Byte b) bs = with_byte b (unescaped bs)
+
+abbrev pub IsHexStep : Step → Type 0
+IsHexStep (Within state) = IsHex state
+IsHexStep _ = Unit {0}
+
+-- what a line says of the connection with this number
+abbrev pub open_of : Option ℕ → Line
+open_of (Some conn) = Open conn
+open_of None = Other
+
+abbrev pub send_of : Option ℕ → Option (List ℕ) → Line
+send_of (Some conn) (Some bytes) = Send conn bytes
+send_of _ None = Other
+send_of None _ = Other
+
+-- after `send `: a number, a space, and a text that may be empty
+abbrev pub send_line : List ℕ → Line
+send_line rest = around (position (λ b. b == 32) rest)
+  where
+    around : Option ℕ → Line
+    around None = Other
+    around (Some at) = send_of (number_of (take at rest)) (unescaped (drop (at + 1) rest))
+
+-- what a line of a script says: nothing, that a connection opens, what its client sends, or something else
+abbrev pub line_of : List ℕ → Line
+line_of line =
+    if is_skipped line then Skip
+    else if starts_with nat_eq line (codes "open ") then open_of (number_of (drop 5 line))
+    else if starts_with nat_eq line (codes "send ") then send_line (drop 5 line)
+    else Other

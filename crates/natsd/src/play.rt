@@ -1,0 +1,262 @@
+// `natsd play`: a script over one hub (docs/SCRIPT.md).
+ghost use Rattle.std.specs.Prelude.{◌≡◌, ◌≤◌, ◌++◌, IfOk, OnOk, nat_lt, length, ◌||◌, OnErr, ◌≢◌, false, IfSome};
+ghost use Rattle.std.specs.List.{position_or_len};
+ghost use Rattle.std.specs.Io.KnownBytes.{Appends, IsAtEnd};
+ghost use Rattle.natsd.specs.Play.{drained, sent, is_open, with_client, new_client, line_act, still_open, is_closed, line_and_drains, IsAct, play_capacity, output_of};
+ghost use Rattle.hub.specs.World.{World, opening_world};
+ghost use Rattle.policy_doc.specs.Document.{builtin_doc};
+ghost use Rattle.natsd.specs.Device.{AppendsFront};
+ghost use Rattle.natsd.specs.Input.{is_read_failed, is_write_failed};
+
+use crate::client::Client;
+use crate::device::{Sink, Source, write_all};
+use crate::fault::PlayFault;
+use crate::input::read_to_end;
+use crate::output::{write_refused, write_shown};
+use crate::script::{Line, read_line};
+use crate::stage::{Next, Stage};
+use hub::{Caps, Hub, Ready};
+use lists::{NoMemory, Pieces};
+use policy_doc::Policy;
+use std::alloc::Global;
+use wire_write::write_info;
+
+/// How many deliveries may wait for a session.
+const CAPACITY: usize = 1024;
+
+/// Drains every connection, in ascending order.
+fn drain_all(
+    alloc: Global,
+    hub: &mut Hub,
+    clients: &mut [Client],
+    out: &mut Vec<u8>,
+) -> Result<bool, NoMemory>
+    ensures { IfOk result (λ stops. IsAct (drained clients.old hub.old) out.old.items out.new.items clients.new hub.new stops) }
+{
+    'draining: for client in clients.iter_mut() {
+        match client.drain(alloc, hub, out)? {
+            Next::Goes(stage) => client.stage = stage,
+            Next::HistoryFull => return Ok(true),
+        }
+    }
+    Ok(false)
+}
+
+/// Hands bytes to the connection of that number, if it is open.
+fn send(
+    alloc: Global,
+    hub: &mut Hub,
+    clients: &mut [Client],
+    conn: u64,
+    bytes: &[u8],
+    out: &mut Vec<u8>,
+) -> Result<bool, NoMemory>
+    ensures { IfOk result (λ stops. IsAct (sent conn bytes.now hub.old clients.old) out.old.items out.new.items clients.new hub.new stops) }
+{
+    'looking: for client in clients.iter_mut() {
+        if client.conn == conn {
+            match client.on_bytes(alloc, hub, bytes, out)? {
+                Next::Goes(stage) => {
+                    client.stage = stage;
+                    return Ok(false);
+                }
+                Next::HistoryFull => return Ok(true),
+            }
+        }
+    }
+    Ok(false)
+}
+
+/// How many connections have no greater number.
+fn place_for(clients: &[Client], conn: u64) -> usize
+    ensures place { result ≡ position_or_len (λ x. nat_lt conn x.conn) clients.now }
+    ensures within { result ≤ length clients.now }
+{
+    clients
+        .iter()
+        .take_while(|client| client.conn <= conn)
+        .count()
+}
+
+/// Adds a connection, before the first of a greater number.
+fn add_client(clients: &mut Vec<Client>, client: Client) -> Result<(), NoMemory>
+    ensures { OnOk result (clients.new.items ≡ with_client client clients.old.items) }
+{
+    let place = place_for(clients.as_slice(), client.conn);
+    clients.insert(place, client)?;
+    Ok(())
+}
+
+/// Whether a connection of that number is open.
+fn is_open(clients: &[Client], conn: u64) -> bool
+    ensures { result ≡ is_open clients.now conn }
+{
+    clients.iter().any(|client| client.conn == conn)
+}
+
+/// Whether nothing more is written to a connection.
+fn is_closed(stage: &Stage) -> bool
+    ensures { result ≡ is_closed stage.now }
+{
+    match stage {
+        Stage::Closed { .. } => true,
+        Stage::Fresh => false,
+        Stage::Connected { .. } => false,
+    }
+}
+
+/// Forgets the connections that have closed.
+fn remove_closed(clients: &mut Vec<Client>)
+    ensures { clients.new.items ≡ still_open clients.old.items }
+{
+    clients.retain(|client| !is_closed(&client.stage));
+}
+
+/// A new connection, unless one of that number is open.
+fn open(
+    alloc: Global,
+    clients: &mut Vec<Client>,
+    number: u64,
+    conn: u64,
+    out: &mut Vec<u8>,
+) -> Result<bool, NoMemory>
+    ensures { (w : World) → IfOk result (λ stops. IsAct (line_act number (Line.Open conn) w clients.old.items) out.old.items out.new.items clients.new.items w stops) }
+{
+    if is_open(clients.as_slice(), conn) {
+        write_refused(out, number)?;
+        return Ok(true);
+    }
+    let mut info = Vec::new(alloc);
+    write_info(&mut info, conn)?;
+    write_shown(out, conn, info.as_slice())?;
+    add_client(clients, Client::new(alloc, conn))?;
+    Ok(false)
+}
+
+/// What a line itself does.
+fn on_line(
+    alloc: Global,
+    hub: &mut Hub,
+    clients: &mut Vec<Client>,
+    number: u64,
+    line: Line,
+    out: &mut Vec<u8>,
+) -> Result<bool, NoMemory>
+    ensures { IfOk result (λ stops. IsAct (line_act number line hub.old clients.old.items) out.old.items out.new.items clients.new.items hub.new stops) }
+{
+    match line {
+        Line::Skip => Ok(false),
+        Line::Open(conn) => {
+            let stops = open(alloc, clients, number, conn, out)?;
+            Ok(stops)
+        }
+        Line::Send(conn, bytes) => {
+            let stops = send(
+                alloc,
+                hub,
+                clients.as_mut_slice(),
+                conn,
+                bytes.as_slice(),
+                out,
+            )?;
+            Ok(stops)
+        }
+        Line::Other => {
+            write_refused(out, number)?;
+            Ok(true)
+        }
+    }
+}
+
+/// A line, and then the drains.
+#[tactic(auto, unfolding(crate::specs::Play::line_and_drains))]
+fn on_line_and_drain(
+    alloc: Global,
+    hub: &mut Hub,
+    clients: &mut Vec<Client>,
+    number: u64,
+    text: &[u8],
+    out: &mut Vec<u8>,
+) -> Result<bool, NoMemory>
+    ensures { IfOk result (λ stops. IsAct (line_and_drains number text.now hub.old clients.old.items) out.old.items out.new.items clients.new.items hub.new stops) }
+{
+    let line = read_line(alloc, text)?;
+    if on_line(alloc, hub, clients, number, line, out)? {
+        return Ok(true);
+    }
+    let stops = drain_all(alloc, hub, clients.as_mut_slice(), out)?;
+    remove_closed(clients);
+    Ok(stops)
+}
+
+/// A hub over the built-in policy, with nobody connected.
+fn open_hub(alloc: Global) -> Result<Hub, NoMemory>
+    ensures { IfOk result (λ hub. hub ≡ opening_world builtin_doc play_capacity) }
+{
+    let policy = Policy::builtin(alloc)?;
+    match Ready::of(alloc, policy) {
+        Ok(ready) => match Hub::new(alloc, ready, Caps { outbox: CAPACITY }) {
+            Ok(hub) => Ok(hub),
+            Err((_, refused)) => Err(refused),
+        },
+        Err((_, refused)) => Err(refused),
+    }
+}
+
+/// Plays the lines of a script.
+fn play_lines<W: Sink>(alloc: Global, script: &[u8], sink: &mut W) -> Result<u8, PlayFault>
+    requires { length script.now ≤ 16777216 }
+    ensures meaning { IfOk result (λ status. Appends (W.contents sink.old) (W.contents sink.new) (output_of script.now).text
+        × (status ≡ (output_of script.now).status)) }
+    ensures prefix { OnErr result (AppendsFront (W.contents sink.old) (W.contents sink.new) (output_of script.now).text) }
+    ensures failed { W.failed sink.new ≡ (W.failed sink.old || is_write_failed result) }
+    ensures read { is_read_failed result ≡ false }
+    ensures long { result ≢ Err PlayFault.ScriptTooLong }
+{
+    let mut hub = open_hub(alloc)?;
+    let mut clients = Vec::new(alloc);
+    let mut lines = Pieces::of(script, b'\n');
+    let mut number = 0u64;
+    'playing: while let Some(line) = lines.next_piece() {
+        number += 1;
+        let mut out = Vec::new(alloc);
+        let stops = on_line_and_drain(alloc, &mut hub, &mut clients, number, line, &mut out)?;
+        match write_all(sink, out.as_slice()) {
+            Err(_) => return Err(PlayFault::WriteFailed),
+            Ok(()) => {
+                if stops {
+                    return Ok(1);
+                }
+            }
+        }
+    }
+    Ok(0)
+}
+
+/// Plays a script: reads the source to its end, and writes what the script prints to the sink, line by line
+/// (docs/SCRIPT.md). Answers the status, 0 or 1.
+///
+/// `ReadFailed` and `WriteFailed` come where the device failed in this call, which the clauses tell of a device
+/// that had not failed before; `ScriptTooLong` where the script has no end within 16,777,216 bytes or 1,000,000
+/// reads; `NoMemory` where memory could not be had. What was written then is a front of what the script prints.
+pub fn play<R: Source, W: Sink>(
+    alloc: Global,
+    source: &mut R,
+    sink: &mut W,
+) -> Result<u8, PlayFault>
+    // The source's bytes are the script, where it tells them.
+    ensures meaning { IfOk result (λ status. IfSome (R.remaining source.old) (λ script.
+        Appends (W.contents sink.old) (W.contents sink.new) (output_of script).text
+        × (status ≡ (output_of script).status))) }
+    ensures prefix { OnErr result (IfSome (R.remaining source.old) (λ script.
+        AppendsFront (W.contents sink.old) (W.contents sink.new) (output_of script).text)) }
+    ensures read_failed { R.failed source.new ≡ (R.failed source.old || is_read_failed result) }
+    ensures write_failed { W.failed sink.new ≡ (W.failed sink.old || is_write_failed result) }
+    ensures end { OnOk result (IsAtEnd (R.remaining source.new)) }
+    ensures small { OnOk result (IfSome (R.remaining source.old) (λ script. length script ≤ 16777216)) }
+    ensures too_long { result ≡ Err PlayFault.ScriptTooLong → IfSome (R.remaining source.old) (λ script. 1000000 ≤ length script) }
+{
+    let script = read_to_end(alloc, source)?;
+    let status = play_lines(alloc, script.as_slice(), sink)?;
+    Ok(status)
+}

@@ -1,0 +1,178 @@
+// The lines of a script of `natsd play` (docs/SCRIPT.md).
+ghost use Rattle.std.specs.Prelude.{◌≡◌, ◌∷◌, ◌<◌, ℕ, List, IfOk, IfSome, option_map, position, ◌==◌};
+ghost use Rattle.natsd.specs.Script.{is_skipped, number_of, hex_of, unescaped, after_part, after_step, IsHex, IsHexStep, open_of, send_line, line_of};
+
+use lists::{Items, NoMemory};
+use std::alloc::Global;
+
+/// What one line of a script says.
+#[derive(Debug, Drop)]
+pub enum Line {
+    /// Nothing: the line is empty or a comment.
+    Skip,
+    /// A connection with this number opens.
+    Open(u64),
+    /// The connection's client sends these bytes.
+    Send(u64, Items<u8>),
+    /// The line has another form.
+    Other,
+}
+
+/// What a line, without its LF, says. `NoMemory` comes where the bytes to send can't be kept.
+pub fn read_line(alloc: Global, line: &[u8]) -> Result<Line, NoMemory>
+    ensures { IfOk result (λ read. read ≡ line_of line.now) }
+{
+    if is_skipped(line) {
+        return Ok(Line::Skip);
+    }
+    match line.strip_prefix(b"open ") {
+        Some(rest) => Ok(read_open(rest)),
+        None => match line.strip_prefix(b"send ") {
+            Some(rest) => Ok(read_send(alloc, rest)?),
+            None => Ok(Line::Other),
+        },
+    }
+}
+
+/// Whether the line is empty or a comment.
+fn is_skipped(line: &[u8]) -> bool
+    ensures { result ≡ is_skipped line.now }
+{
+    match line {
+        [] => true,
+        [first, ..] => *first == b'#',
+    }
+}
+
+/// What the rest of a line after `open ` says.
+fn read_open(rest: &[u8]) -> Line
+    ensures { result ≡ open_of (number_of rest.now) }
+{
+    match read_number(rest) {
+        Some(conn) => Line::Open(conn),
+        None => Line::Other,
+    }
+}
+
+/// What the rest of a line after `send ` says.
+fn read_send(alloc: Global, rest: &[u8]) -> Result<Line, NoMemory>
+    ensures { IfOk result (λ read. read ≡ send_line rest.now) }
+{
+    match first_space(rest) {
+        None => Ok(Line::Other),
+        Some(at) => match read_number(&rest[..at]) {
+            None => Ok(Line::Other),
+            Some(conn) => match unescape(alloc, &rest[at + 1..])? {
+                None => Ok(Line::Other),
+                Some(bytes) => Ok(Line::Send(conn, Items::from_vec(bytes))),
+            },
+        },
+    }
+}
+
+/// Where the first space of a text stands.
+fn first_space(text: &[u8]) -> Option<usize>
+    ensures { result ≡ position (λ byte. byte == 32) text.now }
+{
+    text.iter().position(|byte| *byte == b' ')
+}
+
+/// The decimal number that a text writes, if it is one and fits 64 bits.
+fn read_number(text: &[u8]) -> Option<u64>
+    ensures { result ≡ number_of text.now }
+{
+    if text.is_empty() {
+        return None;
+    }
+    let mut number: u64 = 0;
+    for digit in text {
+        if !digit.is_ascii_digit() {
+            return None;
+        }
+        number = number
+            .checked_mul(10)?
+            .checked_add(u64::from(*digit - b'0'))?;
+    }
+    Some(number)
+}
+
+/// The bytes that a text stands for, or `None` where a `\` in it begins no escape.
+fn unescape(alloc: Global, text: &[u8]) -> Result<Option<Vec<u8>>, NoMemory>
+    ensures { IfOk result (λ bytes. option_map (λ vec. vec.items) bytes ≡ unescaped text.now) }
+{
+    let mut bytes = Vec::with_capacity(alloc, text.len())?;
+    let mut escape = Escape::Plain;
+    for byte in text {
+        match read_byte(escape, *byte) {
+            Step::Wrong => return Ok(None),
+            Step::Within(next) => escape = next,
+            Step::Byte(byte) => {
+                bytes.push(byte)?;
+                escape = Escape::Plain;
+            }
+        }
+    }
+    match escape {
+        Escape::Plain => Ok(Some(bytes)),
+        _ => Ok(None),
+    }
+}
+
+/// Which part of an escape has been read.
+#[derive(Clone, Copy, Debug)]
+enum Escape {
+    Plain,
+    Backslash,
+    HighDigit,
+    LowDigit(u8),
+}
+
+/// What a byte of a text comes to.
+#[derive(Clone, Copy, Debug)]
+enum Step {
+    Wrong,
+    Within(Escape),
+    Byte(u8),
+}
+
+/// What the next byte comes to when a part of an escape has been read.
+fn read_byte(escape: Escape, byte: u8) -> Step
+    requires { IsHex escape }
+    ensures text { (rest : List ℕ) → after_part escape (byte ∷ rest) ≡ after_step result rest }
+    ensures digit { IsHexStep result }
+{
+    match escape {
+        Escape::Plain => match byte {
+            b'\\' => Step::Within(Escape::Backslash),
+            _ => Step::Byte(byte),
+        },
+        Escape::Backslash => match byte {
+            b'r' => Step::Byte(b'\r'),
+            b'n' => Step::Byte(b'\n'),
+            b'\\' => Step::Byte(b'\\'),
+            b'x' => Step::Within(Escape::HighDigit),
+            _ => Step::Wrong,
+        },
+        Escape::HighDigit => match hex_value(byte) {
+            Some(high) => Step::Within(Escape::LowDigit(high)),
+            None => Step::Wrong,
+        },
+        Escape::LowDigit(high) => match hex_value(byte) {
+            Some(low) => Step::Byte(16 * high + low),
+            None => Step::Wrong,
+        },
+    }
+}
+
+/// The value of a hexadecimal digit in either case.
+fn hex_value(digit: u8) -> Option<u8>
+    ensures value { result ≡ hex_of digit }
+    ensures small { IfSome result (λ value. value < 16) }
+{
+    match digit {
+        b'0'..=b'9' => Some(digit - b'0'),
+        b'a'..=b'f' => Some(digit - b'a' + 10),
+        b'A'..=b'F' => Some(digit - b'A' + 10),
+        _ => None,
+    }
+}

@@ -1,0 +1,485 @@
+ghost use Rattle.std.specs.Prelude.{None, false};
+
+use crate::device::{DeviceFailed, ReadSource, Source, WriteSink};
+use crate::fail_at::FailAt;
+use crate::fault::PlayFault;
+use crate::play::play;
+use std::alloc::{AllocError, Global};
+use std::io;
+use std::io::Read;
+use std::test::Fail;
+
+const FIRST_MESSAGE: &[u8] = br#"open 1
+send 1 CONNECT {"user":"demo","pass":"demo","verbose":false}\r\n
+send 1 SUB foo 1\r\nPUB foo 2\r\nhi\r\nPING\r\n
+"#;
+
+const FIRST_MESSAGE_PRINTS: &[u8] =
+    br#"1< INFO {"auth_required":true,"client_id":1,"headers":true,"max_payload":1048576,"proto":1,"server_id":"natsd","version":"0.1.0"}\r\n
+1< PONG\r\n
+1< MSG foo 1 2\r\nhi\r\n
+"#;
+
+// What a script prints, and its status.
+fn played(alloc: Global, script: &[u8]) -> Result<(u8, Vec<u8>), PlayFault> {
+    let mut sink = WriteSink::new(Vec::new(alloc));
+    let status = play(alloc, &mut ReadSource::new(script), &mut sink)?;
+    Ok((status, sink.into_writer()))
+}
+
+// The same without the INFO lines.
+fn answered(alloc: Global, script: &[u8]) -> Result<(u8, Vec<u8>), PlayFault> {
+    let (status, printed) = played(alloc, script)?;
+    let mut answers = Vec::new(alloc);
+    for line in printed.as_slice().split(|b| *b == b'\n') {
+        let behind = line.iter().position(|b| *b == b' ').unwrap_or(0);
+        if !line.is_empty() && !line[behind..].starts_with(b" INFO ") {
+            answers.extend_from_slice(line)?;
+            answers.extend_from_slice(b"\n")?;
+        }
+    }
+    Ok((status, answers))
+}
+
+// A script in which user demo connects as 1, and then these lines come.
+fn as_demo(alloc: Global, lines: &[u8]) -> Result<Vec<u8>, AllocError> {
+    let mut script = Vec::new(alloc);
+    script.extend_from_slice(
+        br#"open 1
+send 1 CONNECT {"user":"demo","pass":"demo","verbose":false}\r\n
+"#,
+    )?;
+    script.extend_from_slice(lines)?;
+    Ok(script)
+}
+
+// A text so many times.
+fn repeated(alloc: Global, text: &[u8], times: usize) -> Result<Vec<u8>, AllocError> {
+    let mut all = Vec::new(alloc);
+    for _ in 0..times {
+        all.extend_from_slice(text)?;
+    }
+    Ok(all)
+}
+
+#[test]
+fn the_first_message(rt: HostRuntime) {
+    match played(rt.alloc(), FIRST_MESSAGE) {
+        Ok((status, printed)) => {
+            assert_eq!(rt; status, 0);
+            assert_eq!(rt; printed.as_slice(), FIRST_MESSAGE_PRINTS);
+        }
+        Err(_) => panic!(rt; "the script was not played"),
+    }
+}
+
+#[test]
+fn answers_to_demo(rt: HostRuntime) {
+    let cases: [(&[u8], &[u8]); 14] = [
+        // An empty payload.
+        (
+            br"send 1 SUB foo 1\r\nPUB foo 0\r\n\r\n",
+            b"1< MSG foo 1 0\\r\\n\\r\\n\n",
+        ),
+        // Bad subjects leave the connection open.
+        (
+            br"send 1 SUB foo..bar 1\r\nSUB >.a 1\r\nPUB foo.* 0\r\n\r\nPING\r\n",
+            b"1< -ERR 'Invalid Subject'\\r\\n-ERR 'Invalid Subject'\\r\\n-ERR 'Invalid Subject'\\r\\nPONG\\r\\n\n",
+        ),
+        // A token with a star among other bytes is literal.
+        (
+            br"send 1 SUB a*b 1\r\nPUB a*b 1\r\nx\r\n",
+            b"1< MSG a*b 1 1\\r\\nx\\r\\n\n",
+        ),
+        // A payload too long, an unknown operation, a second CONNECT: nothing comes behind the error.
+        (
+            b"send 1 PUB foo 1048577\\r\\n\nsend 1 PING\\r\\n",
+            b"1< -ERR 'Maximum Payload Violation'\\r\\n\n1 closed\n",
+        ),
+        (
+            br"send 1 UNSUB 1\r\nPING\r\n",
+            b"1< -ERR 'Unknown Protocol Operation'\\r\\n\n1 closed\n",
+        ),
+        (
+            br#"send 1 CONNECT {"user":"demo","pass":"demo"}\r\nPING\r\n"#,
+            b"1< -ERR 'Invalid Client Protocol'\\r\\n\n1 closed\n",
+        ),
+        (
+            br"send 1 PUB foo -1\r\n",
+            b"1< -ERR 'Parser Error'\\r\\n\n1 closed\n",
+        ),
+        // A number that isn't open is skipped, and so are an empty line and a comment.
+        (
+            b"send 2 PING\\r\\n\n\n# send 1 PING\\r\\n\nsend 1 PING\\r\\n",
+            b"1< PONG\\r\\n\n",
+        ),
+        // A number may be opened again once its connection is closed, but not before.
+        (
+            b"send 1 X\\r\\n\nopen 1\nsend 1 PING\\r\\n",
+            b"1< -ERR 'Unknown Protocol Operation'\\r\\n\n1 closed\n1< PONG\\r\\n\n",
+        ),
+        // The session is gone with its connection: 2 is not served twice.
+        (
+            b"open 2\nsend 2 CONNECT {\"user\":\"demo\",\"pass\":\"demo\",\"verbose\":false}\\r\\nSUB > s\\r\\n\nsend 1 SUB foo 1\\r\\nPUB foo 1\\r\\na\\r\\nNO\\r\\n",
+            b"1< -ERR 'Unknown Protocol Operation'\\r\\n\n1 closed\n2< MSG foo s 1\\r\\na\\r\\n\n",
+        ),
+        // A sid that stands keeps its subject.
+        (
+            br"send 1 SUB a 1\r\nSUB b 1\r\nPUB b 0\r\n\r\nPUB a 0\r\n\r\n",
+            b"1< MSG a 1 0\\r\\n\\r\\n\n",
+        ),
+        // Bytes of a payload that are not printable.
+        (
+            br"send 1 SUB a 1\r\nPUB a 3\r\n\x00\\\xff\r\n",
+            b"1< MSG a 1 3\\r\\n\\x00\\\\\\xff\\r\\n\n",
+        ),
+        // Two subscriptions that have the subject give two deliveries, the older first.
+        (
+            br"send 1 SUB > 2\r\nSUB a 1\r\nPUB a 0\r\n\r\n",
+            b"1< MSG a 2 0\\r\\n\\r\\nMSG a 1 0\\r\\n\\r\\n\n",
+        ),
+        // LF alone ends a control line.
+        (br"send 1 ping \n", b"1< PONG\\r\\n\n"),
+    ];
+    for (lines, answers) in cases {
+        let script = as_demo(rt.alloc(), lines).expect(&rt, "memory");
+        match answered(rt.alloc(), script.as_slice()) {
+            Ok((status, printed)) => {
+                assert_eq!(rt; printed.as_slice(), answers);
+                assert_eq!(rt; status, 0);
+            }
+            Err(_) => panic!(rt; "a script was not played"),
+        }
+    }
+}
+
+#[test]
+fn answers_to_fresh_connections(rt: HostRuntime) {
+    let cases: [(&[u8], &[u8]); 7] = [
+        // Verbose, where the client doesn't say.
+        (
+            b"send 1 CONNECT {\"user\":\"demo\",\"pass\":\"demo\"}\\r\\n\nsend 1 SUB foo 1\\r\\nPUB foo 1\\r\\na\\r\\n",
+            b"1< +OK\\r\\n\n1< +OK\\r\\n+OK\\r\\n\n1< MSG foo 1 1\\r\\na\\r\\n\n",
+        ),
+        (
+            br#"send 1 CONNECT {"user":"demo","pass":"wrong"}\r\nPING\r\n"#,
+            b"1< -ERR 'Authorization Violation'\\r\\n\n1 closed\n",
+        ),
+        (
+            br"send 1 CONNECT {}\r\n",
+            b"1< -ERR 'Authorization Violation'\\r\\n\n1 closed\n",
+        ),
+        (
+            br"send 1 CONNECT\r\n",
+            b"1< -ERR 'Parser Error'\\r\\n\n1 closed\n",
+        ),
+        (
+            br"send 1 SUB foo 1\r\n",
+            b"1< -ERR 'Authorization Violation'\\r\\n\n1 closed\n",
+        ),
+        (
+            br"send 1 PUB foo 1\r\na\r\n",
+            b"1< -ERR 'Authorization Violation'\\r\\n\n1 closed\n",
+        ),
+        (
+            br"send 1 PING\r\nPUB foo 1\r\nab\r\n",
+            b"1< PONG\\r\\n-ERR 'Parser Error'\\r\\n\n1 closed\n",
+        ),
+    ];
+    for (lines, answers) in cases {
+        let mut script = Vec::new(rt.alloc());
+        assert!(rt; script.extend_from_slice(b"open 1\n").is_ok());
+        assert!(rt; script.extend_from_slice(lines).is_ok());
+        match answered(rt.alloc(), script.as_slice()) {
+            Ok((status, printed)) => {
+                assert_eq!(rt; printed.as_slice(), answers);
+                assert_eq!(rt; status, 0);
+            }
+            Err(_) => panic!(rt; "a script was not played"),
+        }
+    }
+}
+
+#[test]
+fn permissions(rt: HostRuntime) {
+    // User limited may publish and subscribe below foo, but not on foo.bar.
+    let script = br#"open 1
+send 1 CONNECT {"user":"limited","pass":"limited","verbose":false}\r\nSUB foo.* 1\r\n
+send 1 PUB bar 2\r\nhi\r\nSUB > 2\r\nPUB foo.bar 0\r\n\r\nSUB foo.bar 2\r\n
+open 2
+send 2 CONNECT {"user":"demo","pass":"demo","verbose":false}\r\n
+send 2 PUB foo.bar 1\r\nb\r\n
+send 2 PUB foo.baz 1\r\nz\r\n
+"#;
+    let answers =
+        br#"1< -ERR 'Permissions Violation for Publish to "bar"'\r\n-ERR 'Permissions Violation for Subscription to ">"'\r\n-ERR 'Permissions Violation for Publish to "foo.bar"'\r\n-ERR 'Permissions Violation for Subscription to "foo.bar"'\r\n
+1< MSG foo.baz 1 1\r\nz\r\n
+"#;
+    match answered(rt.alloc(), script) {
+        Ok((status, printed)) => {
+            assert_eq!(rt; printed.as_slice(), answers.as_slice());
+            assert_eq!(rt; status, 0);
+        }
+        Err(_) => panic!(rt; "the script was not played"),
+    }
+}
+
+#[test]
+fn drains_in_order(rt: HostRuntime) {
+    let mut script = Vec::new(rt.alloc());
+    for conn in [&b"10"[..], b"2", b"1"] {
+        for part in [&b"open "[..], conn, b"\nsend ", conn] {
+            assert!(rt; script.extend_from_slice(part).is_ok());
+        }
+        let connect = br#" CONNECT {"user":"demo","pass":"demo","verbose":false}\r\nSUB a 7\r\n
+"#;
+        assert!(rt; script.extend_from_slice(connect).is_ok());
+    }
+    let publish = br"send 2 PUB a 1\r\nx\r\nPING\r\n";
+    assert!(rt; script.extend_from_slice(publish).is_ok());
+    let answers = br"2< PONG\r\n
+1< MSG a 7 1\r\nx\r\n
+2< MSG a 7 1\r\nx\r\n
+10< MSG a 7 1\r\nx\r\n
+";
+    match answered(rt.alloc(), script.as_slice()) {
+        Ok((_, printed)) => assert_eq!(rt; printed.as_slice(), answers.as_slice()),
+        Err(_) => panic!(rt; "the script was not played"),
+    }
+}
+
+#[test]
+fn lines_that_stop(rt: HostRuntime) {
+    let cases: [(&[u8], &[u8]); 4] = [
+        (b"open 1\n\nopen 1\nsend 1 PING\\r\\n\n", b"script line 3\n"),
+        (b"# a policy\npolicy {}\nopen 1\n", b"script line 2\n"),
+        (
+            b"open 1\nsend 1 PING\\r\\n\nopen 01\r",
+            b"1< PONG\\r\\n\nscript line 3\n",
+        ),
+        (b"send 1 \\q", b"script line 1\n"),
+    ];
+    for (script, answers) in cases {
+        match answered(rt.alloc(), script) {
+            Ok((status, printed)) => {
+                assert_eq!(rt; printed.as_slice(), answers);
+                assert_eq!(rt; status, 1);
+            }
+            Err(_) => panic!(rt; "a script was not played"),
+        }
+    }
+    match played(rt.alloc(), b"") {
+        Ok((status, printed)) => assert!(rt; status == 0 && printed.is_empty()),
+        Err(_) => panic!(rt; "an empty script was not played"),
+    }
+}
+
+// A script that sends a client's bytes, cut behind the byte at each place that `is_cut` tells.
+fn cut_script<F: Fn(usize) -> bool>(
+    alloc: Global,
+    bytes: &[u8],
+    is_cut: F,
+) -> Result<Vec<u8>, AllocError>
+    requires { F.IsAlwaysCallable is_cut }
+{
+    let mut script = Vec::new(alloc);
+    script.extend_from_slice(b"open 1\nsend 1 ")?;
+    for (place, byte) in bytes.iter().enumerate() {
+        match byte {
+            b'\r' => script.extend_from_slice(b"\\r")?,
+            b'\n' => script.extend_from_slice(b"\\n")?,
+            _ => script.extend_from_slice(&[*byte])?,
+        }
+        if is_cut(place) {
+            script.extend_from_slice(b"\nsend 1 ")?;
+        }
+    }
+    Ok(script)
+}
+
+#[test]
+fn pieces(rt: HostRuntime) {
+    let bytes =
+        b"CONNECT {\"user\":\"demo\",\"pass\":\"demo\",\"verbose\":false}\r\nSUB foo 1\r\nPUB foo 2\r\nhi\r\n";
+    let between = bytes.len() - 2;
+    let answers = b"1< MSG foo 1 2\\r\\nhi\\r\\n\n";
+    for script in [
+        cut_script(rt.alloc(), bytes, |_| true),
+        cut_script(rt.alloc(), bytes, |place| place == between),
+        cut_script(rt.alloc(), bytes, |_| false),
+    ] {
+        let script = script.expect(&rt, "memory");
+        match answered(rt.alloc(), script.as_slice()) {
+            Ok((status, printed)) => {
+                assert_eq!(rt; printed.as_slice(), answers.as_slice());
+                assert_eq!(rt; status, 0);
+            }
+            Err(_) => panic!(rt; "a script was not played"),
+        }
+    }
+}
+
+// What is printed of so many empty messages for one subscription, which come at once.
+fn flooded(alloc: Global, messages: usize) -> Result<(u8, Vec<u8>), PlayFault> {
+    let mut lines = Vec::new(alloc);
+    lines.extend_from_slice(br"send 1 SUB foo 1\r\n")?;
+    let publishes = repeated(alloc, br"PUB foo 0\r\n\r\n", messages)?;
+    lines.extend_from_slice(publishes.as_slice())?;
+    let script = as_demo(alloc, lines.as_slice())?;
+    answered(alloc, script.as_slice())
+}
+
+// A printed line of so many of these messages, and another text behind them.
+fn delivered(alloc: Global, messages: usize, behind: &[u8]) -> Result<Vec<u8>, AllocError> {
+    let mut line = Vec::new(alloc);
+    line.extend_from_slice(b"1< ")?;
+    let deliveries = repeated(alloc, br"MSG foo 1 0\r\n\r\n", messages)?;
+    line.extend_from_slice(deliveries.as_slice())?;
+    line.extend_from_slice(behind)?;
+    Ok(line)
+}
+
+#[test]
+fn outboxes(rt: HostRuntime) {
+    let two = delivered(rt.alloc(), 64, b"\n1< MSG foo 1 0\\r\\n\\r\\n\n").expect(&rt, "memory");
+    let full = delivered(rt.alloc(), 64, b"\n").expect(&rt, "memory");
+    let all = repeated(rt.alloc(), full.as_slice(), 16).expect(&rt, "memory");
+    let slow = delivered(rt.alloc(), 64, b"-ERR 'Slow Consumer'\\r\\n\n1 closed\n").expect(
+        &rt, "memory",
+    );
+    for (messages, answers) in [(65, two), (1024, all), (1025, slow)] {
+        match flooded(rt.alloc(), messages) {
+            Ok((status, printed)) => {
+                assert!(rt; printed.as_slice() == answers.as_slice());
+                assert_eq!(rt; status, 0);
+            }
+            Err(_) => panic!(rt; "a script was not played"),
+        }
+    }
+}
+
+#[test]
+fn long_lines(rt: HostRuntime) {
+    for (spaces, answers) in [
+        (4092, &b"1< PONG\\r\\n\n"[..]),
+        (
+            4093,
+            b"1< -ERR 'Maximum Control Line Exceeded'\\r\\n\n1 closed\n",
+        ),
+    ] {
+        let mut lines = Vec::new(rt.alloc());
+        assert!(rt; lines.extend_from_slice(b"send 1 PING").is_ok());
+        let space = repeated(rt.alloc(), b" ", spaces).expect(&rt, "memory");
+        assert!(rt; lines.extend_from_slice(space.as_slice()).is_ok());
+        assert!(rt; lines.extend_from_slice(b"\\r\\n").is_ok());
+        let script = as_demo(rt.alloc(), lines.as_slice()).expect(&rt, "memory");
+        match answered(rt.alloc(), script.as_slice()) {
+            Ok((_, printed)) => assert_eq!(rt; printed.as_slice(), answers),
+            Err(_) => panic!(rt; "a script was not played"),
+        }
+    }
+}
+
+// A text with the longest payload behind it, and its end.
+fn with_longest_payload(alloc: Global, head: &[u8]) -> Result<Vec<u8>, AllocError> {
+    let mut text = Vec::new(alloc);
+    text.extend_from_slice(head)?;
+    let payload = repeated(alloc, b"a", 1_048_576)?;
+    text.extend_from_slice(payload.as_slice())?;
+    text.extend_from_slice(br"\r\n")?;
+    text.extend_from_slice(b"\n")?;
+    Ok(text)
+}
+
+#[test]
+fn the_longest_payload(rt: HostRuntime) -> Result<(), Fail> {
+    let alloc = rt.alloc();
+    let lines = with_longest_payload(alloc, br"send 1 SUB foo 1\r\nPUB foo 1048576\r\n")?;
+    let answers = with_longest_payload(alloc, br"1< MSG foo 1 1048576\r\n")?;
+    let script = as_demo(alloc, lines.as_slice())?;
+    match answered(alloc, script.as_slice()) {
+        Ok((_, printed)) => assert!(rt; printed.as_slice() == answers.as_slice()),
+        Err(_) => panic!(rt; "the script was not played"),
+    }
+    Ok(())
+}
+
+#[test]
+fn failing_reads(rt: HostRuntime) {
+    for call in 0..2 {
+        let mut source = FailAt::new(ReadSource::new(FIRST_MESSAGE), call);
+        let mut sink = WriteSink::new(Vec::new(rt.alloc()));
+        assert!(rt; play(rt.alloc(), &mut source, &mut sink) == Err(PlayFault::ReadFailed));
+        assert!(rt; sink.into_writer().is_empty());
+    }
+    let mut source = FailAt::new(ReadSource::new(FIRST_MESSAGE), 2);
+    let mut sink = WriteSink::new(Vec::new(rt.alloc()));
+    assert!(rt; play(rt.alloc(), &mut source, &mut sink) == Ok(0));
+    assert_eq!(rt; sink.into_writer().as_slice(), FIRST_MESSAGE_PRINTS);
+}
+
+#[test]
+fn failing_writes(rt: HostRuntime) {
+    let info = FIRST_MESSAGE_PRINTS.len() - b"1< PONG\\r\\n\n1< MSG foo 1 2\\r\\nhi\\r\\n\n".len();
+    for (call, answer, written) in [
+        (0, Err(PlayFault::WriteFailed), 0),
+        (1, Err(PlayFault::WriteFailed), info),
+        (2, Ok(0), FIRST_MESSAGE_PRINTS.len()),
+    ] {
+        let mut printed = Vec::new(rt.alloc());
+        let mut sink = FailAt::new(WriteSink::new(&mut printed), call);
+        assert!(rt; play(rt.alloc(), &mut ReadSource::new(FIRST_MESSAGE), &mut sink) == answer);
+        assert_eq!(rt; printed.as_slice(), &FIRST_MESSAGE_PRINTS[..written]);
+    }
+}
+
+#[test]
+fn a_sink_that_is_full(rt: HostRuntime) {
+    let mut room = [0; 9];
+    let mut sink = WriteSink::new(&mut room[..]);
+    let answer = play(rt.alloc(), &mut ReadSource::new(FIRST_MESSAGE), &mut sink);
+    assert!(rt; answer == Err(PlayFault::WriteFailed));
+    assert_eq!(rt; room.as_slice(), b"1< INFO {".as_slice());
+}
+
+#[test]
+fn too_long(rt: HostRuntime) {
+    for (bytes, answer) in [
+        (16_777_216, Ok(0)),
+        (16_777_217, Err(PlayFault::ScriptTooLong)),
+    ] {
+        let mut source = ReadSource::new(io::repeat(b'#').take(bytes));
+        let mut sink = WriteSink::new(Vec::new(rt.alloc()));
+        assert!(rt; play(rt.alloc(), &mut source, &mut sink) == answer);
+        assert!(rt; sink.into_writer().is_empty());
+    }
+}
+
+// A comment of so many bytes, of which each read gives one.
+#[derive(Drop)]
+struct Drops {
+    left: u64,
+}
+
+impl Source for Drops {
+    ghost remaining = { λ _. None };
+
+    ghost failed = { λ _. false };
+
+    fn read(&mut self, buf: &mut [u8]) -> Result<usize, DeviceFailed> {
+        if self.left == 0 || buf.is_empty() {
+            return Ok(0);
+        }
+        self.left -= 1;
+        buf[0] = b'#';
+        Ok(1)
+    }
+}
+
+#[test]
+fn too_many_reads(rt: HostRuntime) {
+    for (bytes, answer) in [(999_999, Ok(0)), (1_000_000, Err(PlayFault::ScriptTooLong))] {
+        let mut sink = WriteSink::new(Vec::new(rt.alloc()));
+        assert!(rt; play(rt.alloc(), &mut Drops { left: bytes }, &mut sink) == answer);
+    }
+}

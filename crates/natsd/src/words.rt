@@ -1,0 +1,137 @@
+// The command line of `natsd` (docs/SCRIPT.md, "Statuses").
+ghost use Rattle.std.specs.Prelude.{◌≡◌, ◌≢◌, Err, false, ◌||◌, ◌≤◌, ◌∷◌, [], ℕ, List, IfOk, OnOk, OnErr, IfSome, codes, length, map};
+ghost use Rattle.std.specs.Io.KnownBytes.{Appends};
+ghost use Rattle.clap.specs.Words.{IsAmong, app_of, kind_of};
+ghost use Rattle.clap.specs.declared.error.kind.ErrorKind.TheVariants.{OutOfMemory};
+ghost use Rattle.natsd.specs.Device.{AppendsFront};
+ghost use Rattle.natsd.specs.Input.{is_read_failed, is_write_failed};
+
+use crate::device::{Sink, Source, write_all};
+use crate::fault::PlayFault;
+use crate::play::play;
+use clap::error::ErrorKind;
+use clap::{Command, Error};
+use std::alloc::{AllocError, Global};
+use std::convert::AsStr;
+
+/// What a command line asks for.
+#[derive(Debug, Drop)]
+pub enum Task {
+    /// To play a script.
+    Play,
+    /// To show this help.
+    Help(String),
+    /// To show this version.
+    Version(String),
+}
+
+/// Why a command line gives no task.
+#[derive(Debug, Drop)]
+pub enum WordsFault {
+    /// The line is wrong, as this text for the user says.
+    WrongLine(String),
+    /// Memory could not be had.
+    NoMemory,
+}
+
+impl From<AllocError> for WordsFault {
+    ghost use Rattle.std.specs.Prelude.{◌≡◌};
+    ghost use Rattle.natsd.specs.declared.words.WordsFault.TheVariants.{NoMemory};
+
+    ghost from_gives = { λ _ e. e ≡ NoMemory };
+
+    fn from(_refused: AllocError) -> WordsFault {
+        WordsFault::NoMemory
+    }
+}
+
+ghost use Rattle.natsd.specs.Words.{natsd_app, play_app};
+
+/// What `natsd` takes on its command line.
+fn natsd_command<'a>(alloc: Global) -> Result<Command<'a>, AllocError>
+    ensures { IfOk result (λ command. app_of command ≡ natsd_app) }
+{
+    let play = Command::new(alloc, "play").about(
+        "Plays a script of clients against one server: reads it on standard input, prints what each client is sent",
+    );
+    Command::new(alloc, "natsd")
+        .about("The routing core of a multi-tenant NATS server")
+        .version("0.1.0")
+        .disable_help_subcommand(true)
+        .subcommand_required(true)
+        .subcommand(play)
+}
+
+ghost use Rattle.natsd.specs.Words.{IsReading, IsTaskOrMemory, kinds_of};
+
+/// What is made of a line for which clap gives no matches.
+fn read_refusal(alloc: Global, error: &Error) -> Result<Task, WordsFault>
+    ensures { IsReading (kind_of error.now ∷ []) result }
+{
+    match error.kind() {
+        ErrorKind::OutOfMemory => Err(WordsFault::NoMemory),
+        ErrorKind::DisplayHelp => Ok(Task::Help(format!(in alloc; "{error}")?)),
+        ErrorKind::DisplayVersion => Ok(Task::Version(format!(in alloc; "{error}")?)),
+        _ => Err(WordsFault::WrongLine(format!(in alloc; "{error}")?)),
+    }
+}
+
+/// What the words of a command line ask for. The first is the program's name.
+///
+/// The words are judged by clap: `play` asks for a script to be played, `--help`, `-h` and `play --help` for help,
+/// `--version` for the version. `WrongLine` comes with clap's text where the line is another; `NoMemory` where
+/// memory could not be had. No clause says what the texts are.
+pub fn read_words<S: AsStr>(alloc: Global, words: &[S]) -> Result<Task, WordsFault>
+    ensures reading { IsReading (kinds_of (map S.text words.now)) result }
+    ensures play { (name : List ℕ) → map S.text words.now ≡ name ∷ codes "play" ∷ [] → IsTaskOrMemory Task.Play result }
+{
+    let command = natsd_command(alloc)?;
+    match command.try_get_matches_from(words) {
+        Ok(_) => Ok(Task::Play),
+        Err(error) => read_refusal(alloc, &error),
+    }
+}
+
+ghost use Rattle.natsd.specs.Words.{done_by, input_of};
+ghost use Rattle.std.specs.String.{string_bytes};
+
+/// Writes a text.
+fn show<W: Sink>(text: &str, sink: &mut W) -> Result<u8, PlayFault>
+    ensures shown { IfOk result (λ status. Appends (W.contents sink.old) (W.contents sink.new) text.now × (status ≡ 0)) }
+    ensures prefix { OnErr result (AppendsFront (W.contents sink.old) (W.contents sink.new) text.now) }
+    ensures failed { W.failed sink.new ≡ (W.failed sink.old || is_write_failed result) }
+    ensures read { is_read_failed result ≡ false }
+    ensures long { result ≢ Err PlayFault.ScriptTooLong }
+{
+    match write_all(sink, text.as_bytes()) {
+        Ok(()) => Ok(0),
+        Err(_) => Err(PlayFault::WriteFailed),
+    }
+}
+
+/// Does a task: plays the script that the source holds, as `play` does, or writes the text that was asked for.
+/// Answers the status, 0 or 1.
+///
+/// The faults are those of `play`. What was written then is a front of what the task writes.
+pub fn run_task<R: Source, W: Sink>(
+    alloc: Global,
+    task: &Task,
+    source: &mut R,
+    sink: &mut W,
+) -> Result<u8, PlayFault>
+    ensures meaning { IfOk result (λ status. IfSome (input_of task.now (R.remaining source.old)) (λ input.
+        Appends (W.contents sink.old) (W.contents sink.new) (done_by task.now input).text
+        × (status ≡ (done_by task.now input).status))) }
+    ensures prefix { OnErr result (IfSome (input_of task.now (R.remaining source.old)) (λ input.
+        AppendsFront (W.contents sink.old) (W.contents sink.new) (done_by task.now input).text)) }
+    ensures read_failed { R.failed source.new ≡ (R.failed source.old || is_read_failed result) }
+    ensures write_failed { W.failed sink.new ≡ (W.failed sink.old || is_write_failed result) }
+    ensures small { OnOk result (IfSome (input_of task.now (R.remaining source.old)) (λ input. length input ≤ 16777216)) }
+    ensures too_long { result ≡ Err PlayFault.ScriptTooLong → IfSome (input_of task.now (R.remaining source.old)) (λ input. 1000000 ≤ length input) }
+{
+    match task {
+        Task::Play => play(alloc, source, sink),
+        Task::Help(text) => show(text.as_str(), sink),
+        Task::Version(text) => show(text.as_str(), sink),
+    }
+}

@@ -1,0 +1,75 @@
+-- What permission lists decide, and when a denial is justified (docs/POLICY.md, "Permissions").
+use Rattle.std.specs.Prelude.{◌≡◌, ◌<◌, ℕ, Bool, IsTrue, true, false, List, length, Option, Some, None, All, position, IsSomeAnd}
+use Rattle.std.specs.List.{HoldsAt, slice_index_or}
+use Rattle.subjects.specs.Subject.{Token, in_set, covers, Covers, Lacks}
+use Rattle.permissions.specs.Lists.{Entry, Rules, Lists}
+use Rattle.permissions.specs.declared.verdict.By.TheVariants.{All as AllowsAll, Index}
+use Rattle.permissions.specs.declared.verdict.Verdict.{Verdict}
+use Rattle.permissions.specs.declared.verdict.Verdict.TheVariants.{Allowed, DeniedBy, NoAllow}
+
+-- a deny entry wins
+abbrev pub unless_denied : Option ℕ → Verdict → Verdict
+unless_denied (Some i) otherwise = DeniedBy i
+unless_denied None otherwise = otherwise
+
+abbrev pub by_entry : Option ℕ → Verdict
+by_entry (Some i) = Allowed (Index i)
+by_entry None = NoAllow
+
+-- an allow list that is given must have an entry that passes
+abbrev pub by_allow_list : (Entry → Bool) → Option (List Entry) → Verdict
+by_allow_list passes None = Allowed AllowsAll
+by_allow_list passes (Some entries) = by_entry (position passes entries)
+
+-- the least deny entry that passes; else all without an allow list; else the least allow entry that passes
+abbrev pub verdict_by : (Entry → Bool) → Rules → Verdict
+verdict_by passes rules = unless_denied (position passes rules.deny) (by_allow_list passes rules.allow)
+
+-- a publish is judged by the entries that have its subject
+abbrev pub publish_verdict : Lists → List Token → Verdict
+publish_verdict lists subject = verdict_by (λ entry. in_set entry subject) lists.publish
+
+-- a subscription is judged by the entries that cover the whole of its pattern
+abbrev pub subscribe_verdict : Lists → List Token → Verdict
+subscribe_verdict lists pattern = verdict_by (λ entry. covers entry pattern) lists.subscribe
+
+-- a delivery is judged by the subscribe deny entries that have its subject, and by nothing else
+abbrev pub delivery_verdict : Lists → List Token → Verdict
+delivery_verdict lists subject =
+    unless_denied (position (λ entry. in_set entry subject) lists.subscribe.deny) (Allowed AllowsAll)
+
+abbrev pub is_allowed : Verdict → Bool
+is_allowed (Allowed by) = true
+is_allowed (DeniedBy i) = false
+is_allowed NoAllow = false
+
+-- each entry lacks some of what was asked
+abbrev pub EachLacks : (Entry → Type 0) → List Entry → Type 0
+EachLacks Lacks entries = All Lacks entries
+
+-- this entry has all that was asked, and each before it lacks some of it
+abbrev pub IsLeast : (Entry → Type 0) → (Entry → Type 0) → List Entry → ℕ → Type 0
+IsLeast Has Lacks entries i =
+    (i < length entries) × HoldsAt Has entries i × ((k : ℕ) (d : Entry) → k < i → Lacks (slice_index_or entries k d))
+
+-- the least entry that has all that was asked, or none where each lacks some of it
+abbrev pub IsFirst : (Entry → Type 0) → (Entry → Type 0) → List Entry → Option ℕ → Type 0
+IsFirst Has Lacks entries None = EachLacks Lacks entries
+IsFirst Has Lacks entries (Some i) = IsLeast Has Lacks entries i
+
+-- A denial has its reason: the entry it names is the least deny entry that has all that was asked; or each deny
+-- entry lacks some of it, an allow list is given, and each of its entries lacks some of it.
+abbrev pub IsJustified : (Entry → Type 0) → (Entry → Type 0) → Rules → Verdict → Type 0
+IsJustified Has Lacks rules (Allowed by) = Unit {0}
+IsJustified Has Lacks rules (DeniedBy i) = IsLeast Has Lacks rules.deny i
+IsJustified Has Lacks rules NoAllow = EachLacks Lacks rules.deny × IsSomeAnd rules.allow (EachLacks Lacks)
+
+-- a denied publish: an entry has the subject or lacks it
+abbrev pub IsJustifiedPublish : List Token → Rules → Verdict → Type 0
+IsJustifiedPublish subject rules verdict =
+    IsJustified (λ entry. IsTrue (in_set entry subject)) (λ entry. in_set entry subject ≡ false) rules verdict
+
+-- a denied subscription: an entry has all subjects of the pattern, or lacks one of them
+abbrev pub IsJustifiedSubscribe : List Token → Rules → Verdict → Type 0
+IsJustifiedSubscribe pattern rules verdict =
+    IsJustified (λ entry. Covers entry pattern) (λ entry. Lacks entry pattern) rules verdict

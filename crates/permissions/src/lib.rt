@@ -1,0 +1,12 @@
+//! What a user may publish, subscribe to and be sent: the verdicts of its permission lists.
+#![tactic(auto)]
+
+mod asked;
+mod compiled;
+mod decision;
+#[cfg(test)]
+mod tests;
+mod verdict;
+
+pub use compiled::Compiled;
+pub use verdict::{By, Verdict};

@@ -1,0 +1,36 @@
+ghost use Rattle.std.specs.Prelude.{◌≡◌};
+
+/// What allowed something.
+#[derive(Clone, Copy, Debug, PartialEq, Eq)]
+pub enum By {
+    /// There is no allow list, so all is allowed that no deny entry refuses.
+    All,
+    /// The allow entry of this index.
+    Index(usize),
+}
+
+/// Whether something is allowed, and what decided it. Indexes count from 0 in the order of the list.
+#[derive(Clone, Copy, Debug, PartialEq, Eq)]
+pub enum Verdict {
+    /// Allowed, and what by.
+    Allowed(By),
+    /// Refused by the deny entry of this index, the least that has what was asked.
+    DeniedBy(usize),
+    /// An allow list is given, and none of its entries has the whole of what was asked.
+    NoAllow,
+}
+
+impl Verdict {
+    ghost use Rattle.permissions.specs.Verdicts.{is_allowed};
+
+    /// Whether it is allowed, whatever by.
+    pub fn is_allowed(self) -> bool
+        ensures { result ≡ is_allowed self }
+    {
+        match self {
+            Verdict::Allowed(_) => true,
+            Verdict::DeniedBy(_) => false,
+            Verdict::NoAllow => false,
+        }
+    }
+}

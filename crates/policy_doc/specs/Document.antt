@@ -1,0 +1,86 @@
+-- When a document is valid, and the built-in one (docs/POLICY.md, "Users" and "The built-in policy").
+use Rattle.std.specs.Prelude.{◌∷◌, ◌++◌, ℕ, Bool, List, [], map, take, Some, None, codes, slice_get, IsSomeAnd, IsTrue}
+use Rattle.std.specs.List.{flat_map, list_any, IsDistinct}
+use Rattle.std.specs.Option.{option_map_or}
+use Rattle.std.specs.Str.{bytes_eq}
+use Rattle.subjects.specs.Subject.{Token}
+use Rattle.policy_doc.specs.Accounts.{Name}
+use Rattle.policy_doc.specs.declared.fault.Place.{Place}
+use Rattle.policy_doc.specs.declared.fault.PolicyFault.{PolicyFault}
+use Rattle.policy_doc.specs.declared.fault.PolicyFault.TheVariants.{DuplicateUser, NoMemory}
+use Rattle.policy_doc.specs.declared.document.PolicyDoc.{PolicyDoc}
+use Rattle.policy_doc.specs.declared.document.NamedAccount.{NamedAccount}
+use Rattle.policy_doc.specs.declared.document.UserDoc.{UserDoc}
+use Rattle.policy_doc.specs.declared.document.Direction.{Direction}
+use Rattle.policy_doc.specs.declared.document.PermEntry.{PermEntry}
+
+-- the users of accounts, account by account
+abbrev pub users_of : List NamedAccount → List UserDoc
+users_of accounts = flat_map (λ (a : NamedAccount). a.account.users) accounts
+
+abbrev pub user_name : UserDoc → Name
+user_name u = u.user
+
+abbrev pub HaveUniqueNames : List UserDoc → Type 0
+HaveUniqueNames users = IsDistinct bytes_eq (map user_name users)
+
+-- user names are unique over all accounts
+abbrev pub IsValidPolicy : PolicyDoc → Type 0
+IsValidPolicy doc = HaveUniqueNames (users_of doc.accounts)
+
+-- whether a user of the name is among users
+abbrev pub is_taken : Name → List UserDoc → Bool
+is_taken name users = list_any (λ (u : UserDoc). bytes_eq name u.user) users
+
+-- the users of the account at an index
+abbrev pub users_at : List NamedAccount → ℕ → List UserDoc
+users_at accounts i = option_map_or (λ (a : NamedAccount). a.account.users) (slice_get accounts i) []
+
+-- A user stands in this row, behind users with unique names of which one has its name.
+abbrev pub IsTwinRow : List UserDoc → List UserDoc → ℕ → Type 0
+IsTwinRow earlier users row =
+    HaveUniqueNames (earlier ++ take row users) × IsSomeAnd (slice_get users row) (λ user. IsTrue (is_taken user.user (earlier ++ take row users)))
+
+-- the first user, by account and row, whose name stands before it
+abbrev pub IsFirstTwin : List NamedAccount → Place → Type 0
+IsFirstTwin accounts place =
+    IsTwinRow (users_of (take place.account accounts)) (users_at accounts place.account) place.row
+
+-- A duplicate user is the first in the document. A check never wants memory.
+abbrev pub IsPolicyFault : PolicyDoc → PolicyFault → Type 0
+IsPolicyFault doc (DuplicateUser place) = IsFirstTwin doc.accounts place
+IsPolicyFault doc NoMemory = ⊥
+
+-- an entry for the subjects of a pattern
+abbrev pub entry_of : List Token → PermEntry
+entry_of tokens = record { subject = tokens }
+
+-- all below foo but foo.bar
+abbrev pub limited_direction : Direction
+limited_direction = record {
+  allow = Some (entry_of (codes "foo" ∷ codes ">" ∷ []) ∷ []);
+  deny = entry_of (codes "foo" ∷ codes "bar" ∷ []) ∷ [];
+}
+
+-- a user that may do everything in its account
+abbrev pub demo_user : UserDoc
+demo_user = record { user = codes "demo"; password = codes "demo"; permissions = None }
+
+-- a user that publishes and subscribes below foo alone, and not on foo.bar
+abbrev pub limited_user : UserDoc
+limited_user = record {
+  user = codes "limited";
+  password = codes "limited";
+  permissions = Some record { publish = limited_direction; subscribe = limited_direction };
+}
+
+-- the policy that holds where none is given: one account with a free user and a limited one
+abbrev pub builtin_doc : PolicyDoc
+builtin_doc = record {
+  accounts = record { name = codes "DEMO"; account = record { users = demo_user ∷ limited_user ∷ [] } } ∷ [];
+}
+
+-- what is said of a fault
+abbrev pub fault_text : PolicyFault → List ℕ
+fault_text (DuplicateUser place) = codes "two users have the same name"
+fault_text NoMemory = codes "no memory"

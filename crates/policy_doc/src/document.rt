@@ -1,0 +1,134 @@
+use crate::Accounts;
+use bytes::Bytes;
+use lists::{Copying, Items, NoMemory};
+use std::alloc::Global;
+use subjects::Pattern;
+
+/// What an operator writes down: the accounts by name. It may be invalid; a `Policy` is not.
+#[derive(Debug, Drop)]
+pub struct PolicyDoc {
+    /// The accounts, each name once.
+    pub accounts: Accounts,
+}
+
+/// An account beside its name.
+#[derive(Debug, Drop)]
+pub struct NamedAccount {
+    /// The bytes of its name.
+    pub name: Bytes,
+    /// What it has.
+    pub account: AccountDoc,
+}
+
+/// What one account has: its users in the order in which they are written.
+#[derive(Debug, Drop)]
+pub struct AccountDoc {
+    /// The users; a valid document has each name once over all accounts.
+    pub users: Items<UserDoc>,
+}
+
+/// A user with its password. Without permissions it may do everything in its account.
+#[derive(Debug, Drop)]
+pub struct UserDoc {
+    /// The bytes of its name.
+    pub user: Bytes,
+    /// The bytes of its password, in clear.
+    pub password: Bytes,
+    /// Its permission lists, or none.
+    pub permissions: Option<PermDoc>,
+}
+
+/// What a user may publish and what it may subscribe to.
+#[derive(Debug, Drop)]
+pub struct PermDoc {
+    /// What decides a publish.
+    pub publish: Direction,
+    /// What decides a subscription, and the messages that are sent to it.
+    pub subscribe: Direction,
+}
+
+/// The lists of one direction. No allow list allows all; an allow list that is given, even empty,
+/// denies what it doesn't cover. A deny entry wins over every allow entry.
+#[derive(Debug, Drop)]
+pub struct Direction {
+    /// The allow list, or none.
+    pub allow: Option<Items<PermEntry>>,
+    /// The deny list.
+    pub deny: Items<PermEntry>,
+}
+
+/// An entry of an allow or a deny list.
+#[derive(Debug, Drop)]
+pub struct PermEntry {
+    /// The pattern whose subjects the entry has.
+    pub subject: Pattern,
+}
+
+impl Copying for PolicyDoc {
+    fn copy(&self, alloc: Global) -> Result<PolicyDoc, NoMemory> {
+        Ok(PolicyDoc {
+            accounts: self.accounts.copy(alloc)?,
+        })
+    }
+}
+
+impl Copying for NamedAccount {
+    fn copy(&self, alloc: Global) -> Result<NamedAccount, NoMemory> {
+        Ok(NamedAccount {
+            name: self.name.clone()?,
+            account: self.account.copy(alloc)?,
+        })
+    }
+}
+
+impl Copying for AccountDoc {
+    fn copy(&self, alloc: Global) -> Result<AccountDoc, NoMemory> {
+        Ok(AccountDoc {
+            users: self.users.copy(alloc)?,
+        })
+    }
+}
+
+impl Copying for UserDoc {
+    fn copy(&self, alloc: Global) -> Result<UserDoc, NoMemory> {
+        let permissions = match &self.permissions {
+            Some(permissions) => Some(permissions.copy(alloc)?),
+            None => None,
+        };
+        Ok(UserDoc {
+            user: self.user.clone()?,
+            password: self.password.clone()?,
+            permissions,
+        })
+    }
+}
+
+impl Copying for PermDoc {
+    fn copy(&self, alloc: Global) -> Result<PermDoc, NoMemory> {
+        Ok(PermDoc {
+            publish: self.publish.copy(alloc)?,
+            subscribe: self.subscribe.copy(alloc)?,
+        })
+    }
+}
+
+impl Copying for Direction {
+    fn copy(&self, alloc: Global) -> Result<Direction, NoMemory> {
+        let allow = match &self.allow {
+            Some(entries) => Some(entries.copy(alloc)?),
+            None => None,
+        };
+        Ok(Direction {
+            allow,
+            deny: self.deny.copy(alloc)?,
+        })
+    }
+}
+
+impl Copying for PermEntry {
+    fn copy(&self, alloc: Global) -> Result<PermEntry, NoMemory> {
+        Ok(PermEntry {
+            subject: self.subject.copy(alloc)?,
+        })
+    }
+}

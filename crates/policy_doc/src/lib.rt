@@ -1,0 +1,16 @@
+//! Policy documents: accounts, their users and what each user may do; and the policies that are valid.
+#![tactic(auto)]
+
+mod accounts;
+mod builtin;
+mod document;
+mod fault;
+mod policy;
+#[cfg(test)]
+mod tests;
+mod unique;
+
+pub use accounts::Accounts;
+pub use document::{AccountDoc, Direction, NamedAccount, PermDoc, PermEntry, PolicyDoc, UserDoc};
+pub use fault::{Place, PolicyFault};
+pub use policy::Policy;

@@ -1,0 +1,4 @@
+pub mod Subject
+pub mod Fault
+pub mod Outside
+pub mod Shape

@@ -1,0 +1,15 @@
+//! Subjects, patterns with wildcards, and how they compare.
+#![tactic(auto)]
+
+mod compare;
+mod error;
+mod faults;
+mod pattern;
+mod subject;
+#[cfg(test)]
+mod tests;
+mod tokens;
+
+pub use error::SubjectError;
+pub use pattern::Pattern;
+pub use subject::Subject;

@@ -1,0 +1,97 @@
+ghost use Rattle.std.specs.Prelude.{◌≡◌, ◌↔◌, IfOk, IsTrue};
+
+use crate::tokens::tokens_in;
+use crate::{Subject, SubjectError, compare, faults};
+use bytes::Bytes;
+use lists::{Copying, NoMemory, Pieces};
+use std::alloc::Global;
+use std::marker::Model;
+
+/// A subject that may have wildcards, as a subscription and a permission have it. A clause sees its tokens.
+#[derive(Debug, Drop)]
+pub struct Pattern {
+    text: Bytes,
+}
+
+impl Model for Pattern {
+    ghost use Rattle.std.specs.Prelude.{List, ℕ};
+
+    ghost Value = { List (List ℕ) };
+
+    ghost use Rattle.subjects.specs.Subject.{tokens_of, IsPattern};
+
+    ghost view = { λ p. tokens_of p.text };
+
+    ghost invariant = { λ p. IsPattern (tokens_of p.text) };
+}
+
+impl Pattern {
+    ghost use Rattle.std.specs.Prelude.{◌≡◌, ◌↔◌, IsTrue};
+    ghost use Rattle.std.specs.Bool.{OnFalse};
+    ghost use Rattle.subjects.specs.Subject.{in_set, covers, Covers, Lacks, overlaps, Overlaps, text_of, tokens_of, IsPattern};
+    ghost use Rattle.subjects.specs.Fault.{pattern_fault, IsParse, AcceptsExactly};
+
+    /// The pattern of a text. Exactly the texts whose tokens are a pattern are accepted, where memory allows. Else
+    /// the text's first fault, in the order of `SubjectError`; `NoMemory` is of a text without fault.
+    pub fn parse(alloc: Global, text: &[u8]) -> Result<Pattern, SubjectError>
+        ensures tokens { IsParse text.now (pattern_fault text.now) result }
+        ensures grammar { AcceptsExactly (IsPattern (tokens_of text.now)) result }
+    {
+        match faults::pattern_fault(text) {
+            Some(fault) => Err(fault),
+            None => Ok(Pattern {
+                text: Bytes::copy_from_slice(alloc, text)?,
+            }),
+        }
+    }
+
+    /// The text that the pattern was parsed from.
+    pub fn bytes(&self) -> &[u8]
+        ensures { result.now ≡ text_of self.now }
+    {
+        self.text.as_slice()
+    }
+
+    /// Whether the subject is one of the pattern's.
+    pub fn matches(&self, subject: &Subject) -> bool
+        ensures { result ≡ in_set self.now subject.now }
+    {
+        compare::in_set(self.tokens(), subject.tokens())
+    }
+
+    /// Whether every subject of `other` is one of this pattern's. Where not, this one lacks a subject of `other`.
+    pub fn covers(&self, other: &Pattern) -> bool
+        ensures test { result ≡ covers self.now other.now }
+        ensures inclusion { IsTrue result ↔ Covers self.now other.now }
+        ensures missing { OnFalse result (Lacks self.now other.now) }
+    {
+        // The loan tells the prover what the other's type keeps: its tokens are a pattern.
+        let _ = &other.text;
+        compare::covers(self.tokens(), other.tokens())
+    }
+
+    /// Whether some subject is one of both patterns.
+    pub fn overlaps(&self, other: &Pattern) -> bool
+        ensures test { result ≡ overlaps self.now other.now }
+        ensures common { IsTrue result ↔ Overlaps self.now other.now }
+    {
+        // The loans tell the prover what the type keeps of both: their tokens are patterns.
+        let _ = &self.text;
+        let _ = &other.text;
+        compare::overlaps(self.tokens(), other.tokens())
+    }
+
+    fn tokens(&self) -> Pieces<'_>
+        ensures { result ≡ self.now }
+    {
+        tokens_in(self.text.as_slice())
+    }
+}
+
+impl Copying for Pattern {
+    fn copy(&self, alloc: Global) -> Result<Pattern, NoMemory> {
+        Ok(Pattern {
+            text: self.text.clone()?,
+        })
+    }
+}

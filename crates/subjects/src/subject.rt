@@ -1,0 +1,65 @@
+use crate::tokens::tokens_in;
+use crate::{SubjectError, faults};
+use bytes::Bytes;
+use lists::{Copying, NoMemory, Pieces};
+use std::alloc::Global;
+use std::marker::Model;
+
+/// A concrete subject of at most 512 tokens, as a message has it. A clause sees its tokens.
+#[derive(Debug, Drop)]
+pub struct Subject {
+    text: Bytes,
+}
+
+impl Model for Subject {
+    ghost use Rattle.std.specs.Prelude.{List, ℕ};
+
+    ghost Value = { List (List ℕ) };
+
+    ghost use Rattle.subjects.specs.Subject.{tokens_of, IsSubject};
+
+    ghost view = { λ s. tokens_of s.text };
+
+    ghost invariant = { λ s. IsSubject (tokens_of s.text) };
+}
+
+impl Subject {
+    ghost use Rattle.std.specs.Prelude.{◌≡◌};
+    ghost use Rattle.subjects.specs.Subject.{text_of, tokens_of, IsSubject};
+    ghost use Rattle.subjects.specs.Fault.{subject_fault, IsParse, AcceptsExactly};
+
+    /// The subject of a text. Exactly the texts whose tokens are a subject are accepted, where memory allows. Else
+    /// the text's first fault, in the order of `SubjectError`; `NoMemory` is of a text without fault.
+    pub fn parse(alloc: Global, text: &[u8]) -> Result<Subject, SubjectError>
+        ensures tokens { IsParse text.now (subject_fault text.now) result }
+        ensures grammar { AcceptsExactly (IsSubject (tokens_of text.now)) result }
+    {
+        match faults::subject_fault(text) {
+            Some(fault) => Err(fault),
+            None => Ok(Subject {
+                text: Bytes::copy_from_slice(alloc, text)?,
+            }),
+        }
+    }
+
+    /// The text that the subject was parsed from.
+    pub fn bytes(&self) -> &[u8]
+        ensures { result.now ≡ text_of self.now }
+    {
+        self.text.as_slice()
+    }
+
+    pub(crate) fn tokens(&self) -> Pieces<'_>
+        ensures { result ≡ self.now }
+    {
+        tokens_in(self.text.as_slice())
+    }
+}
+
+impl Copying for Subject {
+    fn copy(&self, alloc: Global) -> Result<Subject, NoMemory> {
+        Ok(Subject {
+            text: self.text.clone()?,
+        })
+    }
+}

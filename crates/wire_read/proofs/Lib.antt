@@ -1,0 +1,6 @@
+pub mod FieldLemmas
+pub mod LineLemmas
+pub mod SizeLemmas
+pub mod FramingLemmas
+pub mod CutLemmas
+pub mod GrammarLemmas

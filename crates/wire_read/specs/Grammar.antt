@@ -1,0 +1,111 @@
+-- The texts of frames, and where a fault shows (NATS documentation, "Client Protocol"; docs/PROTOCOL.md, "Frames").
+use Rattle.std.specs.Prelude.{◌≡◌, ◌⊎◌, ℕ, ◌<◌, ◌≤◌, Bool, true, false, List, [], ◌∷◌, ◌++◌, length, take, drop, Some, None, IsTrue, All}
+use Rattle.std.specs.List.{before_first}
+use Rattle.std.specs.Str.Parse.{digits_value}
+use Rattle.wire_read.specs.declared.fault.WireFault.{WireFault}
+use Rattle.wire_read.specs.declared.fault.WireFault.TheVariants.{UnknownOperation, ParserError, ControlLine, Payload}
+use Rattle.wire_read.specs.declared.frame.Frame.{Frame}
+use Rattle.wire_read.specs.declared.frame.Frame.TheVariants as frame
+use Rattle.wire_read.specs.declared.operation.Operation.{Operation}
+use Rattle.wire_read.specs.declared.operation.Operation.TheVariants.{Connect, Pub, Sub, Ping}
+use Rattle.wire_read.specs.declared.command.Command.{Command}
+use Rattle.wire_read.specs.declared.command.Command.TheVariants.{Alone, Publish, Refused}
+use Rattle.wire_read.specs.declared.front.Front.TheVariants.{Whole, Wrong}
+use Rattle.wire_read.specs.Line.{is_lf, without_cr}
+use Rattle.wire_read.specs.Field.{fields, trimmed, first_field, after_first_field}
+use Rattle.wire_read.specs.Operation.{operation}
+use Rattle.wire_read.specs.Size.{is_number}
+use Rattle.wire_read.specs.Front.{front}
+use Rattle.wire_read.specs.Framing.{Framing, frames_of}
+
+-- A text is this control line with its end: bytes other than LF, and a LF. One CR right before the LF is no part of the line.
+abbrev pub IsLine : List ℕ → List ℕ → Type 0
+IsLine line text =
+    (raw : List ℕ) × (text ≡ raw ++ 10 ∷ []) × All (λ b. is_lf b ≡ false) raw × (line ≡ without_cr raw) × (length line ≤ 4096)
+
+-- the first field of a line names this operation, and these are the others
+abbrev pub Has : List ℕ → Operation → List (List ℕ) → Type 0
+Has line op others = (name : List ℕ) × (operation name ≡ Some op) × (fields line ≡ name ∷ others)
+
+-- the fields are no subject and size
+abbrev pub IsNoPublication : List (List ℕ) → Type 0
+IsNoPublication others = (subject : List ℕ) (digits : List ℕ) → others ≡ subject ∷ digits ∷ [] → is_number digits ≡ false
+
+-- the fields are no subject and sid
+abbrev pub IsNoSubscription : List (List ℕ) → Type 0
+IsNoSubscription others = (subject : List ℕ) (sid : List ℕ) → others ≡ subject ∷ sid ∷ [] → ⊥
+
+-- what a control line says, by its fields
+abbrev pub Says : List ℕ → Command → Type 0
+Says line (Alone (frame.Connect options)) =
+    (others : List (List ℕ)) × Has line Connect others × (options ≡ trimmed (after_first_field line))
+Says line (Alone (frame.Sub subject sid)) = Has line Sub (subject ∷ sid ∷ [])
+Says line (Alone frame.Ping) = (others : List (List ℕ)) × Has line Ping others
+Says line (Alone (frame.Pub subject payload)) = ⊥
+Says line (Alone (frame.Fault fault)) = ⊥
+Says line (Publish subject n) =
+    (digits : List ℕ) × Has line Pub (subject ∷ digits ∷ []) × IsTrue (is_number digits) × (digits_value 10 digits ≡ n) × (n ≤ 1048576)
+Says line (Refused UnknownOperation) = operation (first_field line) ≡ None
+Says line (Refused ParserError) =
+    ((others : List (List ℕ)) × Has line Sub others × IsNoSubscription others)
+    ⊎ ((others : List (List ℕ)) × Has line Pub others × IsNoPublication others)
+Says line (Refused Payload) =
+    (subject : List ℕ) × (digits : List ℕ) × Has line Pub (subject ∷ digits ∷ []) × IsTrue (is_number digits) × (1048576 < digits_value 10 digits)
+Says line (Refused ControlLine) = ⊥
+
+-- The texts of a frame: a line that says it, and for a message its payload and CR LF behind the line. A fault has none.
+abbrev pub IsSpelling : Frame → List ℕ → Type 0
+IsSpelling (frame.Pub subject payload) text =
+    (line : List ℕ) × (head : List ℕ) × IsLine line head × Says line (Publish subject (length payload)) × (text ≡ head ++ (payload ++ 13 ∷ 10 ∷ []))
+IsSpelling f text = (line : List ℕ) × IsLine line text × Says line (Alone f)
+
+-- a stream begins with a frame exactly where it begins with one of its texts
+abbrev pub IsSpelled : Type 0
+IsSpelled = (stream : List ℕ) (f : Frame) (n : ℕ) → front stream ≡ Whole f n → (n ≤ length stream) × IsSpelling f (take n stream)
+
+abbrev pub IsRead : Type 0
+IsRead = (f : Frame) (text more : List ℕ) → IsSpelling f text → front (text ++ more) ≡ Whole f (length text)
+
+-- CR LF cannot be made of these bytes, however they go on
+abbrev pub IsNoEnd : List ℕ → Type 0
+IsNoEnd [] = ⊥
+IsNoEnd (b ∷ []) = b ≡ 13 → ⊥
+IsNoEnd (b ∷ c ∷ _) = (b ≡ 13) × (c ≡ 10) → ⊥
+
+-- A stream begins with a fault: at a line that no continuation makes short enough, at a line that says what is refused,
+-- or at a wrong byte behind a payload.
+abbrev pub Shows : WireFault → List ℕ → Type 0
+Shows fault stream =
+    ((fault ≡ ControlLine) × (4096 < length (without_cr (before_first is_lf stream))))
+    ⊎ (((line : List ℕ) × (head : List ℕ) × (more : List ℕ) × (stream ≡ head ++ more) × IsLine line head × Says line (Refused fault))
+    ⊎ ((fault ≡ ParserError) × ((line : List ℕ) × (head : List ℕ) × (more : List ℕ) × (subject : List ℕ) × (n : ℕ)
+    × (stream ≡ head ++ more) × IsLine line head × Says line (Publish subject n) × IsNoEnd (drop n more))))
+
+-- a stream begins with a fault exactly where one shows
+abbrev pub IsShown : Type 0
+IsShown = (stream : List ℕ) (fault : WireFault) → front stream ≡ Wrong fault → Shows fault stream
+
+abbrev pub IsFault : Type 0
+IsFault = (stream : List ℕ) (fault : WireFault) → Shows fault stream → front stream ≡ Wrong fault
+
+-- bytes that begin with no text of a frame and with no fault
+abbrev pub IsPartial : List ℕ → Type 0
+IsPartial bytes =
+    ((f : Frame) (text more : List ℕ) → bytes ≡ text ++ more → IsSpelling f text → ⊥) × ((fault : WireFault) → Shows fault bytes → ⊥)
+
+-- A stream is texts of these frames and less than one more. Where it begins with a fault, that is the last frame.
+abbrev pub IsFramedBy : List ℕ → List Frame → List ℕ → Bool → Type 0
+IsFramedBy stream [] rest failed = (stream ≡ rest) × (failed ≡ false) × IsPartial rest
+IsFramedBy stream (frame.Fault fault ∷ frames) rest failed = Shows fault stream × (frames ≡ []) × (rest ≡ []) × (failed ≡ true)
+IsFramedBy stream (f ∷ frames) rest failed =
+    (text : List ℕ) × (more : List ℕ) × (stream ≡ text ++ more) × IsSpelling f text × IsFramedBy more frames rest failed
+
+abbrev pub IsFraming : List ℕ → Framing → Type 0
+IsFraming stream f = IsFramedBy stream f.frames f.rest f.failed
+
+-- every stream has a framing, and one alone
+abbrev pub HasFraming : Type 0
+HasFraming = (stream : List ℕ) → IsFraming stream (frames_of stream)
+
+abbrev pub HasOneFraming : Type 0
+HasOneFraming = (stream : List ℕ) (f : Framing) → IsFraming stream f → f ≡ frames_of stream

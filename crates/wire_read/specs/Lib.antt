@@ -1,0 +1,9 @@
+pub mod Line
+pub mod Field
+pub mod Operation
+pub mod Size
+pub mod Command
+pub mod Front
+pub mod Framing
+pub mod Grammar
+pub mod Faults

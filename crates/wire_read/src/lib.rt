@@ -1,0 +1,22 @@
+//! The frames of the NATS client protocol, read from a stream in any pieces (NATS documentation, "Client Protocol").
+#![tactic(auto)]
+
+mod command;
+mod fault;
+mod field;
+mod frame;
+mod front;
+mod laws;
+mod line;
+mod operation;
+mod reader;
+mod scan;
+mod size;
+
+pub use fault::{FeedError, WireFault};
+pub use frame::Frame;
+pub use laws::{any_pieces, cut_anywhere, faults, one_framing, spellings};
+pub use reader::FrameReader;
+
+#[cfg(test)]
+mod tests;

@@ -1,0 +1,54 @@
+// Appending several pieces with one growth.
+ghost use Rattle.std.specs.Prelude.{◌≡◌, ◌+◌, ◌++◌, ◌<◌, ◌≤◌, length, OnOk, OnErr};
+ghost use Rattle.std.specs.Vec.{vec_len, vec_capacity};
+
+use lists::NoMemory;
+
+/// Makes room for three pieces and `more` bytes, or leaves the buffer as it is.
+pub(crate) fn make_room(
+    out: &mut Vec<u8>,
+    first: &[u8],
+    second: &[u8],
+    third: &[u8],
+    more: usize,
+) -> Result<(), NoMemory>
+    ensures items { out.new.items ≡ out.old.items }
+    ensures len { vec_len out.new ≡ vec_len out.old }
+    ensures room { OnOk result (vec_len out.new + (length first.now + length second.now + length third.now + more) ≤ vec_capacity out.new) }
+    ensures full { OnErr result (vec_capacity out.old < vec_len out.old + (length first.now + length second.now + length third.now + more)) }
+{
+    let size = first
+        .len()
+        .saturating_add(second.len())
+        .saturating_add(third.len())
+        .saturating_add(more);
+    Ok(out.reserve(size)?)
+}
+
+/// Appends a piece for which there is room.
+pub(crate) fn put(out: &mut Vec<u8>, piece: &[u8])
+    requires { vec_len out.old + length piece.now ≤ vec_capacity out.old }
+    ensures items { out.new.items ≡ out.old.items ++ piece.now }
+    ensures len { vec_len out.new ≡ vec_len out.old + length piece.now }
+    ensures capacity { vec_capacity out.old ≤ vec_capacity out.new }
+{
+    let _had_room = out.extend_from_slice(piece).is_ok();
+}
+
+/// Appends three pieces, or leaves the buffer as it is.
+pub(crate) fn append(
+    out: &mut Vec<u8>,
+    first: &[u8],
+    second: &[u8],
+    third: &[u8],
+) -> Result<(), NoMemory>
+    ensures ok { OnOk result (out.new.items ≡ out.old.items ++ (first.now ++ second.now ++ third.now)) }
+    ensures err { OnErr result (out.new.items ≡ out.old.items) }
+    ensures full { OnErr result (vec_capacity out.old < vec_len out.old + length (first.now ++ second.now ++ third.now)) }
+{
+    make_room(out, first, second, third, 0)?;
+    put(out, first);
+    put(out, second);
+    put(out, third);
+    Ok(())
+}

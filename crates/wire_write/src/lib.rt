@@ -1,0 +1,12 @@
+//! The texts that the server writes to a client, appended to a buffer (NATS documentation, "Client Protocol").
+#![tactic(auto)]
+
+mod append;
+mod error;
+mod message;
+
+pub use error::{ServerError, write_err};
+pub use message::{write_info, write_msg, write_ok, write_pong};
+
+#[cfg(test)]
+mod tests;

@@ -1,0 +1,78 @@
+use crate::{ServerError, write_err, write_info, write_msg, write_ok, write_pong};
+
+#[test]
+fn first_message(rt: HostRuntime) {
+    let mut out = Vec::new(rt.alloc());
+    assert!(rt; write_info(&mut out, 1).is_ok());
+    assert!(rt; write_pong(&mut out).is_ok());
+    assert!(rt; write_ok(&mut out).is_ok());
+    assert!(rt; write_msg(&mut out, b"foo", b"1", b"hi").is_ok());
+    assert!(rt; write_msg(&mut out, b"a*b", b"22", b"").is_ok());
+    let expected: &[u8] =
+        b"INFO {\"auth_required\":true,\"client_id\":1,\"headers\":true,\"max_payload\":1048576,\"proto\":1,\"server_id\":\"natsd\",\"version\":\"0.1.0\"}\r\nPONG\r\n+OK\r\nMSG foo 1 2\r\nhi\r\nMSG a*b 22 0\r\n\r\n";
+    assert_eq!(rt; out.as_slice(), expected);
+}
+
+#[test]
+fn error_texts(rt: HostRuntime) {
+    let expected: [(ServerError, &[u8], bool); 12] = [
+        (
+            ServerError::UnknownOperation,
+            b"-ERR 'Unknown Protocol Operation'\r\n",
+            true,
+        ),
+        (ServerError::ParserError, b"-ERR 'Parser Error'\r\n", true),
+        (
+            ServerError::ControlLine,
+            b"-ERR 'Maximum Control Line Exceeded'\r\n",
+            true,
+        ),
+        (
+            ServerError::PayloadViolation,
+            b"-ERR 'Maximum Payload Violation'\r\n",
+            true,
+        ),
+        (
+            ServerError::Authorization,
+            b"-ERR 'Authorization Violation'\r\n",
+            true,
+        ),
+        (
+            ServerError::InvalidProtocol,
+            b"-ERR 'Invalid Client Protocol'\r\n",
+            true,
+        ),
+        (
+            ServerError::ConnectionsExceeded,
+            b"-ERR 'Maximum Connections Exceeded'\r\n",
+            true,
+        ),
+        (ServerError::SlowConsumer, b"-ERR 'Slow Consumer'\r\n", true),
+        (
+            ServerError::InvalidSubject,
+            b"-ERR 'Invalid Subject'\r\n",
+            false,
+        ),
+        (
+            ServerError::SubscriptionsExceeded,
+            b"-ERR 'Maximum Subscriptions Exceeded'\r\n",
+            false,
+        ),
+        (
+            ServerError::PublishDenied(b"in.1"),
+            b"-ERR 'Permissions Violation for Publish to \"in.1\"'\r\n",
+            false,
+        ),
+        (
+            ServerError::SubscriptionDenied(b">"),
+            b"-ERR 'Permissions Violation for Subscription to \">\"'\r\n",
+            false,
+        ),
+    ];
+    for (error, text, closes) in expected {
+        let mut out = Vec::new(rt.alloc());
+        assert!(rt; write_err(&mut out, error).is_ok());
+        assert_eq!(rt; out.as_slice(), text);
+        assert_eq!(rt; error.closes(), closes);
+    }
+}
