@@ -6,3 +6,4 @@ pub mod Takes
 pub mod Drains
 pub mod Plays
 pub mod Asked
+pub mod Checks

@@ -7,6 +7,10 @@ use Rattle.policy_doc.specs.Document.{builtin_doc}
 use Rattle.hub.specs.World.{World, opening_world}
 use Rattle.natsd.specs.Device.{AppendsFront}
 use Rattle.natsd.specs.declared.client.Client.{Client}
+use Rattle.natsd.specs.declared.script.Line.{Line}
+use Rattle.natsd.specs.declared.script.Part.{Part}
+use Rattle.natsd.specs.declared.script.Part.TheVariants.{Head}
+use Rattle.natsd.specs.Script.{line_of, part_after}
 use Rattle.natsd.specs.Play.{Act, Played, stops_or, line_and_drains, played, output_of, lines_of, play_capacity, IsAct}
 
 -- what was written, and what is left to come behind it, is all there is to come
@@ -107,27 +111,36 @@ pub IsAct-fresh : (a : Act) (before out : List ℕ) (ks : List Client) (w : Worl
 IsAct-fresh a before out ks w stops e h = let P : List ℕ → Type 0 = λ l. IsAct a l out ks w stops in subst P e h
 
 -- the first of the lines that are left
-pub plays_line : (old now : Option (List ℕ)) (number : ℕ) (lines rest : List (List ℕ)) (line : List ℕ) (w : World) (ks : List Client) (all : Played) → lines ≡ line ∷ rest →
-    Plays old now (played number lines w ks) all →
-    Plays old now (stops_or (line_and_drains number line w ks) (line_and_drains number line w ks).stops (λ v l. played (number + 1) rest v l)) all
+pub plays_line : (old now : Option (List ℕ)) (number : ℕ) (part : Part) (lines rest : List (List ℕ)) (text : List ℕ) (w : World) (ks : List Client) (all : Played) → lines ≡ text ∷ rest →
+    Plays old now (played number part lines w ks) all →
+    Plays old now (stops_or (line_and_drains number part (line_of text) w ks) (line_and_drains number part (line_of text) w ks).stops (λ v l. played (number + 1) (part_after part (line_of text)) rest v l)) all
 unfolding played
-plays_line old now number lines rest line w ks all e h = let P : List (List ℕ) → Type 0 = λ l. Plays old now (played number l w ks) all in subst P e h
+plays_line old now number part lines rest text w ks all e h = let P : List (List ℕ) → Type 0 = λ l. Plays old now (played number part l w ks) all in subst P e h
+
+-- the line that was read is the text's
+pub plays_read : (old now : Option (List ℕ)) (number : ℕ) (part : Part) (lines rest : List (List ℕ)) (text : List ℕ) (line : Line) (after : Part) (w : World) (ks : List Client) (all : Played) → lines ≡ text ∷ rest →
+    line ≡ line_of text → after ≡ part_after part line → Plays old now (played number part lines w ks) all →
+    Plays old now (stops_or (line_and_drains number part line w ks) (line_and_drains number part line w ks).stops (λ v l. played (number + 1) after rest v l)) all
+plays_read old now number part lines rest text line after w ks all e read next h =
+    let P : Part → Type 0 = λ p. Plays old now (stops_or (line_and_drains number part line w ks) (line_and_drains number part line w ks).stops (λ v l. played (number + 1) p rest v l)) all in
+    let Q : Line → Type 0 = λ x. Plays old now (stops_or (line_and_drains number part x w ks) (line_and_drains number part x w ks).stops (λ v l. played (number + 1) (part_after part x) rest v l)) all in
+    subst P (sym next) (subst Q (sym read) (plays_line old now number part lines rest text w ks all e h))
 
 -- no line is left
-pub plays_last : (old now : Option (List ℕ)) (number : ℕ) (lines : List (List ℕ)) (w : World) (ks : List Client) (all : Played) → lines ≡ [] →
-    Plays old now (played number lines w ks) all → Appends old now all.text × (0 ≡ all.status)
+pub plays_last : (old now : Option (List ℕ)) (number : ℕ) (part : Part) (lines : List (List ℕ)) (w : World) (ks : List Client) (all : Played) → lines ≡ [] →
+    Plays old now (played number part lines w ks) all → Appends old now all.text × (0 ≡ all.status)
 unfolding played
-plays_last old now number lines w ks all e h =
-    let P : List (List ℕ) → Type 0 = λ l. Plays old now (played number l w ks) all in
-    plays_end old now (played number [] w ks) all refl refl (subst P e h)
+plays_last old now number part lines w ks all e h =
+    let P : List (List ℕ) → Type 0 = λ l. Plays old now (played number part l w ks) all in
+    plays_end old now (played number part [] w ks) all refl refl (subst P e h)
 
 -- the opening
 pub plays_open : (old : Option (List ℕ)) (script : List ℕ) (lines : List (List ℕ)) (w : World) (ks : List Client) → lines ≡ lines_of script → w ≡ opening_world builtin_doc play_capacity → ks ≡ [] →
-    Plays old old (played 1 lines w ks) (output_of script)
+    Plays old old (played 1 Head lines w ks) (output_of script)
 unfolding output_of
 plays_open old script lines w ks el ew ek =
-    let same : played 1 lines w ks ≡ output_of script =
-    ap (λ (l : List (List ℕ)). played 1 l w ks) el ∙ ap (λ (v : World). played 1 (lines_of script) v ks) ew ∙ ap (λ (k : List Client). played 1 (lines_of script) (opening_world builtin_doc play_capacity) k) ek in
+    let same : played 1 Head lines w ks ≡ output_of script =
+    ap (λ (l : List (List ℕ)). played 1 Head l w ks) el ∙ ap (λ (v : World). played 1 Head (lines_of script) v ks) ew ∙ ap (λ (k : List Client). played 1 Head (lines_of script) (opening_world builtin_doc play_capacity) k) ek in
     let P : Played → Type 0 = λ p. Plays old old p (output_of script) in
     subst P (sym same) (plays_start old (output_of script))
 

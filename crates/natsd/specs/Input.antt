@@ -1,5 +1,5 @@
 -- How the reading and the writing of a script end (docs/SCRIPT.md, "Statuses").
-use Rattle.std.specs.Prelude.{ℕ, List, codes, Bool, true, false, Result, Ok, Err}
+use Rattle.std.specs.Prelude.{◌≡◌, ◌≤◌, ◌+◌, ℕ, List, length, min, codes, Bool, true, false, Option, Some, None, Result, Ok, Err}
 use Rattle.natsd.specs.declared.fault.PlayFault.{PlayFault}
 use Rattle.natsd.specs.declared.fault.PlayFault.TheVariants.{ReadFailed, WriteFailed, NoMemory, ScriptTooLong}
 
@@ -18,6 +18,18 @@ is_write_failed (Err ReadFailed) = false
 is_write_failed (Err WriteFailed) = true
 is_write_failed (Err NoMemory) = false
 is_write_failed (Err ScriptTooLong) = false
+
+-- the source failed, or memory could not be had
+abbrev pub is_read_or_memory : PlayFault → Bool
+is_read_or_memory ReadFailed = true
+is_read_or_memory WriteFailed = false
+is_read_or_memory NoMemory = true
+is_read_or_memory ScriptTooLong = false
+
+-- all that was left was read, or it is more than so many bytes and reads bring
+abbrev pub IsWithin : ℕ → ℕ → List ℕ → Option (List ℕ) → Type 0
+IsWithin bytes reads left (Some text) = text ≡ left
+IsWithin bytes reads left None = min (bytes + 1) reads ≤ length left
 
 -- what is said of a fault
 abbrev pub fault_text : PlayFault → List ℕ

@@ -4,5 +4,7 @@ pub mod Connect
 pub mod Device
 pub mod Input
 pub mod Session
+pub mod Policies
 pub mod Play
+pub mod Check
 pub mod Words

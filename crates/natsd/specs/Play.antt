@@ -3,6 +3,7 @@ use Rattle.std.specs.Prelude.{◌≡◌, ◌==◌, ◌+◌, ◌/◌, ◌++◌, �
 use Rattle.std.specs.List.{list_any, position_or_len}
 use Rattle.lists.specs.Pieces.{pieces_of}
 use Rattle.policy_doc.specs.Document.{builtin_doc}
+use Rattle.policy_doc.specs.declared.document.PolicyDoc.{PolicyDoc}
 use Rattle.wire_read.specs.Framing.{Reader, frames_of}
 use Rattle.wire_read.specs.declared.frame.Frame.{Frame}
 use Rattle.wire_write.specs.Texts.{info_line}
@@ -13,11 +14,14 @@ use Rattle.hub.specs.declared.answer.Outcome.{Outcome}
 use Rattle.hub.specs.declared.answer.HubRefusal.{HubRefusal}
 use Rattle.hub.specs.declared.answer.HubRefusal.TheVariants as refusal
 use Rattle.natsd.specs.Session.{Turn, unasked, asked, behind, followed_by, answered, reply_to_take, frames_turn, IsTurn}
-use Rattle.natsd.specs.Script.{line_of}
+use Rattle.natsd.specs.Policies.{policy_or_line}
+use Rattle.natsd.specs.Script.{line_of, part_after}
 use Rattle.natsd.specs.Output.{shown_line, closed_line, refused_line, full_line}
 use Rattle.natsd.specs.declared.client.Client.{Client}
 use Rattle.natsd.specs.declared.script.Line.{Line}
-use Rattle.natsd.specs.declared.script.Line.TheVariants.{Skip, Open, Send, Other}
+use Rattle.natsd.specs.declared.script.Line.TheVariants.{Skip, Open, Send, Policy, Other}
+use Rattle.natsd.specs.declared.script.Part.{Part}
+use Rattle.natsd.specs.declared.script.Part.TheVariants.{Head, Body}
 use Rattle.natsd.specs.declared.stage.Stage.{Stage}
 use Rattle.natsd.specs.declared.stage.Stage.TheVariants as stage
 use Rattle.natsd.specs.declared.stage.Next.{Next}
@@ -174,14 +178,25 @@ with_client k ks = insert ks (position_or_len (λ x. nat_lt k.conn x.conn) ks) k
 abbrev pub new_client : ℕ → Client
 new_client conn = record { conn = conn; reader = record { rest = []; failed = false }; stage = stage.Fresh }
 
+-- a policy takes the place of the built-in one; a text that is none stops the script, with the line of its fault
+abbrev pub policy_act : Result PolicyDoc (List ℕ) → World → List Client → Act
+policy_act (Ok doc) w ks = act [] ks (opening_world doc play_capacity) false
+policy_act (Err line) w ks = act line ks w true
+
+-- only at the head of a script, before anyone is connected
+abbrev pub policy_line_act : ℕ → Part → List ℕ → World → List Client → Act
+policy_line_act number Head text w ks = policy_act (policy_or_line text) w ks
+policy_line_act number Body text w ks = act (refused_line number) ks w true
+
 -- what a line itself does
-abbrev pub line_act : ℕ → Line → World → List Client → Act
-line_act number Skip w ks = act [] ks w false
-line_act number (Open conn) w ks =
+abbrev pub line_act : ℕ → Part → Line → World → List Client → Act
+line_act number part Skip w ks = act [] ks w false
+line_act number part (Open conn) w ks =
     if is_open ks conn then act (refused_line number) ks w true
     else act (shown_line conn (info_line conn)) (with_client (new_client conn) ks) w false
-line_act number (Send conn bytes) w ks = sent conn bytes w ks
-line_act number Other w ks = act (refused_line number) ks w true
+line_act number part (Send conn bytes) w ks = sent conn bytes w ks
+line_act number part (Policy text) w ks = policy_line_act number part text w ks
+line_act number part Other w ks = act (refused_line number) ks w true
 
 abbrev pub is_closed : Stage → Bool
 is_closed (stage.Closed _) = true
@@ -197,8 +212,8 @@ abbrev pub and_drains : Act → Bool → Act
 and_drains a true = a
 and_drains a false = let d = drained a.clients a.world in act (a.text ++ d.text) (still_open d.clients) d.world d.stops
 
-unfoldable pub line_and_drains : ℕ → List ℕ → World → List Client → Act
-line_and_drains number text w ks = let a = line_act number (line_of text) w ks in and_drains a a.stops
+unfoldable pub line_and_drains : ℕ → Part → Line → World → List Client → Act
+line_and_drains number part line w ks = let a = line_act number part line w ks in and_drains a a.stops
 
 -- what a script prints, and its status
 pub record Played : Type 0 where
@@ -210,15 +225,16 @@ stops_or a true more = record { text = a.text; status = 1 }
 stops_or a false more = let rest = more a.world a.clients in record { text = a.text ++ rest.text; status = rest.status }
 
 -- the lines from a number on
-unfoldable pub played : ℕ → List (List ℕ) → World → List Client → Played
-played number [] w ks = record { text = []; status = 0 }
-played number (line ∷ lines) w ks =
-    let a = line_and_drains number line w ks in stops_or a a.stops (λ w' ks'. played (number + 1) lines w' ks')
+unfoldable pub played : ℕ → Part → List (List ℕ) → World → List Client → Played
+played number part [] w ks = record { text = []; status = 0 }
+played number part (text ∷ texts) w ks =
+    let a = line_and_drains number part (line_of text) w ks in
+    stops_or a a.stops (λ w' ks'. played (number + 1) (part_after part (line_of text)) texts w' ks')
 
 -- the lines of a script: what stands between its LFs. Behind a last LF there is one more, the empty one, which is skipped.
 abbrev pub lines_of : List ℕ → List (List ℕ)
 lines_of script = pieces_of 10 script
 
--- what a script prints under the built-in policy
+-- what a script prints; the built-in policy holds where its head sets no other
 unfoldable pub output_of : List ℕ → Played
-output_of script = played 1 (lines_of script) (opening_world builtin_doc play_capacity) []
+output_of script = played 1 Head (lines_of script) (opening_world builtin_doc play_capacity) []

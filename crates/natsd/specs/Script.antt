@@ -4,7 +4,9 @@ use Rattle.std.specs.List.{starts_with}
 use Rattle.std.specs.Str.{all_ascii_digits}
 use Rattle.std.specs.Str.Parse.{digits_value}
 use Rattle.natsd.specs.declared.script.Line.{Line}
-use Rattle.natsd.specs.declared.script.Line.TheVariants.{Skip, Open, Send, Other}
+use Rattle.natsd.specs.declared.script.Line.TheVariants.{Skip, Open, Send, Policy, Other}
+use Rattle.natsd.specs.declared.script.Part.{Part}
+use Rattle.natsd.specs.declared.script.Part.TheVariants.{Head, Body}
 use Rattle.natsd.specs.declared.script.Escape.{Escape}
 use Rattle.natsd.specs.declared.script.Escape.TheVariants.{Plain, Backslash, HighDigit, LowDigit}
 use Rattle.natsd.specs.declared.script.Step.{Step}
@@ -99,10 +101,22 @@ send_line rest = around (position (λ b. b == 32) rest)
     around None = Other
     around (Some at) = send_of (number_of (take at rest)) (unescaped (drop (at + 1) rest))
 
--- what a line of a script says: nothing, that a connection opens, what its client sends, or something else
+-- after `policy `: the policy's text
+abbrev pub policy_line : List ℕ → Line
+policy_line line = if starts_with nat_eq line (codes "policy ") then Policy (drop 7 line) else Other
+
+-- what a line of a script says: nothing, that a connection opens, what its client sends, the policy, or something else
 abbrev pub line_of : List ℕ → Line
 line_of line =
     if is_skipped line then Skip
     else if starts_with nat_eq line (codes "open ") then open_of (number_of (drop 5 line))
     else if starts_with nat_eq line (codes "send ") then send_line (drop 5 line)
-    else Other
+    else policy_line line
+
+-- a script's head ends with the first line that is not skipped
+abbrev pub part_after : Part → Line → Part
+part_after part Skip = part
+part_after part (Open conn) = Body
+part_after part (Send conn bytes) = Body
+part_after part (Policy text) = Body
+part_after part Other = Body

@@ -1,25 +1,30 @@
 -- The command line of `natsd` (docs/SCRIPT.md, "Statuses"), in the words of clap's contracts.
-use Rattle.std.specs.Prelude.{◌≡◌, ℕ, List, [], Bool, true, false, codes, Option, Some, Result, Ok, Err}
+use Rattle.std.specs.Prelude.{◌≡◌, ◌≤◌, ℕ, List, [], length, Bool, true, false, if◌then◌else◌, codes, Option, Some, None, option_map, IfSome, Result, Ok, Err}
+use Rattle.std.specs.Str.{bytes_eq}
 use Rattle.std.specs.String.{string_bytes}
-use Rattle.clap.specs.Words.{App, IsAmong, Kinds, fault_of, new_app, with_subcommand}
+use Rattle.clap.specs.Words.{App, IsAmong, Kinds, fault_of, new_app, subcommand_of, with_subcommand}
 use Rattle.clap.specs.declared.error.kind.ErrorKind.{ErrorKind}
 use Rattle.clap.specs.declared.error.kind.ErrorKind.TheVariants.{DisplayHelp, DisplayVersion, OutOfMemory}
 use Rattle.natsd.specs.declared.words.Task.{Task}
-use Rattle.natsd.specs.declared.words.Task.TheVariants.{Play, Help, Version}
+use Rattle.natsd.specs.declared.words.Task.TheVariants.{Play, Check, Help, Version}
 use Rattle.natsd.specs.declared.words.WordsFault.{WordsFault}
 use Rattle.natsd.specs.declared.words.WordsFault.TheVariants.{WrongLine, NoMemory}
+use Rattle.natsd.specs.Check.{report_of}
 use Rattle.natsd.specs.Play.{Played, output_of}
 
--- `play` takes nothing of its own
+-- `play` and `check` take nothing of their own
 abbrev pub play_app : App
 play_app = new_app (codes "play")
+
+abbrev pub check_app : App
+check_app = new_app (codes "check")
 
 -- a version, no subcommand `help`, and one of the subcommands has to be named
 abbrev pub bare_app : App
 bare_app = record { top = record (new_app (codes "natsd")).top { has_version = true; disable_help_subcommand = true; subcommand_required = true }; subs = [] }
 
 abbrev pub natsd_app : App
-natsd_app = with_subcommand bare_app play_app.top
+natsd_app = with_subcommand (with_subcommand bare_app play_app.top) check_app.top
 
 -- why clap gives no matches for these words: nothing where they are right
 abbrev pub kinds_of : List (List ℕ) → Kinds
@@ -35,13 +40,30 @@ is_mistake _ = true
 abbrev pub HasMistake : Kinds → Type 0
 HasMistake kinds = (k : ErrorKind) × IsAmong k kinds × (is_mistake k ≡ true)
 
--- what is made of a line: the task where nothing is wrong, what was asked for, or that it is wrong
-abbrev pub IsReading : Kinds → Result Task WordsFault → Type 0
-IsReading kinds (Ok Play) = kinds ≡ []
-IsReading kinds (Ok (Help text)) = IsAmong DisplayHelp kinds
-IsReading kinds (Ok (Version text)) = IsAmong DisplayVersion kinds
-IsReading kinds (Err (WrongLine text)) = HasMistake kinds
-IsReading kinds (Err NoMemory) = Unit {0}
+-- the subcommand that words name, as clap reads them
+abbrev pub name_in : List (List ℕ) → Option (List ℕ)
+name_in words = option_map (λ found. found.0) (subcommand_of natsd_app words)
+
+abbrev pub task_named : Option (List ℕ) → Task
+task_named None = Play
+task_named (Some name) = if bytes_eq name (codes "check") then Check else Play
+
+-- what is made of a line that names no task: what was asked for, or that it is wrong
+abbrev pub IsRefusal : Kinds → Result Task WordsFault → Type 0
+IsRefusal kinds (Ok Play) = ⊥
+IsRefusal kinds (Ok Check) = ⊥
+IsRefusal kinds (Ok (Help text)) = IsAmong DisplayHelp kinds
+IsRefusal kinds (Ok (Version text)) = IsAmong DisplayVersion kinds
+IsRefusal kinds (Err (WrongLine text)) = HasMistake kinds
+IsRefusal kinds (Err NoMemory) = Unit {0}
+
+-- what is made of a line: the task that is named, where nothing is wrong, or a refusal
+abbrev pub IsReading : Kinds → Option (List ℕ) → Result Task WordsFault → Type 0
+IsReading kinds name (Ok Play) = (kinds ≡ []) × (name ≡ Some (codes "play"))
+IsReading kinds name (Ok Check) = (kinds ≡ []) × (name ≡ Some (codes "check"))
+IsReading kinds name (Ok (Help text)) = IsRefusal kinds (Ok (Help text))
+IsReading kinds name (Ok (Version text)) = IsRefusal kinds (Ok (Version text))
+IsReading kinds name (Err fault) = IsRefusal kinds (Err fault)
 
 -- the task, or want of memory
 abbrev pub IsTaskOrMemory : Task → Result Task WordsFault → Type 0
@@ -52,11 +74,27 @@ IsTaskOrMemory task (Err NoMemory) = Unit {0}
 -- the bytes that a task reads, where they are known: a text to be shown needs none
 abbrev pub input_of : Task → Option (List ℕ) → Option (List ℕ)
 input_of Play input = input
+input_of Check input = input
 input_of (Help text) input = Some []
 input_of (Version text) input = Some []
 
 -- what a task writes, and its status
 abbrev pub done_by : Task → List ℕ → Played
 done_by Play script = output_of script
+done_by Check text = report_of text
 done_by (Help text) script = record { text = string_bytes text; status = 0 }
 done_by (Version text) script = record { text = string_bytes text; status = 0 }
+
+-- a script that was played is no longer than scripts may be, and one that is too long has many bytes or many reads
+abbrev pub IsShortScript : Task → Option (List ℕ) → Type 0
+IsShortScript Play input = IfSome input (λ script. length script ≤ 16777216)
+IsShortScript Check input = Unit {0}
+IsShortScript (Help text) input = Unit {0}
+IsShortScript (Version text) input = Unit {0}
+
+-- only a script is too long
+abbrev pub IsLongScript : Task → Option (List ℕ) → Type 0
+IsLongScript Play input = IfSome input (λ script. 1000000 ≤ length script)
+IsLongScript Check input = ⊥
+IsLongScript (Help text) input = ⊥
+IsLongScript (Version text) input = ⊥

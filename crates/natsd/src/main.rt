@@ -1,6 +1,7 @@
 //! natsd: the routing core of a multi-tenant NATS server.
 #![tactic(auto)]
 
+mod check;
 mod client;
 mod conn;
 mod connect;
@@ -10,6 +11,7 @@ mod fault;
 mod input;
 mod output;
 mod play;
+mod policy;
 mod script;
 mod stage;
 mod words;

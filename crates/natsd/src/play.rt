@@ -1,8 +1,11 @@
 // `natsd play`: a script over one hub (docs/SCRIPT.md).
-ghost use Rattle.std.specs.Prelude.{◌≡◌, ◌≤◌, ◌++◌, IfOk, OnOk, nat_lt, length, ◌||◌, OnErr, ◌≢◌, false, IfSome};
+ghost use Rattle.std.specs.Prelude.{◌≡◌, ◌≤◌, ◌++◌, List, IfOk, OnOk, nat_lt, length, ◌||◌, OnErr, ◌≢◌, false, IfSome};
 ghost use Rattle.std.specs.List.{position_or_len};
 ghost use Rattle.std.specs.Io.KnownBytes.{Appends, IsAtEnd};
-ghost use Rattle.natsd.specs.Play.{drained, sent, is_open, with_client, new_client, line_act, still_open, is_closed, line_and_drains, IsAct, play_capacity, output_of};
+ghost use Rattle.natsd.specs.declared.client.Client.{Client};
+ghost use Rattle.natsd.specs.declared.script.Part.{Part};
+ghost use Rattle.natsd.specs.Policies.{policy_or_line};
+ghost use Rattle.natsd.specs.Play.{drained, sent, is_open, with_client, new_client, policy_act, policy_line_act, line_act, still_open, is_closed, line_and_drains, IsAct, play_capacity, output_of};
 ghost use Rattle.hub.specs.World.{World, opening_world};
 ghost use Rattle.policy_doc.specs.Document.{builtin_doc};
 ghost use Rattle.natsd.specs.Device.{AppendsFront};
@@ -13,7 +16,8 @@ use crate::device::{Sink, Source, write_all};
 use crate::fault::PlayFault;
 use crate::input::read_to_end;
 use crate::output::{write_refused, write_shown};
-use crate::script::{Line, read_line};
+use crate::policy::policy_or_line;
+use crate::script::{Line, Part, read_line};
 use crate::stage::{Next, Stage};
 use hub::{Caps, Hub, Ready};
 use lists::{NoMemory, Pieces};
@@ -120,7 +124,7 @@ fn open(
     conn: u64,
     out: &mut Vec<u8>,
 ) -> Result<bool, NoMemory>
-    ensures { (w : World) → IfOk result (λ stops. IsAct (line_act number (Line.Open conn) w clients.old.items) out.old.items out.new.items clients.new.items w stops) }
+    ensures { (part : Part) (w : World) → IfOk result (λ stops. IsAct (line_act number part (Line.Open conn) w clients.old.items) out.old.items out.new.items clients.new.items w stops) }
 {
     if is_open(clients.as_slice(), conn) {
         write_refused(out, number)?;
@@ -133,16 +137,74 @@ fn open(
     Ok(false)
 }
 
+/// A hub over a policy, with nobody connected.
+fn open_hub(alloc: Global, policy: Policy) -> Result<Hub, NoMemory>
+    ensures { IfOk result (λ hub. hub ≡ opening_world policy play_capacity) }
+{
+    match Ready::of(alloc, policy) {
+        Ok(ready) => match Hub::new(alloc, ready, Caps { outbox: CAPACITY }) {
+            Ok(hub) => Ok(hub),
+            Err((_, refused)) => Err(refused),
+        },
+        Err((_, refused)) => Err(refused),
+    }
+}
+
+/// A policy in the place of the built-in one, or the line of its fault.
+fn set_policy(
+    alloc: Global,
+    hub: &mut Hub,
+    text: &[u8],
+    out: &mut Vec<u8>,
+) -> Result<bool, NoMemory>
+    ensures { (clients : List Client) → IfOk result (λ stops. IsAct (policy_act (policy_or_line text.now) hub.old clients) out.old.items out.new.items clients hub.new stops) }
+{
+    match policy_or_line(alloc, text)? {
+        Ok(policy) => {
+            *hub = open_hub(alloc, policy)?;
+            Ok(false)
+        }
+        Err(line) => {
+            out.extend_from_slice(line.as_slice())?;
+            Ok(true)
+        }
+    }
+}
+
+/// A policy, which only the head of a script may have.
+fn on_policy(
+    alloc: Global,
+    hub: &mut Hub,
+    number: u64,
+    part: Part,
+    text: &[u8],
+    out: &mut Vec<u8>,
+) -> Result<bool, NoMemory>
+    ensures { (clients : List Client) → IfOk result (λ stops. IsAct (policy_line_act number part text.now hub.old clients) out.old.items out.new.items clients hub.new stops) }
+{
+    match part {
+        Part::Head => {
+            let stops = set_policy(alloc, hub, text, out)?;
+            Ok(stops)
+        }
+        Part::Body => {
+            write_refused(out, number)?;
+            Ok(true)
+        }
+    }
+}
+
 /// What a line itself does.
 fn on_line(
     alloc: Global,
     hub: &mut Hub,
     clients: &mut Vec<Client>,
     number: u64,
+    part: Part,
     line: Line,
     out: &mut Vec<u8>,
 ) -> Result<bool, NoMemory>
-    ensures { IfOk result (λ stops. IsAct (line_act number line hub.old clients.old.items) out.old.items out.new.items clients.new.items hub.new stops) }
+    ensures { IfOk result (λ stops. IsAct (line_act number part line hub.old clients.old.items) out.old.items out.new.items clients.new.items hub.new stops) }
 {
     match line {
         Line::Skip => Ok(false),
@@ -161,6 +223,10 @@ fn on_line(
             )?;
             Ok(stops)
         }
+        Line::Policy(text) => {
+            let stops = on_policy(alloc, hub, number, part, text.as_slice(), out)?;
+            Ok(stops)
+        }
         Line::Other => {
             write_refused(out, number)?;
             Ok(true)
@@ -175,32 +241,18 @@ fn on_line_and_drain(
     hub: &mut Hub,
     clients: &mut Vec<Client>,
     number: u64,
-    text: &[u8],
+    part: Part,
+    line: Line,
     out: &mut Vec<u8>,
 ) -> Result<bool, NoMemory>
-    ensures { IfOk result (λ stops. IsAct (line_and_drains number text.now hub.old clients.old.items) out.old.items out.new.items clients.new.items hub.new stops) }
+    ensures { IfOk result (λ stops. IsAct (line_and_drains number part line hub.old clients.old.items) out.old.items out.new.items clients.new.items hub.new stops) }
 {
-    let line = read_line(alloc, text)?;
-    if on_line(alloc, hub, clients, number, line, out)? {
+    if on_line(alloc, hub, clients, number, part, line, out)? {
         return Ok(true);
     }
     let stops = drain_all(alloc, hub, clients.as_mut_slice(), out)?;
     remove_closed(clients);
     Ok(stops)
-}
-
-/// A hub over the built-in policy, with nobody connected.
-fn open_hub(alloc: Global) -> Result<Hub, NoMemory>
-    ensures { IfOk result (λ hub. hub ≡ opening_world builtin_doc play_capacity) }
-{
-    let policy = Policy::builtin(alloc)?;
-    match Ready::of(alloc, policy) {
-        Ok(ready) => match Hub::new(alloc, ready, Caps { outbox: CAPACITY }) {
-            Ok(hub) => Ok(hub),
-            Err((_, refused)) => Err(refused),
-        },
-        Err((_, refused)) => Err(refused),
-    }
 }
 
 /// Plays the lines of a script.
@@ -213,14 +265,19 @@ fn play_lines<W: Sink>(alloc: Global, script: &[u8], sink: &mut W) -> Result<u8,
     ensures read { is_read_failed result ≡ false }
     ensures long { result ≢ Err PlayFault.ScriptTooLong }
 {
-    let mut hub = open_hub(alloc)?;
+    let policy = Policy::builtin(alloc)?;
+    let mut hub = open_hub(alloc, policy)?;
     let mut clients = Vec::new(alloc);
     let mut lines = Pieces::of(script, b'\n');
     let mut number = 0u64;
-    'playing: while let Some(line) = lines.next_piece() {
+    let mut part = Part::Head;
+    'playing: while let Some(text) = lines.next_piece() {
         number += 1;
+        let line = read_line(alloc, text)?;
+        let next = part.after(&line);
         let mut out = Vec::new(alloc);
-        let stops = on_line_and_drain(alloc, &mut hub, &mut clients, number, line, &mut out)?;
+        let stops = on_line_and_drain(alloc, &mut hub, &mut clients, number, part, line, &mut out)?;
+        part = next;
         match write_all(sink, out.as_slice()) {
             Err(_) => return Err(PlayFault::WriteFailed),
             Ok(()) => {

@@ -1,6 +1,6 @@
 // The lines of a script of `natsd play` (docs/SCRIPT.md).
 ghost use Rattle.std.specs.Prelude.{◌≡◌, ◌∷◌, ◌<◌, ℕ, List, IfOk, IfSome, option_map, position, ◌==◌};
-ghost use Rattle.natsd.specs.Script.{is_skipped, number_of, hex_of, unescaped, after_part, after_step, IsHex, IsHexStep, open_of, send_line, line_of};
+ghost use Rattle.natsd.specs.Script.{is_skipped, number_of, hex_of, unescaped, after_part, after_step, IsHex, IsHexStep, open_of, send_line, policy_line, line_of, part_after};
 
 use lists::{Items, NoMemory};
 use std::alloc::Global;
@@ -14,11 +14,37 @@ pub enum Line {
     Open(u64),
     /// The connection's client sends these bytes.
     Send(u64, Items<u8>),
+    /// The policy that this text writes takes the place of the built-in one.
+    Policy(Items<u8>),
     /// The line has another form.
     Other,
 }
 
-/// What a line, without its LF, says. `NoMemory` comes where the bytes to send can't be kept.
+/// How far a script has come.
+#[derive(Clone, Copy, Debug, PartialEq, Eq)]
+pub enum Part {
+    /// Each line so far is skipped. A policy may follow.
+    Head,
+    /// A line that is not skipped has come.
+    Body,
+}
+
+impl Part {
+    /// How far the script has come after one more line.
+    pub fn after(self, line: &Line) -> Part
+        ensures { result ≡ part_after self line.now }
+    {
+        match line {
+            Line::Skip => self,
+            Line::Open(_) => Part::Body,
+            Line::Send(_, _) => Part::Body,
+            Line::Policy(_) => Part::Body,
+            Line::Other => Part::Body,
+        }
+    }
+}
+
+/// What a line, without its LF, says. `NoMemory` comes where the bytes to send, or those of a policy, can't be kept.
 pub fn read_line(alloc: Global, line: &[u8]) -> Result<Line, NoMemory>
     ensures { IfOk result (λ read. read ≡ line_of line.now) }
 {
@@ -29,8 +55,18 @@ pub fn read_line(alloc: Global, line: &[u8]) -> Result<Line, NoMemory>
         Some(rest) => Ok(read_open(rest)),
         None => match line.strip_prefix(b"send ") {
             Some(rest) => Ok(read_send(alloc, rest)?),
-            None => Ok(Line::Other),
+            None => Ok(read_policy_line(alloc, line)?),
         },
+    }
+}
+
+/// What a line says that is no other of the forms.
+fn read_policy_line(alloc: Global, line: &[u8]) -> Result<Line, NoMemory>
+    ensures { IfOk result (λ read. read ≡ policy_line line.now) }
+{
+    match line.strip_prefix(b"policy ") {
+        Some(rest) => Ok(Line::Policy(Items::from_vec(Vec::from_slice(alloc, rest)?))),
+        None => Ok(Line::Other),
     }
 }
 

@@ -1,3 +1,4 @@
+mod checks;
 mod plays;
 mod words;
 
@@ -40,10 +41,25 @@ fn lines_of_a_script(rt: HostRuntime) {
         b"send 1 \\q",
         b"send 1 \\x4",
         b"send 1 \\x4g",
-        b"policy {}",
+        b"policy",
+        b"Policy {}",
         b"now 5",
     ] {
         assert!(rt; matches!(read_line(rt.alloc(), line), Ok(Line::Other)));
+    }
+}
+
+#[test]
+fn policies_of_a_script(rt: HostRuntime) {
+    for (line, text) in [
+        (&b"policy {}"[..], &b"{}"[..]),
+        (b"policy ", b""),
+        (b"policy  {}\\r\r", b" {}\\r\r"),
+    ] {
+        match read_line(rt.alloc(), line) {
+            Ok(Line::Policy(read)) => assert_eq!(rt; read.as_slice(), text),
+            _ => panic!(rt; "no policy"),
+        }
     }
 }
 

@@ -6,11 +6,12 @@ ghost use Rattle.clap.specs.declared.error.kind.ErrorKind.TheVariants.{OutOfMemo
 ghost use Rattle.natsd.specs.Device.{AppendsFront};
 ghost use Rattle.natsd.specs.Input.{is_read_failed, is_write_failed};
 
+use crate::check::check;
 use crate::device::{Sink, Source, write_all};
 use crate::fault::PlayFault;
 use crate::play::play;
 use clap::error::ErrorKind;
-use clap::{Command, Error};
+use clap::{ArgMatches, Command, Error};
 use std::alloc::{AllocError, Global};
 use std::convert::AsStr;
 
@@ -19,6 +20,8 @@ use std::convert::AsStr;
 pub enum Task {
     /// To play a script.
     Play,
+    /// To check a policy.
+    Check,
     /// To show this help.
     Help(String),
     /// To show this version.
@@ -45,7 +48,7 @@ impl From<AllocError> for WordsFault {
     }
 }
 
-ghost use Rattle.natsd.specs.Words.{natsd_app, play_app};
+ghost use Rattle.natsd.specs.Words.{natsd_app};
 
 /// What `natsd` takes on its command line.
 fn natsd_command<'a>(alloc: Global) -> Result<Command<'a>, AllocError>
@@ -54,19 +57,24 @@ fn natsd_command<'a>(alloc: Global) -> Result<Command<'a>, AllocError>
     let play = Command::new(alloc, "play").about(
         "Plays a script of clients against one server: reads it on standard input, prints what each client is sent",
     );
+    let check = Command::new(alloc, "check").about(
+        "Checks a policy: reads it on standard input, prints how much it has or its first fault",
+    );
     Command::new(alloc, "natsd")
         .about("The routing core of a multi-tenant NATS server")
         .version("0.1.0")
         .disable_help_subcommand(true)
         .subcommand_required(true)
-        .subcommand(play)
+        .subcommand(play)?
+        .subcommand(check)
 }
 
-ghost use Rattle.natsd.specs.Words.{IsReading, IsTaskOrMemory, kinds_of};
+ghost use Rattle.clap.specs.Words.{subcommand_name_of};
+ghost use Rattle.natsd.specs.Words.{IsReading, IsRefusal, IsTaskOrMemory, kinds_of, name_in, task_named};
 
 /// What is made of a line for which clap gives no matches.
 fn read_refusal(alloc: Global, error: &Error) -> Result<Task, WordsFault>
-    ensures { IsReading (kind_of error.now ∷ []) result }
+    ensures { IsRefusal (kind_of error.now ∷ []) result }
 {
     match error.kind() {
         ErrorKind::OutOfMemory => Err(WordsFault::NoMemory),
@@ -76,23 +84,40 @@ fn read_refusal(alloc: Global, error: &Error) -> Result<Task, WordsFault>
     }
 }
 
+/// The task of the subcommand that the words name: `check`, or else `play`.
+fn task_named(matches: &ArgMatches<'_>) -> Task
+    ensures { result ≡ task_named (subcommand_name_of matches.now) }
+{
+    match matches.subcommand_name() {
+        None => Task::Play,
+        Some(name) => {
+            if name == "check" {
+                Task::Check
+            } else {
+                Task::Play
+            }
+        }
+    }
+}
+
 /// What the words of a command line ask for. The first is the program's name.
 ///
-/// The words are judged by clap: `play` asks for a script to be played, `--help`, `-h` and `play --help` for help,
-/// `--version` for the version. `WrongLine` comes with clap's text where the line is another; `NoMemory` where
-/// memory could not be had. No clause says what the texts are.
+/// The words are judged by clap: `play` asks for a script to be played, `check` for a policy to be checked,
+/// `--help`, `-h` and `play --help` for help, `--version` for the version. `WrongLine` comes with clap's text where
+/// the line is another; `NoMemory` where memory could not be had. No clause says what the texts are.
 pub fn read_words<S: AsStr>(alloc: Global, words: &[S]) -> Result<Task, WordsFault>
-    ensures reading { IsReading (kinds_of (map S.text words.now)) result }
+    ensures reading { IsReading (kinds_of (map S.text words.now)) (name_in (map S.text words.now)) result }
     ensures play { (name : List ℕ) → map S.text words.now ≡ name ∷ codes "play" ∷ [] → IsTaskOrMemory Task.Play result }
+    ensures check { (name : List ℕ) → map S.text words.now ≡ name ∷ codes "check" ∷ [] → IsTaskOrMemory Task.Check result }
 {
     let command = natsd_command(alloc)?;
     match command.try_get_matches_from(words) {
-        Ok(_) => Ok(Task::Play),
+        Ok(matches) => Ok(task_named(&matches)),
         Err(error) => read_refusal(alloc, &error),
     }
 }
 
-ghost use Rattle.natsd.specs.Words.{done_by, input_of};
+ghost use Rattle.natsd.specs.Words.{done_by, input_of, IsLongScript, IsShortScript};
 ghost use Rattle.std.specs.String.{string_bytes};
 
 /// Writes a text.
@@ -109,10 +134,11 @@ fn show<W: Sink>(text: &str, sink: &mut W) -> Result<u8, PlayFault>
     }
 }
 
-/// Does a task: plays the script that the source holds, as `play` does, or writes the text that was asked for.
-/// Answers the status, 0 or 1.
+/// Does a task: plays the script that the source holds, as `play` does, or checks the policy, as `check` does, or
+/// writes the text that was asked for. Answers the status, 0 or 1.
 ///
-/// The faults are those of `play`. What was written then is a front of what the task writes.
+/// The faults are those of `play` and `check`; `ScriptTooLong` is of scripts alone. What was written then is a front
+/// of what the task writes.
 pub fn run_task<R: Source, W: Sink>(
     alloc: Global,
     task: &Task,
@@ -126,11 +152,12 @@ pub fn run_task<R: Source, W: Sink>(
         AppendsFront (W.contents sink.old) (W.contents sink.new) (done_by task.now input).text)) }
     ensures read_failed { R.failed source.new ≡ (R.failed source.old || is_read_failed result) }
     ensures write_failed { W.failed sink.new ≡ (W.failed sink.old || is_write_failed result) }
-    ensures small { OnOk result (IfSome (input_of task.now (R.remaining source.old)) (λ input. length input ≤ 16777216)) }
-    ensures too_long { result ≡ Err PlayFault.ScriptTooLong → IfSome (input_of task.now (R.remaining source.old)) (λ input. 1000000 ≤ length input) }
+    ensures small { OnOk result (IsShortScript task.now (R.remaining source.old)) }
+    ensures too_long { result ≡ Err PlayFault.ScriptTooLong → IsLongScript task.now (R.remaining source.old) }
 {
     match task {
         Task::Play => play(alloc, source, sink),
+        Task::Check => check(alloc, source, sink),
         Task::Help(text) => show(text.as_str(), sink),
         Task::Version(text) => show(text.as_str(), sink),
     }

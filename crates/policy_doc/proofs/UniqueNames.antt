@@ -69,7 +69,7 @@ twin-by user b before rest false same later taken unique =
     later taken (IsDistinct-tail bytes_eq b.user (map user_name (before ++ user ∷ rest)) unique)
 
 -- a user whose name is taken before it breaks uniqueness
-twin-breaks : (before rest : List UserDoc) (user : UserDoc) → is_taken user.user before ≡ true → HaveUniqueNames (before ++ user ∷ rest) → ⊥
+pub twin-breaks : (before rest : List UserDoc) (user : UserDoc) → is_taken user.user before ≡ true → HaveUniqueNames (before ++ user ∷ rest) → ⊥
 twin-breaks [] rest user taken unique = cc
 twin-breaks (b ∷ before) rest user taken unique =
     twin-by user b before rest (bytes_eq user.user b.user) refl (twin-breaks before rest user) taken unique

@@ -1,7 +1,7 @@
 -- When a document is valid, and the built-in one (docs/POLICY.md, "Users" and "The built-in policy").
-use Rattle.std.specs.Prelude.{◌∷◌, ◌++◌, ℕ, Bool, List, [], map, take, Some, None, codes, slice_get, IsSomeAnd, IsTrue}
+use Rattle.std.specs.Prelude.{◌∷◌, ◌++◌, ◌+◌, ℕ, Bool, List, [], map, take, Option, Some, None, codes, decimal, slice_get, if◌then◌else◌, IsSomeAnd, IsTrue}
 use Rattle.std.specs.List.{flat_map, list_any, IsDistinct}
-use Rattle.std.specs.Option.{option_map_or}
+use Rattle.std.specs.Option.{option_map, option_map_or}
 use Rattle.std.specs.Str.{bytes_eq}
 use Rattle.subjects.specs.Subject.{Token}
 use Rattle.policy_doc.specs.Accounts.{Name}
@@ -51,6 +51,25 @@ abbrev pub IsPolicyFault : PolicyDoc → PolicyFault → Type 0
 IsPolicyFault doc (DuplicateUser place) = IsFirstTwin doc.accounts place
 IsPolicyFault doc NoMemory = ⊥
 
+-- the same as a search: the row of the first of users whose name is among earlier ones
+abbrev pub twin_row : List UserDoc → ℕ → List UserDoc → Option ℕ
+twin_row earlier row [] = None
+twin_row earlier row (u ∷ us) = if is_taken u.user earlier then Some row else twin_row (earlier ++ u ∷ []) (row + 1) us
+
+abbrev pub twin_or : ℕ → Option ℕ → Option Place → Option Place
+twin_or account (Some row) later = Some record { account = account; row = row }
+twin_or account None later = later
+
+-- the first such user of accounts, by account and row
+abbrev pub twin_place : List UserDoc → ℕ → List NamedAccount → Option Place
+twin_place earlier account [] = None
+twin_place earlier account (a ∷ more) =
+    twin_or account (twin_row earlier 0 a.account.users) (twin_place (earlier ++ a.account.users) (account + 1) more)
+
+-- the first fault of a document, if it has one
+abbrev pub policy_fault : PolicyDoc → Option PolicyFault
+policy_fault doc = option_map DuplicateUser (twin_place [] 0 doc.accounts)
+
 -- an entry for the subjects of a pattern
 abbrev pub entry_of : List Token → PermEntry
 entry_of tokens = record { subject = tokens }
@@ -79,6 +98,15 @@ abbrev pub builtin_doc : PolicyDoc
 builtin_doc = record {
   accounts = record { name = codes "DEMO"; account = record { users = demo_user ∷ limited_user ∷ [] } } ∷ [];
 }
+
+-- the name of the account at an index
+abbrev pub name_at : List NamedAccount → ℕ → Name
+name_at accounts i = option_map_or (λ (a : NamedAccount). a.name) (slice_get accounts i) []
+
+-- the line that tells an operator of a fault of a document: its name, the account and the row
+abbrev pub fault_line : PolicyDoc → PolicyFault → List ℕ
+fault_line doc (DuplicateUser place) = codes "policy DuplicateUser " ++ name_at doc.accounts place.account ++ codes " " ++ decimal place.row
+fault_line doc NoMemory = codes "no memory"
 
 -- what is said of a fault
 abbrev pub fault_text : PolicyFault → List ℕ

@@ -11,6 +11,31 @@ pub struct PolicyDoc {
     pub accounts: Accounts,
 }
 
+impl PolicyDoc {
+    ghost use Rattle.std.specs.Prelude.{◌≡◌, length};
+    ghost use Rattle.policy_doc.specs.Document.{users_of};
+
+    /// How many users the accounts have. It has 128 bits, since no list of lists has more elements.
+    pub fn count_users(&self) -> u128
+        ensures { result ≡ length (users_of self.now.accounts) }
+    {
+        count_users(self.accounts.as_slice())
+    }
+}
+
+ghost use Rattle.std.specs.Prelude.{◌≡◌, length};
+ghost use Rattle.policy_doc.specs.Document.{users_of};
+
+fn count_users(accounts: &[NamedAccount]) -> u128
+    ensures { result ≡ length (users_of accounts.now) }
+{
+    let mut count: u128 = 0;
+    for named in accounts {
+        count += named.account.users.len() as u128;
+    }
+    count
+}
+
 /// An account beside its name.
 #[derive(Debug, Drop)]
 pub struct NamedAccount {

@@ -24,8 +24,8 @@ impl Model for Policy {
 }
 
 impl Policy {
-    ghost use Rattle.std.specs.Prelude.{◌≡◌, ◌↔◌, IsOk, IfOk, IfErr};
-    ghost use Rattle.policy_doc.specs.Document.{builtin_doc, IsValidPolicy, IsPolicyFault};
+    ghost use Rattle.std.specs.Prelude.{◌≡◌, ◌↔◌, IsOk, IfOk, IfErr, Some, None};
+    ghost use Rattle.policy_doc.specs.Document.{builtin_doc, policy_fault, IsValidPolicy, IsPolicyFault};
 
     /// The policy of a document, exactly where it is valid. Else the document is handed back unchanged,
     /// with `DuplicateUser`: the first user, by account and row, whose name stands before it. No memory is taken.
@@ -34,6 +34,8 @@ impl Policy {
         ensures valid { IsOk result ↔ IsValidPolicy doc }
         ensures back { IfErr result (λ refused. refused.0 ≡ doc) }
         ensures fault { IfErr result (λ refused. IsPolicyFault doc refused.1) }
+        ensures none { IfOk result (λ policy. policy_fault doc ≡ None) }
+        ensures first { IfErr result (λ refused. policy_fault doc ≡ Some refused.1) }
     {
         match first_twin(doc.accounts.as_slice()) {
             None => Ok(Policy { doc }),

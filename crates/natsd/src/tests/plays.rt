@@ -225,6 +225,75 @@ send 2 PUB foo.baz 1\r\nz\r\n
 }
 
 #[test]
+fn joined_entries_do_not_cover(rt: HostRuntime) -> Result<(), Fail> {
+    // No one entry covers `>`, though each subject is in one of them.
+    let script = br#"# The policy comes first.
+
+policy {"accounts":{"A":{"users":[{"user":"s","password":"s","permissions":{"subscribe":["*","*.>"]}}]}}}
+open 1
+send 1 CONNECT {"user":"s","pass":"s","verbose":false}\r\n
+send 1 SUB > 1\r\nSUB *.> 2\r\nPUB a.b 0\r\n\r\n
+"#;
+    let answers = br#"1< -ERR 'Permissions Violation for Subscription to ">"'\r\n
+1< MSG a.b 2 0\r\n\r\n
+"#;
+    let (status, printed) = answered(rt.alloc(), script)?;
+    assert_eq!(rt; printed.as_slice(), answers.as_slice());
+    assert_eq!(rt; status, 0);
+    Ok(())
+}
+
+#[test]
+fn tenants_apart(rt: HostRuntime) -> Result<(), Fail> {
+    // User b of account B is not sent what user a of account A publishes. The built-in users are none.
+    let script =
+        br#"policy {"accounts":{"A":{"users":[{"user":"a","password":"a"}]},"B":{"users":[{"user":"b","password":"b"}]}}}
+open 1
+send 1 CONNECT {"user":"a","pass":"a","verbose":false}\r\nSUB > 1\r\n
+open 2
+send 2 CONNECT {"user":"b","pass":"b","verbose":false}\r\nSUB > 2\r\n
+open 3
+send 3 CONNECT {"user":"demo","pass":"demo","verbose":false}\r\n
+send 1 PUB x 1\r\n1\r\n
+send 2 PUB x 1\r\n2\r\n
+"#;
+    let answers = br#"3< -ERR 'Authorization Violation'\r\n
+3 closed
+1< MSG x 1 1\r\n1\r\n
+2< MSG x 2 1\r\n2\r\n
+"#;
+    let (status, printed) = answered(rt.alloc(), script)?;
+    assert_eq!(rt; printed.as_slice(), answers.as_slice());
+    assert_eq!(rt; status, 0);
+    Ok(())
+}
+
+#[test]
+fn policies_that_stop_a_script(rt: HostRuntime) -> Result<(), Fail> {
+    for (script, prints) in [
+        ("policy \n", "config NotJson\n"),
+        (
+            "\n# head\npolicy {\"version\":1}\nopen 1\n",
+            "config WrongType /accounts\n",
+        ),
+        (
+            "policy {\"accounts\":{\"A\":{\"users\":[{\"user\":\"x\",\"password\":\"\"},{\"user\":\"x\",\"password\":\"\"}]}}}\n",
+            "policy DuplicateUser A 1\n",
+        ),
+        (
+            "policy {\"accounts\":{}}\n\npolicy {\"accounts\":{}}\n",
+            "script line 3\n",
+        ),
+        ("send 9 x\npolicy {\"accounts\":{}}\n", "script line 2\n"),
+    ] {
+        let (status, printed) = played(rt.alloc(), script.as_bytes())?;
+        assert_eq!(rt; printed.as_slice(), prints.as_bytes(), "{script}");
+        assert_eq!(rt; status, 1, "{script}");
+    }
+    Ok(())
+}
+
+#[test]
 fn drains_in_order(rt: HostRuntime) {
     let mut script = Vec::new(rt.alloc());
     for conn in [&b"10"[..], b"2", b"1"] {

@@ -7,6 +7,7 @@ use std::test::Fail;
 #[test]
 fn tasks(rt: HostRuntime) {
     assert!(rt; matches!(read_words(rt.alloc(), &["natsd", "play"]), Ok(Task::Play)));
+    assert!(rt; matches!(read_words(rt.alloc(), &["natsd", "check"]), Ok(Task::Check)));
     match read_words(rt.alloc(), &["natsd", "--version"]) {
         Ok(Task::Version(text)) => assert_eq!(rt; text.as_str(), "natsd 0.1.0\n"),
         _ => panic!(rt; "no version"),
@@ -15,6 +16,7 @@ fn tasks(rt: HostRuntime) {
         &["natsd", "--help"][..],
         &["natsd", "-h"],
         &["natsd", "play", "--help"],
+        &["natsd", "check", "--help"],
     ] {
         match read_words(rt.alloc(), words) {
             Ok(Task::Help(text)) => assert!(rt; text.as_str().contains("Usage: natsd")),
@@ -30,7 +32,7 @@ fn wrong_lines(rt: HostRuntime) {
         &["natsd"],
         &[],
         &["natsd", "play", "x"],
-        &["natsd", "check"],
+        &["natsd", "check", "x"],
         &["natsd", "help"],
         &["natsd", "--listen", "127.0.0.1:4222"],
     ] {

@@ -1,11 +1,21 @@
-use Rattle.natsd.proofs.Asked.{right, wrong, play_is_right}
+use Rattle.std.proofs.Common.{map, Ok}
+use Rattle.natsd.proofs.Asked.{right, wrong, play_is_right, check_is_right}
 use Rattle.natsd.proofs.words.read_words.Goals as goal
 
 pub returns-in-Ok-clause-reading : goal.returns-in-Ok-clause-reading
-returns-in-Ok-clause-reading g c = right _ _ c.in_ok-command.ensures c.in-Ok.ensures.kinds
+returns-in-Ok-clause-reading g c = right _ _ c.in-Ok.matches _ c.in_ok-command.ensures c.in-Ok.ensures.kinds c.in-Ok.ensures.matches c.task_named.ensures
 
-pub returns-clause-reading : goal.returns-clause-reading
-returns-clause-reading g c = wrong _ _ c.in-Err.error _ c.in_ok-command.ensures c.in-Err.ensures.kinds c.read_refusal.ensures
+pub returns-in-Ok-clause-play : goal.returns-in-Ok-clause-play
+returns-in-Ok-clause-play g c = λ name e. play_is_right _ name (Ok c.task_named.result) e (right _ (map g.S.AsStr.text c.args.words.now) c.in-Ok.matches _ c.in_ok-command.ensures c.in-Ok.ensures.kinds c.in-Ok.ensures.matches c.task_named.ensures)
 
-pub returns-clause-play : goal.returns-clause-play
-returns-clause-play g c = λ name e. play_is_right _ name _ e (wrong _ _ c.in-Err.error _ c.in_ok-command.ensures c.in-Err.ensures.kinds c.read_refusal.ensures)
+pub returns-in-Ok-clause-check : goal.returns-in-Ok-clause-check
+returns-in-Ok-clause-check g c = λ name e. check_is_right _ name (Ok c.task_named.result) e (right _ (map g.S.AsStr.text c.args.words.now) c.in-Ok.matches _ c.in_ok-command.ensures c.in-Ok.ensures.kinds c.in-Ok.ensures.matches c.task_named.ensures)
+
+pub returns-in-Err-clause-reading : goal.returns-in-Err-clause-reading
+returns-in-Err-clause-reading g c = wrong _ _ c.in-Err.error _ c.in_ok-command.ensures c.in-Err.ensures.kinds c.read_refusal.ensures
+
+pub returns-in-Err-clause-play : goal.returns-in-Err-clause-play
+returns-in-Err-clause-play g c = λ name e. play_is_right _ name _ e (wrong _ _ c.in-Err.error _ c.in_ok-command.ensures c.in-Err.ensures.kinds c.read_refusal.ensures)
+
+pub returns-in-Err-clause-check : goal.returns-in-Err-clause-check
+returns-in-Err-clause-check g c = λ name e. check_is_right _ name _ e (wrong _ _ c.in-Err.error _ c.in_ok-command.ensures c.in-Err.ensures.kinds c.read_refusal.ensures)

@@ -1,12 +1,12 @@
 use Rattle.std.proofs.Common.{◌≡◌, ◌≤◌, length}
 use Rattle.std.specs.Io.KnownBytes.{Consumes}
-use Rattle.natsd.proofs.input.read_to_end.Given as goal
+use Rattle.natsd.proofs.input.read_within.Given as goal
 
 -- the text so far was read, a byte or more each time, and no read has failed
 abbrev pub invariant-reads : goal.invariant-reads
 invariant-reads g l = record {
   taken : Consumes (g.S.Source.remaining l.fn.source) (g.S.Source.remaining l.source) l.text.items;
   reads : l.counter ≤ length l.text.items;
-  small : length l.text.items ≤ 16777216;
+  small : length l.text.items ≤ l.bytes;
   failed : g.S.Source.failed l.source ≡ g.S.Source.failed l.fn.source;
 }
