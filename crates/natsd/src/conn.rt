@@ -1,5 +1,5 @@
 // One connection: frames of its client to events of the hub, and the answers to texts (docs/PROTOCOL.md).
-ghost use Rattle.std.specs.Prelude.{◌≡◌, ◌++◌, IfOk, OnOk, false, flat_map};
+ghost use Rattle.std.specs.Prelude.{◌≡◌, ◌++◌, IfOk, OnOk, OnErr, false, flat_map};
 ghost use Rattle.subjects.specs.Subject.{tokens_of};
 ghost use Rattle.subjects.specs.Fault.{subject_fault, pattern_fault};
 ghost use Rattle.hub.specs.declared.event.Event.{Event};
@@ -17,9 +17,10 @@ use subjects::{Pattern, Subject, SubjectError};
 use wire_read::{Frame, WireFault};
 use wire_write::{ServerError, write_err, write_msg, write_ok, write_pong};
 
-/// One event to the hub. Want of memory apart, its answer is that of the transition.
+/// One event to the hub. Its answer is that of the transition; want of memory changes nothing.
 pub fn submit(hub: &mut Hub, event: Event) -> Result<Result<Outcome, HubRefusal>, NoMemory>
-    ensures { IfOk result (λ answer. (answer, hub.new) ≡ answered hub.old event) }
+    ensures ok { IfOk result (λ answer. (answer, hub.new) ≡ answered hub.old event) }
+    ensures err { OnErr result (hub.new ≡ hub.old) }
 {
     match hub.step(event) {
         Ok(answer) => Ok(Ok(answer.outcome)),
