@@ -1,5 +1,5 @@
 -- The transition keeps the guarantee, command by command.
-use Rattle.std.proofs.Common.{◌≡◌, ◌∙◌, ◌==◌, ◌&&◌, ℕ, ◌+◌, ◌-◌, ◌≤◌, Bool, true, false, not, cond, List, [], ◌∷◌, ◌++◌, map, filter, length, take, drop, Option, Some, None, Result, Ok, Err, ap, sym, refl, subst, arith}
+use Rattle.std.proofs.Common.{◌||◌, ◌≡◌, ◌∙◌, ◌==◌, ◌&&◌, ℕ, ◌+◌, ◌-◌, ◌≤◌, Bool, true, false, not, cond, List, [], ◌∷◌, ◌++◌, map, filter, length, take, drop, Option, Some, None, Result, Ok, Err, ap, sym, refl, subst, arith, max}
 use Rattle.std.specs.Prelude.{IsSomeAnd, is_some, nat_le, IfOk}
 use Rattle.std.proofs.lemmas.List.{length-append, length-take, length-drop}
 use Rattle.std.proofs.lemmas.List.Elements.{filter_agree}
@@ -12,47 +12,64 @@ use Rattle.hub.specs.Users.{user_with_password}
 use Rattle.hub.specs.World.{World, session_of, with_session, advanced}
 use Rattle.hub.specs.Sound.{IsSound, user_behind, user_at, may_subscribe}
 use Rattle.hub.specs.Routing.{admitted, is_admitted, lets_through, addressed_to, delivered}
-use Rattle.hub.specs.Transition.{IsReasoned, new_session, subscription_of, stands, drained, taken, connected, subscribed, published, closed, in_session, in_new_session, on_sessions, moved, numbered, transition, IsStep, IsRefusal}
-use Rattle.hub.specs.Guarantee.{accepts, allows, may_publish, may_receive, is_for, recipients, IsDenial, HasReason, IsDelivered, IsUntouched, IsEffect, is_in_order, is_due, is_history_full, is_at_limit, IsRouted, KeepsGuarantee, IsGuarded}
+use Rattle.hub.specs.Transition.{IsReasoned, new_session, subscription_of, stands, drained, taken, connected, subscribed, published, closed, in_session, in_new_session, on_sessions, moved, numbered, transition, IsRefusal}
+use Rattle.hub.specs.InForce.{policy_after, epoch_after}
+use Rattle.hub.specs.History.{State, is_history_full, entry_of, answer_of, remembered, stepped, IsStep}
+use Rattle.hub.specs.Guarantee.{accepts, allows, may_publish, may_receive, is_for, recipients, IsDenial, HasReason, IsDelivered, IsUntouched, IsEffect, is_connect, is_nobodys, has_session, is_fit, is_in_order, is_due, is_at_limit, IsRouted, KeepsGuarantee, IsGuarded}
 use Rattle.hub.specs.declared.ready.User.{User}
 use Rattle.hub.specs.declared.tables.Session.{Session}
 use Rattle.hub.specs.declared.tables.Subscription.{Subscription}
 use Rattle.hub.specs.declared.event.Event.{Event}
 use Rattle.hub.specs.declared.event.Command.{Command}
-use Rattle.hub.specs.declared.event.Command.TheVariants.{Connect, Sub, Pub, Take, Close}
+use Rattle.hub.specs.declared.event.Command.TheVariants.{Connect, Sub, Pub, Take, Close, Reload}
 use Rattle.hub.specs.declared.answer.Answer.{Answer}
 use Rattle.hub.specs.declared.answer.Delivery.{Delivery}
 use Rattle.hub.specs.declared.answer.Item.{Item}
 use Rattle.hub.specs.declared.answer.Outcome.{Outcome}
 use Rattle.hub.specs.declared.answer.Outcome.TheVariants.{Connected, AuthViolation, Subscribed, SameSid, Denied, Published, Taken, Closed}
 use Rattle.hub.specs.declared.answer.HubRefusal.{HubRefusal}
-use Rattle.hub.specs.declared.answer.HubRefusal.TheVariants.{HistoryFull, SessionLimit}
+use Rattle.hub.specs.declared.answer.HubRefusal.TheVariants.{HistoryFull, NoSession, SessionTaken, SessionLimit, NoMemory}
 use Rattle.hub.proofs.Naming.{user_named-again}
 use Rattle.hub.proofs.Soundness.{next, KeepsSession, user_at-session, sound-same, sound-map, sound-open, sound-add, sound-close}
+use Rattle.hub.proofs.Reloads.{in_force, sound-reload}
 use Rattle.hub.proofs.Deliveries.{only, with_session-map, gets, items_after, outboxes, one_each, with_room}
+
+-- where the tables refuse a command
+abbrev refuses : World → Command → HubRefusal → Bool
+refuses w c HistoryFull = false
+refuses w c SessionTaken = is_connect c && has_session w c
+refuses w c NoSession = not (is_connect c || is_nobodys c) && not (has_session w c)
+refuses w c SessionLimit = is_connect c && not (has_session w c) && is_at_limit w
+refuses w c NoMemory = is_fit w c
+
+-- what the guarantee says of the worlds before and after an answered step
+pub record IsMoved (w : World) (e : Event) (o : Outcome) (after : World) : Type 0 where
+  pub accepted : accepts o ≡ allows w e.what
+  pub reason : HasReason w e.what o
+  pub effect : IsEffect w e.what o after
+  pub others : (after ≡ record w { policy = policy_after w e.what; epoch = epoch_after w e.what; moment = max w.moment e.now; number = w.number + 1; sessions = after.sessions; subscriptions = after.subscriptions })
+  pub sound : IsSound after
 
 -- the guarantee of what the transition gives
 abbrev Keeps : World → Event → Result (Outcome × World) HubRefusal → Type 0
-Keeps w e (Ok r) =
-    (is_in_order w e.what ≡ true) × (IsReasoned w e.what r.0 → IsRouted w e (record { number = r.1.number; epoch = r.1.epoch; outcome = r.0 }) r.1)
-Keeps w e (Err refusal) = is_due w e.what refusal ≡ true
+Keeps w e (Ok r) = (is_fit w e.what ≡ true) × (IsReasoned w e.what r.0 → IsMoved w e r.0 r.1)
+Keeps w e (Err refusal) = refuses w e.what refusal ≡ true
 
 abbrev event : ℕ → Command → Event
 event now c = record { now = now; what = c }
 
+-- a command other than a reload
 routed : (w : World) (now : ℕ) (c : Command) (o : Outcome) (zs : List Session) (subs : List Subscription) →
-    is_in_order w c ≡ true → accepts o ≡ allows w c → (IsReasoned w c o → HasReason w c o) → IsEffect w c o (next w now zs subs) → IsSound (next w now zs subs) →
+    (policy_after w c ≡ w.policy) × (epoch_after w c ≡ w.epoch) → is_fit w c ≡ true → accepts o ≡ allows w c → (IsReasoned w c o → HasReason w c o) → IsEffect w c o (next w now zs subs) → IsSound (next w now zs subs) →
     Keeps w (event now c) (Ok (o, next w now zs subs))
-routed w now c o zs subs in_order accepted reason effect sound = (
-  in_order,
+routed w now c o zs subs stay fit accepted reason effect sound = (
+  fit,
   λ reasoned. record {
-    in_order = in_order;
     accepted = accepted;
     reason = reason reasoned;
     effect = effect;
-    others = refl;
-    number = refl;
-    epoch = refl;
+    others = ap (λ doc. record (next w now zs subs) { policy = doc }) (sym stay.0)
+        ∙ ap (λ n. record (next w now zs subs) { policy = policy_after w c; epoch = n }) (sym stay.1);
     sound = sound;
   },
 )
@@ -62,51 +79,51 @@ untouched w now = record { sessions = refl; subscriptions = refl }
 
 -- ---- when a refusal is due
 
-taken-due : (b : Bool) (o : Option Session) (z : Session) → b ≡ false → o ≡ Some z → (not b && true && is_some o) ≡ true
-taken-due b o z fresh e = ap (λ x. not x && true && is_some o) fresh ∙ ap is_some e
+taken-due : (o : Option Session) (z : Session) → o ≡ Some z → is_some o ≡ true
+taken-due o z e = ap is_some e
 
-none-due : (b : Bool) (o : Option Session) → b ≡ false → o ≡ None → (not b && true && not (is_some o)) ≡ true
-none-due b o fresh e = ap (λ x. not x && true && not (is_some o)) fresh ∙ ap (λ x. not (is_some x)) e
+none-due : (o : Option Session) → o ≡ None → not (is_some o) ≡ true
+none-due o e = ap (λ x. not (is_some x)) e
 
-limit-due : (b l : Bool) (o : Option Session) → b ≡ false → o ≡ None → l ≡ true → (not b && true && not (is_some o) && l) ≡ true
-limit-due b l o fresh e limit = ap (λ x. not x && true && not (is_some o) && l) fresh ∙ ap (λ x. not (is_some x) && l) e ∙ limit
+limit-due : (l : Bool) (o : Option Session) → o ≡ None → l ≡ true → (not (is_some o) && l) ≡ true
+limit-due l o e limit = ap (λ x. not (is_some x) && l) e ∙ limit
 
-connect-in_order : (b l : Bool) (o : Option Session) → b ≡ false → o ≡ None → l ≡ false → (not b && (not (is_some o) && not l)) ≡ true
-connect-in_order b l o fresh e limit = ap (λ x. not x && (not (is_some o) && not l)) fresh ∙ ap (λ x. not (is_some x) && not l) e ∙ ap not limit
+connect-fit : (l : Bool) (o : Option Session) → o ≡ None → l ≡ false → (not (is_some o) && not l) ≡ true
+connect-fit l o e limit = ap (λ x. not (is_some x) && not l) e ∙ ap not limit
 
-session-in_order : (b : Bool) (o : Option Session) (z : Session) → b ≡ false → o ≡ Some z → (not b && is_some o) ≡ true
-session-in_order b o z fresh e = ap (λ x. not x && is_some o) fresh ∙ ap is_some e
+session-fit : (o : Option Session) (z : Session) → o ≡ Some z → is_some o ≡ true
+session-fit o z e = ap is_some e
 
 -- ---- Connect
 
-connect-keeps : (w : World) (now conn : ℕ) (name : Option (List ℕ)) (password : List ℕ) → IsSound w → is_history_full w ≡ false →
+connect-keeps : (w : World) (now conn : ℕ) (name : Option (List ℕ)) (password : List ℕ) → IsSound w →
     Keeps w (event now (Connect conn name password)) (numbered (w.number + 1) (moved (advanced w now) (Connect conn name password)))
-connect-keeps w now conn name password sound fresh = by_session (session_of w.sessions conn) refl
+connect-keeps w now conn name password sound = by_session (session_of w.sessions conn) refl
   where
-    by_user : (uo : Option User) → user_with_password w.policy name password ≡ uo → session_of w.sessions conn ≡ None → nat_le 4096 (length w.sessions) ≡ false → is_in_order w (Connect conn name password) ≡ true →
+    by_user : (uo : Option User) → user_with_password w.policy name password ≡ uo → session_of w.sessions conn ≡ None → nat_le 4096 (length w.sessions) ≡ false → is_fit w (Connect conn name password) ≡ true →
         Keeps w (event now (Connect conn name password)) (numbered (w.number + 1) (Ok (connected (advanced w now) conn uo)))
-    by_user None u e room in_order = routed w now (Connect conn name password) AuthViolation w.sessions w.subscriptions in_order (sym (ap is_some u)) (λ _. tt) (untouched w now) (sound-same w now sound)
-    by_user (Some user) u e room in_order =
+    by_user None u e room fit = routed w now (Connect conn name password) AuthViolation w.sessions w.subscriptions (refl, refl) fit (sym (ap is_some u)) (λ _. tt) (untouched w now) (sound-same w now sound)
+    by_user (Some user) u e room fit =
         let zs : List Session = w.sessions ++ new_session conn user w.capacity ∷ [] in
-        routed w now (Connect conn name password) Connected zs w.subscriptions in_order (sym (ap is_some u)) (λ _. tt)
+        routed w now (Connect conn name password) Connected zs w.subscriptions (refl, refl) fit (sym (ap is_some u)) (λ _. tt)
         (subst (λ o. IsSomeAnd o (λ (v : User). zs ≡ w.sessions ++ new_session conn v w.capacity ∷ [])) (sym u) refl, refl)
         (sound-open w now conn user e room (user_named-again w.policy name password user sound.policy u) sound)
 
     by_limit : (l : Bool) → nat_le 4096 (length w.sessions) ≡ l → session_of w.sessions conn ≡ None →
         Keeps w (event now (Connect conn name password)) (numbered (w.number + 1) (cond l (Err SessionLimit) (Ok (connected (advanced w now) conn (user_with_password w.policy name password)))))
-    by_limit true limit e = limit-due (is_history_full w) (is_at_limit w) (session_of w.sessions conn) fresh e limit
-    by_limit false limit e = by_user (user_with_password w.policy name password) refl e limit (connect-in_order (is_history_full w) (is_at_limit w) (session_of w.sessions conn) fresh e limit)
+    by_limit true limit e = limit-due (is_at_limit w) (session_of w.sessions conn) e limit
+    by_limit false limit e = by_user (user_with_password w.policy name password) refl e limit (connect-fit (is_at_limit w) (session_of w.sessions conn) e limit)
 
     by_session : (o : Option Session) → session_of w.sessions conn ≡ o →
         Keeps w (event now (Connect conn name password)) (numbered (w.number + 1) (in_new_session (advanced w now) o (connected (advanced w now) conn (user_with_password w.policy name password))))
-    by_session (Some z) e = taken-due (is_history_full w) (session_of w.sessions conn) z fresh e
+    by_session (Some z) e = taken-due (session_of w.sessions conn) z e
     by_session None e = by_limit (nat_le 4096 (length w.sessions)) refl e
 
 -- ---- Sub
 
-sub-keeps : (w : World) (now conn : ℕ) (p : List Token) (sid : List ℕ) → IsSound w → is_history_full w ≡ false →
+sub-keeps : (w : World) (now conn : ℕ) (p : List Token) (sid : List ℕ) → IsSound w →
     Keeps w (event now (Sub conn p sid)) (numbered (w.number + 1) (moved (advanced w now) (Sub conn p sid)))
-sub-keeps w now conn p sid sound fresh = by_session (session_of w.sessions conn) refl
+sub-keeps w now conn p sid sound = by_session (session_of w.sessions conn) refl
   where
     denied : (v : Verdict) (z : Session) → subscribe_verdict z.user.rules p ≡ v → session_of w.sessions conn ≡ Some z → user_at w conn ≡ Some z.user →
         IsSomeAnd (session_of w.sessions conn) (λ (y : Session). IsJustifiedSubscribe p y.user.rules.subscribe v) → IsDenial w (Sub conn p sid) v
@@ -117,22 +134,22 @@ sub-keeps w now conn p sid sound fresh = by_session (session_of w.sessions conn)
     allowed : (v : Verdict) (z : Session) → subscribe_verdict z.user.rules p ≡ v → user_at w conn ≡ Some z.user → may_subscribe (user_at w conn) p ≡ is_allowed v
     allowed v z e u = ap (λ o. may_subscribe o p) u ∙ ap is_allowed e
 
-    by_sid : (t : Bool) → stands w.subscriptions conn sid ≡ t → may_subscribe (user_at w conn) p ≡ true → is_in_order w (Sub conn p sid) ≡ true →
+    by_sid : (t : Bool) → stands w.subscriptions conn sid ≡ t → may_subscribe (user_at w conn) p ≡ true → is_fit w (Sub conn p sid) ≡ true →
         Keeps w (event now (Sub conn p sid)) (numbered (w.number + 1) (Ok (cond t (SameSid, advanced w now) (Subscribed, record (advanced w now) { subscriptions = w.subscriptions ++ subscription_of (w.number + 1) conn p sid ∷ [] }))))
-    by_sid true taken may in_order = routed w now (Sub conn p sid) SameSid w.sessions w.subscriptions in_order (sym may) (λ _. tt) (taken, untouched w now) (sound-same w now sound)
-    by_sid false taken may in_order =
-        routed w now (Sub conn p sid) Subscribed w.sessions (w.subscriptions ++ subscription_of (w.number + 1) conn p sid ∷ []) in_order (sym may) (λ _. tt) (taken, refl, refl) (sound-add w now conn p sid may taken sound)
+    by_sid true taken may fit = routed w now (Sub conn p sid) SameSid w.sessions w.subscriptions (refl, refl) fit (sym may) (λ _. tt) (taken, untouched w now) (sound-same w now sound)
+    by_sid false taken may fit =
+        routed w now (Sub conn p sid) Subscribed w.sessions (w.subscriptions ++ subscription_of (w.number + 1) conn p sid ∷ []) (refl, refl) fit (sym may) (λ _. tt) (taken, refl, refl) (sound-add w now conn p sid may taken sound)
 
-    by_verdict : (v : Verdict) (z : Session) → subscribe_verdict z.user.rules p ≡ v → session_of w.sessions conn ≡ Some z → user_at w conn ≡ Some z.user → is_in_order w (Sub conn p sid) ≡ true →
+    by_verdict : (v : Verdict) (z : Session) → subscribe_verdict z.user.rules p ≡ v → session_of w.sessions conn ≡ Some z → user_at w conn ≡ Some z.user → is_fit w (Sub conn p sid) ≡ true →
         Keeps w (event now (Sub conn p sid)) (numbered (w.number + 1) (Ok (subscribed (advanced w now) conn p sid v)))
-    by_verdict (Allowed by) z e at u in_order = by_sid (stands w.subscriptions conn sid) refl (allowed (Allowed by) z e u) in_order
-    by_verdict (DeniedBy i) z e at u in_order = routed w now (Sub conn p sid) (Denied (DeniedBy i)) w.sessions w.subscriptions in_order (sym (allowed (DeniedBy i) z e u)) (denied (DeniedBy i) z e at u) (untouched w now) (sound-same w now sound)
-    by_verdict NoAllow z e at u in_order = routed w now (Sub conn p sid) (Denied NoAllow) w.sessions w.subscriptions in_order (sym (allowed NoAllow z e u)) (denied NoAllow z e at u) (untouched w now) (sound-same w now sound)
+    by_verdict (Allowed by) z e at u fit = by_sid (stands w.subscriptions conn sid) refl (allowed (Allowed by) z e u) fit
+    by_verdict (DeniedBy i) z e at u fit = routed w now (Sub conn p sid) (Denied (DeniedBy i)) w.sessions w.subscriptions (refl, refl) fit (sym (allowed (DeniedBy i) z e u)) (denied (DeniedBy i) z e at u) (untouched w now) (sound-same w now sound)
+    by_verdict NoAllow z e at u fit = routed w now (Sub conn p sid) (Denied NoAllow) w.sessions w.subscriptions (refl, refl) fit (sym (allowed NoAllow z e u)) (denied NoAllow z e at u) (untouched w now) (sound-same w now sound)
 
     by_session : (o : Option Session) → session_of w.sessions conn ≡ o →
         Keeps w (event now (Sub conn p sid)) (numbered (w.number + 1) (in_session o (λ z. subscribed (advanced w now) conn p sid (subscribe_verdict z.user.rules p))))
-    by_session None e = none-due (is_history_full w) (session_of w.sessions conn) fresh e
-    by_session (Some z) e = by_verdict (subscribe_verdict z.user.rules p) z refl e (user_at-session w sound conn z e) (session-in_order (is_history_full w) (session_of w.sessions conn) z fresh e)
+    by_session None e = none-due (session_of w.sessions conn) e
+    by_session (Some z) e = by_verdict (subscribe_verdict z.user.rules p) z refl e (user_at-session w sound conn z e) (session-fit (session_of w.sessions conn) z e)
 
 -- ---- Pub
 
@@ -158,9 +175,9 @@ gets-keeps capacity s body subs = record {
   outbox = λ z is. (is.0, bounded z.outbox.waiting _ z.outbox.capacity capacity is);
 }
 
-pub-keeps : (w : World) (now conn : ℕ) (s : List Token) (body : List ℕ) → IsSound w → is_history_full w ≡ false →
+pub-keeps : (w : World) (now conn : ℕ) (s : List Token) (body : List ℕ) → IsSound w →
     Keeps w (event now (Pub conn s body)) (numbered (w.number + 1) (moved (advanced w now) (Pub conn s body)))
-pub-keeps w now conn s body sound fresh = by_session (session_of w.sessions conn) refl
+pub-keeps w now conn s body sound = by_session (session_of w.sessions conn) refl
   where
     denied : (v : Verdict) (z : Session) → publish_verdict z.user.rules s ≡ v → session_of w.sessions conn ≡ Some z → user_at w conn ≡ Some z.user →
         IsSomeAnd (session_of w.sessions conn) (λ (y : Session). IsJustifiedPublish s y.user.rules.publish v) → IsDenial w (Pub conn s body) v
@@ -181,22 +198,22 @@ pub-keeps w now conn s body sound fresh = by_session (session_of w.sessions conn
           outboxes = outboxes s body (admitted w account s) w.sessions sound.connections;
         })
 
-    by_verdict : (v : Verdict) (z : Session) → publish_verdict z.user.rules s ≡ v → session_of w.sessions conn ≡ Some z → user_at w conn ≡ Some z.user → is_in_order w (Pub conn s body) ≡ true →
+    by_verdict : (v : Verdict) (z : Session) → publish_verdict z.user.rules s ≡ v → session_of w.sessions conn ≡ Some z → user_at w conn ≡ Some z.user → is_fit w (Pub conn s body) ≡ true →
         Keeps w (event now (Pub conn s body)) (numbered (w.number + 1) (Ok (published (advanced w now) z s body v)))
-    by_verdict (Allowed by) z e at u in_order =
+    by_verdict (Allowed by) z e at u fit =
         let zs : List Session = (delivered (map (addressed_to s body) (admitted w z.user.account s)) w.sessions).0 in
         let items : List Item = items_after s body (admitted w z.user.account s) w.sessions in
-        routed w now (Pub conn s body) (Published by items) zs w.subscriptions in_order (sym (allowed (Allowed by) z e u)) (λ _. tt)
+        routed w now (Pub conn s body) (Published by items) zs w.subscriptions (refl, refl) fit (sym (allowed (Allowed by) z e u)) (λ _. tt)
         (subst (λ o. IsSomeAnd o (λ (user : User). (publish_verdict user.rules s ≡ Allowed by) × IsDelivered w s body (recipients w user.account s) items zs)) (sym u) (e, handed z.user.account), refl)
         (subst (λ ys. IsSound (next w now ys w.subscriptions)) (sym (outboxes s body (admitted w z.user.account s) w.sessions sound.connections))
         (sound-map w now (gets s body (admitted w z.user.account s)) (gets-keeps w.capacity s body (admitted w z.user.account s)) sound))
-    by_verdict (DeniedBy i) z e at u in_order = routed w now (Pub conn s body) (Denied (DeniedBy i)) w.sessions w.subscriptions in_order (sym (allowed (DeniedBy i) z e u)) (denied (DeniedBy i) z e at u) (untouched w now) (sound-same w now sound)
-    by_verdict NoAllow z e at u in_order = routed w now (Pub conn s body) (Denied NoAllow) w.sessions w.subscriptions in_order (sym (allowed NoAllow z e u)) (denied NoAllow z e at u) (untouched w now) (sound-same w now sound)
+    by_verdict (DeniedBy i) z e at u fit = routed w now (Pub conn s body) (Denied (DeniedBy i)) w.sessions w.subscriptions (refl, refl) fit (sym (allowed (DeniedBy i) z e u)) (denied (DeniedBy i) z e at u) (untouched w now) (sound-same w now sound)
+    by_verdict NoAllow z e at u fit = routed w now (Pub conn s body) (Denied NoAllow) w.sessions w.subscriptions (refl, refl) fit (sym (allowed NoAllow z e u)) (denied NoAllow z e at u) (untouched w now) (sound-same w now sound)
 
     by_session : (o : Option Session) → session_of w.sessions conn ≡ o →
         Keeps w (event now (Pub conn s body)) (numbered (w.number + 1) (in_session o (λ z. published (advanced w now) z s body (publish_verdict z.user.rules s))))
-    by_session None e = none-due (is_history_full w) (session_of w.sessions conn) fresh e
-    by_session (Some z) e = by_verdict (publish_verdict z.user.rules s) z refl e (user_at-session w sound conn z e) (session-in_order (is_history_full w) (session_of w.sessions conn) z fresh e)
+    by_session None e = none-due (session_of w.sessions conn) e
+    by_session (Some z) e = by_verdict (publish_verdict z.user.rules s) z refl e (user_at-session w sound conn z e) (session-fit (session_of w.sessions conn) z e)
 
 -- ---- Take and Close
 
@@ -222,57 +239,116 @@ drained-keeps capacity most conn = record {
     outbox_is z is true = (is.0, bounded-drop z.outbox.waiting most capacity is.1)
     outbox_is z is false = is
 
-take-keeps : (w : World) (now conn most : ℕ) → IsSound w → is_history_full w ≡ false →
+take-keeps : (w : World) (now conn most : ℕ) → IsSound w →
     Keeps w (event now (Take conn most)) (numbered (w.number + 1) (moved (advanced w now) (Take conn most)))
-take-keeps w now conn most sound fresh = by_session (session_of w.sessions conn) refl
+take-keeps w now conn most sound = by_session (session_of w.sessions conn) refl
   where
     by_session : (o : Option Session) → session_of w.sessions conn ≡ o →
         Keeps w (event now (Take conn most)) (numbered (w.number + 1) (on_sessions (advanced w now) (in_session o (taken w.sessions conn most))))
-    by_session None e = none-due (is_history_full w) (session_of w.sessions conn) fresh e
+    by_session None e = none-due (session_of w.sessions conn) e
     by_session (Some z) e =
         let ds : List Delivery = take most z.outbox.waiting in
         let changed = with_session-map (drained most) conn w.sessions sound.connections in
-        routed w now (Take conn most) (Taken ds z.missed) (with_session (drained most) conn w.sessions) w.subscriptions
-        (session-in_order (is_history_full w) (session_of w.sessions conn) z fresh e) refl (λ _. tt)
+        routed w now (Take conn most) (Taken ds z.missed) (with_session (drained most) conn w.sessions) w.subscriptions (refl, refl)
+        (session-fit (session_of w.sessions conn) z e) refl (λ _. tt)
         (subst (λ o. IsSomeAnd o (λ (y : Session). (ds ≡ take most y.outbox.waiting) × (z.missed ≡ y.missed))) (sym e) (refl, refl), changed, refl)
         (subst (λ zs. IsSound (next w now zs w.subscriptions)) (sym changed) (sound-map w now (only (drained most) conn) (drained-keeps w.capacity most conn) sound))
 
-close-keeps : (w : World) (now conn : ℕ) → IsSound w → is_history_full w ≡ false →
+close-keeps : (w : World) (now conn : ℕ) → IsSound w →
     Keeps w (event now (Close conn)) (numbered (w.number + 1) (moved (advanced w now) (Close conn)))
-close-keeps w now conn sound fresh = by_session (session_of w.sessions conn) refl
+close-keeps w now conn sound = by_session (session_of w.sessions conn) refl
   where
     by_session : (o : Option Session) → session_of w.sessions conn ≡ o →
         Keeps w (event now (Close conn)) (numbered (w.number + 1) (in_session o (λ z. closed (advanced w now) conn)))
-    by_session None e = none-due (is_history_full w) (session_of w.sessions conn) fresh e
+    by_session None e = none-due (session_of w.sessions conn) e
     by_session (Some z) e =
-        routed w now (Close conn) Closed (filter (λ (y : Session). not (y.conn == conn)) w.sessions) (filter (λ (sub : Subscription). not (sub.conn == conn)) w.subscriptions)
-        (session-in_order (is_history_full w) (session_of w.sessions conn) z fresh e) refl (λ _. tt) (refl, refl) (sound-close w now conn sound)
+        routed w now (Close conn) Closed (filter (λ (y : Session). not (y.conn == conn)) w.sessions) (filter (λ (sub : Subscription). not (sub.conn == conn)) w.subscriptions) (refl, refl)
+        (session-fit (session_of w.sessions conn) z e) refl (λ _. tt) (refl, refl) (sound-close w now conn sound)
+
+-- ---- Reload
+
+reload-keeps : (w : World) (now : ℕ) (doc : PolicyDoc) → IsSound w →
+    Keeps w (event now (Reload doc)) (numbered (w.number + 1) (moved (advanced w now) (Reload doc)))
+reload-keeps w now doc sound = (
+  refl,
+  λ reasoned. record {
+    accepted = refl;
+    reason = tt;
+    effect = in_force w now doc sound reasoned;
+    others = refl;
+    sound = sound-reload w now doc sound reasoned.0;
+  },
+)
 
 -- ---- a step, and a run
 
-moves : (w : World) (now : ℕ) (c : Command) → IsSound w → is_history_full w ≡ false → Keeps w (event now c) (numbered (w.number + 1) (moved (advanced w now) c))
+moves : (w : World) (now : ℕ) (c : Command) → IsSound w → Keeps w (event now c) (numbered (w.number + 1) (moved (advanced w now) c))
 moves w now (Connect conn name password) = connect-keeps w now conn name password
 moves w now (Sub conn p sid) = sub-keeps w now conn p sid
 moves w now (Pub conn s body) = pub-keeps w now conn s body
 moves w now (Take conn most) = take-keeps w now conn most
 moves w now (Close conn) = close-keeps w now conn
+moves w now (Reload doc) = reload-keeps w now doc
 
-keeps : (w : World) (e : Event) → IsSound w → Keeps w e (transition w e)
-keeps w e sound = by_number (w.number == 18446744073709551615) refl
+-- what the transition gives, it keeps
+pub moved-by : (w : World) (e : Event) (o : Outcome) (after : World) → IsSound w → transition w e ≡ Ok (o, after) → IsReasoned w e.what o → IsMoved w e o after
+moved-by w e o after sound step reasoned = (subst (Keeps w e) step (moves w e.now e.what sound)).1 reasoned
+
+-- the guarantee of what a state comes to
+abbrev KeepsState : State → Event → Result (Outcome × State) HubRefusal → Type 0
+KeepsState s e (Ok r) =
+    (is_in_order s e.what ≡ true) × (IsReasoned s.world e.what r.0 → IsRouted s e (answer_of r.0 r.1.world) r.1)
+KeepsState s e (Err refusal) = is_due s e.what refusal ≡ true
+
+-- where the history is not full, the tables' refusals are due
+tables-due : (s : State) (c : Command) (refusal : HubRefusal) → is_history_full s ≡ false → refuses s.world c refusal ≡ true → is_due s c refusal ≡ true
+tables-due s c HistoryFull room due = absurd (cc)
+tables-due s c SessionTaken room due = ap (λ b. not b && is_connect c && has_session s.world c) room ∙ due
+tables-due s c NoSession room due = ap (λ b. not b && not (is_connect c || is_nobodys c) && not (has_session s.world c)) room ∙ due
+tables-due s c SessionLimit room due = ap (λ b. not b && is_connect c && not (has_session s.world c) && is_at_limit s.world) room ∙ due
+tables-due s c NoMemory room due = ap (λ b. not b && is_fit s.world c) room ∙ due
+
+keeps : (s : State) (e : Event) → IsSound s.world → KeepsState s e (stepped s e)
+keeps s e sound = by_room (is_history_full s) refl
   where
-    by_number : (b : Bool) → (w.number == 18446744073709551615) ≡ b → Keeps w e (cond b (Err HistoryFull) (numbered (w.number + 1) (moved (advanced w e.now) e.what)))
-    by_number true is = is
-    by_number false is = moves w e.now e.what sound is
+    by_tables : (t : Result (Outcome × World) HubRefusal) → Keeps s.world e t → is_history_full s ≡ false → KeepsState s e (remembered s e t)
+    by_tables (Err refusal) kept room = tables-due s e.what refusal room kept
+    by_tables (Ok r) kept room = (
+      ap (λ b. not b && is_fit s.world e.what) room ∙ kept.0,
+      λ reasoned. let m = kept.1 reasoned in record {
+        in_order = ap (λ b. not b && is_fit s.world e.what) room ∙ kept.0;
+        accepted = m.accepted;
+        reason = m.reason;
+        effect = m.effect;
+        others = m.others;
+        number = ap (λ (w : World). w.number) m.others;
+        epoch = ap (λ (w : World). w.epoch) m.others;
+        history = refl;
+        sound = m.sound;
+      },
+    )
+
+    by_room : (full : Bool) → is_history_full s ≡ full → KeepsState s e (cond full (Err HistoryFull) (remembered s e (transition s.world e)))
+    by_room true is = is
+    by_room false is = by_tables (transition s.world e) (moves s.world e.now e.what sound) is
 
 -- a refusal is due, want of memory too
-due : (w : World) (e : Event) (t : Result (Outcome × World) HubRefusal) (refusal : HubRefusal) → Keeps w e t → IsRefusal t refusal → is_due w e.what refusal ≡ true
-due w e (Ok r) refusal kept is = ap (is_due w e.what) is ∙ kept.0
-due w e (Err cause) refusal kept is = ap (is_due w e.what) is ∙ kept
+due : (s : State) (e : Event) (t : Result (Outcome × State) HubRefusal) (refusal : HubRefusal) → KeepsState s e t → IsRefusal t refusal → is_due s e.what refusal ≡ true
+due s e (Ok r) refusal kept is = ap (is_due s e.what) is ∙ kept.0
+due s e (Err cause) refusal kept is = ap (is_due s e.what) is ∙ kept
+
+-- an entry is made of its parts
+entered-same : (s after : State) (e : Event) (a : Answer) → after ≡ record s { world = after.world; entries = s.entries ++ entry_of (answer_of a.outcome after.world) e ∷ [] } → a.number ≡ after.world.number → a.epoch ≡ after.world.epoch →
+    after ≡ record s { world = after.world; entries = s.entries ++ entry_of a e ∷ [] }
+entered-same s after e a is number epoch =
+    is
+    ∙ ap (λ (n : ℕ). record s { world = after.world; entries = s.entries ++ entry_of (record { number = n; epoch = after.world.epoch; outcome = a.outcome }) e ∷ [] }) (sym number)
+    ∙ ap (λ (n : ℕ). record s { world = after.world; entries = s.entries ++ entry_of (record { number = a.number; epoch = n; outcome = a.outcome }) e ∷ [] }) (sym epoch)
 
 -- a step is the transition's, and what it denies has its reason
-pub guaranteed : (w : World) (e : Event) (r : Result Answer (Event × HubRefusal)) (after : World) → IsSound w → IsStep w e r after → IfOk r (λ (a : Answer). IsReasoned w e.what a.outcome) → KeepsGuarantee w e r after
-guaranteed w e (Ok a) after sound step reasoned =
-    let kept = (subst (Keeps w e) step.0 (keeps w e sound)).1 reasoned in
+pub guaranteed : (s : State) (e : Event) (r : Result Answer (Event × HubRefusal)) (after : State) → IsSound s.world → IsStep s e r after → IfOk r (λ (a : Answer). IsReasoned s.world e.what a.outcome) → KeepsGuarantee s e r after
+guaranteed s e (Ok a) after sound step reasoned =
+    let kept = (subst (KeepsState s e) step.0 (keeps s e sound)).1 reasoned in
     record {
       in_order = kept.in_order;
       accepted = kept.accepted;
@@ -281,18 +357,19 @@ guaranteed w e (Ok a) after sound step reasoned =
       others = kept.others;
       number = step.1 ∙ kept.number;
       epoch = step.2 ∙ kept.epoch;
+      history = entered-same s after e a kept.history step.1 step.2;
       sound = kept.sound;
     }
-guaranteed w e (Err refused) after sound step reasoned =
-    record { back = step.0; same = step.1; due = due w e (transition w e) refused.1 (keeps w e sound) step.2 }
+guaranteed s e (Err refused) after sound step reasoned =
+    record { back = step.0; same = step.1; due = due s e (stepped s e) refused.1 (keeps s e sound) step.2 }
 
 -- so what every hub keeps, stays
-pub sound-step : (w : World) (e : Event) (r : Result Answer (Event × HubRefusal)) (after : World) → IsSound w → KeepsGuarantee w e r after → IsSound after
-sound-step w e (Ok a) after sound kept = kept.sound
-sound-step w e (Err refused) after sound kept = subst IsSound (sym kept.same) sound
+sound-step : (s : State) (e : Event) (r : Result Answer (Event × HubRefusal)) (after : State) → IsSound s.world → KeepsGuarantee s e r after → IsSound after.world
+sound-step s e (Ok a) after sound kept = kept.sound
+sound-step s e (Err refused) after sound kept = subst (λ (x : State). IsSound x.world) (sym kept.same) sound
 
-pub sound-run : (w : World) (es : List Event) (rs : List (Result Answer (Event × HubRefusal))) (after : World) → IsSound w → IsGuarded w es rs after → IsSound after
-sound-run w [] [] after sound run = subst IsSound (sym run) sound
-sound-run w [] (r ∷ rs) after sound run = absurd run
-sound-run w (e ∷ es) [] after sound run = absurd run
-sound-run w (e ∷ es) (r ∷ rs) after sound run = sound-run run.0 es rs after (sound-step w e r run.0 sound run.1) run.2
+pub sound-run : (s : State) (es : List Event) (rs : List (Result Answer (Event × HubRefusal))) (after : State) → IsSound s.world → IsGuarded s es rs after → IsSound after.world
+sound-run s [] [] after sound run = subst (λ (x : State). IsSound x.world) (sym run) sound
+sound-run s [] (r ∷ rs) after sound run = absurd run
+sound-run s (e ∷ es) [] after sound run = absurd run
+sound-run s (e ∷ es) (r ∷ rs) after sound run = sound-run run.0 es rs after (sound-step s e r run.0 sound run.1) run.2

@@ -1,7 +1,8 @@
 -- Steps of loops over lists.
-use Rattle.std.proofs.Common.{◌≡◌, ◌∙◌, ℕ, ◌+◌, ◌<◌, Bool, List, [], ◌∷◌, ◌++◌, take, map, filter, length, get_or, ap, sym}
+use Rattle.std.proofs.Common.{◌≡◌, ◌∙◌, ℕ, ◌+◌, ◌<◌, Bool, List, [], ◌∷◌, ◌++◌, take, map, filter, length, get_or, Option, ap, sym}
+use Rattle.std.specs.List.{filter_map}
 use Rattle.std.proofs.lemmas.List.{take_more, map-append}
-use Rattle.std.proofs.lemmas.List.Elements.{filter-append}
+use Rattle.std.proofs.lemmas.List.Elements.{filter-append, filter_map-append}
 
 -- one more element, mapped if it passes
 pub map_filter_more : {X Y : Type 0} (f : X → Y) (p : X → Bool) (xs : List X) (i : ℕ) (x : X) → i < length xs → x ≡ get_or xs i x →
@@ -10,3 +11,10 @@ map_filter_more f p xs i x h is =
     ap (λ ys. map f (filter p ys)) (take_more xs i x h ∙ ap (λ y. take i xs ++ y ∷ []) (sym is))
     ∙ ap (map f) (filter-append p (take i xs) (x ∷ []))
     ∙ map-append f (filter p (take i xs)) (filter p (x ∷ []))
+
+-- one more element, with what it gives
+pub filter_map_more : {X Y : Type 0} (h : X → Option Y) (xs : List X) (i : ℕ) (x : X) → i < length xs → x ≡ get_or xs i x →
+    filter_map h (take (i + 1) xs) ≡ filter_map h (take i xs) ++ filter_map h (x ∷ [])
+filter_map_more h xs i x l is =
+    ap (λ ys. filter_map h ys) (take_more xs i x l ∙ ap (λ y. take i xs ++ y ∷ []) (sym is))
+    ∙ filter_map-append h (take i xs) (x ∷ [])

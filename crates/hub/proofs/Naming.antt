@@ -17,7 +17,7 @@ use Rattle.hub.specs.Sound.{user_named}
 use Rattle.hub.specs.declared.ready.User.{User}
 use Rattle.hub.proofs.Finds.{find-All}
 
-abbrev name_of : User → List ℕ
+abbrev pub name_of : User → List ℕ
 name_of u = u.user
 
 names-in : (account : List ℕ) (us : List UserDoc) → map name_of (map (user_in account) us) ≡ map user_name us
@@ -33,34 +33,33 @@ names (a ∷ more) =
     ∙ ap (λ rest. map user_name a.account.users ++ rest) (names more)
     ∙ sym (map-append user_name a.account.users (users_of_accounts more))
 
-unlike : (name : List ℕ) (us : List User) → AllByRecursion (λ y. bytes_eq name y ≡ false) (map name_of us) → All (λ (u : User). bytes_eq name u.user ≡ false) us
+pub unlike : (name : List ℕ) (us : List User) → AllByRecursion (λ y. bytes_eq name y ≡ false) (map name_of us) → All (λ (u : User). bytes_eq name u.user ≡ false) us
 unlike name [] all = All-nil (λ (u : User). bytes_eq name u.user ≡ false)
 unlike name (u ∷ us) all = All-cons (λ (v : User). bytes_eq name v.user ≡ false) u us all.0 (unlike name us all.1)
 
--- where no name stands twice, whoever is found by more than the name is found by the name
-again : (name password : List ℕ) (us : List User) (u : User) → IsDistinct bytes_eq (map name_of us) →
-    find (λ (v : User). pointwise nat_eq v.user name && pointwise nat_eq v.password password) us ≡ Some u →
-    find (λ (v : User). pointwise nat_eq v.user u.user) us ≡ Some u
-again name password [] u apart e = absurd (cc)
-again name password (v ∷ us) u apart e =
-    here (pointwise nat_eq v.user name && pointwise nat_eq v.password password) e (again name password us u (IsDistinct-tail bytes_eq v.user (map name_of us) apart))
+-- where no name stands twice, whoever a test finds is found by the name
+again : (test : User → Bool) (us : List User) (u : User) → IsDistinct bytes_eq (map name_of us) → find test us ≡ Some u → find (λ (v : User). pointwise nat_eq v.user u.user) us ≡ Some u
+again test [] u apart e = absurd (cc)
+again test (v ∷ us) u apart e = here (test v) e (again test us u (IsDistinct-tail bytes_eq v.user (map name_of us) apart))
   where
-    test : User → Bool
-    test x = pointwise nat_eq x.user name && pointwise nat_eq x.password password
-
-    here : (b : Bool) → cond b (Some v) (find (λ (x : User). pointwise nat_eq x.user name && pointwise nat_eq x.password password) us) ≡ Some u →
-        (find (λ (x : User). pointwise nat_eq x.user name && pointwise nat_eq x.password password) us ≡ Some u → find (λ (x : User). pointwise nat_eq x.user u.user) us ≡ Some u) →
+    here : (b : Bool) → cond b (Some v) (find test us) ≡ Some u → (find test us ≡ Some u → find (λ (x : User). pointwise nat_eq x.user u.user) us ≡ Some u) →
         cond (pointwise nat_eq v.user u.user) (Some v) (find (λ (x : User). pointwise nat_eq x.user u.user) us) ≡ Some u
     here true e' later =
         let same : v ≡ u = cc in
         ap (λ b. cond b (Some v) (find (λ (x : User). pointwise nat_eq x.user u.user) us)) ((bytes_eq-Decides v.user u.user).1 (ap name_of same)) ∙ ap (λ (x : User). Some x) same
     here false e' later =
         ap (λ b. cond b (Some v) (find (λ (x : User). pointwise nat_eq x.user u.user) us))
-        (find-All (λ (x : User). bytes_eq v.user x.user ≡ false) (λ (x : User). pointwise nat_eq x.user name && pointwise nat_eq x.password password) us u (unlike v.user us (IsDistinct-head bytes_eq v.user (map name_of us) apart)) e')
+        (find-All (λ (x : User). bytes_eq v.user x.user ≡ false) test us u (unlike v.user us (IsDistinct-head bytes_eq v.user (map name_of us) apart)) e')
         ∙ later e'
+
+-- in a valid policy no name stands twice
+pub are_named_once : (doc : PolicyDoc) → IsValidPolicy doc → IsDistinct bytes_eq (map name_of (users_of doc))
+are_named_once doc valid = subst (IsDistinct bytes_eq) (sym (names doc.accounts)) valid
+
+pub named_again : (test : User → Bool) (doc : PolicyDoc) (u : User) → IsValidPolicy doc → find test (users_of doc) ≡ Some u → user_named doc u.user ≡ Some u
+named_again test doc u valid e = again test (users_of doc) u (are_named_once doc valid) e
 
 pub user_named-again : (doc : PolicyDoc) (name : Option (List ℕ)) (password : List ℕ) (u : User) → IsValidPolicy doc → user_with_password doc name password ≡ Some u → user_named doc u.user ≡ Some u
 user_named-again doc None password u valid e = absurd (cc)
 user_named-again doc (Some name) password u valid e =
-    let apart : IsDistinct bytes_eq (map name_of (users_of doc)) = subst (IsDistinct bytes_eq) (sym (names doc.accounts)) valid in
-    again name password (users_of doc) u apart e
+    named_again (λ (v : User). pointwise nat_eq v.user name && pointwise nat_eq v.password password) doc u valid e

@@ -23,13 +23,13 @@ abbrev pub next : World → ℕ → List Session → List Subscription → World
 next w now zs subs = record w { moment = max w.moment now; number = w.number + 1; sessions = zs; subscriptions = subs }
 
 -- the facts of a session by itself, under a policy and a capacity
-abbrev IsOfPolicy : PolicyDoc → Session → Type 0
+abbrev pub IsOfPolicy : PolicyDoc → Session → Type 0
 IsOfPolicy doc z = user_named doc z.user.user ≡ Some z.user
 
-abbrev HasBound : ℕ → Session → Type 0
+abbrev pub HasBound : ℕ → Session → Type 0
 HasBound capacity z = (z.outbox.capacity ≡ capacity) × (length z.outbox.waiting ≤ capacity)
 
-abbrev IsApart : Session → Session → Type 0
+abbrev pub IsApart : Session → Session → Type 0
 IsApart y z = y.conn ≢ z.conn
 
 abbrev IsAllowed : PolicyDoc → List Session → Subscription → Type 0
@@ -44,6 +44,10 @@ user_at-session w sound conn z e =
 numbers-next : (w : World) → IsSound w → All (λ (s : Subscription). s.id ≤ w.number + 1) w.subscriptions
 numbers-next w sound = λ k d h. let p = sound.numbers k d h in omega arith
 
+-- and so is the epoch
+epoch-next : (w : World) → IsSound w → w.epoch ≤ (w.number + 1) + 1
+epoch-next w sound = let h = sound.epoch in omega arith
+
 -- nothing has changed
 pub sound-same : (w : World) (now : ℕ) → IsSound w → IsSound (next w now w.sessions w.subscriptions)
 sound-same w now sound = record {
@@ -56,6 +60,7 @@ sound-same w now sound = record {
   sids = sound.sids;
   ids = sound.ids;
   numbers = numbers-next w sound;
+  epoch = epoch-next w sound;
 }
 
 -- outboxes have changed
@@ -85,6 +90,7 @@ sound-map w now f keeps sound = record {
   sids = sound.sids;
   ids = sound.ids;
   numbers = numbers-next w sound;
+  epoch = epoch-next w sound;
 }
   where
     of_policy : (z : Session) → IsOfPolicy w.policy z → IsOfPolicy w.policy (f z)
@@ -109,6 +115,7 @@ sound-open w now conn u free room is sound = record {
   sids = sound.sids;
   ids = sound.ids;
   numbers = numbers-next w sound;
+  epoch = epoch-next w sound;
 }
 
 -- a subscription is added
@@ -124,6 +131,7 @@ sound-add w now conn p sid may free sound = record {
   sids = all_pairs_push (λ (s t : Subscription). has_same_sid s t ≡ false) w.subscriptions (subscription_of (w.number + 1) conn p sid) sound.sids (any-none (λ (s : Subscription). has_same_sid s (subscription_of (w.number + 1) conn p sid)) w.subscriptions free);
   ids = all_pairs_push (λ (s t : Subscription). s.id < t.id) w.subscriptions (subscription_of (w.number + 1) conn p sid) sound.ids (λ k d h. let n = sound.numbers k d h in omega arith);
   numbers = All-push (λ (s : Subscription). s.id ≤ w.number + 1) w.subscriptions (subscription_of (w.number + 1) conn p sid) (numbers-next w sound) (omega arith);
+  epoch = epoch-next w sound;
 }
 
 -- a connection's session and subscriptions go
@@ -151,4 +159,5 @@ sound-close w now conn sound = record {
   sids = AllPairs-filter (λ (s t : Subscription). has_same_sid s t ≡ false) (λ (s : Subscription). not (s.conn == conn)) w.subscriptions sound.sids;
   ids = AllPairs-filter (λ (s t : Subscription). s.id < t.id) (λ (s : Subscription). not (s.conn == conn)) w.subscriptions sound.ids;
   numbers = All-filter (λ (s : Subscription). not (s.conn == conn)) (λ (s : Subscription). s.id ≤ w.number + 1) w.subscriptions (numbers-next w sound);
+  epoch = epoch-next w sound;
 }

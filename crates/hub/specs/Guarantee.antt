@@ -1,6 +1,7 @@
 -- The routing guarantee: what each step of a hub keeps, in terms of the policy in force, which is that of the
 -- world before the step (docs/GUARANTEE.md, "The guarantee").
 use Rattle.std.specs.Prelude.{◌≡◌, ◌==◌, ◌+◌, ◌-◌, ◌&&◌, ◌||◌, ◌∷◌, ◌++◌, ℕ, List, [], Bool, true, false, Option, Some, None, Result, Ok, Err, if◌then◌else◌, filter, map, not, length, is_some, IsSomeAnd, nat_lt, nat_le, nat_eq, max, take, drop}
+use Rattle.std.specs.Option.{option_and_then}
 use Rattle.std.specs.Cmp.Lexicographic.{pointwise}
 use Rattle.subjects.specs.Subject.{Token, in_set}
 use Rattle.permissions.specs.Verdicts.{publish_verdict, subscribe_verdict, delivery_verdict, is_allowed, IsJustifiedPublish, IsJustifiedSubscribe}
@@ -9,6 +10,8 @@ use Rattle.permissions.specs.declared.verdict.Verdict.TheVariants.{Allowed}
 use Rattle.hub.specs.Users.{user_with_password}
 use Rattle.hub.specs.World.{World, session_of}
 use Rattle.hub.specs.Sound.{IsSound, user_at, may_subscribe}
+use Rattle.hub.specs.History.{State, is_history_full, entry_of}
+use Rattle.hub.specs.InForce.{IsInForce, policy_after, epoch_after}
 use Rattle.hub.specs.Run.{EachStep}
 use Rattle.hub.specs.Transition.{new_session, subscription_of, stands, drained}
 use Rattle.hub.specs.declared.ready.User.{User}
@@ -16,13 +19,13 @@ use Rattle.hub.specs.declared.tables.Session.{Session}
 use Rattle.hub.specs.declared.tables.Subscription.{Subscription}
 use Rattle.hub.specs.declared.event.Event.{Event}
 use Rattle.hub.specs.declared.event.Command.{Command}
-use Rattle.hub.specs.declared.event.Command.TheVariants.{Connect, Sub, Pub, Take, Close}
+use Rattle.hub.specs.declared.event.Command.TheVariants.{Connect, Sub, Pub, Take, Close, Reload}
 use Rattle.hub.specs.declared.answer.Answer.{Answer}
 use Rattle.hub.specs.declared.answer.Delivery.{Delivery}
 use Rattle.hub.specs.declared.answer.Item.{Item}
 use Rattle.hub.specs.declared.answer.Item.TheVariants.{Entered, Full}
 use Rattle.hub.specs.declared.answer.Outcome.{Outcome}
-use Rattle.hub.specs.declared.answer.Outcome.TheVariants.{Connected, AuthViolation, Subscribed, SameSid, Denied, Published, Taken, Closed}
+use Rattle.hub.specs.declared.answer.Outcome.TheVariants.{Connected, AuthViolation, Subscribed, SameSid, Denied, Published, Taken, Closed, Reloaded}
 use Rattle.hub.specs.declared.answer.HubRefusal.{HubRefusal}
 use Rattle.hub.specs.declared.answer.HubRefusal.TheVariants.{HistoryFull, NoSession, SessionTaken, SessionLimit, NoMemory}
 
@@ -38,6 +41,7 @@ accepts (Denied verdict) = false
 accepts (Published by items) = true
 accepts (Taken deliveries missed) = true
 accepts Closed = true
+accepts (Reloaded gone removed) = true
 
 -- whether a user may publish on a subject
 abbrev pub may_publish : Option User → List Token → Bool
@@ -52,6 +56,7 @@ allows w (Sub conn p sid) = may_subscribe (user_at w conn) p
 allows w (Pub conn s body) = may_publish (user_at w conn) s
 allows w (Take conn most) = true
 allows w (Close conn) = true
+allows w (Reload doc) = true
 
 -- ---- denials
 
@@ -68,6 +73,7 @@ IsDenial w (Pub conn s body) v =
     × IsJustifiedPublish s u.rules.publish v)
 IsDenial w (Take conn most) v = ⊥
 IsDenial w (Close conn) v = ⊥
+IsDenial w (Reload doc) v = ⊥
 
 -- what is denied is denied with reason
 abbrev pub HasReason : World → Command → Outcome → Type 0
@@ -178,18 +184,22 @@ IsEffect w (Take conn most) (Taken deliveries missed) after =
 IsEffect w (Close conn) Closed after =
     (after.sessions ≡ filter (λ (z : Session). not (z.conn == conn)) w.sessions)
     × (after.subscriptions ≡ filter (λ (sub : Subscription). not (sub.conn == conn)) w.subscriptions)
+-- the policy is in force: sessions and subscriptions stay or go as it says
+IsEffect w (Reload doc) (Reloaded gone removed) after = IsInForce w doc gone removed after
 -- no command has another's answer
 IsEffect w command outcome after = ⊥
 
 -- ---- refusals
 
--- the connection that a command names, and whether the command is to begin its session
-abbrev pub connection : Command → ℕ
-connection (Connect conn name password) = conn
-connection (Sub conn p sid) = conn
-connection (Pub conn s body) = conn
-connection (Take conn most) = conn
-connection (Close conn) = conn
+-- the connection that a command names, if it names one; whether the command is to begin its session; and whether it
+-- is nobody's
+abbrev pub connection : Command → Option ℕ
+connection (Connect conn name password) = Some conn
+connection (Sub conn p sid) = Some conn
+connection (Pub conn s body) = Some conn
+connection (Take conn most) = Some conn
+connection (Close conn) = Some conn
+connection (Reload doc) = None
 
 abbrev pub is_connect : Command → Bool
 is_connect (Connect conn name password) = true
@@ -197,64 +207,70 @@ is_connect (Sub conn p sid) = false
 is_connect (Pub conn s body) = false
 is_connect (Take conn most) = false
 is_connect (Close conn) = false
+is_connect (Reload doc) = false
+
+abbrev pub is_nobodys : Command → Bool
+is_nobodys c = not (is_some (connection c))
 
 abbrev pub has_session : World → Command → Bool
-has_session w c = is_some (session_of w.sessions (connection c))
-
--- the last number, 2^64 - 1, has been given
-abbrev pub is_history_full : World → Bool
-is_history_full w = w.number == 18446744073709551615
+has_session w c = is_some (option_and_then (session_of w.sessions) (connection c))
 
 -- 4,096 sessions stand
 abbrev pub is_at_limit : World → Bool
 is_at_limit w = nat_le 4096 (length w.sessions)
 
--- Whether a command can be carried out: a number is left, and it is a Connect of a connection without a session,
--- while there is room for one more, or another command of a connection with one.
-abbrev pub is_in_order : World → Command → Bool
-is_in_order w c = not (is_history_full w)
-    && (if is_connect c then not (has_session w c) && not (is_at_limit w) else has_session w c)
+-- whether the tables let a command be carried out: it is a Connect of a connection without a session, while there
+-- is room for one more, or another command of a connection with one, or nobody's
+abbrev pub is_fit : World → Command → Bool
+is_fit w c = if is_connect c then not (has_session w c) && not (is_at_limit w) else (is_nobodys c || has_session w c)
 
--- Where a refusal may be answered: no number is left; a Connect of a connection that has a session; another
+-- Whether a command can be carried out: the history is not full, and the tables let it.
+abbrev pub is_in_order : State → Command → Bool
+is_in_order s c = not (is_history_full s) && is_fit s.world c
+
+-- Where a refusal may be answered: the history is full; a Connect of a connection that has a session; another
 -- command of one that has none; a Connect of one that has none, while 4,096 sessions stand; and want of memory
 -- only where the command could be carried out.
-abbrev pub is_due : World → Command → HubRefusal → Bool
-is_due w c HistoryFull = is_history_full w
-is_due w c SessionTaken = not (is_history_full w) && is_connect c && has_session w c
-is_due w c NoSession = not (is_history_full w) && not (is_connect c) && not (has_session w c)
-is_due w c SessionLimit = not (is_history_full w) && is_connect c && not (has_session w c) && is_at_limit w
-is_due w c NoMemory = is_in_order w c
+abbrev pub is_due : State → Command → HubRefusal → Bool
+is_due s c HistoryFull = is_history_full s
+is_due s c SessionTaken = not (is_history_full s) && is_connect c && has_session s.world c
+is_due s c NoSession = not (is_history_full s) && not (is_connect c || is_nobodys c) && not (has_session s.world c)
+is_due s c SessionLimit = not (is_history_full s) && is_connect c && not (has_session s.world c) && is_at_limit s.world
+is_due s c NoMemory = is_in_order s c
 
 -- ---- the guarantee
 
 -- An answered step.
-pub record IsRouted (w : World) (e : Event) (a : Answer) (after : World) : Type 0 where
+pub record IsRouted (s : State) (e : Event) (a : Answer) (after : State) : Type 0 where
   -- no refusal was due
-  pub in_order : is_in_order w e.what ≡ true
+  pub in_order : is_in_order s e.what ≡ true
   -- a command is accepted exactly where the policy in force allows it
-  pub accepted : accepts a.outcome ≡ allows w e.what
+  pub accepted : accepts a.outcome ≡ allows s.world e.what
   -- each denial names its deciding rule, or the missing allow
-  pub reason : HasReason w e.what a.outcome
+  pub reason : HasReason s.world e.what a.outcome
   -- sessions, outboxes and subscriptions change as the command asks, and in no other way
-  pub effect : IsEffect w e.what a.outcome after
-  -- the clock goes on to the event's moment, and the number rises by one; policy, epoch and capacity stay
-  pub others : (after ≡ record w { moment = max w.moment e.now; number = w.number + 1; sessions = after.sessions; subscriptions = after.subscriptions })
-  pub number : a.number ≡ w.number + 1
-  pub epoch : a.epoch ≡ w.epoch
+  pub effect : IsEffect s.world e.what a.outcome after.world
+  -- the clock goes on to the event's moment, and the number rises by one; a reload, and nothing else, puts another
+  -- policy in force and raises the epoch by one; the capacity stays
+  pub others : (after.world ≡ record s.world { policy = policy_after s.world e.what; epoch = epoch_after s.world e.what; moment = max s.world.moment e.now; number = s.world.number + 1; sessions = after.world.sessions; subscriptions = after.world.subscriptions })
+  pub number : a.number ≡ s.world.number + 1
+  pub epoch : a.epoch ≡ epoch_after s.world e.what
+  -- the answer is entered with its event, behind all others, and nothing is forgotten
+  pub history : after ≡ record s { world = after.world; entries = s.entries ++ entry_of a e ∷ [] }
   -- no standing subscription is refused by the policy in force
-  pub sound : IsSound after
+  pub sound : IsSound after.world
 
 -- A refused step hands the event back and changes nothing, where its refusal is due.
-pub record IsRefused (w : World) (e : Event) (refused : Event × HubRefusal) (after : World) : Type 0 where
+pub record IsRefused (s : State) (e : Event) (refused : Event × HubRefusal) (after : State) : Type 0 where
   pub back : refused.0 ≡ e
-  pub same : after ≡ w
-  pub due : is_due w e.what refused.1 ≡ true
+  pub same : after ≡ s
+  pub due : is_due s e.what refused.1 ≡ true
 
 -- one step keeps the guarantee
-abbrev pub KeepsGuarantee : World → Event → Result Answer (Event × HubRefusal) → World → Type 0
-KeepsGuarantee w e (Ok a) after = IsRouted w e a after
-KeepsGuarantee w e (Err refused) after = IsRefused w e refused after
+abbrev pub KeepsGuarantee : State → Event → Result Answer (Event × HubRefusal) → State → Type 0
+KeepsGuarantee s e (Ok a) after = IsRouted s e a after
+KeepsGuarantee s e (Err refused) after = IsRefused s e refused after
 
 -- Each step of a run keeps the guarantee, whatever the events.
-abbrev pub IsGuarded : World → List Event → List (Result Answer (Event × HubRefusal)) → World → Type 0
+abbrev pub IsGuarded : State → List Event → List (Result Answer (Event × HubRefusal)) → State → Type 0
 IsGuarded = EachStep KeepsGuarantee

@@ -2,8 +2,11 @@ pub mod Bounded
 pub mod Users
 pub mod World
 pub mod Routing
+pub mod Reload
 pub mod Transition
+pub mod History
 pub mod Run
 pub mod Shown
 pub mod Sound
+pub mod InForce
 pub mod Guarantee

@@ -1,5 +1,5 @@
 -- What holds of the world of every hub (docs/GUARANTEE.md, "What always holds").
-use Rattle.std.specs.Prelude.{◌≡◌, ◌≢◌, ◌==◌, ◌&&◌, ◌<◌, ◌≤◌, ℕ, List, Bool, true, false, Option, Some, None, find, length, All, AllPairs}
+use Rattle.std.specs.Prelude.{◌≡◌, ◌≢◌, ◌==◌, ◌&&◌, ◌+◌, ◌<◌, ◌≤◌, ℕ, List, Bool, true, false, Option, Some, None, find, length, All, AllPairs}
 use Rattle.std.specs.Cmp.Lexicographic.{pointwise}
 use Rattle.std.specs.Prelude.{nat_eq}
 use Rattle.subjects.specs.Subject.{Token}
@@ -53,3 +53,5 @@ pub record IsSound (w : World) : Type 0 where
   -- their ids rise, and none is above the last number
   pub ids : AllPairs (λ (s t : Subscription). s.id < t.id) w.subscriptions
   pub numbers : All (λ (s : Subscription). s.id ≤ w.number) w.subscriptions
+  -- the epoch, 1 at the opening, rises no faster than the number
+  pub epoch : w.epoch ≤ w.number + 1

@@ -1,5 +1,5 @@
 -- The transition: what one event makes of the world (docs/GUARANTEE.md, "The step").
-use Rattle.std.specs.Prelude.{◌==◌, ◌+◌, ◌&&◌, ◌∷◌, ◌++◌, ◌≡◌, ℕ, List, [], Bool, false, Option, Some, None, Result, Ok, Err, if◌then◌else◌, filter, map, not, length, nat_le, nat_eq, take, drop, IsSomeAnd}
+use Rattle.std.specs.Prelude.{◌==◌, ◌+◌, ◌&&◌, ◌∷◌, ◌++◌, ◌≡◌, ℕ, List, [], Bool, true, false, Option, Some, None, Result, Ok, Err, if◌then◌else◌, filter, map, not, length, nat_le, nat_eq, take, drop, IsSomeAnd}
 use Rattle.std.specs.List.{list_any}
 use Rattle.std.specs.Cmp.Lexicographic.{pointwise}
 use Rattle.subjects.specs.Subject.{Token}
@@ -9,17 +9,17 @@ use Rattle.permissions.specs.declared.verdict.Verdict.TheVariants.{Allowed, Deni
 use Rattle.hub.specs.Users.{user_with_password}
 use Rattle.hub.specs.World.{World, session_of, with_session, advanced}
 use Rattle.hub.specs.Routing.{admitted, addressed_to, delivered}
+use Rattle.hub.specs.Reload.{reloaded, IsReasonedReload}
 use Rattle.hub.specs.declared.ready.User.{User}
 use Rattle.hub.specs.declared.tables.Session.{Session}
 use Rattle.hub.specs.declared.tables.Subscription.{Subscription}
 use Rattle.hub.specs.declared.event.Event.{Event}
 use Rattle.hub.specs.declared.event.Command.{Command}
-use Rattle.hub.specs.declared.event.Command.TheVariants.{Connect, Sub, Pub, Take, Close}
-use Rattle.hub.specs.declared.answer.Answer.{Answer}
+use Rattle.hub.specs.declared.event.Command.TheVariants.{Connect, Sub, Pub, Take, Close, Reload}
 use Rattle.hub.specs.declared.answer.Outcome.{Outcome}
-use Rattle.hub.specs.declared.answer.Outcome.TheVariants.{Connected, AuthViolation, Subscribed, SameSid, Denied, Published, Taken, Closed}
+use Rattle.hub.specs.declared.answer.Outcome.TheVariants.{Connected, AuthViolation, Subscribed, SameSid, Denied, Published, Taken, Closed, Reloaded}
 use Rattle.hub.specs.declared.answer.HubRefusal.{HubRefusal}
-use Rattle.hub.specs.declared.answer.HubRefusal.TheVariants.{HistoryFull, NoSession, SessionTaken, SessionLimit, NoMemory}
+use Rattle.hub.specs.declared.answer.HubRefusal.TheVariants.{NoSession, SessionTaken, SessionLimit, NoMemory}
 
 -- a session with nothing in its outbox
 abbrev pub new_session : ℕ → User → ℕ → Session
@@ -92,23 +92,26 @@ moved w (Pub conn s body) =
     in_session (session_of w.sessions conn) (λ z. published w z s body (publish_verdict z.user.rules s))
 moved w (Take conn most) = on_sessions w (in_session (session_of w.sessions conn) (taken w.sessions conn most))
 moved w (Close conn) = in_session (session_of w.sessions conn) (λ z. closed w conn)
+moved w (Reload doc) = Ok (reloaded w doc)
 
 -- each step raises the number by one
 abbrev pub numbered : ℕ → Result (Outcome × World) HubRefusal → Result (Outcome × World) HubRefusal
 numbered n (Ok r) = Ok (r.0, record r.1 { number = n })
 numbered n (Err e) = Err e
 
--- the transition: outcome and world after, or the refusal. Numbers end at 2^64 - 1.
+-- the transition: outcome and world after, or the refusal
 abbrev pub transition : World → Event → Result (Outcome × World) HubRefusal
-transition w e = if w.number == 18446744073709551615 then Err HistoryFull else numbered (w.number + 1) (moved (advanced w e.now) e.what)
+transition w e = numbered (w.number + 1) (moved (advanced w e.now) e.what)
 
 -- What is denied has its reason in the lists of the session's user: the least deny entry that has all that was
--- asked, or no deny entry has it, an allow list is given, and each of its entries lacks some of it.
+-- asked, or no deny entry has it, an allow list is given, and each of its entries lacks some of it. So has what a
+-- reload removes, whose policy is valid.
 abbrev pub IsReasoned : World → Command → Outcome → Type 0
 IsReasoned w (Sub conn p sid) (Denied v) =
     IsSomeAnd (session_of w.sessions conn) (λ (z : Session). IsJustifiedSubscribe p z.user.rules.subscribe v)
 IsReasoned w (Pub conn s body) (Denied v) =
     IsSomeAnd (session_of w.sessions conn) (λ (z : Session). IsJustifiedPublish s z.user.rules.publish v)
+IsReasoned w (Reload doc) (Reloaded gone removed) = IsReasonedReload doc w.sessions w.subscriptions
 IsReasoned w command outcome = Unit {0}
 
 -- A refusal is the transition's, or want of memory where it refuses nothing.
@@ -121,8 +124,14 @@ abbrev pub Gives : {W : Type 0} → W → Result (Outcome × W) HubRefusal → R
 Gives w t (Ok o) after = t ≡ Ok (o, after)
 Gives w t (Err r) after = (after ≡ w) × IsRefusal t r
 
--- One step from a world to another: the transition, answered with its number and epoch; or a refusal that
--- changes nothing and hands the event back.
-abbrev pub IsStep : World → Event → Result Answer (Event × HubRefusal) → World → Type 0
-IsStep w e (Ok a) after = (transition w e ≡ Ok (a.outcome, after)) × (a.number ≡ after.number) × (a.epoch ≡ after.epoch)
-IsStep w e (Err refused) after = (refused.0 ≡ e) × (after ≡ w) × IsRefusal (transition w e) refused.1
+-- whether an outcome has no list
+abbrev pub is_plain : Outcome → Bool
+is_plain Connected = true
+is_plain AuthViolation = true
+is_plain Subscribed = true
+is_plain SameSid = true
+is_plain (Denied verdict) = true
+is_plain (Published by items) = false
+is_plain (Taken deliveries missed) = false
+is_plain Closed = true
+is_plain (Reloaded gone removed) = false

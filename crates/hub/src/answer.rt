@@ -29,6 +29,19 @@ pub enum Item {
     Full { conn: u64, sid: Bytes },
 }
 
+/// A subscription that a reload has removed from a session that stays.
+#[derive(Debug, Drop)]
+pub struct Removed {
+    /// The number of the entry that made it.
+    pub id: u64,
+    /// The connection whose session had it.
+    pub conn: u64,
+    /// The client's own id for it.
+    pub sid: Bytes,
+    /// The verdict of the new policy, which refuses it.
+    pub verdict: Verdict,
+}
+
 /// What came of a command that was not refused.
 #[derive(Debug, Drop)]
 pub enum Outcome {
@@ -48,6 +61,12 @@ pub enum Outcome {
     Taken(Items<Delivery>, bool),
     /// The session is gone.
     Closed,
+    /// The policy is in force. The sessions of these connections are gone, ascending; and the sessions that stay
+    /// have lost these subscriptions, oldest first.
+    Reloaded {
+        gone: Items<u64>,
+        removed: Items<Removed>,
+    },
 }
 
 /// The outcome of an event, with its number and the epoch in force after it.
@@ -55,7 +74,7 @@ pub enum Outcome {
 pub struct Answer {
     /// Numbers begin at 1 and rise by one.
     pub number: u64,
-    /// Which policy is in force after the step, counted from 1. No step changes it yet.
+    /// Which policy is in force after the step, counted from 1. A reload alone raises it, by one.
     pub epoch: u128,
     /// What came of the command.
     pub outcome: Outcome,
@@ -65,7 +84,7 @@ pub struct Answer {
 /// `HistoryFull`, `SessionTaken`, `NoSession`, `SessionLimit`, `NoMemory` is answered.
 #[derive(Clone, Copy, Debug, PartialEq, Eq)]
 pub enum HubRefusal {
-    /// The last number, 2^64 - 1, has been given.
+    /// The history holds as many entries as it may, or the last number, 2^64 - 1, has been given.
     HistoryFull,
     /// The connection has no session.
     NoSession,

@@ -1,8 +1,9 @@
 //! Copies of what the hub is asked and of what it answers. Texts and payloads are shared, not copied.
-use crate::answer::{Answer, Delivery, Item, Outcome};
+ghost use Rattle.std.specs.Prelude.{◌≡◌, IfOk};
+
+use crate::answer::{Answer, Delivery, Item, Outcome, Removed};
 use crate::event::Command;
-use crate::ready::Ready;
-use lists::{Copying, NoMemory};
+use lists::{Copying, Items, NoMemory};
 use std::alloc::Global;
 
 impl Copying for Delivery {
@@ -30,6 +31,24 @@ impl Copying for Item {
     }
 }
 
+impl Copying for Removed {
+    fn copy(&self, _alloc: Global) -> Result<Removed, NoMemory> {
+        Ok(Removed {
+            id: self.id,
+            conn: self.conn,
+            sid: self.sid.clone()?,
+            verdict: self.verdict,
+        })
+    }
+}
+
+fn copy_numbers(alloc: Global, numbers: &Items<u64>) -> Result<Items<u64>, NoMemory>
+    ensures { IfOk result (λ same. same ≡ numbers.now) }
+{
+    let copies = numbers.as_slice().to_vec(alloc)?;
+    Ok(Items::from_vec(copies))
+}
+
 impl Copying for Outcome {
     fn copy(&self, alloc: Global) -> Result<Outcome, NoMemory> {
         match self {
@@ -43,6 +62,10 @@ impl Copying for Outcome {
                 Ok(Outcome::Taken(deliveries.copy(alloc)?, *missed))
             }
             Outcome::Closed => Ok(Outcome::Closed),
+            Outcome::Reloaded { gone, removed } => Ok(Outcome::Reloaded {
+                gone: copy_numbers(alloc, gone)?,
+                removed: removed.copy(alloc)?,
+            }),
         }
     }
 }
@@ -87,16 +110,7 @@ impl Copying for Command {
                 most: *most,
             }),
             Command::Close { conn } => Ok(Command::Close { conn: *conn }),
-        }
-    }
-}
-
-impl Copying for Ready {
-    fn copy(&self, alloc: Global) -> Result<Ready, NoMemory> {
-        let policy = self.policy().copy(alloc)?;
-        match Ready::of(alloc, policy) {
-            Ok(ready) => Ok(ready),
-            Err((_, refused)) => Err(refused),
+            Command::Reload(ready) => Ok(Command::Reload(ready.copy(alloc)?)),
         }
     }
 }

@@ -3,10 +3,12 @@ ghost use Rattle.std.specs.Prelude.{◌≡◌, [], ◌∷◌, ◌++◌, ◌+◌,
 ghost use Rattle.hub.specs.Routing.{lets_through, is_admitted, addressed_to, after_offer, item_of, delivered};
 ghost use Rattle.hub.specs.World.{session_of};
 ghost use Rattle.std.specs.Option.{option_copied};
+ghost use Rattle.hub.specs.declared.answer.Item.TheVariants as item;
 
 use crate::answer::{Delivery, Item};
 use crate::session::{find_session, place_of};
 use crate::tables::{Session, Subscription};
+use crate::twice::Twice;
 use bytes::Bytes;
 use lists::{Copying, NoMemory};
 use permissions::By;
@@ -20,7 +22,7 @@ pub struct Addressed {
     /// The connection of the subscription.
     pub conn: u64,
     /// The client's own id for it.
-    pub sid: Bytes,
+    pub sid: Twice<Bytes>,
     /// What is sent.
     pub delivery: Delivery,
 }
@@ -61,7 +63,7 @@ fn address(
 {
     Ok(Addressed {
         conn: subscription.conn,
-        sid: subscription.sid.clone()?,
+        sid: Twice::of(subscription.sid.clone()?, subscription.sid.clone()?),
         delivery: Delivery {
             subject: subject.copy(alloc)?,
             sid: subscription.sid.clone()?,
@@ -123,8 +125,10 @@ pub(crate) struct Routed {
     pub by: By,
     /// For whom it is.
     pub all: VecDeque<Addressed>,
-    /// No item yet, and room for one for each.
-    pub items: Vec<Item>,
+    /// No item yet, and room for one for each: those of the answer.
+    pub told: Vec<Item>,
+    /// The same for those of the entry.
+    pub kept: Vec<Item>,
 }
 
 /// An accepted message, addressed to each subscription that it is for.
@@ -140,16 +144,46 @@ pub(crate) fn route(
     ensures by { IfOk result (λ routed. routed.by ≡ by) }
     ensures all { IfOk result (λ routed. routed.all.items ≡ map (addressed_to subject.now body.now)
         (filter (is_admitted sessions.now account.now subject.now) subscriptions.now)) }
-    ensures items { IfOk result (λ routed. routed.items.items ≡ []) }
-    ensures room { IfOk result (λ routed. vec_len routed.items + length routed.all.items ≤ vec_capacity routed.items) }
+    ensures told { IfOk result (λ routed. routed.told.items ≡ []) }
+    ensures kept { IfOk result (λ routed. routed.kept.items ≡ []) }
+    ensures told_room { IfOk result (λ routed. vec_len routed.told + length routed.all.items ≤ vec_capacity routed.told) }
+    ensures kept_room { IfOk result (λ routed. vec_len routed.kept + length routed.all.items ≤ vec_capacity routed.kept) }
 {
     let all = address_all(alloc, sessions, subscriptions, account, subject, body)?;
-    let items = Vec::with_capacity(alloc, all.len())?;
-    Ok(Routed { by, all, items })
+    let told = Vec::with_capacity(alloc, all.len())?;
+    let kept = Vec::with_capacity(alloc, all.len())?;
+    Ok(Routed {
+        by,
+        all,
+        told,
+        kept,
+    })
+}
+
+/// The item of a subscription that its delivery has entered.
+fn entered(conn: u64, sid: Twice<Bytes>) -> Twice<Item>
+    ensures { result ≡ item.Entered conn sid }
+{
+    let (told, kept) = sid.into_both();
+    Twice::of(
+        Item::Entered { conn, sid: told },
+        Item::Entered { conn, sid: kept },
+    )
+}
+
+/// The item of a subscription that found the outbox full.
+fn full(conn: u64, sid: Twice<Bytes>) -> Twice<Item>
+    ensures { result ≡ item.Full conn sid }
+{
+    let (told, kept) = sid.into_both();
+    Twice::of(
+        Item::Full { conn, sid: told },
+        Item::Full { conn, sid: kept },
+    )
 }
 
 /// Hands one delivery to the session that it is for.
-fn hand_over(sessions: &mut [Session], addressed: Addressed) -> Item
+fn hand_over(sessions: &mut [Session], addressed: Addressed) -> Twice<Item>
     ensures item { result ≡ item_of addressed sessions.old }
     ensures after { sessions.new ≡ after_offer addressed sessions.old }
 {
@@ -159,31 +193,36 @@ fn hand_over(sessions: &mut [Session], addressed: Addressed) -> Item
         delivery,
     } = addressed;
     match place_of(sessions, conn) {
-        None => Item::Full { conn, sid },
+        None => full(conn, sid),
         Some(place) => {
             let session = &mut sessions[place];
             if session.offer(delivery) {
-                Item::Entered { conn, sid }
+                entered(conn, sid)
             } else {
-                Item::Full { conn, sid }
+                full(conn, sid)
             }
         }
     }
 }
 
-/// Hands the deliveries over in turn. The items have room for what each met.
+/// Hands the deliveries over in turn. Both lists have room for what each met.
 pub(crate) fn hand_over_all(
     sessions: &mut [Session],
     mut all: VecDeque<Addressed>,
-    mut items: Vec<Item>,
-) -> Vec<Item>
-    requires { vec_len items + length all.items ≤ vec_capacity items }
-    ensures items { result.items ≡ items.items ++ (delivered all.items sessions.old).1 }
+    mut told: Vec<Item>,
+    mut kept: Vec<Item>,
+) -> (Vec<Item>, Vec<Item>)
+    requires told { vec_len told + length all.items ≤ vec_capacity told }
+    requires kept { vec_len kept + length all.items ≤ vec_capacity kept }
+    ensures told { result.0.items ≡ told.items ++ (delivered all.items sessions.old).1 }
+    ensures kept { result.1.items ≡ kept.items ++ (delivered all.items sessions.old).1 }
     ensures after { sessions.new ≡ (delivered all.items sessions.old).0 }
 {
     while let Some(next) = all.pop_front() {
         let item = hand_over(sessions, next);
-        items.push_reserved(item);
+        let (one, other) = item.into_both();
+        told.push_reserved(one);
+        kept.push_reserved(other);
     }
-    items
+    (told, kept)
 }

@@ -1,3 +1,4 @@
+use crate::ready::Ready;
 use bytes::Bytes;
 use subjects::{Pattern, Subject};
 
@@ -10,7 +11,7 @@ pub struct Event {
     pub what: Command,
 }
 
-/// A command of one connection, which the caller names by a number of its own.
+/// A command: of one connection, which the caller names by a number of its own, or a reload, which is nobody's.
 #[derive(Debug, Drop)]
 pub enum Command {
     /// A client has shown who it is (NATS documentation, "Client Protocol", CONNECT). No user is nobody's session.
@@ -40,4 +41,7 @@ pub enum Command {
     Close {
         conn: u64,
     },
+    /// Another policy comes into force. Sessions stay whose user it has under the same name, with the same password
+    /// and account; the others are closed. Subscriptions that it refuses are removed.
+    Reload(Ready),
 }

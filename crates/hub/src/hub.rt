@@ -1,10 +1,12 @@
-//! The hub: one step of its tables, and a run of steps.
-use crate::answer::{Answer, HubRefusal};
+//! The hub: one step of its tables, which it remembers, and a run of steps.
+use crate::answer::{Answer, HubRefusal, Outcome};
 use crate::event::Event;
+use crate::history::Entry;
 use crate::ready::Ready;
 use crate::router::Router;
 use crate::session::find_session;
 use crate::tables::Subscription;
+use crate::twice::Twice;
 use bytes::Bytes;
 use lists::{Copying, Items, NoMemory};
 use policy_doc::Policy;
@@ -18,6 +20,8 @@ use subjects::Pattern;
 pub struct Caps {
     /// How many deliveries may wait for a session, 1 to 65,536.
     pub outbox: usize,
+    /// How many entries the history may hold.
+    pub history: usize,
 }
 
 /// A standing subscription, as it is shown.
@@ -33,36 +37,56 @@ pub struct Standing {
     pub sid: Bytes,
 }
 
-/// The router. A clause sees the world that its tables show. Of every hub it holds that the policy in force
-/// refuses no standing subscription, and what else `known` tells.
+/// The router, and the history of its steps. A clause sees the world that its tables show, the one that it opened
+/// with, and the entries. Of every hub it holds that the policy in force refuses no standing subscription, that the
+/// entries are a legal run, and what else `known` tells.
 #[derive(Drop)]
 pub struct Hub {
     router: Router,
+    /// The policy that the hub opened with.
+    opening: Ready,
+    most: usize,
+    entries: Vec<Entry>,
 }
 
 impl Model for Hub {
-    ghost use Rattle.hub.specs.World.{World};
+    ghost use Rattle.std.specs.Prelude.{◌≤◌, length};
+    ghost use Rattle.hub.specs.World.{opening_world};
     ghost use Rattle.hub.specs.Sound.{IsSound};
+    ghost use Rattle.hub.specs.History.{State, IsLegalRun};
 
-    ghost Value = { World };
+    ghost Value = { State };
 
-    ghost view = { λ h. h.router };
+    ghost view = { λ h. record {
+      world = h.router;
+      opening = opening_world h.opening h.router.capacity;
+      most = h.most;
+      entries = h.entries.items;
+    } };
 
-    ghost invariant = { λ h. IsSound h.router };
+    ghost invariant = { λ h. IsSound h.router
+        × IsLegalRun (opening_world h.opening h.router.capacity) h.entries.items h.router
+        × (length h.entries.items ≤ h.most) };
 }
 
 impl Hub {
-    ghost use Rattle.std.specs.Prelude.{◌≡◌, ◌≤◌, IfOk, IfErr};
+    ghost use Rattle.std.specs.Prelude.{◌≡◌, ◌≤◌, IfOk, IfErr, length};
     ghost use Rattle.hub.specs.World.{opening_world};
     ghost use Rattle.hub.specs.Sound.{IsSound};
+    ghost use Rattle.hub.specs.History.{opening_state, is_history_full, IsLegalRun, IsStep};
 
-    /// A hub over a policy, with nobody connected. `NoMemory` hands the policy back.
+    /// A hub over a policy, with nobody connected and nothing to remember. `NoMemory` hands the policy back.
+    #[tactic(auto, unfolding(crate::specs::History::IsLegalRun))]
     pub fn new(alloc: Global, ready: Ready, caps: Caps) -> Result<Hub, (Ready, NoMemory)>
         requires low { 1 ≤ caps.outbox }
         requires high { caps.outbox ≤ 65536 }
-        ensures ok { IfOk result (λ hub. hub ≡ opening_world ready caps.outbox) }
+        ensures ok { IfOk result (λ hub. hub ≡ opening_state ready caps.outbox caps.history) }
         ensures err { IfErr result (λ refused. refused.0 ≡ ready) }
     {
+        let opening = match ready.copy(alloc) {
+            Ok(opening) => opening,
+            Err(refused) => return Err((ready, refused)),
+        };
         Ok(Hub {
             router: Router {
                 alloc,
@@ -74,36 +98,59 @@ impl Hub {
                 sessions: Vec::new(alloc),
                 subscriptions: Vec::new(alloc),
             },
+            opening,
+            most: caps.history,
+            entries: Vec::new(alloc),
         })
     }
 
-    ghost use Rattle.hub.specs.Transition.{IsStep};
     ghost use Rattle.hub.specs.Guarantee.{KeepsGuarantee, IsGuarded};
 
     /// Tells what holds of every hub (docs/GUARANTEE.md, "What always holds"): the policy in force is valid and
     /// refuses no standing subscription; at most 4,096 sessions stand, each of a user of that policy; no connection
     /// has two sessions, or two subscriptions of one sid; no outbox holds more than the hub's capacity; the ids of
-    /// subscriptions rise, and none is above the last number.
+    /// subscriptions rise, and none is above the last number. And the history is legal: its entries lead, one by
+    /// one, from the world that the hub opened with to the present one. They are no more than it may hold.
     pub fn known(&self)
-        ensures { IsSound self.now }
+        ensures sound { IsSound self.now.world }
+        ensures opening { self.now.opening ≡ opening_world self.now.opening.policy self.now.world.capacity }
+        ensures legal { IsLegalRun self.now.opening self.now.entries self.now.world }
+        ensures room { length self.now.entries ≤ self.now.most }
     {
         // The loan tells the prover what the type keeps.
         let _ = &self.router;
     }
 
-    /// One event, whole: the outcome and the world after it are the transition's. A refusal changes
-    /// nothing and hands the event back: `HistoryFull` where number 2^64 - 1 has been given, `SessionTaken`
-    /// to a Connect of a connection with a session, `NoSession` to any other command of one without,
-    /// `SessionLimit` to a Connect while 4,096 sessions stand, `NoMemory` where memory could not be had.
-    /// The step keeps the routing guarantee.
+    /// One event, whole: the outcome and the world after it are the transition's, and the answer is entered with
+    /// its event, behind all entries. A refusal changes nothing and hands the event back: `HistoryFull` where the
+    /// history holds as many entries as it may, or number 2^64 - 1 has been given, `SessionTaken` to a Connect of a
+    /// connection with a session, `NoSession` to any other command of one without, `SessionLimit` to a Connect
+    /// while 4,096 sessions stand, `NoMemory` where memory could not be had. The step keeps the routing guarantee.
     pub fn step(&mut self, event: Event) -> Result<Answer, (Event, HubRefusal)>
         ensures transition { IsStep self.old event result self.new }
         ensures guarantee { KeepsGuarantee self.old event result self.new }
     {
-        self.router.step(event)
+        if self.is_full() {
+            return Err((event, HubRefusal::HistoryFull));
+        }
+        if self.entries.reserve(1).is_err() {
+            let refusal = self.router.refusal_of(&event);
+            return Err((event, refusal));
+        }
+        match self.router.step(&event) {
+            Ok(outcome) => Ok(enter(&mut self.entries, &self.router, outcome, event)),
+            Err(refusal) => Err((event, refusal)),
+        }
     }
 
-    ghost use Rattle.std.specs.Prelude.{[], length, map, vec_capacity};
+    /// Whether there is no room for an entry, or no number.
+    fn is_full(&self) -> bool
+        ensures { result ≡ is_history_full self.now }
+    {
+        self.entries.len() >= self.most || self.router.number == u64::MAX
+    }
+
+    ghost use Rattle.std.specs.Prelude.{[], map, vec_capacity};
     ghost use Rattle.hub.specs.Run.{IsRun};
     ghost use Rattle.hub.specs.Shown.{standing_of, waiting_of};
 
@@ -121,7 +168,7 @@ impl Hub {
     ) -> Result<Vec<Result<Answer, (Event, HubRefusal)>>, (Vec<Event>, NoMemory)>
         ensures ok { IfOk result (λ answers. IsRun self.old events.items answers.items self.new) }
         ensures guarantee { IfOk result (λ answers. IsGuarded self.old events.items answers.items self.new) }
-        ensures sound { IsSound self.new }
+        ensures sound { IsSound self.new.world }
         ensures err { IfErr result (λ refused. (refused.0 ≡ events) × (self.new ≡ self.old)) }
     {
         match Vec::with_capacity(self.router.alloc, events.len()) {
@@ -148,30 +195,37 @@ impl Hub {
         answers
     }
 
+    /// The entries, oldest first: one for each event that was answered.
+    pub fn history(&self) -> &[Entry]
+        ensures { result.now ≡ self.now.entries }
+    {
+        self.entries.as_slice()
+    }
+
     /// The policy in force, made ready.
     pub fn ready(&self) -> &Ready
-        ensures { result.now ≡ self.now.policy }
+        ensures { result.now ≡ self.now.world.policy }
     {
         &self.router.ready
     }
 
     /// The policy in force.
     pub fn policy(&self) -> &Policy
-        ensures { result.now ≡ self.now.policy }
+        ensures { result.now ≡ self.now.world.policy }
     {
         self.router.ready.policy()
     }
 
     /// The epoch in force: which policy it is, counted from 1.
     pub fn epoch(&self) -> u128
-        ensures { result ≡ self.now.epoch }
+        ensures { result ≡ self.now.world.epoch }
     {
         self.router.epoch
     }
 
     /// The standing subscriptions, oldest first. `NoMemory` where memory could not be had.
     pub fn standing(&self) -> Result<Items<Standing>, NoMemory>
-        ensures { IfOk result (λ all. all ≡ map standing_of self.now.subscriptions) }
+        ensures { IfOk result (λ all. all ≡ map standing_of self.now.world.subscriptions) }
     {
         standing_all(self.router.alloc, &self.router.subscriptions)
     }
@@ -179,7 +233,7 @@ impl Hub {
     /// How many deliveries wait for the connection's session, and whether one was missed since its Connect or
     /// last Take; `None` where it has no session.
     pub fn waiting(&self, conn: u64) -> Option<(usize, bool)>
-        ensures { result ≡ waiting_of self.now conn }
+        ensures { result ≡ waiting_of self.now.world conn }
     {
         match find_session(&self.router.sessions, conn) {
             None => None,
@@ -188,8 +242,31 @@ impl Hub {
     }
 }
 
-ghost use Rattle.std.specs.Prelude.{◌≡◌, IfOk, map};
+ghost use Rattle.std.specs.Prelude.{◌≡◌, ◌<◌, ◌++◌, ◌∷◌, [], IfOk, map, vec_len, vec_capacity};
 ghost use Rattle.hub.specs.Shown.{standing_of};
+ghost use Rattle.hub.specs.History.{answer_of, entry_of};
+
+/// Enters an outcome with its event, behind all entries, and gives the answer.
+fn enter(entries: &mut Vec<Entry>, router: &Router, outcome: Twice<Outcome>, event: Event) -> Answer
+    requires { vec_len entries.old < vec_capacity entries.old }
+    ensures answer { result ≡ answer_of outcome router.now }
+    ensures entered { entries.new.items ≡ entries.old.items ++ entry_of result event ∷ [] }
+{
+    let (told, kept) = outcome.into_both();
+    let number = router.number;
+    let epoch = router.epoch;
+    entries.push_reserved(Entry {
+        number,
+        epoch,
+        outcome: kept,
+        event,
+    });
+    Answer {
+        number,
+        epoch,
+        outcome: told,
+    }
+}
 
 fn standing_all(alloc: Global, subscriptions: &[Subscription]) -> Result<Items<Standing>, NoMemory>
     ensures { IfOk result (λ all. all ≡ map standing_of subscriptions.now) }

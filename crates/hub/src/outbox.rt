@@ -1,7 +1,7 @@
 ghost use Rattle.std.specs.Prelude.{◌≡◌, ◌≤◌, take, drop, IfOk, OnOk, OnErr};
 ghost use Rattle.std.specs.VecDeque.{deque_len, deque_capacity};
 
-use lists::NoMemory;
+use lists::{Copying, NoMemory};
 use std::alloc::Global;
 use std::collections::VecDeque;
 use std::marker::Model;
@@ -84,6 +84,33 @@ impl<T> Outbox<T> {
         let taken = front_of(self.alloc, &mut self.waiting, count)?;
         Ok(taken)
     }
+}
+
+impl<T: Copying + Drop> Outbox<T> {
+    ghost use Rattle.std.specs.Prelude.{◌≡◌, take, IfOk};
+
+    /// Copies of the next elements, `most` at most, oldest first. The elements stay.
+    pub(crate) fn front(&self, most: usize) -> Result<Vec<T>, NoMemory>
+        ensures { IfOk result (λ front. front.items ≡ take most self.now.waiting) }
+    {
+        copy_front(self.alloc, &self.waiting, most.min(self.waiting.len()))
+    }
+}
+
+// Copies of the first so many elements.
+fn copy_front<T: Copying + Drop>(
+    alloc: Global,
+    ring: &VecDeque<T>,
+    count: usize,
+) -> Result<Vec<T>, NoMemory>
+    requires { count ≤ deque_len ring.now }
+    ensures { IfOk result (λ copies. copies.items ≡ take count ring.now.items) }
+{
+    let mut copies = Vec::with_capacity(alloc, count)?;
+    'copying: for place in 0..count {
+        copies.push(ring[place].copy(alloc)?)?;
+    }
+    Ok(copies)
 }
 
 // The first so many elements, moved out of the ring.

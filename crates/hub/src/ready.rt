@@ -6,9 +6,10 @@ use permissions::Compiled;
 use policy_doc::{NamedAccount, Policy, PolicyDoc, UserDoc};
 use std::alloc::Global;
 use std::marker::Model;
+use std::sync::Arc;
 
 /// A user of a policy, with its permissions compiled.
-#[derive(Drop)]
+#[derive(Debug, Drop)]
 pub struct User {
     /// The name of its account.
     pub account: Bytes,
@@ -31,11 +32,18 @@ impl Copying for User {
     }
 }
 
-/// A policy made ready to be asked: each of its users with compiled permissions. A clause sees the policy.
-#[derive(Drop)]
-pub struct Ready {
+/// A policy with its users, each with compiled permissions.
+#[derive(Debug, Drop)]
+struct Parts {
     policy: Policy,
     users: Vec<User>,
+}
+
+/// A policy made ready to be asked: each of its users has compiled permissions. Copies share it. A clause sees the
+/// policy.
+#[derive(Debug, Drop)]
+pub struct Ready {
+    shared: Arc<Parts>,
 }
 
 impl Model for Ready {
@@ -45,16 +53,20 @@ impl Model for Ready {
     ghost Value = { PolicyDoc };
 
     ghost use Rattle.hub.specs.Users.{users_of};
+    ghost use Rattle.std.specs.Arc.{arc_value};
+    ghost use Rattle.policy_doc.specs.Document.{IsValidPolicy};
 
-    ghost view = { λ r. r.policy };
+    ghost view = { λ r. (arc_value r.shared).policy };
 
-    ghost invariant = { λ r. r.users.items ≡ users_of r.policy };
+    ghost invariant = { λ r. IsValidPolicy (arc_value r.shared).policy
+        × ((arc_value r.shared).users.items ≡ users_of (arc_value r.shared).policy) };
 }
 
 impl Ready {
     ghost use Rattle.std.specs.Prelude.{◌≡◌, Some, IfOk, IfErr};
     ghost use Rattle.std.specs.Option.{option_copied};
     ghost use Rattle.hub.specs.Users.{user_with_password};
+    ghost use Rattle.hub.specs.Reload.{user_again};
 
     /// The policy, made ready. Where memory could not be had, the policy is handed back.
     pub fn of(alloc: Global, policy: Policy) -> Result<Ready, (Policy, NoMemory)>
@@ -62,7 +74,7 @@ impl Ready {
         ensures err { IfErr result (λ refused. refused.0 ≡ policy) }
     {
         match users_of(alloc, policy.doc()) {
-            Ok(users) => Ok(Ready { policy, users }),
+            Ok(users) => share(alloc, Parts { policy, users }),
             Err(refused) => Err((policy, refused)),
         }
     }
@@ -71,7 +83,7 @@ impl Ready {
     pub fn policy(&self) -> &Policy
         ensures { result.now ≡ self.now }
     {
-        &self.policy
+        &self.shared.policy
     }
 
     /// The user with that name and password; no name is nobody's.
@@ -87,13 +99,46 @@ impl Ready {
     fn user_named(&self, name: &Bytes, password: &Bytes) -> Option<&User>
         ensures { option_copied result ≡ user_with_password self.now (Some name.now) password.now }
     {
-        self.users
+        self.shared
+            .users
             .iter()
             .find(|user| user.user == *name && user.password == *password)
     }
+
+    /// The user with the same name, password and account as another.
+    pub(crate) fn user_again(&self, user: &User) -> Option<&User>
+        ensures { option_copied result ≡ user_again self.now user.now }
+    {
+        self.shared.users.iter().find(|known| {
+            known.user == user.user
+                && known.password == user.password
+                && known.account == user.account
+        })
+    }
 }
 
+impl Copying for Ready {
+    fn copy(&self, _alloc: Global) -> Result<Ready, NoMemory> {
+        Ok(Ready {
+            shared: Arc::try_clone(&self.shared)?,
+        })
+    }
+}
+
+ghost use Rattle.std.specs.Prelude.{IfErr};
 ghost use Rattle.hub.specs.Users.{user_in, users_in, users_of as all_users_of};
+
+/// Shares what was made ready. Where memory could not be had, the policy is handed back.
+fn share(alloc: Global, parts: Parts) -> Result<Ready, (Policy, NoMemory)>
+    requires { parts.users.items ≡ all_users_of parts.policy }
+    ensures ok { IfOk result (λ ready. ready ≡ parts.policy) }
+    ensures err { IfErr result (λ refused. refused.0 ≡ parts.policy) }
+{
+    match Arc::new(alloc, parts) {
+        Ok(shared) => Ok(Ready { shared }),
+        Err(refused) => Err((refused.value.policy, NoMemory)),
+    }
+}
 
 fn users_of(alloc: Global, doc: &PolicyDoc) -> Result<Vec<User>, NoMemory>
     ensures { IfOk result (λ users. users.items ≡ all_users_of doc.now) }

@@ -1,13 +1,15 @@
 //! One step of the tables, command by command.
-use crate::answer::{Answer, HubRefusal, Outcome};
+use crate::answer::{HubRefusal, Outcome};
 use crate::deliver::{Routed, hand_over_all, route};
 use crate::event::{Command, Event};
 use crate::ready::Ready;
+use crate::reload::{Prepared, keep_allowed, prepare, renew_sessions};
 use crate::session::{find_session, has_session, open_session, remove_session, take_from};
 use crate::subscribe::{add_subscription, is_sid_taken, remove_subscriptions};
 use crate::tables::{Session, Subscription};
+use crate::twice::Twice;
 use bytes::Bytes;
-use lists::Items;
+use lists::{Copying, Items};
 use permissions::Verdict;
 use std::alloc::Global;
 use std::marker::Model;
@@ -49,34 +51,19 @@ impl Model for Router {
 }
 
 impl Router {
-    ghost use Rattle.std.specs.Prelude.{◌≡◌, ◌<◌, IfOk};
-    ghost use Rattle.hub.specs.Transition.{IsStep, IsReasoned, Gives, transition, moved};
+    ghost use Rattle.std.specs.Prelude.{◌≡◌, ◌==◌, ◌<◌, ◌≤◌, ◌+◌, ℕ, IfOk, true, false};
+    ghost use Rattle.hub.specs.World.{World, session_of, advanced};
+    ghost use Rattle.hub.specs.Transition.{IsReasoned, IsRefusal, Gives, transition, moved, in_session, in_new_session, is_plain};
     ghost use Rattle.hub.specs.declared.event.Command.TheVariants as command;
 
-    /// One event, whole: the outcome and the tables after it are the transition's. A refusal changes
-    /// nothing and hands the event back.
-    pub(crate) fn step(&mut self, event: Event) -> Result<Answer, (Event, HubRefusal)>
-        ensures step { IsStep self.old event result self.new }
-        ensures reason { IfOk result (λ answer. IsReasoned self.old event.what answer.outcome) }
-    {
-        match self.apply(&event) {
-            Ok(outcome) => Ok(Answer {
-                number: self.number,
-                epoch: self.epoch,
-                outcome,
-            }),
-            Err(refusal) => Err((event, refusal)),
-        }
-    }
-
-    /// The step of an event that stays with the caller.
-    fn apply(&mut self, event: &Event) -> Result<Outcome, HubRefusal>
+    /// One event, which stays with the caller: the outcome and the tables after it are the transition's. A refusal
+    /// changes nothing.
+    pub(crate) fn step(&mut self, event: &Event) -> Result<Twice<Outcome>, HubRefusal>
+        requires fresh { (self.old.number == 18446744073709551615) ≡ false }
+        requires epoch { self.old.epoch ≤ self.old.number + 1 }
         ensures step { Gives self.old (transition self.old event.entry.now) result self.new }
         ensures reason { IfOk result (λ outcome. IsReasoned self.old event.entry.now.what outcome) }
     {
-        if self.number == u64::MAX {
-            return Err(HubRefusal::HistoryFull);
-        }
         let next = self.number + 1;
         let before = self.moment;
         self.moment = before.max(event.now);
@@ -92,22 +79,61 @@ impl Router {
         }
     }
 
+    /// Why an event is refused that there is no memory to enter: the transition's refusal, or want of memory.
+    pub(crate) fn refusal_of(&self, event: &Event) -> HubRefusal
+        ensures { IsRefusal (transition self.now event.entry.now) result }
+    {
+        match &event.what {
+            Command::Connect { conn, .. } => self.refusal_of_connect(*conn),
+            Command::Sub { conn, .. } => self.refusal_in_session(*conn),
+            Command::Pub { conn, .. } => self.refusal_in_session(*conn),
+            Command::Take { conn, .. } => self.refusal_in_session(*conn),
+            Command::Close { conn } => self.refusal_in_session(*conn),
+            Command::Reload(_) => HubRefusal::NoMemory,
+        }
+    }
+
+    fn refusal_of_connect(&self, conn: u64) -> HubRefusal
+        ensures { (now : ℕ) (connected : Outcome × World) → IsRefusal (in_new_session (advanced self.now now) (session_of self.now.sessions conn) connected) result }
+    {
+        match find_session(&self.sessions, conn) {
+            Some(_) => HubRefusal::SessionTaken,
+            None if SESSIONS <= self.sessions.len() => HubRefusal::SessionLimit,
+            None => HubRefusal::NoMemory,
+        }
+    }
+
+    fn refusal_in_session(&self, conn: u64) -> HubRefusal
+        ensures { (done : Session → Outcome × World) → IsRefusal (in_session (session_of self.now.sessions conn) done) result }
+    {
+        match find_session(&self.sessions, conn) {
+            Some(_) => HubRefusal::NoMemory,
+            None => HubRefusal::NoSession,
+        }
+    }
+
     /// What a command makes of the tables.
-    fn carry_out(&mut self, command: &Command) -> Result<Outcome, HubRefusal>
-        requires { self.old.number < 18446744073709551615 }
+    fn carry_out(&mut self, command: &Command) -> Result<Twice<Outcome>, HubRefusal>
+        requires fresh { self.old.number < 18446744073709551615 }
+        requires epoch { self.old.epoch ≤ self.old.number + 1 }
         ensures step { Gives self.old (moved self.old command.now) result self.new }
         ensures reason { IfOk result (λ outcome. IsReasoned self.old command.now outcome) }
     {
         match command {
-            Command::Connect { conn, user, pass } => self.connect(*conn, user, pass),
-            Command::Sub { conn, subject, sid } => self.subscribe(*conn, subject, sid),
+            Command::Connect { conn, user, pass } => {
+                Ok(Twice::plain(self.connect(*conn, user, pass)?))
+            }
+            Command::Sub { conn, subject, sid } => {
+                Ok(Twice::plain(self.subscribe(*conn, subject, sid)?))
+            }
             Command::Pub {
                 conn,
                 subject,
                 body,
             } => self.publish(*conn, subject, body),
             Command::Take { conn, most } => self.take(*conn, *most),
-            Command::Close { conn } => self.close(*conn),
+            Command::Close { conn } => Ok(Twice::plain(self.close(*conn)?)),
+            Command::Reload(ready) => self.reload(ready),
         }
     }
 
@@ -117,7 +143,8 @@ impl Router {
         user: &Option<Bytes>,
         pass: &Bytes,
     ) -> Result<Outcome, HubRefusal>
-        ensures { Gives self.old (moved self.old (command.Connect conn user.now pass.now)) result self.new }
+        ensures step { Gives self.old (moved self.old (command.Connect conn user.now pass.now)) result self.new }
+        ensures plain { IfOk result (λ outcome. is_plain outcome ≡ true) }
     {
         if has_session(&self.sessions, conn) {
             return Err(HubRefusal::SessionTaken);
@@ -144,6 +171,7 @@ impl Router {
         requires { self.old.number < 18446744073709551615 }
         ensures step { Gives self.old (moved self.old (command.Sub conn subject.now sid.now)) result self.new }
         ensures reason { IfOk result (λ outcome. IsReasoned self.old (command.Sub conn subject.now sid.now) outcome) }
+        ensures plain { IfOk result (λ outcome. is_plain outcome ≡ true) }
     {
         let verdict = match find_session(&self.sessions, conn) {
             None => return Err(HubRefusal::NoSession),
@@ -169,7 +197,12 @@ impl Router {
         }
     }
 
-    fn publish(&mut self, conn: u64, subject: &Subject, body: &Bytes) -> Result<Outcome, HubRefusal>
+    fn publish(
+        &mut self,
+        conn: u64,
+        subject: &Subject,
+        body: &Bytes,
+    ) -> Result<Twice<Outcome>, HubRefusal>
         ensures step { Gives self.old (moved self.old (command.Pub conn subject.now body.now)) result self.new }
         ensures reason { IfOk result (λ outcome. IsReasoned self.old (command.Pub conn subject.now body.now) outcome) }
     {
@@ -188,23 +221,34 @@ impl Router {
                         body,
                     )?
                 }
-                Verdict::DeniedBy(index) => return Ok(Outcome::Denied(Verdict::DeniedBy(index))),
-                Verdict::NoAllow => return Ok(Outcome::Denied(Verdict::NoAllow)),
+                Verdict::DeniedBy(index) => {
+                    return Ok(Twice::plain(Outcome::Denied(Verdict::DeniedBy(index))));
+                }
+                Verdict::NoAllow => return Ok(Twice::plain(Outcome::Denied(Verdict::NoAllow))),
             },
         };
-        let Routed { by, all, items } = routed;
-        let items = hand_over_all(&mut self.sessions, all, items);
-        Ok(Outcome::Published(by, Items::from_vec(items)))
+        let Routed {
+            by,
+            all,
+            told,
+            kept,
+        } = routed;
+        let (told, kept) = hand_over_all(&mut self.sessions, all, told, kept);
+        Ok(Twice::of(
+            Outcome::Published(by, Items::from_vec(told)),
+            Outcome::Published(by, Items::from_vec(kept)),
+        ))
     }
 
-    fn take(&mut self, conn: u64, most: usize) -> Result<Outcome, HubRefusal>
+    fn take(&mut self, conn: u64, most: usize) -> Result<Twice<Outcome>, HubRefusal>
         ensures { Gives self.old (moved self.old (command.Take conn most)) result self.new }
     {
         take_from(&mut self.sessions, conn, most)
     }
 
     fn close(&mut self, conn: u64) -> Result<Outcome, HubRefusal>
-        ensures { Gives self.old (moved self.old (command.Close conn)) result self.new }
+        ensures step { Gives self.old (moved self.old (command.Close conn)) result self.new }
+        ensures plain { IfOk result (λ outcome. is_plain outcome ≡ true) }
     {
         if !has_session(&self.sessions, conn) {
             return Err(HubRefusal::NoSession);
@@ -212,5 +256,29 @@ impl Router {
         remove_session(&mut self.sessions, conn);
         remove_subscriptions(&mut self.subscriptions, conn);
         Ok(Outcome::Closed)
+    }
+
+    fn reload(&mut self, ready: &Ready) -> Result<Twice<Outcome>, HubRefusal>
+        requires { self.old.epoch ≤ self.old.number + 1 }
+        ensures step { Gives self.old (moved self.old (command.Reload ready.now)) result self.new }
+        ensures reason { IfOk result (λ outcome. IsReasoned self.old (command.Reload ready.now) outcome) }
+    {
+        let prepared = prepare(self.alloc, ready, &self.sessions, &self.subscriptions)?;
+        let Prepared {
+            ready,
+            users,
+            gone,
+            removed,
+        } = prepared;
+        let told = Outcome::Reloaded {
+            gone: Items::from_vec(gone),
+            removed: Items::from_vec(removed),
+        };
+        let kept = told.copy(self.alloc)?;
+        keep_allowed(&ready, &self.sessions, &mut self.subscriptions);
+        renew_sessions(&ready, &mut self.sessions, users);
+        self.ready = ready;
+        self.epoch += 1;
+        Ok(Twice::of(told, kept))
     }
 }

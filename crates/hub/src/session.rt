@@ -8,6 +8,7 @@ use crate::answer::{Delivery, HubRefusal, Outcome};
 use crate::outbox::Outbox;
 use crate::ready::User;
 use crate::tables::Session;
+use crate::twice::Twice;
 use lists::{Copying, Items, NoMemory};
 use std::alloc::Global;
 use std::mem;
@@ -62,7 +63,7 @@ pub(crate) fn take_from(
     sessions: &mut [Session],
     conn: u64,
     most: usize,
-) -> Result<Outcome, HubRefusal>
+) -> Result<Twice<Outcome>, HubRefusal>
     ensures { Gives sessions.old (in_session (session_of sessions.old conn) (taken sessions.old conn most)) result sessions.new }
 {
     match place_of(sessions, conn) {
@@ -102,13 +103,17 @@ impl Session {
     }
 
     /// Takes the oldest deliveries out, `most` at most, and tells whether one was missed.
-    pub(crate) fn take(&mut self, most: usize) -> Result<Outcome, NoMemory>
+    pub(crate) fn take(&mut self, most: usize) -> Result<Twice<Outcome>, NoMemory>
         ensures ok { IfOk result (λ outcome. (outcome ≡ Outcome.Taken (take most self.old.outbox.waiting) self.old.missed)
             × (self.new ≡ drained most self.old)) }
         ensures err { OnErr result (self.new ≡ self.old) }
     {
-        let taken = self.outbox.take(most)?;
+        let kept = self.outbox.front(most)?;
+        let told = self.outbox.take(most)?;
         let missed = mem::replace(&mut self.missed, false);
-        Ok(Outcome::Taken(Items::from_vec(taken), missed))
+        Ok(Twice::of(
+            Outcome::Taken(Items::from_vec(told), missed),
+            Outcome::Taken(Items::from_vec(kept), missed),
+        ))
     }
 }

@@ -1,7 +1,10 @@
+mod reloads;
+
 ghost use Rattle.std.specs.Prelude.{◌≤◌};
 
 use crate::{
-    Answer, Caps, Command, Delivery, Event, Hub, HubRefusal, Item, Outbox, Outcome, Ready, User,
+    Answer, Caps, Command, Delivery, Entry, Event, Hub, HubRefusal, Item, Outbox, Outcome, Ready,
+    User,
 };
 use bytes::Bytes;
 use lists::{Copying, Items, NoMemory};
@@ -15,12 +18,46 @@ fn opened(rt: &HostRuntime, outbox: usize) -> Result<Hub, Fail>
     requires low { 1 ≤ outbox }
     requires high { outbox ≤ 65536 }
 {
+    opened_with(
+        rt,
+        Caps {
+            outbox,
+            history: 10_000,
+        },
+    )
+}
+
+fn opened_with(rt: &HostRuntime, caps: Caps) -> Result<Hub, Fail>
+    requires low { 1 ≤ caps.outbox }
+    requires high { caps.outbox ≤ 65536 }
+{
     let policy = Policy::builtin(rt.alloc())?;
     let ready = Ready::of(rt.alloc(), policy)
         .ok()
         .ok_or("no policy is ready")?;
+    hub_of(rt, ready, caps)
+}
+
+fn opened_over(rt: &HostRuntime, ready: Ready, outbox: usize) -> Result<Hub, Fail>
+    requires low { 1 ≤ outbox }
+    requires high { outbox ≤ 65536 }
+{
+    hub_of(
+        rt,
+        ready,
+        Caps {
+            outbox,
+            history: 10_000,
+        },
+    )
+}
+
+fn hub_of(rt: &HostRuntime, ready: Ready, caps: Caps) -> Result<Hub, Fail>
+    requires low { 1 ≤ caps.outbox }
+    requires high { caps.outbox ≤ 65536 }
+{
     Ok(
-        Hub::new(rt.alloc(), ready, Caps { outbox })
+        Hub::new(rt.alloc(), ready, caps)
             .ok()
             .ok_or("no hub is open")?,
     )
@@ -332,6 +369,27 @@ fn sessions_have_a_limit(rt: HostRuntime) -> Result<(), Fail> {
     Ok(())
 }
 
+fn numbers_of(
+    rt: &HostRuntime,
+    answers: &[Result<Answer, (Event, HubRefusal)>],
+) -> Result<Vec<Result<u64, HubRefusal>>, Fail> {
+    let mut numbers = Vec::new(rt.alloc());
+    for answer in answers {
+        numbers.push(match answer {
+            Ok(answer) => Ok(answer.number),
+            Err((_, refusal)) => Err(*refusal),
+        })?;
+    }
+    Ok(numbers)
+}
+
+fn back(answer: &Result<Answer, (Event, HubRefusal)>) -> Option<&Event> {
+    match answer {
+        Ok(_) => None,
+        Err((event, _)) => Some(event),
+    }
+}
+
 #[test]
 fn a_run_answers_each_event(rt: HostRuntime) -> Result<(), Fail> {
     let mut hub = opened(&rt, 16)?;
@@ -346,13 +404,7 @@ fn a_run_answers_each_event(rt: HostRuntime) -> Result<(), Fail> {
         events.push(Event { now: 0, what })?;
     }
     let answers = hub.run(events).ok().ok_or("no room for the answers")?;
-    let mut numbers = Vec::new(rt.alloc());
-    for answer in answers.as_slice() {
-        numbers.push(match answer {
-            Ok(answer) => Ok(answer.number),
-            Err((_, refusal)) => Err(*refusal),
-        })?;
-    }
+    let numbers = numbers_of(&rt, answers.as_slice())?;
     let want = [
         Ok(1),
         Ok(2),
@@ -362,6 +414,137 @@ fn a_run_answers_each_event(rt: HostRuntime) -> Result<(), Fail> {
     ];
     assert_eq!(rt; numbers.as_slice(), want.as_slice());
     assert_eq!(rt; hub.waiting(1), Some((1, false)));
+    Ok(())
+}
+
+// What an answer says, and what it answers.
+fn said(rt: &HostRuntime, answer: &Answer, event: &str) -> Result<String, Fail> {
+    let Answer {
+        number,
+        epoch,
+        outcome,
+    } = answer;
+    Ok(format!(in rt.alloc(); "{number} {epoch} {outcome:?} {event}")?)
+}
+
+fn remembered(rt: &HostRuntime, entry: &Entry) -> Result<String, Fail> {
+    let Entry {
+        number,
+        epoch,
+        outcome,
+        event,
+    } = entry;
+    Ok(format!(in rt.alloc(); "{number} {epoch} {outcome:?} {event:?}")?)
+}
+
+#[test]
+fn every_answer_is_remembered(rt: HostRuntime) -> Result<(), Fail> {
+    let mut hub = opened(&rt, 1)?;
+    let mut all = Vec::new(rt.alloc());
+    for (now, what) in [
+        (7, connect(1, b"limited", b"limited")),
+        (3, subscribe(&rt, 1, "foo.*", b"1")?),
+        (8, subscribe(&rt, 1, ">", b"2")?),
+        (8, publish(&rt, 1, "foo.a", b"first")?),
+        (9, Command::Take { conn: 1, most: 5 }),
+    ] {
+        let event = Event { now, what };
+        let asked = format!(in rt.alloc(); "{event:?}")?;
+        let answer = hub.step(event).ok().ok_or("refused")?;
+        all.push(said(&rt, &answer, asked.as_str())?)?;
+    }
+    assert_eq!(rt; hub.history().len(), all.len());
+    for (entry, said) in hub.history().iter().zip(all.as_slice()) {
+        assert_eq!(rt; remembered(&rt, entry)?.as_str(), said.as_str());
+    }
+    Ok(())
+}
+
+#[test]
+fn an_entry_has_its_event_and_its_outcome(rt: HostRuntime) -> Result<(), Fail> {
+    let mut hub = opened(&rt, 1)?;
+    assert!(rt; hub.history().is_empty());
+    step(&mut hub, connect(1, b"demo", b"demo"))?;
+    step(&mut hub, subscribe(&rt, 1, "foo", b"7")?)?;
+    let refusal = step(&mut hub, Command::Close { conn: 9 }).err();
+    assert_eq!(rt; refusal, Some(HubRefusal::NoSession));
+    step(&mut hub, publish(&rt, 1, "foo", b"hi")?)?;
+    let (told, _) = taken(&mut hub, 1, 5)?;
+    assert_eq!(rt; told.len(), 1);
+    assert_eq!(rt; hub.history().len(), 4);
+    let third = hub.history().get(2).ok_or("no third entry")?;
+    assert_eq!(rt; third.number, 3);
+    assert_eq!(rt; third.epoch, 1);
+    assert!(rt; is_publish(&third.event.what, 1, b"foo", b"hi"));
+    match &third.outcome {
+        Outcome::Published(by, items) => {
+            assert_eq!(rt; *by, By::All);
+            assert!(rt; is_entered(sole(items.as_slice())?, 1, b"7"));
+        }
+        _ => return Err("not published".into()),
+    }
+    let last = hub.history().last().ok_or("no last entry")?;
+    match &last.outcome {
+        Outcome::Taken(deliveries, missed) => {
+            assert!(rt; !*missed);
+            assert_eq!(rt;
+                sole(deliveries.as_slice())?.body.as_slice(),
+                b"hi".as_slice()
+            );
+        }
+        _ => return Err("not taken".into()),
+    }
+    Ok(())
+}
+
+#[test]
+fn a_full_history_takes_no_event(rt: HostRuntime) -> Result<(), Fail> {
+    let caps = Caps {
+        outbox: 16,
+        history: 2,
+    };
+    let mut hub = opened_with(&rt, caps)?;
+    let mut events = Vec::new(rt.alloc());
+    for what in [
+        connect(1, b"demo", b"demo"),
+        subscribe(&rt, 1, "foo", b"1")?,
+        publish(&rt, 1, "foo", b"hi")?,
+        Command::Take { conn: 9, most: 1 },
+        connect(1, b"demo", b"demo"),
+    ] {
+        events.push(Event { now: 0, what })?;
+    }
+    let answers = hub.run(events).ok().ok_or("no room for the answers")?;
+    let want = [
+        Ok(1),
+        Ok(2),
+        Err(HubRefusal::HistoryFull),
+        Err(HubRefusal::HistoryFull),
+        Err(HubRefusal::HistoryFull),
+    ];
+    assert_eq!(rt;
+        numbers_of(&rt, answers.as_slice())?.as_slice(),
+        want.as_slice()
+    );
+    let refused = answers.get(2).and_then(back).ok_or("accepted")?;
+    assert!(rt; is_publish(&refused.what, 1, b"foo", b"hi"));
+    assert_eq!(rt; hub.waiting(1), Some((0, false)));
+    assert_eq!(rt; sole(hub.standing()?.as_slice())?.id, 2);
+    assert_eq!(rt; hub.history().len(), 2);
+    Ok(())
+}
+
+#[test]
+fn a_history_without_room_takes_nothing(rt: HostRuntime) -> Result<(), Fail> {
+    let caps = Caps {
+        outbox: 16,
+        history: 0,
+    };
+    let mut hub = opened_with(&rt, caps)?;
+    let refusal = step(&mut hub, connect(1, b"demo", b"demo")).err();
+    assert_eq!(rt; refusal, Some(HubRefusal::HistoryFull));
+    assert_eq!(rt; hub.waiting(1), None);
+    assert!(rt; hub.history().is_empty());
     Ok(())
 }
 
@@ -396,7 +579,11 @@ fn an_outbox_gives_back_what_has_no_room(rt: HostRuntime) -> Result<(), Fail> {
 fn copies_do_and_say_the_same(rt: HostRuntime) -> Result<(), Fail> {
     let mut hub = opened(&rt, 1)?;
     let ready = hub.ready().copy(rt.alloc())?;
-    let mut other = Hub::new(rt.alloc(), ready, Caps { outbox: 1 })
+    let caps = Caps {
+        outbox: 1,
+        history: 10_000,
+    };
+    let mut other = Hub::new(rt.alloc(), ready, caps)
         .ok()
         .ok_or("no hub is open")?;
     for what in [

@@ -3,7 +3,7 @@ use Rattle.std.proofs.Common.{◌≡◌, ◌∙◌, ◌+◌, ◌<◌, ◌++◌, 
 use Rattle.std.proofs.lemmas.List.{append_assoc, append-nil, take-append-drop, take-set, drop-set, drop-set-lt, set-get_or, take_more, take_more_set}
 use Rattle.std.proofs.Math.Seq.{drop-cons}
 use Rattle.std.proofs.Math.ListN.{drop_of_length-le}
-use Rattle.hub.specs.World.{World}
+use Rattle.hub.specs.History.{State}
 use Rattle.natsd.specs.declared.client.Client.{Client}
 use Rattle.natsd.specs.declared.stage.Stage.{Stage}
 use Rattle.natsd.specs.declared.stage.Next.{Next}
@@ -19,7 +19,7 @@ pub record Leads (written : List ℕ) (front : List Client) (rest : Act) (start 
   pub stops : rest.stops ≡ all.stops
 
 -- nothing is left to come
-pub leads_done : (written start : List ℕ) (front : List Client) (w : World) (all : Act) →
+pub leads_done : (written start : List ℕ) (front : List Client) (w : State) (all : Act) →
     Leads written front (act [] [] w false) start all → IsAct all start written front w false
 leads_done written start front w all h = record {
   text = sym (append-nil written) ∙ h.text;
@@ -29,11 +29,11 @@ leads_done written start front w all h = record {
 }
 
 -- a connection goes on, and then the rest
-pub leads_more : (written now start : List ℕ) (front : List Client) (k : Client) (t : Turn) (s : Stage) (w : World) (more : World → Act) (ks : List Client) (all : Act) →
+pub leads_more : (written now start : List ℕ) (front : List Client) (k : Client) (t : Turn) (s : Stage) (w : State) (more : State → Act) (ks : List Client) (all : Act) →
     IsTurn t written now (Goes s) w → Leads written front (reached k t t.next more ks) start all →
     Leads now (front ++ record k { stage = s } ∷ []) (more w) start all
 leads_more written now start front k t s w more ks all is h =
-    let rest : World → Act = λ v. act (t.text ++ (more v).text) (record k { stage = s } ∷ (more v).clients) (more v).world (more v).stops in
+    let rest : State → Act = λ v. act (t.text ++ (more v).text) (record k { stage = s } ∷ (more v).clients) (more v).world (more v).stops in
     let same : reached k t t.next more ks ≡ rest w =
     ap (λ (n : Next). reached k t n more ks) (sym is.next_is) ∙ ap rest (sym is.world_is) in
     record {
@@ -44,7 +44,7 @@ leads_more written now start front k t s w more ks all is h =
     }
 
 -- the history is full, and the others are not reached
-pub leads_full : (written now start : List ℕ) (front : List Client) (k : Client) (t : Turn) (w : World) (more : World → Act) (ks : List Client) (all : Act) →
+pub leads_full : (written now start : List ℕ) (front : List Client) (k : Client) (t : Turn) (w : State) (more : State → Act) (ks : List Client) (all : Act) →
     IsTurn t written now HistoryFull w → Leads written front (reached k t t.next more ks) start all →
     IsAct all start now (front ++ k ∷ ks) w true
 leads_full written now start front k t w more ks all is h =
@@ -74,13 +74,13 @@ whole_at : (ks : List Client) (i : ℕ) (z : Client) → i < length ks → ks �
 whole_at ks i z h = sym (take-append-drop i ks) ∙ ap (λ (l : List Client). take i ks ++ l) (cut_at ks i z h)
 
 -- the drains from an index on, by the connection there
-drained_at : (ks : List Client) (i : ℕ) (z : Client) (w : World) → i < length ks →
+drained_at : (ks : List Client) (i : ℕ) (z : Client) (w : State) → i < length ks →
     drained (drop i ks) w ≡ reached (get_or ks i z) (drain_turn w (get_or ks i z)) (drain_turn w (get_or ks i z)).next (λ v. drained (drop (i + 1) ks) v) (drop (i + 1) ks)
 unfolding drained
 drained_at ks i z w h = ap (λ (l : List Client). drained l w) (cut_at ks i z h)
 
 -- a connection is drained and goes on
-pub draining_more : (ks : List Client) (i : ℕ) (z : Client) (s : Stage) (w w' : World) (written now start : List ℕ) (all : Act) → i < length ks →
+pub draining_more : (ks : List Client) (i : ℕ) (z : Client) (s : Stage) (w w' : State) (written now start : List ℕ) (all : Act) → i < length ks →
     IsTurn (drain_turn w (get_or ks i z)) written now (Goes s) w' →
     Leads written (take i ks) (drained (drop i ks) w) start all →
     Leads now (take (i + 1) (set ks i (record (get_or ks i z) { stage = s }))) (drained (drop (i + 1) (set ks i (record (get_or ks i z) { stage = s }))) w') start all
@@ -94,7 +94,7 @@ draining_more ks i z s w w' written now start all h is leads =
     (subst Q (sym (take_more_set ks i (record k { stage = s }) h)) next)
 
 -- a connection at which the history is full
-pub draining_full : (ks : List Client) (i : ℕ) (z : Client) (w w' : World) (written now start : List ℕ) (all : Act) → i < length ks →
+pub draining_full : (ks : List Client) (i : ℕ) (z : Client) (w w' : State) (written now start : List ℕ) (all : Act) → i < length ks →
     IsTurn (drain_turn w (get_or ks i z)) written now HistoryFull w' →
     Leads written (take i ks) (drained (drop i ks) w) start all →
     IsAct all start now (set ks i (get_or ks i z)) w' true
@@ -106,7 +106,7 @@ draining_full ks i z w w' written now start all h is leads =
     (leads_full written now start (take i ks) k (drain_turn w k) w' (λ v. drained (drop (i + 1) ks) v) (drop (i + 1) ks) all is (subst P (drained_at ks i z w h) leads))
 
 -- all connections are drained
-pub draining_done : (ks : List Client) (i : ℕ) (w : World) (written start : List ℕ) (all : Act) → length ks ≤ i →
+pub draining_done : (ks : List Client) (i : ℕ) (w : State) (written start : List ℕ) (all : Act) → length ks ≤ i →
     Leads written (take i ks) (drained (drop i ks) w) start all → IsAct all start written ks w false
 unfolding drained
 draining_done ks i w written start all h leads =
@@ -115,17 +115,17 @@ draining_done ks i w written start all h leads =
     subst Q (take_all ks i h) (leads_done written start (take i ks) w all (subst P (drop_of_length-le ks h) leads))
 
 -- the bytes from an index on, by the connection there
-sent_at : (conn : ℕ) (bytes : List ℕ) (w : World) (ks : List Client) (i : ℕ) (z : Client) → i < length ks →
+sent_at : (conn : ℕ) (bytes : List ℕ) (w : State) (ks : List Client) (i : ℕ) (z : Client) → i < length ks →
     sent conn bytes w (drop i ks) ≡ cond ((get_or ks i z).conn == conn) (received w (get_or ks i z) bytes (drop (i + 1) ks)) (beside (get_or ks i z ∷ []) (sent conn bytes w (drop (i + 1) ks)))
 unfolding sent
 sent_at conn bytes w ks i z h = ap (λ (l : List Client). sent conn bytes w l) (cut_at ks i z h)
 
 -- no connection before the index has the number
-pub record IsPast (conn : ℕ) (bytes : List ℕ) (w : World) (ks : List Client) (i : ℕ) : Type 0 where
+pub record IsPast (conn : ℕ) (bytes : List ℕ) (w : State) (ks : List Client) (i : ℕ) : Type 0 where
   pub left : sent conn bytes w ks ≡ beside (take i ks) (sent conn bytes w (drop i ks))
 
 -- nor the one at it
-pub past_more : (conn : ℕ) (bytes : List ℕ) (w : World) (ks : List Client) (i : ℕ) (z : Client) → i < length ks →
+pub past_more : (conn : ℕ) (bytes : List ℕ) (w : State) (ks : List Client) (i : ℕ) (z : Client) → i < length ks →
     (get_or ks i z).conn == conn ≡ false → IsPast conn bytes w ks i → IsPast conn bytes w ks (i + 1)
 past_more conn bytes w ks i z h other past = record {
   left =
@@ -138,7 +138,7 @@ past_more conn bytes w ks i z h other past = record {
 }
 
 -- the one at it has the number
-past_here : (conn : ℕ) (bytes : List ℕ) (w : World) (ks : List Client) (i : ℕ) (z : Client) → i < length ks →
+past_here : (conn : ℕ) (bytes : List ℕ) (w : State) (ks : List Client) (i : ℕ) (z : Client) → i < length ks →
     (get_or ks i z).conn == conn ≡ true → IsPast conn bytes w ks i →
     sent conn bytes w ks ≡ beside (take i ks) (received w (get_or ks i z) bytes (drop (i + 1) ks))
 past_here conn bytes w ks i z h same past =
@@ -147,7 +147,7 @@ past_here conn bytes w ks i z h same past =
     ∙ ap (λ (b : Bool). cond b (received w (get_or ks i z) bytes (drop (i + 1) ks)) (beside (get_or ks i z ∷ []) (sent conn bytes w (drop (i + 1) ks)))) same)
 
 -- no connection has it
-pub past_all : (conn : ℕ) (bytes : List ℕ) (w : World) (ks : List Client) (i : ℕ) (start : List ℕ) → length ks ≤ i →
+pub past_all : (conn : ℕ) (bytes : List ℕ) (w : State) (ks : List Client) (i : ℕ) (start : List ℕ) → length ks ≤ i →
     IsPast conn bytes w ks i → IsAct (sent conn bytes w ks) start start ks w false
 unfolding sent
 past_all conn bytes w ks i start h past =
@@ -164,7 +164,7 @@ abbrev pub fed : Client → List ℕ → Client
 fed k bytes = record k { reader = reader_after k.reader bytes }
 
 -- the connection of the number goes on
-pub sent_goes : (conn : ℕ) (bytes : List ℕ) (w w' : World) (ks : List Client) (i : ℕ) (z : Client) (s : Stage) (start now : List ℕ) → i < length ks →
+pub sent_goes : (conn : ℕ) (bytes : List ℕ) (w w' : State) (ks : List Client) (i : ℕ) (z : Client) (s : Stage) (start now : List ℕ) → i < length ks →
     (get_or ks i z).conn == conn ≡ true → IsPast conn bytes w ks i → IsTurn (bytes_turn w (get_or ks i z) bytes) start now (Goes s) w' →
     IsAct (sent conn bytes w ks) start now (set ks i (record (fed (get_or ks i z) bytes) { stage = s })) w' false
 sent_goes conn bytes w w' ks i z s start now h same past is =
@@ -182,7 +182,7 @@ sent_goes conn bytes w w' ks i z s start now h same past is =
     }
 
 -- the history is full
-pub sent_full : (conn : ℕ) (bytes : List ℕ) (w w' : World) (ks : List Client) (i : ℕ) (z : Client) (start now : List ℕ) → i < length ks →
+pub sent_full : (conn : ℕ) (bytes : List ℕ) (w w' : State) (ks : List Client) (i : ℕ) (z : Client) (start now : List ℕ) → i < length ks →
     (get_or ks i z).conn == conn ≡ true → IsPast conn bytes w ks i → IsTurn (bytes_turn w (get_or ks i z) bytes) start now HistoryFull w' →
     IsAct (sent conn bytes w ks) start now (set ks i (fed (get_or ks i z) bytes)) w' true
 sent_full conn bytes w w' ks i z start now h same past is =
@@ -200,17 +200,17 @@ sent_full conn bytes w w' ks i z start now h same past is =
     }
 
 -- nothing has changed so far
-pub sent-same : (conn : ℕ) (bytes : List ℕ) (w w0 after : World) (ks ks0 left : List Client) (out out0 now : List ℕ) (stops : Bool) →
+pub sent-same : (conn : ℕ) (bytes : List ℕ) (w w0 after : State) (ks ks0 left : List Client) (out out0 now : List ℕ) (stops : Bool) →
     w ≡ w0 → ks ≡ ks0 → out ≡ out0 → IsAct (sent conn bytes w ks) out now left after stops → IsAct (sent conn bytes w0 ks0) out0 now left after stops
 sent-same conn bytes w w0 after ks ks0 left out out0 now stops ew ek eo h =
-    let P : World → Type 0 = λ v. IsAct (sent conn bytes v ks) out now left after stops in
+    let P : State → Type 0 = λ v. IsAct (sent conn bytes v ks) out now left after stops in
     let Q : List Client → Type 0 = λ l. IsAct (sent conn bytes w0 l) out now left after stops in
     let R : List ℕ → Type 0 = λ o. IsAct (sent conn bytes w0 ks0) o now left after stops in
     subst R eo (subst Q ek (subst P ew h))
 
-pub past-same : (conn : ℕ) (bytes : List ℕ) (w : World) (ks ks' : List Client) (i : ℕ) → ks ≡ ks' → IsPast conn bytes w ks i → IsPast conn bytes w ks' i
+pub past-same : (conn : ℕ) (bytes : List ℕ) (w : State) (ks ks' : List Client) (i : ℕ) → ks ≡ ks' → IsPast conn bytes w ks i → IsPast conn bytes w ks' i
 past-same conn bytes w ks ks' i e h = let P : List Client → Type 0 = λ l. IsPast conn bytes w l i in subst P e h
 
 -- before the first index
-pub past_zero : (conn : ℕ) (bytes : List ℕ) (w : World) (ks : List Client) → IsPast conn bytes w ks 0
+pub past_zero : (conn : ℕ) (bytes : List ℕ) (w : State) (ks : List Client) → IsPast conn bytes w ks 0
 past_zero conn bytes w ks = record { left = refl }

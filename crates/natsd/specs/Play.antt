@@ -7,7 +7,7 @@ use Rattle.policy_doc.specs.declared.document.PolicyDoc.{PolicyDoc}
 use Rattle.wire_read.specs.Framing.{Reader, frames_of}
 use Rattle.wire_read.specs.declared.frame.Frame.{Frame}
 use Rattle.wire_write.specs.Texts.{info_line}
-use Rattle.hub.specs.World.{World, opening_world}
+use Rattle.hub.specs.History.{State, opening_state}
 use Rattle.hub.specs.Shown.{waiting_of}
 use Rattle.hub.specs.declared.event.Command.TheVariants as command
 use Rattle.hub.specs.declared.answer.Outcome.{Outcome}
@@ -35,12 +35,16 @@ play_moment = 0
 abbrev pub play_capacity : ℕ
 play_capacity = 1024
 
+-- how many entries the history may hold
+abbrev pub play_history : ℕ
+play_history = 100000
+
 -- the line of what a connection was sent, if it was sent anything
 abbrev pub shown_if : ℕ → List ℕ → List ℕ
 shown_if conn text = if length text == 0 then [] else shown_line conn text
 
 -- a turn that prints this
-abbrev pub printing : List ℕ → Next → World → Turn
+abbrev pub printing : List ℕ → Next → State → Turn
 printing text next w = record { text = text; next = next; world = w }
 
 -- whether the hub takes no more events
@@ -53,15 +57,15 @@ is_full (Err refusal.SessionLimit) = false
 is_full (Err refusal.NoMemory) = false
 
 -- the caller's Close, where a session may stand
-abbrev pub ended_by : Result Outcome HubRefusal × World → Turn
+abbrev pub ended_by : Result Outcome HubRefusal × State → Turn
 ended_by a = if is_full a.0 then printing full_line HistoryFull a.1 else printing [] (Goes (stage.Closed false)) a.1
 
-abbrev pub ended : ℕ → World → Bool → Turn
+abbrev pub ended : ℕ → State → Bool → Turn
 ended conn w false = printing [] (Goes (stage.Closed false)) w
 ended conn w true = ended_by (answered w (record { now = play_moment; what = command.Close conn }))
 
 -- what a call of a connection prints: what it was sent; whether it closed, and then its session goes; whether the history is full
-abbrev pub settled_by : ℕ → Next → List ℕ → World → Turn
+abbrev pub settled_by : ℕ → Next → List ℕ → State → Turn
 settled_by conn (Goes (stage.Closed session)) text w = behind (shown_if conn text ++ closed_line conn) (ended conn w session)
 settled_by conn (Goes stage.Fresh) text w = printing (shown_if conn text) (Goes stage.Fresh) w
 settled_by conn (Goes (stage.Connected verbose)) text w = printing (shown_if conn text) (Goes (stage.Connected verbose)) w
@@ -76,29 +80,29 @@ is_pending None = true
 is_pending (Some waiting) = waiting.1 || nat_lt 0 waiting.0
 
 -- a Take of 64
-abbrev pub take_turn : ℕ → World → Bool → Turn
+abbrev pub take_turn : ℕ → State → Bool → Turn
 take_turn conn w verbose =
     asked (reply_to_take verbose) (answered w (record { now = play_moment; what = command.Take conn 64 }))
 
 -- what one Take prints, if one is to be made
-abbrev pub pending_turn : ℕ → World → Stage → Option Turn
+abbrev pub pending_turn : ℕ → State → Stage → Option Turn
 pending_turn conn w stage.Fresh = None
 pending_turn conn w (stage.Closed session) = None
 pending_turn conn w (stage.Connected verbose) =
-    if is_pending (waiting_of w conn) then Some (settled conn (take_turn conn w verbose)) else None
+    if is_pending (waiting_of w.world conn) then Some (settled conn (take_turn conn w verbose)) else None
 
 -- a turn and what follows it, or nothing
-abbrev pub if_any : Option Turn → (World → Stage → Turn) → World → Stage → Turn
+abbrev pub if_any : Option Turn → (State → Stage → Turn) → State → Stage → Turn
 if_any None more w s = unasked w [] s
 if_any (Some t) more w s = followed_by t more
 
 -- Takes while something is pending, so many at most
-unfoldable pub takes : ℕ → ℕ → World → Stage → Turn
+unfoldable pub takes : ℕ → ℕ → State → Stage → Turn
 takes zero conn w s = unasked w [] s
 takes (suc most) conn w s = if_any (pending_turn conn w s) (λ w' s'. takes most conn w' s') w s
 
 -- what a call wrote and left where there is a turn, and that it did nothing where there is none
-abbrev pub IsTurnIf : Option Turn → List ℕ → List ℕ → World → World → Option Next → Type 0
+abbrev pub IsTurnIf : Option Turn → List ℕ → List ℕ → State → State → Option Next → Type 0
 IsTurnIf None before after old new None = (after ≡ before) × (new ≡ old)
 IsTurnIf (Some t) before after old new (Some next) = IsTurn t before after next new
 IsTurnIf None before after old new (Some next) = ⊥
@@ -109,17 +113,17 @@ abbrev pub enough_takes : Option (ℕ × Bool) → ℕ
 enough_takes None = 1
 enough_takes (Some waiting) = waiting.0 / 64 + 1
 
-abbrev pub drain_turn : World → Client → Turn
-drain_turn w k = takes (enough_takes (waiting_of w k.conn)) k.conn w k.stage
+abbrev pub drain_turn : State → Client → Turn
+drain_turn w k = takes (enough_takes (waiting_of w.world k.conn)) k.conn w k.stage
 
 -- what is printed, the connections and the world after, and whether the script stops there
 pub record Act : Type 0 where
   pub text : List ℕ
   pub clients : List Client
-  pub world : World
+  pub world : State
   pub stops : Bool
 
-abbrev pub act : List ℕ → List Client → World → Bool → Act
+abbrev pub act : List ℕ → List Client → State → Bool → Act
 act text clients w stops = record { text = text; clients = clients; world = w; stops = stops }
 
 -- an act behind connections that it leaves as they are
@@ -127,20 +131,20 @@ abbrev pub beside : List Client → Act → Act
 beside ks a = record a { clients = ks ++ a.clients }
 
 -- a turn of one connection, and then what becomes of the others; they are not reached where the history is full
-abbrev pub reached : Client → Turn → Next → (World → Act) → List Client → Act
+abbrev pub reached : Client → Turn → Next → (State → Act) → List Client → Act
 reached k t (Goes s) more ks =
     let rest = more t.world in act (t.text ++ rest.text) (record k { stage = s } ∷ rest.clients) rest.world rest.stops
 reached k t HistoryFull more ks = act t.text (k ∷ ks) t.world true
 
 -- what a call printed behind what stood there, and what it left, is the act's
-pub record IsAct (a : Act) (before after : List ℕ) (clients : List Client) (w : World) (stops : Bool) : Type 0 where
+pub record IsAct (a : Act) (before after : List ℕ) (clients : List Client) (w : State) (stops : Bool) : Type 0 where
   pub text : after ≡ before ++ a.text
   pub clients_are : clients ≡ a.clients
   pub world_is : w ≡ a.world
   pub stops_is : stops ≡ a.stops
 
 -- every connection is drained, in ascending order
-unfoldable pub drained : List Client → World → Act
+unfoldable pub drained : List Client → State → Act
 drained [] w = act [] [] w false
 drained (k ∷ ks) w = let t = drain_turn w k in reached k t t.next (drained ks) ks
 
@@ -149,7 +153,7 @@ abbrev pub frames_if : Reader → List ℕ → Option (List Frame)
 frames_if r bytes = if r.failed then None else Some (frames_of (r.rest ++ bytes)).frames
 
 -- what a client's bytes come to: the frames that they complete, in order. A stream that has failed gives none.
-abbrev pub bytes_turn : World → Client → List ℕ → Turn
+abbrev pub bytes_turn : State → Client → List ℕ → Turn
 bytes_turn w k bytes =
     if k.reader.failed then unasked w [] k.stage
     else settled k.conn (frames_turn play_moment k.conn w k.stage (frames_of (k.reader.rest ++ bytes)).frames)
@@ -159,11 +163,11 @@ abbrev pub reader_after : Reader → List ℕ → Reader
 reader_after r bytes = if r.failed then r else (let f = frames_of (r.rest ++ bytes) in record { rest = f.rest; failed = f.failed })
 
 -- the bytes to the connection of that number
-abbrev pub received : World → Client → List ℕ → List Client → Act
+abbrev pub received : State → Client → List ℕ → List Client → Act
 received w k bytes ks =
     let t = bytes_turn w k bytes in reached (record k { reader = reader_after k.reader bytes }) t t.next (λ w'. act [] ks w' false) ks
 
-unfoldable pub sent : ℕ → List ℕ → World → List Client → Act
+unfoldable pub sent : ℕ → List ℕ → State → List Client → Act
 sent conn bytes w [] = act [] [] w false
 sent conn bytes w (k ∷ ks) = if k.conn == conn then received w k bytes ks else beside (k ∷ []) (sent conn bytes w ks)
 
@@ -179,17 +183,17 @@ abbrev pub new_client : ℕ → Client
 new_client conn = record { conn = conn; reader = record { rest = []; failed = false }; stage = stage.Fresh }
 
 -- a policy takes the place of the built-in one; a text that is none stops the script, with the line of its fault
-abbrev pub policy_act : Result PolicyDoc (List ℕ) → World → List Client → Act
-policy_act (Ok doc) w ks = act [] ks (opening_world doc play_capacity) false
+abbrev pub policy_act : Result PolicyDoc (List ℕ) → State → List Client → Act
+policy_act (Ok doc) w ks = act [] ks (opening_state doc play_capacity play_history) false
 policy_act (Err line) w ks = act line ks w true
 
 -- only at the head of a script, before anyone is connected
-abbrev pub policy_line_act : ℕ → Part → List ℕ → World → List Client → Act
+abbrev pub policy_line_act : ℕ → Part → List ℕ → State → List Client → Act
 policy_line_act number Head text w ks = policy_act (policy_or_line text) w ks
 policy_line_act number Body text w ks = act (refused_line number) ks w true
 
 -- what a line itself does
-abbrev pub line_act : ℕ → Part → Line → World → List Client → Act
+abbrev pub line_act : ℕ → Part → Line → State → List Client → Act
 line_act number part Skip w ks = act [] ks w false
 line_act number part (Open conn) w ks =
     if is_open ks conn then act (refused_line number) ks w true
@@ -212,7 +216,7 @@ abbrev pub and_drains : Act → Bool → Act
 and_drains a true = a
 and_drains a false = let d = drained a.clients a.world in act (a.text ++ d.text) (still_open d.clients) d.world d.stops
 
-unfoldable pub line_and_drains : ℕ → Part → Line → World → List Client → Act
+unfoldable pub line_and_drains : ℕ → Part → Line → State → List Client → Act
 line_and_drains number part line w ks = let a = line_act number part line w ks in and_drains a a.stops
 
 -- what a script prints, and its status
@@ -220,12 +224,12 @@ pub record Played : Type 0 where
   pub text : List ℕ
   pub status : ℕ
 
-abbrev pub stops_or : Act → Bool → (World → List Client → Played) → Played
+abbrev pub stops_or : Act → Bool → (State → List Client → Played) → Played
 stops_or a true more = record { text = a.text; status = 1 }
 stops_or a false more = let rest = more a.world a.clients in record { text = a.text ++ rest.text; status = rest.status }
 
 -- the lines from a number on
-unfoldable pub played : ℕ → Part → List (List ℕ) → World → List Client → Played
+unfoldable pub played : ℕ → Part → List (List ℕ) → State → List Client → Played
 played number part [] w ks = record { text = []; status = 0 }
 played number part (text ∷ texts) w ks =
     let a = line_and_drains number part (line_of text) w ks in
@@ -237,4 +241,4 @@ lines_of script = pieces_of 10 script
 
 -- what a script prints; the built-in policy holds where its head sets no other
 unfoldable pub output_of : List ℕ → Played
-output_of script = played 1 Head (lines_of script) (opening_world builtin_doc play_capacity) []
+output_of script = played 1 Head (lines_of script) (opening_state builtin_doc play_capacity play_history) []

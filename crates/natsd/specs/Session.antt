@@ -13,8 +13,7 @@ use Rattle.wire_read.specs.declared.frame.Frame.TheVariants as frame
 use Rattle.wire_write.specs.Texts.{msg_line, ok_line, pong_line}
 use Rattle.wire_write.specs.Errors.{err_line, publish_denied_line, subscription_denied_line}
 use Rattle.wire_write.specs.declared.error.ServerError.TheVariants as error
-use Rattle.hub.specs.World.{World}
-use Rattle.hub.specs.Transition.{transition}
+use Rattle.hub.specs.History.{State, stepped}
 use Rattle.hub.specs.declared.event.Event.{Event}
 use Rattle.hub.specs.declared.event.Command.TheVariants as command
 use Rattle.hub.specs.declared.answer.Delivery.{Delivery}
@@ -30,13 +29,13 @@ use Rattle.natsd.specs.declared.stage.Stage.TheVariants as stage
 use Rattle.natsd.specs.declared.stage.Next.{Next}
 use Rattle.natsd.specs.declared.stage.Next.TheVariants.{Goes, HistoryFull}
 
--- what the hub answers to an event, and the world after it; a refusal leaves the world as it is
-abbrev pub by_transition : World → Result (Outcome × World) HubRefusal → Result Outcome HubRefusal × World
-by_transition w (Ok r) = (Ok r.0, r.1)
-by_transition w (Err e) = (Err e, w)
+-- what the hub answers to an event, and what it is after it; a refusal leaves it as it is
+abbrev pub by_step : State → Result (Outcome × State) HubRefusal → Result Outcome HubRefusal × State
+by_step w (Ok r) = (Ok r.0, r.1)
+by_step w (Err e) = (Err e, w)
 
-unfoldable pub answered : World → Event → Result Outcome HubRefusal × World
-answered w e = by_transition w (transition w e)
+unfoldable pub answered : State → Event → Result Outcome HubRefusal × State
+answered w e = by_step w (stepped w e)
 
 -- what a client is told, and how its connection goes on
 pub record Reply : Type 0 where
@@ -54,7 +53,7 @@ full = record { text = []; next = HistoryFull }
 abbrev pub ok_if : Bool → List ℕ
 ok_if verbose = if verbose then ok_line else []
 
--- the reply to a CONNECT, by the hub's answer. The last eight don't come to a Connect.
+-- the reply to a CONNECT, by the hub's answer. The last nine don't come to a Connect.
 abbrev pub reply_to_connect : Bool → Result Outcome HubRefusal → Reply
 reply_to_connect verbose (Ok outcome.Connected) = told (ok_if verbose) (stage.Connected verbose)
 reply_to_connect verbose (Ok outcome.AuthViolation) = told (err_line error.Authorization) (stage.Closed false)
@@ -69,8 +68,9 @@ reply_to_connect verbose (Ok (outcome.Denied _)) = told [] stage.Fresh
 reply_to_connect verbose (Ok (outcome.Published _ _)) = told [] stage.Fresh
 reply_to_connect verbose (Ok (outcome.Taken _ _)) = told [] stage.Fresh
 reply_to_connect verbose (Ok outcome.Closed) = told [] stage.Fresh
+reply_to_connect verbose (Ok (outcome.Reloaded _ _)) = told [] stage.Fresh
 
--- the reply to a PUB on a subject. The last nine answers don't come to a Pub.
+-- the reply to a PUB on a subject. The last ten answers don't come to a Pub.
 abbrev pub reply_to_publish : Bool → List ℕ → Result Outcome HubRefusal → Reply
 reply_to_publish verbose subject (Ok (outcome.Published _ _)) = told (ok_if verbose) (stage.Connected verbose)
 reply_to_publish verbose subject (Ok (outcome.Denied _)) = told (publish_denied_line subject) (stage.Connected verbose)
@@ -85,8 +85,9 @@ reply_to_publish verbose subject (Ok outcome.Subscribed) = told [] (stage.Connec
 reply_to_publish verbose subject (Ok outcome.SameSid) = told [] (stage.Connected verbose)
 reply_to_publish verbose subject (Ok (outcome.Taken _ _)) = told [] (stage.Connected verbose)
 reply_to_publish verbose subject (Ok outcome.Closed) = told [] (stage.Connected verbose)
+reply_to_publish verbose subject (Ok (outcome.Reloaded _ _)) = told [] (stage.Connected verbose)
 
--- the reply to a SUB to a pattern. The last eight answers don't come to a Sub.
+-- the reply to a SUB to a pattern. The last nine answers don't come to a Sub.
 abbrev pub reply_to_subscribe : Bool → List ℕ → Result Outcome HubRefusal → Reply
 reply_to_subscribe verbose subject (Ok outcome.Subscribed) = told (ok_if verbose) (stage.Connected verbose)
 reply_to_subscribe verbose subject (Ok outcome.SameSid) = told (ok_if verbose) (stage.Connected verbose)
@@ -101,6 +102,7 @@ reply_to_subscribe verbose subject (Ok outcome.AuthViolation) = told [] (stage.C
 reply_to_subscribe verbose subject (Ok (outcome.Published _ _)) = told [] (stage.Connected verbose)
 reply_to_subscribe verbose subject (Ok (outcome.Taken _ _)) = told [] (stage.Connected verbose)
 reply_to_subscribe verbose subject (Ok outcome.Closed) = told [] (stage.Connected verbose)
+reply_to_subscribe verbose subject (Ok (outcome.Reloaded _ _)) = told [] (stage.Connected verbose)
 
 -- the text of a delivery
 abbrev pub delivery_text : Delivery → List ℕ
@@ -110,7 +112,7 @@ delivery_text d = msg_line (text_of d.subject) d.sid d.body
 abbrev pub after_taken : Bool → Bool → Reply
 after_taken verbose missed = if missed then told (err_line error.SlowConsumer) (stage.Closed true) else told [] (stage.Connected verbose)
 
--- what a Take gave is written, and then whether one was missed is told. The last ten answers don't come to a Take.
+-- what a Take gave is written, and then whether one was missed is told. The last eleven answers don't come to a Take.
 abbrev pub reply_to_take : Bool → Result Outcome HubRefusal → Reply
 reply_to_take verbose (Ok (outcome.Taken deliveries missed)) =
     let r = after_taken verbose missed in record { text = flat_map delivery_text deliveries ++ r.text; next = r.next }
@@ -126,6 +128,7 @@ reply_to_take verbose (Ok outcome.SameSid) = told [] (stage.Connected verbose)
 reply_to_take verbose (Ok (outcome.Denied _)) = told [] (stage.Connected verbose)
 reply_to_take verbose (Ok (outcome.Published _ _)) = told [] (stage.Connected verbose)
 reply_to_take verbose (Ok outcome.Closed) = told [] (stage.Connected verbose)
+reply_to_take verbose (Ok (outcome.Reloaded _ _)) = told [] (stage.Connected verbose)
 
 -- the text of a fault of the stream
 abbrev pub fault_line : WireFault → List ℕ
@@ -138,33 +141,33 @@ fault_line fault.Payload = err_line error.PayloadViolation
 pub record Turn : Type 0 where
   pub text : List ℕ
   pub next : Next
-  pub world : World
+  pub world : State
 
 -- nothing is asked of the hub
-abbrev pub unasked : World → List ℕ → Stage → Turn
+abbrev pub unasked : State → List ℕ → Stage → Turn
 unasked w text s = record { text = text; next = Goes s; world = w }
 
 -- the reply to the hub's answer
-abbrev pub asked : (Result Outcome HubRefusal → Reply) → Result Outcome HubRefusal × World → Turn
+abbrev pub asked : (Result Outcome HubRefusal → Reply) → Result Outcome HubRefusal × State → Turn
 asked reply a = record { text = (reply a.0).text; next = (reply a.0).next; world = a.1 }
 
-abbrev pub connect_turn : ℕ → ℕ → World → Result ConnectOptions ConnectError → Turn
+abbrev pub connect_turn : ℕ → ℕ → State → Result ConnectOptions ConnectError → Turn
 connect_turn now conn w (Ok o) =
     asked (reply_to_connect o.verbose) (answered w (record { now = now; what = command.Connect conn o.user o.password }))
 connect_turn now conn w (Err _) = unasked w (err_line error.ParserError) (stage.Closed false)
 
-abbrev pub publish_turn : ℕ → ℕ → World → Bool → List ℕ → List ℕ → Turn
+abbrev pub publish_turn : ℕ → ℕ → State → Bool → List ℕ → List ℕ → Turn
 publish_turn now conn w verbose subject payload =
     if is_some (subject_fault subject) then unasked w (err_line error.InvalidSubject) (stage.Connected verbose)
     else asked (reply_to_publish verbose subject) (answered w (record { now = now; what = command.Pub conn (tokens_of subject) payload }))
 
-abbrev pub subscribe_turn : ℕ → ℕ → World → Bool → List ℕ → List ℕ → Turn
+abbrev pub subscribe_turn : ℕ → ℕ → State → Bool → List ℕ → List ℕ → Turn
 subscribe_turn now conn w verbose subject sid =
     if is_some (pattern_fault subject) then unasked w (err_line error.InvalidSubject) (stage.Connected verbose)
     else asked (reply_to_subscribe verbose subject) (answered w (record { now = now; what = command.Sub conn (tokens_of subject) sid }))
 
 -- before CONNECT: nothing but CONNECT, PING and a fault is looked at
-abbrev pub fresh_turn : ℕ → ℕ → World → Frame → Turn
+abbrev pub fresh_turn : ℕ → ℕ → State → Frame → Turn
 fresh_turn now conn w (frame.Connect text) = connect_turn now conn w (connect_of (json_of text))
 fresh_turn now conn w frame.Ping = unasked w pong_line stage.Fresh
 fresh_turn now conn w (frame.Fault f) = unasked w (fault_line f) (stage.Closed false)
@@ -172,7 +175,7 @@ fresh_turn now conn w (frame.Pub _ _) = unasked w (err_line error.Authorization)
 fresh_turn now conn w (frame.Sub _ _) = unasked w (err_line error.Authorization) (stage.Closed false)
 
 -- after it: a second CONNECT is refused before its text is read
-abbrev pub connected_turn : ℕ → ℕ → World → Bool → Frame → Turn
+abbrev pub connected_turn : ℕ → ℕ → State → Bool → Frame → Turn
 connected_turn now conn w verbose (frame.Pub subject payload) = publish_turn now conn w verbose subject payload
 connected_turn now conn w verbose (frame.Sub subject sid) = subscribe_turn now conn w verbose subject sid
 connected_turn now conn w verbose frame.Ping = unasked w pong_line (stage.Connected verbose)
@@ -180,7 +183,7 @@ connected_turn now conn w verbose (frame.Connect _) = unasked w (err_line error.
 connected_turn now conn w verbose (frame.Fault f) = unasked w (fault_line f) (stage.Closed true)
 
 -- after a closing text nothing is looked at
-unfoldable pub frame_turn : ℕ → ℕ → World → Stage → Frame → Turn
+unfoldable pub frame_turn : ℕ → ℕ → State → Stage → Frame → Turn
 frame_turn now conn w stage.Fresh f = fresh_turn now conn w f
 frame_turn now conn w (stage.Connected verbose) f = connected_turn now conn w verbose f
 frame_turn now conn w (stage.Closed session) f = unasked w [] (stage.Closed session)
@@ -214,20 +217,20 @@ abbrev pub behind : List ℕ → Turn → Turn
 behind text t = record { text = text ++ t.text; next = t.next; world = t.world }
 
 -- a turn, and then what it leads to: nothing once the history is full
-abbrev pub goes_on : Turn → Next → (World → Stage → Turn) → Turn
+abbrev pub goes_on : Turn → Next → (State → Stage → Turn) → Turn
 goes_on t (Goes s) more = behind t.text (more t.world s)
 goes_on t HistoryFull more = t
 
-abbrev pub followed_by : Turn → (World → Stage → Turn) → Turn
+abbrev pub followed_by : Turn → (State → Stage → Turn) → Turn
 followed_by t more = goes_on t t.next more
 
 -- frames in order
-unfoldable pub frames_turn : ℕ → ℕ → World → Stage → List Frame → Turn
+unfoldable pub frames_turn : ℕ → ℕ → State → Stage → List Frame → Turn
 frames_turn now conn w s [] = unasked w [] s
 frames_turn now conn w s (f ∷ fs) = followed_by (frame_turn now conn w s f) (λ w' s'. frames_turn now conn w' s' fs)
 
 -- what a call wrote behind what stood there, and what it left, is the turn's
-pub record IsTurn (t : Turn) (before after : List ℕ) (next : Next) (world : World) : Type 0 where
+pub record IsTurn (t : Turn) (before after : List ℕ) (next : Next) (world : State) : Type 0 where
   pub text : after ≡ before ++ t.text
   pub next_is : next ≡ t.next
   pub world_is : world ≡ t.world

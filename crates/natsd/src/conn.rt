@@ -17,7 +17,7 @@ use subjects::{Pattern, Subject, SubjectError};
 use wire_read::{Frame, WireFault};
 use wire_write::{ServerError, write_err, write_msg, write_ok, write_pong};
 
-/// One event to the hub. Its answer is that of the transition; want of memory changes nothing.
+/// One event to the hub. Its answer is that of the step; want of memory changes nothing.
 pub fn submit(hub: &mut Hub, event: Event) -> Result<Result<Outcome, HubRefusal>, NoMemory>
     ensures ok { IfOk result (λ answer. (answer, hub.new) ≡ answered hub.old event) }
     ensures err { OnErr result (hub.new ≡ hub.old) }
@@ -114,7 +114,8 @@ fn reply_to_connect(
         | Ok(Outcome::Denied(_))
         | Ok(Outcome::Published(_, _))
         | Ok(Outcome::Taken(_, _))
-        | Ok(Outcome::Closed) => Ok(Next::Goes(Stage::Fresh)),
+        | Ok(Outcome::Closed)
+        | Ok(Outcome::Reloaded { .. }) => Ok(Next::Goes(Stage::Fresh)),
     }
 }
 
@@ -149,7 +150,8 @@ fn reply_to_publish(
         | Ok(Outcome::Subscribed)
         | Ok(Outcome::SameSid)
         | Ok(Outcome::Taken(_, _))
-        | Ok(Outcome::Closed) => Ok(Next::Goes(Stage::Connected { verbose })),
+        | Ok(Outcome::Closed)
+        | Ok(Outcome::Reloaded { .. }) => Ok(Next::Goes(Stage::Connected { verbose })),
     }
 }
 
@@ -187,7 +189,8 @@ fn reply_to_subscribe(
         | Ok(Outcome::AuthViolation)
         | Ok(Outcome::Published(_, _))
         | Ok(Outcome::Taken(_, _))
-        | Ok(Outcome::Closed) => Ok(Next::Goes(Stage::Connected { verbose })),
+        | Ok(Outcome::Closed)
+        | Ok(Outcome::Reloaded { .. }) => Ok(Next::Goes(Stage::Connected { verbose })),
     }
 }
 
@@ -518,7 +521,8 @@ pub fn reply_to_take(
         | Ok(Outcome::SameSid)
         | Ok(Outcome::Denied(_))
         | Ok(Outcome::Published(_, _))
-        | Ok(Outcome::Closed) => Ok(Next::Goes(Stage::Connected { verbose })),
+        | Ok(Outcome::Closed)
+        | Ok(Outcome::Reloaded { .. }) => Ok(Next::Goes(Stage::Connected { verbose })),
     }
 }
 

@@ -5,8 +5,8 @@ ghost use Rattle.std.specs.Io.KnownBytes.{Appends, IsAtEnd};
 ghost use Rattle.natsd.specs.declared.client.Client.{Client};
 ghost use Rattle.natsd.specs.declared.script.Part.{Part};
 ghost use Rattle.natsd.specs.Policies.{policy_or_line};
-ghost use Rattle.natsd.specs.Play.{drained, sent, is_open, with_client, new_client, policy_act, policy_line_act, line_act, still_open, is_closed, line_and_drains, IsAct, play_capacity, output_of};
-ghost use Rattle.hub.specs.World.{World, opening_world};
+ghost use Rattle.natsd.specs.Play.{drained, sent, is_open, with_client, new_client, policy_act, policy_line_act, line_act, still_open, is_closed, line_and_drains, IsAct, play_capacity, play_history, output_of};
+ghost use Rattle.hub.specs.History.{State, opening_state};
 ghost use Rattle.policy_doc.specs.Document.{builtin_doc};
 ghost use Rattle.natsd.specs.Device.{AppendsFront};
 ghost use Rattle.natsd.specs.Input.{is_read_failed, is_write_failed};
@@ -27,6 +27,9 @@ use wire_write::write_info;
 
 /// How many deliveries may wait for a session.
 const CAPACITY: usize = 1024;
+
+/// How many entries the history may hold.
+const HISTORY: usize = 100_000;
 
 /// Drains every connection, in ascending order.
 fn drain_all(
@@ -124,7 +127,7 @@ fn open(
     conn: u64,
     out: &mut Vec<u8>,
 ) -> Result<bool, NoMemory>
-    ensures { (part : Part) (w : World) → IfOk result (λ stops. IsAct (line_act number part (Line.Open conn) w clients.old.items) out.old.items out.new.items clients.new.items w stops) }
+    ensures { (part : Part) (w : State) → IfOk result (λ stops. IsAct (line_act number part (Line.Open conn) w clients.old.items) out.old.items out.new.items clients.new.items w stops) }
 {
     if is_open(clients.as_slice(), conn) {
         write_refused(out, number)?;
@@ -139,13 +142,19 @@ fn open(
 
 /// A hub over a policy, with nobody connected.
 fn open_hub(alloc: Global, policy: Policy) -> Result<Hub, NoMemory>
-    ensures { IfOk result (λ hub. hub ≡ opening_world policy play_capacity) }
+    ensures { IfOk result (λ hub. hub ≡ opening_state policy play_capacity play_history) }
 {
     match Ready::of(alloc, policy) {
-        Ok(ready) => match Hub::new(alloc, ready, Caps { outbox: CAPACITY }) {
-            Ok(hub) => Ok(hub),
-            Err((_, refused)) => Err(refused),
-        },
+        Ok(ready) => {
+            let caps = Caps {
+                outbox: CAPACITY,
+                history: HISTORY,
+            };
+            match Hub::new(alloc, ready, caps) {
+                Ok(hub) => Ok(hub),
+                Err((_, refused)) => Err(refused),
+            }
+        }
         Err((_, refused)) => Err(refused),
     }
 }

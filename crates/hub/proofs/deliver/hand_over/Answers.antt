@@ -7,7 +7,8 @@ use Rattle.hub.proofs.deliver.hand_over.Goals as goal
 
 pub returns-in-None-clause-item : goal.returns-in-None-clause-item
 returns-in-None-clause-item c =
-    sym (ap (λ (o : Option Session). cond (has_room o) (Entered c.args.addressed.conn c.args.addressed.sid) (Full c.args.addressed.conn c.args.addressed.sid)) c.in-None.ensures.none)
+    c.full.ensures
+    ∙ sym (ap (λ (o : Option Session). cond (has_room o) (Entered c.args.addressed.conn c.args.addressed.sid) (Full c.args.addressed.conn c.args.addressed.sid)) c.in-None.ensures.none)
 
 pub returns-in-None-clause-after : goal.returns-in-None-clause-after
 returns-in-None-clause-after c = sym (c.in-None.ensures.same (offered c.args.addressed.delivery))
@@ -15,13 +16,15 @@ returns-in-None-clause-after c = sym (c.in-None.ensures.same (offered c.args.add
 pub returns-then-offer-clause-item : goal.returns-then-offer-clause-item
 returns-then-offer-clause-item c =
     let z = c.index-sessions-place.result in
-    sym (ap (λ (o : Option Session). cond (has_room o) (Entered c.args.addressed.conn c.args.addressed.sid) (Full c.args.addressed.conn c.args.addressed.sid)) (c.in-Some.ensures.here z)
+    c.entered.ensures
+    ∙ sym (ap (λ (o : Option Session). cond (has_room o) (Entered c.args.addressed.conn c.args.addressed.sid) (Full c.args.addressed.conn c.args.addressed.sid)) (c.in-Some.ensures.here z)
     ∙ ap (λ (b : Bool). cond b (Entered c.args.addressed.conn c.args.addressed.sid) (Full c.args.addressed.conn c.args.addressed.sid)) (sym c.offer.ensures.room ∙ c.if-offer.true))
 
 pub returns-else-offer-clause-item : goal.returns-else-offer-clause-item
 returns-else-offer-clause-item c =
     let z = c.index-sessions-place.result in
-    sym (ap (λ (o : Option Session). cond (has_room o) (Entered c.args.addressed.conn c.args.addressed.sid) (Full c.args.addressed.conn c.args.addressed.sid)) (c.in-Some.ensures.here z)
+    c.full-else-offer.ensures
+    ∙ sym (ap (λ (o : Option Session). cond (has_room o) (Entered c.args.addressed.conn c.args.addressed.sid) (Full c.args.addressed.conn c.args.addressed.sid)) (c.in-Some.ensures.here z)
     ∙ ap (λ (b : Bool). cond b (Entered c.args.addressed.conn c.args.addressed.sid) (Full c.args.addressed.conn c.args.addressed.sid)) (sym c.offer.ensures.room ∙ c.if-offer.false))
 
 pub returns-then-offer-clause-after : goal.returns-then-offer-clause-after

@@ -6,9 +6,11 @@ use Rattle.hub.proofs.deliver.hand_over_all.Given as goal
 
 abbrev pub invariant-loop-next : goal.invariant-loop-next
 invariant-loop-next l = record {
-  items : l.items.items ++ (delivered l.all.items l.sessions).1 ≡ l.initial.items.items ++ (delivered l.initial.all.items l.initial.sessions).1;
+  told : l.told.items ++ (delivered l.all.items l.sessions).1 ≡ l.initial.told.items ++ (delivered l.initial.all.items l.initial.sessions).1;
+  kept : l.kept.items ++ (delivered l.all.items l.sessions).1 ≡ l.initial.kept.items ++ (delivered l.initial.all.items l.initial.sessions).1;
   after : (delivered l.all.items l.sessions).0 ≡ (delivered l.initial.all.items l.initial.sessions).0;
-  room : vec_len l.items + length l.all.items ≤ vec_capacity l.items;
+  told_room : vec_len l.told + length l.all.items ≤ vec_capacity l.told;
+  kept_room : vec_len l.kept + length l.all.items ≤ vec_capacity l.kept;
 }
 
 abbrev pub decreases-loop-next : goal.decreases-loop-next

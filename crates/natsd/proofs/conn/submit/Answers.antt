@@ -1,4 +1,4 @@
--- the hub's step is the transition
+-- the hub's answer is that of its step
 use Rattle.std.proofs.Common.{◌∙◌, sym, ap, Err, Result}
 use Rattle.hub.specs.declared.answer.Outcome.{Outcome}
 use Rattle.hub.specs.declared.answer.HubRefusal.{HubRefusal}

@@ -3,14 +3,14 @@ use Rattle.std.proofs.Common.{◌∙◌, ◌+◌, ◌==◌, length, arith, ap, r
 use Rattle.std.proofs.lemmas.List.Splits.{length-slice_split}
 use Rattle.std.proofs.lemmas.List.Sums.{count_by-le-length}
 use Rattle.policy_doc.specs.declared.document.PolicyDoc.{PolicyDoc}
-use Rattle.hub.specs.World.{opening_world}
-use Rattle.natsd.specs.Play.{play_capacity, output_of}
+use Rattle.hub.specs.History.{opening_state}
+use Rattle.natsd.specs.Play.{play_capacity, play_history, output_of}
 use Rattle.natsd.proofs.Plays.{plays_open, plays_read, plays_more, plays_stop, plays_failed, plays_refused, plays_last, IsAct-fresh, OnErr-always, Appends-same, AppendsFront-same, or_false}
 use Rattle.natsd.proofs.play.play_lines.Goals as goal
 
 pub playing-init : goal.playing-init
 playing-init g c = record {
-  plays = plays_open (g.W.Sink.contents c.args.sink.now) c.args.script.now c.of-lines.result c.in_ok-hub.hub c.new-clients.result.items c.of-lines.ensures (c.in_ok-hub.ensures ∙ ap (λ (doc : PolicyDoc). opening_world doc play_capacity) c.in_ok-policy.ensures) c.new-clients.ensures.items;
+  plays = plays_open (g.W.Sink.contents c.args.sink.now) c.args.script.now c.of-lines.result c.in_ok-hub.hub c.new-clients.result.items c.of-lines.ensures (c.in_ok-hub.ensures ∙ ap (λ (doc : PolicyDoc). opening_state doc play_capacity play_history) c.in_ok-policy.ensures) c.new-clients.ensures.items;
   count = omega (arith, ap length c.of-lines.ensures, length-slice_split (λ b. b == 10) c.args.script.now, count_by-le-length (λ b. b == 10) c.args.script.now);
   failed = refl;
 }

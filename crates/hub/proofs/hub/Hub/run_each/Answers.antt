@@ -1,7 +1,7 @@
 -- no event is left
 use Rattle.std.proofs.Common.{◌≡◌, List, [], subst, arith}
 use Rattle.std.proofs.lemmas.Grind.{common_steps}
-use Rattle.hub.specs.Transition.{IsStep}
+use Rattle.hub.specs.History.{IsStep}
 use Rattle.hub.specs.Guarantee.{KeepsGuarantee}
 use Rattle.hub.specs.declared.event.Event.{Event}
 use Rattle.hub.proofs.Runs.{Completes, Completes-end}

@@ -1,7 +1,7 @@
 -- what is left, once it has run, completes the run of all events
 use Rattle.std.proofs.Common.{◌+◌, ◌≤◌, length, vec_len, vec_capacity}
 use Rattle.std.specs.VecDeque.{deque_len}
-use Rattle.hub.specs.Transition.{IsStep}
+use Rattle.hub.specs.History.{IsStep}
 use Rattle.hub.specs.Guarantee.{KeepsGuarantee}
 use Rattle.hub.proofs.Runs.{Completes}
 use Rattle.hub.proofs.hub.Hub.run_each.Given as goal

@@ -1,16 +1,35 @@
--- the transition keeps what every hub keeps, and the guarantee
-use Rattle.std.proofs.Common.{subst}
-use Rattle.hub.specs.World.{World}
+-- an answered step is entered: it is the transition's, keeps the guarantee and what every hub keeps
+use Rattle.std.proofs.Common.{◌≡◌, ◌∙◌, ◌++◌, ◌∷◌, [], List, Ok, false, ap, sym, subst}
+use Rattle.hub.specs.History.{State, IsStep, entry_of, is_history_full}
 use Rattle.hub.specs.Guarantee.{KeepsGuarantee}
-use Rattle.hub.proofs.Guaranteed.{guaranteed, sound-step}
+use Rattle.hub.specs.declared.history.Entry.{Entry}
+use Rattle.hub.proofs.Legal.{state_of, IsEntered, kept-step, entered-step, entered-guaranteed}
 use Rattle.hub.proofs.hub.Hub.step.Goals as goal
 
-pub invariant_of-self : goal.invariant_of-self
-invariant_of-self c =
-    sound-step c.self.inside.router c.args.event c.step.result c.step.new.self c.self.invariant
-    (guaranteed c.self.inside.router c.args.event c.step.result c.step.new.self c.self.invariant c.step.ensures.step c.step.ensures.reason)
+-- what the calls ensure
+is_entered : (c : goal.After-enter) → IsEntered c.self.inside.opening c.self.inside.router c.self.inside.most c.self.inside.entries.items c.args.event c.in-Ok.outcome c.enter.result c.step.new.self c.enter.new.entries.items
+is_entered c =
+    let room : is_history_full c.args.self.now ≡ false = sym c.is_full.ensures ∙ c.if-is_full.false in
+    let P : State → Type 0 = λ s. is_history_full s ≡ false in
+    record {
+      sound = c.self.invariant.0;
+      run = c.self.invariant.1;
+      room = subst P (sym c.self.view_is) room;
+      step = c.in-Ok.ensures.step;
+      reason = c.in-Ok.ensures.reason;
+      answer = c.enter.ensures.answer;
+      entered = c.enter.ensures.entered ∙ ap (λ (l : List Entry). l ++ entry_of c.enter.result c.args.event ∷ []) c.reserve.ensures.items;
+    }
 
-pub returns-clause-guarantee : goal.returns-clause-guarantee
-returns-clause-guarantee c =
-    let P : World → Type 0 = λ w. KeepsGuarantee w c.args.event c.step.result c.step.new.self in
-    subst P c.self.view_is (guaranteed c.self.inside.router c.args.event c.step.result c.step.new.self c.self.invariant c.step.ensures.step c.step.ensures.reason)
+pub invariant_of-self-in-Ok : goal.invariant_of-self-in-Ok
+invariant_of-self-in-Ok c = kept-step _ _ _ _ _ _ _ _ _ (is_entered c)
+
+pub returns-in-Ok-clause-transition : goal.returns-in-Ok-clause-transition
+returns-in-Ok-clause-transition c =
+    let P : State → Type 0 = λ s. IsStep s c.args.event (Ok c.enter.result) (state_of c.self.inside.opening c.step.new.self c.self.inside.most c.enter.new.entries.items) in
+    subst P c.self.view_is (entered-step _ _ _ _ _ _ _ _ _ (is_entered c))
+
+pub returns-in-Ok-clause-guarantee : goal.returns-in-Ok-clause-guarantee
+returns-in-Ok-clause-guarantee c =
+    let P : State → Type 0 = λ s. KeepsGuarantee s c.args.event (Ok c.enter.result) (state_of c.self.inside.opening c.step.new.self c.self.inside.most c.enter.new.entries.items) in
+    subst P c.self.view_is (entered-guaranteed _ _ _ _ _ _ _ _ _ (is_entered c))

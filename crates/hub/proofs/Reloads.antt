@@ -1,0 +1,261 @@
+-- A reload keeps what every hub keeps, and puts its policy in force.
+use Rattle.std.proofs.Common.{◌≡◌, ◌∙◌, ◌==◌, ◌&&◌, ◌||◌, ℕ, ◌+◌, ◌<◌, ◌≤◌, Bool, true, false, not, cond, List, [], ◌∷◌, map, filter, get_or, Option, Some, None, ap, sym, refl, subst, arith, max}
+use Rattle.std.specs.Prelude.{All, AllPairs, IfSome, is_some, find, nat_eq}
+use Rattle.std.specs.List.{filter_map, cons_option, list_any, AllByRecursion, IsDistinct}
+use Rattle.std.specs.Str.{bytes_eq}
+use Rattle.std.specs.Option.{option_map}
+use Rattle.std.specs.Cmp.Lexicographic.{pointwise}
+use Rattle.std.proofs.lemmas.Bool.{eqb-true, ne_eqb}
+use Rattle.std.proofs.lemmas.List.{length-map}
+use Rattle.std.proofs.lemmas.List.Filters.{length-filter_both}
+use Rattle.std.proofs.lemmas.List.Elements.{All-map, All-filter, All-weaker, All-head, All-tail, filter_agree, filter_passes}
+use Rattle.std.proofs.lemmas.List.Kept.{AllPairs-filter}
+use Rattle.std.proofs.lemmas.Map.Keys.{IsDistinct-head, IsDistinct-tail}
+use Rattle.std.proofs.lemmas.Slice.Eq.{bytes_eq-Decides}
+use Rattle.policy_doc.specs.Document.{IsValidPolicy}
+use Rattle.policy_doc.specs.declared.document.PolicyDoc.{PolicyDoc}
+use Rattle.permissions.specs.Verdicts.{subscribe_verdict, IsJustifiedSubscribe}
+use Rattle.hub.specs.Users.{users_of}
+use Rattle.hub.specs.World.{World, session_of}
+use Rattle.hub.specs.Sound.{IsSound, has_same_sid, user_named, user_behind, may_subscribe}
+use Rattle.hub.specs.Reload.{is_same_user, user_again, user_again_of, stays, goes, with_user, renewed, remaining, connection_of, closed_conns, user_after, verdict_for, may_stand, stands_on, removal, removal_after, IsReasonedVerdict, IsReasonedReload}
+use Rattle.hub.specs.InForce.{goes_on_for, goes_on, for_user, under, removal_for, IsInForce}
+use Rattle.hub.specs.declared.ready.User.{User}
+use Rattle.hub.specs.declared.tables.Session.{Session}
+use Rattle.hub.specs.declared.tables.Subscription.{Subscription}
+use Rattle.hub.proofs.Finds.{find-map, AllPairs-head, AllPairs-tail, AllPairs-map}
+use Rattle.hub.proofs.Places.{session_of-none}
+use Rattle.hub.proofs.Naming.{name_of, are_named_once, unlike, named_again}
+use Rattle.hub.proofs.Ascending.{AreApart, among-ascending, ascending-rises}
+use Rattle.hub.proofs.Soundness.{IsOfPolicy, HasBound, IsApart}
+
+-- ---- the same user, found by its name
+
+-- the user of a name, if password and account are the other's too
+abbrev same_login : User → Option User → Option User
+same_login v None = None
+same_login v (Some u) = cond (pointwise nat_eq u.password v.password && pointwise nat_eq u.account v.account) (Some u) None
+
+find-nothing : {X : Type 0} (t : X → Bool) (xs : List X) → All (λ x. t x ≡ false) xs → find t xs ≡ None
+find-nothing t [] none = refl
+find-nothing t (x ∷ xs) none =
+    ap (λ b. cond b (Some x) (find t xs)) (All-head (λ y. t y ≡ false) x xs none) ∙ find-nothing t xs (All-tail (λ y. t y ≡ false) x xs none)
+
+-- who is named otherwise is another
+another : (u v x : User) → pointwise nat_eq u.user v.user ≡ true → bytes_eq u.user x.user ≡ false → is_same_user x v ≡ false
+another u v x same other = here (pointwise nat_eq x.user v.user) refl
+  where
+    here : (b : Bool) → pointwise nat_eq x.user v.user ≡ b → ((b && pointwise nat_eq x.password v.password) && pointwise nat_eq x.account v.account) ≡ false
+    here false is = refl
+    here true is =
+        let e : u.user ≡ x.user = (bytes_eq-Decides u.user v.user).0 same ∙ sym ((bytes_eq-Decides x.user v.user).0 is) in
+        let yes : bytes_eq u.user x.user ≡ true = (bytes_eq-Decides u.user x.user).1 e in
+        absurd (cc)
+
+again-by_name : (v : User) (us : List User) → IsDistinct bytes_eq (map name_of us) →
+    find (λ u. is_same_user u v) us ≡ same_login v (find (λ (u : User). pointwise nat_eq u.user v.user) us)
+again-by_name v [] apart = refl
+again-by_name v (u ∷ us) apart = here (pointwise nat_eq u.user v.user) refl (again-by_name v us (IsDistinct-tail bytes_eq u.user (map name_of us) apart))
+  where
+    others : pointwise nat_eq u.user v.user ≡ true → All (λ x. is_same_user x v ≡ false) us
+    others same k d h = another u v (get_or us k d) same (unlike u.user us (IsDistinct-head bytes_eq u.user (map name_of us) apart) k d h)
+
+    here : (b : Bool) → pointwise nat_eq u.user v.user ≡ b →
+        find (λ x. is_same_user x v) us ≡ same_login v (find (λ (x : User). pointwise nat_eq x.user v.user) us) →
+        cond ((b && pointwise nat_eq u.password v.password) && pointwise nat_eq u.account v.account) (Some u) (find (λ x. is_same_user x v) us)
+        ≡ same_login v (cond b (Some u) (find (λ (x : User). pointwise nat_eq x.user v.user) us))
+    here true is later =
+        ap (cond (pointwise nat_eq u.password v.password && pointwise nat_eq u.account v.account) (Some u)) (find-nothing (λ x. is_same_user x v) us (others is))
+    here false is later = later
+
+user_again-by_name : (doc : PolicyDoc) (v : User) → IsValidPolicy doc → user_again doc v ≡ same_login v (user_named doc v.user)
+user_again-by_name doc v valid = again-by_name v (users_of doc) (are_named_once doc valid)
+
+-- ---- the sessions that stay
+
+-- they are those that go on, each for the user that the policy has under its name
+stay-same : (doc : PolicyDoc) (zs : List Session) → IsValidPolicy doc → remaining doc zs ≡ map (under doc) (filter (goes_on doc) zs)
+stay-same doc [] valid = refl
+stay-same doc (z ∷ zs) valid =
+    ap (λ a. map (renewed doc) (cond (is_some a) (z ∷ filter (stays doc) zs) (filter (stays doc) zs))) (user_again-by_name doc z.user valid)
+    ∙ by_name (user_named doc z.user.user) refl (stay-same doc zs valid)
+  where
+    is_same_login : User → Bool
+    is_same_login u = pointwise nat_eq u.password z.user.password && pointwise nat_eq u.account z.user.account
+
+    by_login : (u : User) → user_named doc z.user.user ≡ Some u → (b : Bool) → (pointwise nat_eq u.password z.user.password && pointwise nat_eq u.account z.user.account) ≡ b →
+        map (renewed doc) (filter (stays doc) zs) ≡ map (under doc) (filter (goes_on doc) zs) →
+        map (renewed doc) (cond (is_some (let a : Option User = cond b (Some u) None in a)) (z ∷ filter (stays doc) zs) (filter (stays doc) zs)) ≡ map (under doc) (cond b (z ∷ filter (goes_on doc) zs) (filter (goes_on doc) zs))
+    by_login u e false is later = later
+    by_login u e true is later =
+        ap (λ y. y ∷ map (renewed doc) (filter (stays doc) zs)) (
+        ap (with_user z) (user_again-by_name doc z.user valid ∙ ap (same_login z.user) e ∙ ap (λ b. cond b (Some u) None) is)
+        ∙ sym (ap (for_user z) e))
+        ∙ ap (λ ys. under doc z ∷ ys) later
+
+    by_name : (o : Option User) → user_named doc z.user.user ≡ o → map (renewed doc) (filter (stays doc) zs) ≡ map (under doc) (filter (goes_on doc) zs) →
+        map (renewed doc) (cond (is_some (same_login z.user o)) (z ∷ filter (stays doc) zs) (filter (stays doc) zs)) ≡ map (under doc) (cond (goes_on_for z o) (z ∷ filter (goes_on doc) zs) (filter (goes_on doc) zs))
+    by_name None e later = later
+    by_name (Some u) e later = by_login u e (pointwise nat_eq u.password z.user.password && pointwise nat_eq u.account z.user.account) refl later
+
+with_user-conn : (z : Session) (o : Option User) → (with_user z o).conn ≡ z.conn
+with_user-conn z None = refl
+with_user-conn z (Some u) = refl
+
+with_user-bound : (capacity : ℕ) (z : Session) (o : Option User) → HasBound capacity z → HasBound capacity (with_user z o)
+with_user-bound capacity z None is = is
+with_user-bound capacity z (Some u) is = is
+
+-- the policy has the user of a session that stays
+renewed-of_policy : (doc : PolicyDoc) (z : Session) → IsValidPolicy doc → stays doc z ≡ true → IsOfPolicy doc (renewed doc z)
+renewed-of_policy doc z valid = here (user_again_of doc z) refl
+  where
+    here : (o : Option User) → user_again_of doc z ≡ o → is_some o ≡ true → user_named doc (with_user z o).user.user ≡ Some (with_user z o).user
+    here None is stay = absurd (cc)
+    here (Some u) is stay = named_again (λ x. is_same_user x z.user) doc u valid is
+
+-- ---- a connection's session
+
+-- the session, if it passes
+abbrev passing : (Session → Bool) → Option Session → Option Session
+passing p None = None
+passing p (Some z) = cond (p z) (Some z) None
+
+session_of-filter : (p : Session → Bool) (conn : ℕ) (zs : List Session) → AllPairs IsApart zs → session_of (filter p zs) conn ≡ passing p (session_of zs conn)
+session_of-filter p conn [] apart = refl
+session_of-filter p conn (z ∷ zs) apart = here (p z) (z.conn == conn) refl refl (session_of-filter p conn zs (AllPairs-tail IsApart z zs apart))
+  where
+    nobody : (z.conn == conn) ≡ true → session_of zs conn ≡ None
+    nobody is = session_of-none conn zs (λ k d h. ne_eqb _ _ (λ same. AllPairs-head IsApart z zs apart k d h (eqb-true z.conn conn is ∙ sym same)))
+
+    here : (b c : Bool) → p z ≡ b → (z.conn == conn) ≡ c → session_of (filter p zs) conn ≡ passing p (session_of zs conn) →
+        session_of (cond b (z ∷ filter p zs) (filter p zs)) conn ≡ passing p (cond c (Some z) (session_of zs conn))
+    here true true h is later = ap (λ d. cond d (Some z) (session_of (filter p zs) conn)) is ∙ sym (ap (λ d. cond d (Some z) None) h)
+    here true false h is later = ap (λ d. cond d (Some z) (session_of (filter p zs) conn)) is ∙ later
+    here false true h is later = later ∙ ap (passing p) (nobody is) ∙ sym (ap (λ d. cond d (Some z) None) h)
+    here false false h is later = later
+
+session_of-remaining : (doc : PolicyDoc) (conn : ℕ) (zs : List Session) → AllPairs IsApart zs →
+    session_of (remaining doc zs) conn ≡ option_map (renewed doc) (passing (stays doc) (session_of zs conn))
+session_of-remaining doc conn zs apart =
+    find-map (λ (z : Session). z.conn == conn) (renewed doc) (filter (stays doc) zs) (λ z. ap (λ n. n == conn) (with_user-conn z (user_again_of doc z)))
+    ∙ ap (option_map (renewed doc)) (session_of-filter (stays doc) conn zs apart)
+
+-- whom a connection acts for afterwards
+user_behind-remaining : (doc : PolicyDoc) (conn : ℕ) (zs : List Session) → IsValidPolicy doc → AllPairs IsApart zs →
+    user_behind doc (session_of (remaining doc zs) conn) ≡ user_after doc (session_of zs conn)
+user_behind-remaining doc conn zs valid apart = ap (user_behind doc) (session_of-remaining doc conn zs apart) ∙ by_session (session_of zs conn)
+  where
+    by_user : (z : Session) (o : Option User) → user_again_of doc z ≡ o → user_behind doc (option_map (renewed doc) (cond (is_some o) (Some z) None)) ≡ o
+    by_user z None is = refl
+    by_user z (Some u) is = ap (λ a. user_named doc (with_user z a).user.user) is ∙ named_again (λ x. is_same_user x z.user) doc u valid is
+
+    by_session : (o : Option Session) → user_behind doc (option_map (renewed doc) (passing (stays doc) o)) ≡ user_after doc o
+    by_session None = refl
+    by_session (Some z) = by_user z (user_again_of doc z) refl
+
+-- ---- the connections that are gone
+
+any-session : (conn : ℕ) (zs : List Session) → list_any (λ (n : ℕ). n == conn) (map connection_of zs) ≡ is_some (session_of zs conn)
+any-session conn [] = refl
+any-session conn (z ∷ zs) = here (z.conn == conn) (any-session conn zs)
+  where
+    here : (b : Bool) → list_any (λ (n : ℕ). n == conn) (map connection_of zs) ≡ is_some (session_of zs conn) →
+        (b || list_any (λ (n : ℕ). n == conn) (map connection_of zs)) ≡ is_some (cond b (Some z) (session_of zs conn))
+    here true later = refl
+    here false later = later
+
+gone-same : (doc : PolicyDoc) (conn : ℕ) (zs : List Session) → AllPairs IsApart zs →
+    list_any (λ (n : ℕ). n == conn) (closed_conns doc zs) ≡ (is_some (session_of zs conn) && not (is_some (session_of (remaining doc zs) conn)))
+gone-same doc conn zs apart =
+    among-ascending conn (map connection_of (filter (goes doc) zs))
+    ∙ any-session conn (filter (goes doc) zs)
+    ∙ ap (λ o. is_some o) (session_of-filter (goes doc) conn zs apart)
+    ∙ by_session (session_of zs conn)
+    ∙ ap (λ o. is_some (session_of zs conn) && not (is_some o)) (sym (session_of-remaining doc conn zs apart))
+  where
+    by_stay : (z : Session) (b : Bool) → is_some (let o : Option Session = cond (not b) (Some z) None in o) ≡ not (is_some (option_map (renewed doc) (cond b (Some z) None)))
+    by_stay z true = refl
+    by_stay z false = refl
+
+    by_session : (o : Option Session) → is_some (passing (goes doc) o) ≡ (is_some o && not (is_some (option_map (renewed doc) (passing (stays doc) o))))
+    by_session None = refl
+    by_session (Some z) = by_stay z (stays doc z)
+
+conns-apart : (zs : List Session) → AllPairs IsApart zs → AreApart (map connection_of zs)
+conns-apart [] apart = tt
+conns-apart (z ∷ zs) apart = (others zs (AllPairs-head IsApart z zs apart), conns-apart zs (AllPairs-tail IsApart z zs apart))
+  where
+    others : (ys : List Session) → All (IsApart z) ys → AllByRecursion (λ m. z.conn ≡ m → ⊥) (map connection_of ys)
+    others [] all = tt
+    others (y ∷ ys) all = (All-head (IsApart z) y ys all, others ys (All-tail (IsApart z) y ys all))
+
+-- ---- subscriptions
+
+stand-same : (u : Option User) (sub : Subscription) → may_stand (verdict_for u sub) ≡ may_subscribe u sub.subject
+stand-same None sub = refl
+stand-same (Some u) sub = refl
+
+removal-same : (u : Option User) (sub : Subscription) → removal sub (verdict_for u sub) ≡ removal_for sub u
+removal-same None sub = refl
+removal-same (Some u) sub = refl
+
+filter_map_agree : {X Y : Type 0} (g h : X → Option Y) → ((x : X) → g x ≡ h x) → (xs : List X) → filter_map g xs ≡ filter_map h xs
+filter_map_agree g h same [] = refl
+filter_map_agree g h same (x ∷ xs) = ap (λ o. cons_option o (filter_map g xs)) (same x) ∙ ap (cons_option (h x)) (filter_map_agree g h same xs)
+
+-- ---- the world afterwards
+
+abbrev pub after_reload : World → ℕ → PolicyDoc → World
+after_reload w now doc = record w {
+  policy = doc;
+  epoch = w.epoch + 1;
+  moment = max w.moment now;
+  number = w.number + 1;
+  sessions = remaining doc w.sessions;
+  subscriptions = filter (stands_on doc w.sessions) w.subscriptions;
+}
+
+-- whom the new policy has behind a connection
+abbrev user_now : PolicyDoc → List Session → Subscription → Option User
+user_now doc zs sub = user_behind doc (session_of (remaining doc zs) sub.conn)
+
+stands-same : (doc : PolicyDoc) (zs : List Session) (sub : Subscription) → IsValidPolicy doc → AllPairs IsApart zs → stands_on doc zs sub ≡ may_subscribe (user_now doc zs sub) sub.subject
+stands-same doc zs sub valid apart =
+    stand-same (user_after doc (session_of zs sub.conn)) sub ∙ ap (λ u. may_subscribe u sub.subject) (sym (user_behind-remaining doc sub.conn zs valid apart))
+
+pub sound-reload : (w : World) (now : ℕ) (doc : PolicyDoc) → IsSound w → IsValidPolicy doc → IsSound (after_reload w now doc)
+sound-reload w now doc sound valid = record {
+  policy = valid;
+  limit = omega (arith, length-map (filter (stays doc) w.sessions) (renewed doc), length-filter_both (stays doc) (goes doc) (λ z. refl) w.sessions, sound.limit);
+  connections = AllPairs-map IsApart (renewed doc) (filter (stays doc) w.sessions)
+      (λ y z apart same. apart (sym (with_user-conn y (user_again_of doc y)) ∙ same ∙ with_user-conn z (user_again_of doc z)))
+      (AllPairs-filter IsApart (stays doc) w.sessions sound.connections);
+  users = All-map (IsOfPolicy doc) (renewed doc) (filter (stays doc) w.sessions)
+      (λ k d h. renewed-of_policy doc (get_or (filter (stays doc) w.sessions) k d) valid (filter_passes (stays doc) w.sessions k d h));
+  outboxes = All-map (HasBound w.capacity) (renewed doc) (filter (stays doc) w.sessions)
+      (λ k d h. with_user-bound w.capacity _ _ (All-filter (stays doc) (HasBound w.capacity) w.sessions sound.outboxes k d h));
+  subscriptions = λ k d h. sym (stands-same doc w.sessions (get_or (filter (stands_on doc w.sessions) w.subscriptions) k d) valid sound.connections)
+      ∙ filter_passes (stands_on doc w.sessions) w.subscriptions k d h;
+  sids = AllPairs-filter (λ (s t : Subscription). has_same_sid s t ≡ false) (stands_on doc w.sessions) w.subscriptions sound.sids;
+  ids = AllPairs-filter (λ (s t : Subscription). s.id < t.id) (stands_on doc w.sessions) w.subscriptions sound.ids;
+  numbers = All-filter (stands_on doc w.sessions) (λ (s : Subscription). s.id ≤ w.number + 1) w.subscriptions (λ k d h. let n = sound.numbers k d h in omega arith);
+  epoch = let h = sound.epoch in omega arith;
+}
+
+pub in_force : (w : World) (now : ℕ) (doc : PolicyDoc) → IsSound w → IsReasonedReload doc w.sessions w.subscriptions →
+    IsInForce w doc (closed_conns doc w.sessions) (filter_map (removal_after doc w.sessions) w.subscriptions) (after_reload w now doc)
+in_force w now doc sound reasoned =
+    let valid = reasoned.0 in
+    let whom = λ (sub : Subscription). user_behind-remaining doc sub.conn w.sessions valid sound.connections in
+    record {
+      stay = stay-same doc w.sessions valid;
+      rising = ascending-rises (map connection_of (filter (goes doc) w.sessions)) (conns-apart (filter (goes doc) w.sessions) (AllPairs-filter IsApart (goes doc) w.sessions sound.connections));
+      gone = λ conn. gone-same doc conn w.sessions sound.connections;
+      standing = filter_agree (stands_on doc w.sessions) (λ (sub : Subscription). may_subscribe (user_now doc w.sessions sub) sub.subject)
+          (λ sub. stands-same doc w.sessions sub valid sound.connections) w.subscriptions;
+      removed = filter_map_agree (removal_after doc w.sessions) (λ (sub : Subscription). removal_for sub (user_now doc w.sessions sub))
+          (λ sub. removal-same (user_after doc (session_of w.sessions sub.conn)) sub ∙ ap (removal_for sub) (sym (whom sub))) w.subscriptions;
+      reasons = All-weaker (IsReasonedVerdict doc w.sessions) (λ (sub : Subscription). IfSome (user_now doc w.sessions sub) (λ (u : User). IsJustifiedSubscribe sub.subject u.rules.subscribe (subscribe_verdict u.rules sub.subject)))
+          (λ sub has. subst (λ o. IfSome o (λ (u : User). IsJustifiedSubscribe sub.subject u.rules.subscribe (subscribe_verdict u.rules sub.subject))) (sym (whom sub)) has) w.subscriptions reasoned.1;
+    }

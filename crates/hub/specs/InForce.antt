@@ -1,0 +1,75 @@
+-- What the guarantee says of a reload, in terms of the policy that comes into force (docs/GUARANTEE.md, "The guarantee").
+use Rattle.std.specs.Prelude.{◌≡◌, ◌==◌, ◌+◌, ◌<◌, ◌&&◌, ℕ, List, Bool, false, Option, Some, None, if◌then◌else◌, filter, map, not, is_some, nat_eq, All, AllPairs, IfSome}
+use Rattle.std.specs.List.{filter_map, list_any}
+use Rattle.std.specs.Cmp.Lexicographic.{pointwise}
+use Rattle.policy_doc.specs.declared.document.PolicyDoc.{PolicyDoc}
+use Rattle.permissions.specs.Verdicts.{subscribe_verdict, is_allowed, IsJustifiedSubscribe}
+use Rattle.permissions.specs.declared.verdict.Verdict.{Verdict}
+use Rattle.hub.specs.World.{World, session_of}
+use Rattle.hub.specs.Sound.{user_named, user_at, may_subscribe}
+use Rattle.hub.specs.declared.ready.User.{User}
+use Rattle.hub.specs.declared.tables.Session.{Session}
+use Rattle.hub.specs.declared.tables.Subscription.{Subscription}
+use Rattle.hub.specs.declared.event.Command.{Command}
+use Rattle.hub.specs.declared.event.Command.TheVariants.{Connect, Sub, Pub, Take, Close, Reload}
+use Rattle.hub.specs.declared.answer.Removed.{Removed}
+
+-- the policy in force after a command: a reload brings its own, and nothing else changes it
+abbrev pub policy_after : World → Command → PolicyDoc
+policy_after w (Connect conn name password) = w.policy
+policy_after w (Sub conn p sid) = w.policy
+policy_after w (Pub conn s body) = w.policy
+policy_after w (Take conn most) = w.policy
+policy_after w (Close conn) = w.policy
+policy_after w (Reload doc) = doc
+
+-- the epoch after a command: a reload begins the next one
+abbrev pub epoch_after : World → Command → ℕ
+epoch_after w (Connect conn name password) = w.epoch
+epoch_after w (Sub conn p sid) = w.epoch
+epoch_after w (Pub conn s body) = w.epoch
+epoch_after w (Take conn most) = w.epoch
+epoch_after w (Close conn) = w.epoch
+epoch_after w (Reload doc) = w.epoch + 1
+
+-- whether a session may go on for the user that the policy has under the name of its own: password and account are
+-- as they were
+abbrev pub goes_on_for : Session → Option User → Bool
+goes_on_for z None = false
+goes_on_for z (Some u) = pointwise nat_eq u.password z.user.password && pointwise nat_eq u.account z.user.account
+
+abbrev pub goes_on : PolicyDoc → Session → Bool
+goes_on doc z = goes_on_for z (user_named doc z.user.user)
+
+-- the session for the user as the policy has it; what waits in its outbox, and whether a delivery was missed, stay
+abbrev pub for_user : Session → Option User → Session
+for_user z None = z
+for_user z (Some u) = record z { user = u }
+
+abbrev pub under : PolicyDoc → Session → Session
+under doc z = for_user z (user_named doc z.user.user)
+
+-- what is reported of a subscription: nothing where no session has it any more, or its user may have it; else the
+-- verdict
+abbrev pub report : Subscription → Verdict → Removed
+report sub v = record { id = sub.id; conn = sub.conn; sid = sub.sid; verdict = v }
+
+abbrev pub removal_for : Subscription → Option User → Option Removed
+removal_for sub None = None
+removal_for sub (Some u) =
+    if is_allowed (subscribe_verdict u.rules sub.subject) then None else Some (report sub (subscribe_verdict u.rules sub.subject))
+
+-- A policy that has come into force.
+pub record IsInForce (w : World) (doc : PolicyDoc) (closed : List ℕ) (lost : List Removed) (after : World) : Type 0 where
+  -- the sessions stay whose user the policy has under the same name, with the same password and account; no other
+  -- does, and nothing but their users' permissions changes
+  pub stay : after.sessions ≡ map (under doc) (filter (goes_on doc) w.sessions)
+  -- those reported gone are the connections that had a session and have none now, each once, the least first
+  pub rising : AllPairs (λ (m n : ℕ). m < n) closed
+  pub gone : (conn : ℕ) → list_any (λ (n : ℕ). n == conn) closed ≡ (is_some (session_of w.sessions conn) && not (is_some (session_of after.sessions conn)))
+  -- the subscriptions stand on that the policy lets their connections' users have
+  pub standing : after.subscriptions ≡ filter (λ (sub : Subscription). may_subscribe (user_at after sub.conn) sub.subject) w.subscriptions
+  -- those reported removed are the others of the sessions that stay, oldest first, each by its verdict
+  pub removed : lost ≡ filter_map (λ (sub : Subscription). removal_for sub (user_at after sub.conn)) w.subscriptions
+  -- and each verdict has its reason, as a denial has
+  pub reasons : All (λ (sub : Subscription). IfSome (user_at after sub.conn) (λ (u : User). IsJustifiedSubscribe sub.subject u.rules.subscribe (subscribe_verdict u.rules sub.subject))) w.subscriptions
