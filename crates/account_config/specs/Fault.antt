@@ -1,5 +1,5 @@
 -- What reading a policy answers: what was read, or the first fault.
-use Rattle.std.specs.Prelude.{◌≡◌, ◌≢◌, ◌++◌, ℕ, List, [], codes, Result, Ok, Err}
+use Rattle.std.specs.Prelude.{◌≡◌, ◌≢◌, ◌++◌, ℕ, List, [], codes, Bool, true, false, Result, Ok, Err}
 use Rattle.account_config.specs.declared.fault.ConfigFault.{ConfigFault}
 use Rattle.account_config.specs.declared.fault.ConfigFault.TheVariants.{TooLarge, NotJson, UnknownKey, WrongType, BadSubject, BadName, HashedPassword, NoMemory}
 
@@ -21,6 +21,17 @@ Fails fault read = fault ≢ NoMemory → read ≡ Err fault
 abbrev pub Gives : {X Y : Type 0} → (X → Y) → Result X ConfigFault → Result Y ConfigFault → Type 0
 Gives seen (Ok x) read = read ≡ Ok (seen x)
 Gives seen (Err fault) read = Fails fault read
+
+-- whether a fault is want of memory, which says nothing of the text
+abbrev pub is_memory : ConfigFault → Bool
+is_memory TooLarge = false
+is_memory NotJson = false
+is_memory (UnknownKey _) = false
+is_memory (WrongType _) = false
+is_memory (BadSubject _) = false
+is_memory (BadName _) = false
+is_memory (HashedPassword _) = false
+is_memory NoMemory = true
 
 -- the name of a fault, with a space where its path follows
 abbrev pub fault_title : ConfigFault → List ℕ

@@ -14,6 +14,9 @@ use policy_doc::PolicyDoc;
 use serde_json::Value;
 use std::alloc::Global;
 
+/// The most bytes that the text of a policy may have.
+pub const MOST_BYTES: usize = 1_048_576;
+
 /// The document that a text writes, or the text's first fault, with the path of where it stands. The
 /// faults come in this order: `TooLarge`, `NotJson`, then those of a walk. At a value this is first
 /// its kind, then the least unknown key by bytes, then the keys that must be there, then the known
@@ -31,7 +34,7 @@ pub fn read_policy(alloc: Global, text: &[u8]) -> Result<PolicyDoc, ConfigFault>
 fn json_of(alloc: Global, text: &[u8]) -> Result<Value, ConfigFault>
     ensures { Gives (λ value. view value) result (json_from text.now) }
 {
-    if 1_048_576 < text.len() {
+    if MOST_BYTES < text.len() {
         return Err(ConfigFault::TooLarge);
     }
     Ok(read_json(alloc, text)?)

@@ -28,7 +28,7 @@ pub enum ConfigFault {
 
 impl ConfigFault {
     ghost use Rattle.std.specs.Prelude.{◌≡◌, IfOk};
-    ghost use Rattle.account_config.specs.Fault.{fault_line, fault_path, fault_title};
+    ghost use Rattle.account_config.specs.Fault.{fault_line, fault_path, fault_title, is_memory};
 
     /// The line that tells an operator of the fault, without the line's end: the fault's name and,
     /// where it has one, its path. `NoMemory` where memory could not be had.
@@ -38,6 +38,22 @@ impl ConfigFault {
         let mut line = Vec::from_slice(alloc, self.title().as_bytes())?;
         line.extend_from_slice(self.path())?;
         Ok(line)
+    }
+
+    /// Whether memory lacked for reading the text, which says nothing of the text.
+    pub fn is_memory(&self) -> bool
+        ensures { result ≡ is_memory self.now }
+    {
+        match self {
+            ConfigFault::NoMemory => true,
+            ConfigFault::TooLarge => false,
+            ConfigFault::NotJson => false,
+            ConfigFault::UnknownKey(_) => false,
+            ConfigFault::WrongType(_) => false,
+            ConfigFault::BadSubject(_) => false,
+            ConfigFault::BadName(_) => false,
+            ConfigFault::HashedPassword(_) => false,
+        }
     }
 
     /// The fault's name, with a space where a path follows.

@@ -12,5 +12,5 @@ mod tests;
 mod text;
 mod user;
 
-pub use document::read_policy;
+pub use document::{MOST_BYTES, read_policy};
 pub use fault::ConfigFault;

@@ -27,5 +27,3 @@ pub use ready::{Ready, User};
 pub use tables::{Session, Subscription};
 pub use twice::Twice;
 
-#[cfg(test)]
-mod tests;

@@ -1,6 +1,7 @@
 -- What is said of a text that is longer than a policy's may be.
 use Rattle.std.proofs.Common.{◌≡◌, ◌<◌, ◌++◌, ℕ, List, codes, length, ap, refl, Err}
 use Rattle.std.proofs.lemmas.Bool.{lt-ltb}
+use Rattle.account_config.specs.Fault.{fault_line}
 use Rattle.account_config.specs.Policy.{policy_of}
 use Rattle.account_config.specs.declared.fault.ConfigFault.TheVariants.{TooLarge}
 use Rattle.natsd.specs.Play.{Played}
@@ -11,5 +12,5 @@ too_large : (text : List ℕ) → 1048576 < length text → policy_of text ≡ E
 unfolding policy_of
 too_large text long = rw (lt-ltb 1048576 (length text) long) refl
 
-pub report_is : (text : List ℕ) → 1048576 < length text → report_of text ≡ record { text = codes "config TooLarge" ++ codes "\n"; status = 1 }
+pub report_is : (text : List ℕ) → 1048576 < length text → report_of text ≡ record { text = fault_line TooLarge ++ codes "\n"; status = 1 }
 report_is text long = ap (λ read. reported (judged read)) (too_large text long)

@@ -111,7 +111,7 @@ pub IsAct-fresh : (a : Act) (before out : List ℕ) (ks : List Client) (w : Stat
 IsAct-fresh a before out ks w stops e h = let P : List ℕ → Type 0 = λ l. IsAct a l out ks w stops in subst P e h
 
 -- the first of the lines that are left
-pub plays_line : (old now : Option (List ℕ)) (number : ℕ) (part : Part) (lines rest : List (List ℕ)) (text : List ℕ) (w : State) (ks : List Client) (all : Played) → lines ≡ text ∷ rest →
+plays_line : (old now : Option (List ℕ)) (number : ℕ) (part : Part) (lines rest : List (List ℕ)) (text : List ℕ) (w : State) (ks : List Client) (all : Played) → lines ≡ text ∷ rest →
     Plays old now (played number part lines w ks) all →
     Plays old now (stops_or (line_and_drains number part (line_of text) w ks) (line_and_drains number part (line_of text) w ks).stops (λ v l. played (number + 1) (part_after part (line_of text)) rest v l)) all
 unfolding played

@@ -1,4 +1,4 @@
--- How the reading and the writing of a script end (docs/SCRIPT.md, "Statuses").
+-- How the reading of a script or a policy ends, and the writing of what it gives (docs/SCRIPT.md, "Statuses").
 use Rattle.std.specs.Prelude.{◌≡◌, ◌≤◌, ◌+◌, ℕ, List, length, min, codes, Bool, true, false, Option, Some, None, Result, Ok, Err}
 use Rattle.natsd.specs.declared.fault.PlayFault.{PlayFault}
 use Rattle.natsd.specs.declared.fault.PlayFault.TheVariants.{ReadFailed, WriteFailed, NoMemory, ScriptTooLong}

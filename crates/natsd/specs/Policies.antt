@@ -1,5 +1,5 @@
 -- What the text of a policy comes to (docs/POLICY.md, "The text of a policy").
-use Rattle.std.specs.Prelude.{◌++◌, ℕ, List, codes, decimal, length, Bool, true, false, Option, Some, None, Result, Ok, Err}
+use Rattle.std.specs.Prelude.{◌++◌, ℕ, List, codes, decimal, length, Option, Some, None, Result, Ok, Err}
 use Rattle.policy_doc.specs.Document.{policy_fault, users_of}
 use Rattle.policy_doc.specs.Document.{fault_line as policy_line}
 use Rattle.policy_doc.specs.declared.document.PolicyDoc.{PolicyDoc}
@@ -7,7 +7,6 @@ use Rattle.policy_doc.specs.declared.fault.PolicyFault.{PolicyFault}
 use Rattle.account_config.specs.Policy.{policy_of}
 use Rattle.account_config.specs.Fault.{fault_line as config_line}
 use Rattle.account_config.specs.declared.fault.ConfigFault.{ConfigFault}
-use Rattle.account_config.specs.declared.fault.ConfigFault.TheVariants.{TooLarge, NotJson, UnknownKey, WrongType, BadSubject, BadName, HashedPassword, NoMemory}
 
 -- a document that has no fault, or the line of its fault
 abbrev pub checked : PolicyDoc → Option PolicyFault → Result PolicyDoc (List ℕ)
@@ -21,17 +20,6 @@ judged (Err fault) = Err (config_line fault ++ codes "\n")
 -- the policy of a text, or the line of its first fault
 abbrev pub policy_or_line : List ℕ → Result PolicyDoc (List ℕ)
 policy_or_line text = judged (policy_of text)
-
--- whether a fault is want of memory, which says nothing of the text
-abbrev pub is_memory_fault : ConfigFault → Bool
-is_memory_fault TooLarge = false
-is_memory_fault NotJson = false
-is_memory_fault (UnknownKey path) = false
-is_memory_fault (WrongType path) = false
-is_memory_fault (BadSubject path) = false
-is_memory_fault (BadName path) = false
-is_memory_fault (HashedPassword path) = false
-is_memory_fault NoMemory = true
 
 -- what is said of a policy: how many accounts and users it has. Nothing is exported and imported.
 abbrev pub counts_line : PolicyDoc → List ℕ

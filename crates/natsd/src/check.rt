@@ -8,15 +8,13 @@ ghost use Rattle.natsd.specs.Check.{report_of};
 use crate::device::{Sink, Source, write_all};
 use crate::fault::PlayFault;
 use crate::input::read_within;
-use crate::policy::{counts_line, policy_or_line};
+use crate::policy::{config_line, counts_line, policy_or_line};
+use account_config::{ConfigFault, MOST_BYTES};
 use lists::{Items, NoMemory};
 use std::alloc::Global;
 
-/// The most bytes that a policy may have.
-const MOST_BYTES: usize = 1_048_576;
-
-/// The most reads that bring them, with the one that finds the end.
-const MOST_READS: usize = 1_048_577;
+/// The most reads that bring a policy, with the one that finds its end.
+const MOST_READS: usize = MOST_BYTES + 1;
 
 /// What is said of a policy.
 #[derive(Debug, Drop)]
@@ -49,9 +47,8 @@ fn report_too_large(alloc: Global) -> Result<Report, NoMemory>
     ensures text { (text : List ℕ) → 1048576 < length text → IfOk result (λ report. report.text ≡ (report_of text).text) }
     ensures status { (text : List ℕ) → 1048576 < length text → IfOk result (λ report. report.status ≡ (report_of text).status) }
 {
-    let line = Vec::from_slice(alloc, b"config TooLarge\n")?;
     Ok(Report {
-        text: Items::from_vec(line),
+        text: config_line(alloc, &ConfigFault::TooLarge)?,
         status: 1,
     })
 }

@@ -3,7 +3,7 @@ use std::alloc::AllocError;
 use std::error::Error;
 use std::fmt;
 
-/// Why a script could not be played to its end.
+/// Why a script could not be played, or a policy not be checked, to its end.
 #[derive(Clone, Copy, Debug, PartialEq, Eq)]
 pub enum PlayFault {
     /// The source failed in the call.
@@ -12,7 +12,7 @@ pub enum PlayFault {
     WriteFailed,
     /// Memory could not be had.
     NoMemory,
-    /// The script has no end within 16,777,216 bytes or 1,000,000 reads.
+    /// The script has no end within 16,777,216 bytes or 1,000,000 reads. No check of a policy answers it.
     ScriptTooLong,
 }
 

@@ -1,8 +1,8 @@
 // A policy as an operator writes it (docs/POLICY.md, "The text of a policy").
 ghost use Rattle.std.specs.Prelude.{◌≡◌, ◌++◌, false, IfOk, codes};
 ghost use Rattle.policy_doc.specs.Document.{policy_fault};
-ghost use Rattle.account_config.specs.Fault.{fault_line as config_line};
-ghost use Rattle.natsd.specs.Policies.{checked, counts_line, is_memory_fault, policy_or_line};
+ghost use Rattle.account_config.specs.Fault.{fault_line as config_line, is_memory};
+ghost use Rattle.natsd.specs.Policies.{checked, counts_line, policy_or_line};
 
 use account_config::{ConfigFault, read_policy};
 use itoa::Buffer;
@@ -34,12 +34,12 @@ fn check(alloc: Global, doc: PolicyDoc) -> Result<Result<Policy, Items<u8>>, NoM
     }
 }
 
-/// The line of a fault of a text.
-fn config_line(alloc: Global, fault: &ConfigFault) -> Result<Items<u8>, NoMemory>
+/// The line of a fault of a text, with its LF. `NoMemory` where memory could not be had, for reading the text too.
+pub fn config_line(alloc: Global, fault: &ConfigFault) -> Result<Items<u8>, NoMemory>
     ensures told { IfOk result (λ line. line ≡ config_line fault.now ++ codes "\n") }
-    ensures fault { IfOk result (λ line. is_memory_fault fault.now ≡ false) }
+    ensures fault { IfOk result (λ line. is_memory fault.now ≡ false) }
 {
-    if is_memory_fault(fault) {
+    if fault.is_memory() {
         return Err(NoMemory);
     }
     let line = fault.line(alloc)?;
@@ -53,22 +53,6 @@ fn with_line_end(line: Vec<u8>) -> Result<Items<u8>, NoMemory>
     let mut line = line;
     line.extend_from_slice(b"\n")?;
     Ok(Items::from_vec(line))
-}
-
-/// Whether memory lacked for reading a text.
-fn is_memory_fault(fault: &ConfigFault) -> bool
-    ensures { result ≡ is_memory_fault fault.now }
-{
-    match fault {
-        ConfigFault::NoMemory => true,
-        ConfigFault::TooLarge => false,
-        ConfigFault::NotJson => false,
-        ConfigFault::UnknownKey(_) => false,
-        ConfigFault::WrongType(_) => false,
-        ConfigFault::BadSubject(_) => false,
-        ConfigFault::BadName(_) => false,
-        ConfigFault::HashedPassword(_) => false,
-    }
 }
 
 /// The line that says how much a policy has: `ok`, then how many accounts, users, exports and imports. There

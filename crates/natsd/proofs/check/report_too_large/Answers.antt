@@ -4,7 +4,7 @@ use Rattle.natsd.proofs.Checks.{report_is}
 use Rattle.natsd.proofs.check.report_too_large.Goals as goal
 
 pub returns-clause-text : goal.returns-clause-text
-returns-clause-text c = λ text long. c.from_vec.ensures ∙ c.in_ok-line.ensures.items ∙ sym (ap (λ (p : Played). p.text) (report_is text long))
+returns-clause-text c = λ text long. c.in_ok-config_line.ensures.told ∙ sym (ap (λ (p : Played). p.text) (report_is text long))
 
 pub returns-clause-status : goal.returns-clause-status
 returns-clause-status c = λ text long. sym (ap (λ (p : Played). p.status) (report_is text long))

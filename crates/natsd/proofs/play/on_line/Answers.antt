@@ -1,4 +1,4 @@
--- to open a connection the hub is not asked, and a policy is set before anyone is connected
+-- to open a connection the hub is not asked
 use Rattle.std.proofs.Common.{sym, subst}
 use Rattle.natsd.specs.declared.script.Line.{Line}
 use Rattle.natsd.specs.Play.{line_act, IsAct}

@@ -1,0 +1,9 @@
+//! Tests of `hub`, which see it as every caller does: by its public contract alone.
+#![tactic(auto)]
+
+#[cfg(test)]
+mod policies;
+#[cfg(test)]
+mod talk;
+#[cfg(test)]
+mod tests;
