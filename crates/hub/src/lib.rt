@@ -26,4 +26,3 @@ pub use outbox::Outbox;
 pub use ready::{Ready, User};
 pub use tables::{Session, Subscription};
 pub use twice::Twice;
-

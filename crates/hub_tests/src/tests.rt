@@ -238,10 +238,7 @@ fn numbers(talk: &mut Talk, events: Vec<Event>) -> Result<String, Fail> {
     Ok(numbers)
 }
 
-fn number_of(
-    alloc: Global,
-    answer: &Result<Answer, (Event, HubRefusal)>,
-) -> Result<String, Fail> {
+fn number_of(alloc: Global, answer: &Result<Answer, (Event, HubRefusal)>) -> Result<String, Fail> {
     match answer {
         Ok(answer) => Ok(format!(in alloc; "{}\n", answer.number)?),
         Err((event, refusal)) => Ok(format!(in alloc; "{refusal:?} {event:?}\n")?),
@@ -252,7 +249,11 @@ fn number_of(
 fn a_run_answers_each_event(rt: HostRuntime) -> Result<(), Fail> {
     let mut talk = Talk::with_caps(rt.alloc(), ROOM)?;
     let numbers = numbers(&mut talk, five_events(rt.alloc())?)?;
-    assert!(rt; numbers.as_str().starts_with("1\n2\n3\nNoSession Event { now: 0, what: Take { conn: 9, most: 1 } }\nSessionTaken "));
+    assert!(rt;
+        numbers.as_str().starts_with(
+            "1\n2\n3\nNoSession Event { now: 0, what: Take { conn: 9, most: 1 } }\nSessionTaken "
+        )
+    );
     assert_eq!(rt; talk.hub.waiting(1), Some((1, false)));
     Ok(())
 }
@@ -266,7 +267,11 @@ fn a_full_history_takes_no_event(rt: HostRuntime) -> Result<(), Fail> {
     let mut talk = Talk::with_caps(rt.alloc(), caps)?;
     let numbers = numbers(&mut talk, five_events(rt.alloc())?)?;
     assert!(rt; numbers.as_str().starts_with("1\n2\nHistoryFull "));
-    assert!(rt; numbers.as_str().contains("\nHistoryFull Event { now: 0, what: Take { conn: 9, most: 1 } }\nHistoryFull "));
+    assert!(rt;
+        numbers.as_str().contains(
+            "\nHistoryFull Event { now: 0, what: Take { conn: 9, most: 1 } }\nHistoryFull "
+        )
+    );
     assert_eq!(rt; talk.hub.waiting(1), Some((0, false)));
     assert_eq!(rt; talk.standing()?.as_str(), "2 1 foo 1\n");
     assert_eq!(rt; talk.entries()?.as_str(), "1.1 connected\n1.2 subscribed\n");
@@ -307,7 +312,11 @@ fn every_answer_is_remembered(rt: HostRuntime) -> Result<(), Fail> {
     );
     assert_eq!(rt; talk.told.as_str(), talk.entries()?.as_str());
     assert_eq!(rt; talk.asked.as_str(), talk.events()?.as_str());
-    assert!(rt; talk.asked.as_str().starts_with("Event { now: 7, what: Connect { conn: 1, "));
+    assert!(rt;
+        talk.asked
+            .as_str()
+            .starts_with("Event { now: 7, what: Connect { conn: 1, ")
+    );
     Ok(())
 }
 
@@ -317,7 +326,10 @@ fn a_refusal_is_not_remembered(rt: HostRuntime) -> Result<(), Fail> {
     talk.connect(1, "demo", "demo")?;
     talk.close(9)?;
     talk.close(1)?;
-    assert_eq!(rt; talk.told.as_str(), "1.1 connected\nNoSession\n1.2 closed\n");
+    assert_eq!(rt;
+        talk.told.as_str(),
+        "1.1 connected\nNoSession\n1.2 closed\n"
+    );
     assert_eq!(rt; talk.entries()?.as_str(), "1.1 connected\n1.2 closed\n");
     Ok(())
 }
@@ -459,7 +471,12 @@ fn copies_do_and_say_the_same(rt: HostRuntime) -> Result<(), Fail> {
 #[test]
 fn a_copied_user_keeps_its_permissions(rt: HostRuntime) -> Result<(), Fail> {
     let policy = Policy::builtin(rt.alloc())?;
-    let account = policy.doc().accounts.as_slice().first().ok_or("no account")?;
+    let account = policy
+        .doc()
+        .accounts
+        .as_slice()
+        .first()
+        .ok_or("no account")?;
     let limited = account.account.users.as_slice().last().ok_or("no user")?;
     let user = User {
         account: account.name.clone()?,
