@@ -321,7 +321,7 @@ fn drains_in_order(rt: HostRuntime) {
 fn lines_that_stop(rt: HostRuntime) {
     let cases: [(&[u8], &[u8]); 4] = [
         (b"open 1\n\nopen 1\nsend 1 PING\\r\\n\n", b"script line 3\n"),
-        (b"# a policy\npolicy {}\nopen 1\n", b"script line 2\n"),
+        (b"# a moment\nnow 5\nopen 1\n", b"script line 2\n"),
         (
             b"open 1\nsend 1 PING\\r\\n\nopen 01\r",
             b"1< PONG\\r\\n\nscript line 3\n",
