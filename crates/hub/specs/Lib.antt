@@ -1,4 +1,3 @@
-pub mod Bounded
 pub mod Users
 pub mod World
 pub mod Routing

@@ -5,11 +5,11 @@ ghost use Rattle.hub.specs.World.{session_of, IsNowhere, IsPlace};
 ghost use Rattle.hub.specs.Transition.{new_session, in_session, taken, Gives};
 
 use crate::answer::{Delivery, HubRefusal, Outcome};
-use crate::outbox::Outbox;
 use crate::ready::User;
 use crate::tables::Session;
 use crate::twice::Twice;
 use lists::{Copying, Items, NoMemory};
+use outbox::Outbox;
 use std::alloc::Global;
 use std::mem;
 

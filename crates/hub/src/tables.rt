@@ -2,9 +2,9 @@ ghost use Rattle.std.specs.Prelude.{◌≡◌, position, ◌==◌};
 ghost use Rattle.std.specs.Option.{option_copied};
 
 use crate::answer::Delivery;
-use crate::outbox::Outbox;
 use crate::ready::User;
 use bytes::Bytes;
+use outbox::Outbox;
 use subjects::Pattern;
 
 /// A client that has shown who it is.

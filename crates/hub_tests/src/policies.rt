@@ -6,6 +6,36 @@ use std::alloc::Global;
 use std::test::Fail;
 use subjects::Pattern;
 
+/// The policies of the tests.
+#[derive(Clone, Copy)]
+pub enum Given {
+    /// User demo may do everything, user limited all below foo but foo.bar.
+    Builtin,
+    /// User u of account A may subscribe to a and to b, or to a alone.
+    SubscribeToBoth,
+    SubscribeToOne,
+    /// Users stays, leaves, changes and moves of account A.
+    FourUsers,
+    /// The same, but one has left, one has another password, and one is of account B.
+    OneStays,
+}
+
+impl Given {
+    pub fn ready(&self, alloc: Global) -> Result<Ready, Fail> {
+        match self {
+            Given::Builtin => ready_of(alloc, Policy::builtin(alloc)?),
+            Given::SubscribeToBoth => of_u(alloc, &["a", "b"]),
+            Given::SubscribeToOne => of_u(alloc, &["a"]),
+            Given::FourUsers => four_users(alloc),
+            Given::OneStays => one_stays(alloc),
+        }
+    }
+}
+
+fn ready_of(alloc: Global, policy: Policy) -> Result<Ready, Fail> {
+    Ok(Ready::of(alloc, policy).ok().ok_or("no policy is ready")?)
+}
+
 /// The lists of a direction: entries that are allowed, or no allow list; and none that are denied.
 fn direction(alloc: Global, allow: Option<&[&str]>) -> Result<Direction, Fail> {
     Ok(Direction {
@@ -54,19 +84,16 @@ fn ready(alloc: Global, a: Vec<UserDoc>, b: Vec<UserDoc>) -> Result<Ready, Fail>
     let policy = Policy::check(PolicyDoc { accounts })
         .ok()
         .ok_or("two users have one name")?;
-    let ready = Ready::of(alloc, policy).ok().ok_or("no policy is ready")?;
-    Ok(ready)
+    ready_of(alloc, policy)
 }
 
-/// User u of account A may subscribe as it is said.
-pub fn of_u(alloc: Global, allow: &[&str]) -> Result<Ready, Fail> {
+fn of_u(alloc: Global, allow: &[&str]) -> Result<Ready, Fail> {
     let mut users = Vec::new(alloc);
     users.push(user(alloc, "u", "u", Some(allow))?)?;
     ready(alloc, users, Vec::new(alloc))
 }
 
-/// Users stays, leaves, changes and moves of account A.
-pub fn four_users(alloc: Global) -> Result<Ready, Fail> {
+fn four_users(alloc: Global) -> Result<Ready, Fail> {
     let mut users = Vec::new(alloc);
     for name in ["stays", "leaves", "changes", "moves"] {
         users.push(user(alloc, name, "x", None)?)?;
@@ -74,8 +101,7 @@ pub fn four_users(alloc: Global) -> Result<Ready, Fail> {
     ready(alloc, users, Vec::new(alloc))
 }
 
-/// The same, but one has left, one has another password, and one is of account B.
-pub fn one_stays(alloc: Global) -> Result<Ready, Fail> {
+fn one_stays(alloc: Global) -> Result<Ready, Fail> {
     let mut users = Vec::new(alloc);
     users.push(user(alloc, "changes", "y", None)?)?;
     users.push(user(alloc, "stays", "x", None)?)?;

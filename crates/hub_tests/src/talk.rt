@@ -1,37 +1,67 @@
 ghost use Rattle.std.specs.Prelude.{◌≤◌};
 
+use crate::policies::Given;
 use bytes::Bytes;
-use hub::{Answer, Caps, Command, Delivery, Event, Hub, Item, Outcome, Ready, Removed};
+use hub::{Answer, Caps, Command, Delivery, Event, Hub, HubRefusal, Item, Outcome, Ready, Removed};
 use lists::{Copying, Items};
-use policy_doc::Policy;
 use std::alloc::Global;
 use std::str;
 use std::test::Fail;
 use subjects::{Pattern, Subject};
 
-/// A hub, and what it was asked and has answered, a line each.
+/// What a test does with a hub, one after the other.
+#[derive(Clone, Copy)]
+pub enum Ask {
+    /// The connection, the user and the password.
+    Connect(u64, &'static str, &'static str),
+    /// A Connect of no user.
+    ConnectNobody(u64),
+    /// A Connect of user demo on each of these connections, the last one left out. Nothing is told of it.
+    ConnectAll(u64, u64),
+    /// The connection, the subject and the sid.
+    Sub(u64, &'static str, &'static str),
+    /// The connection, the subject and the payload.
+    Pub(u64, &'static str, &'static str),
+    /// The connection, and how many deliveries at most.
+    Take(u64, usize),
+    Close(u64),
+    Reload(Given),
+    /// The moment of what comes after.
+    At(u64),
+    /// Tells what waits for a connection.
+    Waiting(u64),
+    /// Tells the standing subscriptions.
+    Standing,
+    /// Tells how long the history is, and whether it has what was asked and what was answered.
+    History,
+}
+
+/// What is told: the epoch, number and outcome of each answer, or the refusal; and what was looked at.
+pub fn told(alloc: Global, given: Given, caps: Caps, asks: &[Ask]) -> Result<String, Fail>
+    requires low { 1 ≤ caps.outbox }
+    requires high { caps.outbox ≤ 65536 }
+{
+    let mut talk = Talk::over(alloc, given.ready(alloc)?, caps)?;
+    for ask in asks {
+        talk.ask(*ask)?;
+    }
+    Ok(talk.told)
+}
+
+/// A hub, and what was said.
 #[derive(Drop)]
-pub struct Talk {
-    pub alloc: Global,
-    pub hub: Hub,
-    /// The epoch, the number and the outcome of each answer; or the refusal.
-    pub told: String,
-    /// The events that were answered.
-    pub asked: String,
+struct Talk {
+    alloc: Global,
+    hub: Hub,
+    now: u64,
+    told: String,
+    // The events that were answered, and the answers, a line each.
+    asked: String,
+    answered: String,
 }
 
 impl Talk {
-    /// A hub over the built-in policy: user demo may do everything, user limited all below foo but foo.bar.
-    pub fn with_caps(alloc: Global, caps: Caps) -> Result<Talk, Fail>
-        requires low { 1 ≤ caps.outbox }
-        requires high { caps.outbox ≤ 65536 }
-    {
-        let policy = Policy::builtin(alloc)?;
-        let ready = Ready::of(alloc, policy).ok().ok_or("no policy is ready")?;
-        Talk::over(alloc, ready, caps)
-    }
-
-    pub fn over(alloc: Global, ready: Ready, caps: Caps) -> Result<Talk, Fail>
+    fn over(alloc: Global, ready: Ready, caps: Caps) -> Result<Talk, Fail>
         requires low { 1 ≤ caps.outbox }
         requires high { caps.outbox ≤ 65536 }
     {
@@ -39,122 +69,168 @@ impl Talk {
         Ok(Talk {
             alloc,
             hub,
+            now: 0,
             told: String::new(alloc),
             asked: String::new(alloc),
+            answered: String::new(alloc),
         })
     }
 
-    /// A step at that moment.
-    pub fn ask(&mut self, now: u64, what: Command) -> Result<(), Fail> {
-        let event = Event { now, what };
-        let asked = format!(in self.alloc; "{event:?}\n")?;
-        match self.hub.step(event) {
-            Ok(answer) => {
-                self.asked.push_str(asked.as_str())?;
-                self.tell(&answer.copy(self.alloc)?)
-            }
-            Err((event, refusal)) => {
-                if format!(in self.alloc; "{event:?}\n")?.as_str() != asked.as_str() {
-                    return Err("another event was handed back".into());
-                }
-                self.told
-                    .push_str(format!(in self.alloc; "{refusal:?}\n")?.as_str())?;
+    fn ask(&mut self, ask: Ask) -> Result<(), Fail> {
+        match ask {
+            Ask::ConnectAll(from, to) => self.connect_all(from, to),
+            Ask::At(now) => {
+                self.now = now;
                 Ok(())
+            }
+            Ask::Waiting(conn) => self.tell_waiting(conn),
+            Ask::Standing => self.tell_standing(),
+            Ask::History => self.tell_history(),
+            _ => {
+                let what = command(self.alloc, ask)?;
+                self.step(&what)
             }
         }
     }
 
-    fn tell(&mut self, answer: &Answer) -> Result<(), Fail> {
-        let line = said(self.alloc, answer.epoch, answer.number, &answer.outcome)?;
+    // A step of a copy of the command.
+    fn step(&mut self, what: &Command) -> Result<(), Fail> {
+        let event = Event {
+            now: self.now,
+            what: what.copy(self.alloc)?,
+        };
+        let asked = format!(in self.alloc; "{event:?}\n")?;
+        match step(&mut self.hub, event) {
+            Ok(answer) => {
+                self.asked.push_str(asked.as_str())?;
+                self.tell_answer(&answer)
+            }
+            Err((event, refusal)) => {
+                let back = format!(in self.alloc; "{event:?}\n")?;
+                if back.as_str() != asked.as_str() {
+                    return Err("another event was handed back".into());
+                }
+                self.tell(format!(in self.alloc; "{refusal:?}")?)
+            }
+        }
+    }
+
+    fn tell(&mut self, line: String) -> Result<(), Fail> {
+        self.told.push_str(line.as_str())?;
+        self.told.push_str("\n")?;
+        Ok(())
+    }
+
+    // Tells a copy of the answer.
+    fn tell_answer(&mut self, answer: &Answer) -> Result<(), Fail> {
+        let copy = answer.copy(self.alloc)?;
+        let line = said(self.alloc, copy.epoch, copy.number, &copy.outcome)?;
+        self.answered.push_str(line.as_str())?;
         self.told.push_str(line.as_str())?;
         Ok(())
     }
 
-    pub fn connect(&mut self, conn: u64, user: &str, pass: &str) -> Result<(), Fail> {
-        let what = connect(self.alloc, conn, user, pass)?;
-        self.ask(0, what)
-    }
-
-    pub fn subscribe(&mut self, conn: u64, subject: &str, sid: &str) -> Result<(), Fail> {
-        let what = subscribe(self.alloc, conn, subject, sid)?;
-        self.ask(0, what)
-    }
-
-    pub fn publish(&mut self, conn: u64, subject: &str, body: &str) -> Result<(), Fail> {
-        let what = publish(self.alloc, conn, subject, body)?;
-        self.ask(0, what)
-    }
-
-    pub fn take(&mut self, conn: u64, most: usize) -> Result<(), Fail> {
-        self.ask(0, Command::Take { conn, most })
-    }
-
-    pub fn close(&mut self, conn: u64) -> Result<(), Fail> {
-        self.ask(0, Command::Close { conn })
-    }
-
-    /// The standing subscriptions, a line each.
-    pub fn standing(&self) -> Result<String, Fail> {
-        let mut lines = String::new(self.alloc);
-        for one in self.hub.standing()?.as_slice() {
-            let subject = text(one.subject.bytes())?;
-            let sid = text(one.sid.as_slice())?;
-            let line = format!(in self.alloc; "{} {} {subject} {sid}\n", one.id, one.conn)?;
-            lines.push_str(line.as_str())?;
+    fn connect_all(&mut self, from: u64, to: u64) -> Result<(), Fail> {
+        for conn in from..to {
+            let event = Event {
+                now: self.now,
+                what: command(self.alloc, Ask::Connect(conn, "demo", "demo"))?,
+            };
+            match step(&mut self.hub, event) {
+                Ok(_) => {}
+                Err(_) => return Err("refused".into()),
+            }
         }
-        Ok(lines)
+        Ok(())
     }
 
-    /// The outcomes of the history, as they were told.
-    pub fn entries(&self) -> Result<String, Fail> {
-        let mut lines = String::new(self.alloc);
-        for entry in self.hub.history() {
-            let line = said(self.alloc, entry.epoch, entry.number, &entry.outcome)?;
-            lines.push_str(line.as_str())?;
+    fn tell_waiting(&mut self, conn: u64) -> Result<(), Fail> {
+        match self.hub.waiting(conn) {
+            None => self.tell(format!(in self.alloc; "{conn} has no session")?),
+            Some((waiting, missed)) => {
+                self.tell(format!(in self.alloc; "{conn} has {waiting}, missed {missed}")?)
+            }
         }
-        Ok(lines)
     }
 
-    /// The events of the history, as they were asked.
-    pub fn events(&self) -> Result<String, Fail> {
-        let mut lines = String::new(self.alloc);
-        for entry in self.hub.history() {
-            lines.push_str(format!(in self.alloc; "{:?}\n", entry.event)?.as_str())?;
-        }
-        Ok(lines)
+    fn tell_standing(&mut self) -> Result<(), Fail> {
+        let lines = standing_in_words(self.alloc, &self.hub)?;
+        self.tell(format!(in self.alloc; "standing{lines}")?)
+    }
+
+    fn tell_history(&mut self) -> Result<(), Fail> {
+        let (events, answers) = history_in_words(self.alloc, &self.hub)?;
+        let held = self.hub.history().len();
+        let same = events.as_str() == self.asked.as_str()
+            && answers.as_str() == self.answered.as_str();
+        self.tell(format!(in self.alloc; "history of {held}, same {same}")?)
     }
 }
 
-pub fn text(bytes: &[u8]) -> Result<&str, Fail> {
+// A step without its clauses: what a test asserts, it computes.
+fn step(hub: &mut Hub, event: Event) -> Result<Answer, (Event, HubRefusal)> {
+    hub.step(event)
+}
+
+/// The command that is asked for.
+pub fn command(alloc: Global, ask: Ask) -> Result<Command, Fail> {
+    match ask {
+        Ask::Connect(conn, user, pass) => Ok(Command::Connect {
+            conn,
+            user: Some(bytes(alloc, user)?),
+            pass: bytes(alloc, pass)?,
+        }),
+        Ask::ConnectNobody(conn) => Ok(Command::Connect {
+            conn,
+            user: None,
+            pass: Bytes::from_static(b"demo"),
+        }),
+        Ask::Sub(conn, subject, sid) => Ok(Command::Sub {
+            conn,
+            subject: Pattern::parse(alloc, subject.as_bytes())?,
+            sid: bytes(alloc, sid)?,
+        }),
+        Ask::Pub(conn, subject, body) => Ok(Command::Pub {
+            conn,
+            subject: Subject::parse(alloc, subject.as_bytes())?,
+            body: bytes(alloc, body)?,
+        }),
+        Ask::Take(conn, most) => Ok(Command::Take { conn, most }),
+        Ask::Close(conn) => Ok(Command::Close { conn }),
+        Ask::Reload(given) => Ok(Command::Reload(given.ready(alloc)?)),
+        _ => Err("no command".into()),
+    }
+}
+
+fn standing_in_words(alloc: Global, hub: &Hub) -> Result<String, Fail> {
+    let mut words = String::new(alloc);
+    for one in hub.standing()?.as_slice() {
+        let subject = text(one.subject.bytes())?;
+        let sid = text(one.sid.as_slice())?;
+        let line = format!(in alloc; " [{} {} {subject} {sid}]", one.id, one.conn)?;
+        words.push_str(line.as_str())?;
+    }
+    Ok(words)
+}
+
+// The events and the answers of the history, a line each.
+fn history_in_words(alloc: Global, hub: &Hub) -> Result<(String, String), Fail> {
+    let mut events = String::new(alloc);
+    let mut answers = String::new(alloc);
+    for entry in hub.history() {
+        events.push_str(format!(in alloc; "{:?}\n", entry.event)?.as_str())?;
+        let line = said(alloc, entry.epoch, entry.number, &entry.outcome)?;
+        answers.push_str(line.as_str())?;
+    }
+    Ok((events, answers))
+}
+
+fn text(bytes: &[u8]) -> Result<&str, Fail> {
     Ok(str::from_utf8(bytes).ok().ok_or("no text")?)
 }
 
 pub fn bytes(alloc: Global, text: &str) -> Result<Bytes, Fail> {
     Ok(Bytes::copy_from_slice(alloc, text.as_bytes())?)
-}
-
-pub fn connect(alloc: Global, conn: u64, user: &str, pass: &str) -> Result<Command, Fail> {
-    Ok(Command::Connect {
-        conn,
-        user: Some(bytes(alloc, user)?),
-        pass: bytes(alloc, pass)?,
-    })
-}
-
-pub fn subscribe(alloc: Global, conn: u64, subject: &str, sid: &str) -> Result<Command, Fail> {
-    Ok(Command::Sub {
-        conn,
-        subject: Pattern::parse(alloc, subject.as_bytes())?,
-        sid: bytes(alloc, sid)?,
-    })
-}
-
-pub fn publish(alloc: Global, conn: u64, subject: &str, body: &str) -> Result<Command, Fail> {
-    Ok(Command::Pub {
-        conn,
-        subject: Subject::parse(alloc, subject.as_bytes())?,
-        body: bytes(alloc, body)?,
-    })
 }
 
 /// An answer in words.

@@ -1,7 +1,9 @@
-use crate::policies::{four_users, of_u, one_stays};
-use crate::talk::{Talk, connect, publish, subscribe};
+ghost use Rattle.std.specs.Prelude.{◌≤◌};
+
+use crate::policies::Given;
+use crate::talk::{Ask, command, told};
 use bytes::Bytes;
-use hub::{Answer, Caps, Command, Event, HubRefusal, Outbox, Ready, User};
+use hub::{Answer, Caps, Event, Hub, HubRefusal, User};
 use lists::{Copying, NoMemory};
 use permissions::{Compiled, Verdict};
 use policy_doc::Policy;
@@ -21,27 +23,33 @@ const ROOM_FOR_ONE: Caps = Caps {
 
 #[test]
 fn a_message_reaches_its_subscription(rt: HostRuntime) -> Result<(), Fail> {
-    let mut talk = Talk::with_caps(rt.alloc(), ROOM)?;
-    talk.connect(1, "demo", "demo")?;
-    talk.subscribe(1, "foo", "1")?;
-    talk.subscribe(1, "z", "1")?;
-    assert_eq!(rt; talk.standing()?.as_str(), "2 1 foo 1\n");
-    talk.publish(1, "foo", "hi")?;
-    talk.publish(1, "z", "hi")?;
-    assert_eq!(rt; talk.hub.waiting(1), Some((1, false)));
-    assert_eq!(rt; talk.hub.waiting(2), None);
-    talk.take(1, 5)?;
-    assert_eq!(rt; talk.hub.waiting(1), Some((0, false)));
-    talk.publish(1, "foo", "")?;
-    talk.take(1, 5)?;
+    let asks = [
+        Ask::Connect(1, "demo", "demo"),
+        Ask::Sub(1, "foo", "1"),
+        Ask::Sub(1, "z", "1"),
+        Ask::Standing,
+        Ask::Pub(1, "foo", "hi"),
+        Ask::Pub(1, "z", "hi"),
+        Ask::Waiting(1),
+        Ask::Waiting(2),
+        Ask::Take(1, 5),
+        Ask::Waiting(1),
+        Ask::Pub(1, "foo", ""),
+        Ask::Take(1, 5),
+    ];
+    let told = told(rt.alloc(), Given::Builtin, ROOM, &asks)?;
     assert_eq!(rt;
-        talk.told.as_str(),
+        told.as_str(),
         "1.1 connected
 1.2 subscribed
 1.3 same sid
+standing [2 1 foo 1]
 1.4 published All, entered 1 1
 1.5 published All
+1 has 1, missed false
+2 has no session
 1.6 taken foo 1 [hi], missed false
+1 has 0, missed false
 1.7 published All, entered 1 1
 1.8 taken foo 1 [], missed false
 "
@@ -51,21 +59,23 @@ fn a_message_reaches_its_subscription(rt: HostRuntime) -> Result<(), Fail> {
 
 #[test]
 fn permissions_bound_a_session(rt: HostRuntime) -> Result<(), Fail> {
-    let mut talk = Talk::with_caps(rt.alloc(), ROOM)?;
-    talk.connect(1, "limited", "limited")?;
-    talk.connect(2, "demo", "demo")?;
-    talk.subscribe(1, "foo.*", "1")?;
-    talk.publish(2, "foo.bar", "b")?;
-    talk.publish(2, "foo.baz", "z")?;
-    talk.publish(1, "foo.baz", "z")?;
-    talk.publish(1, "bar", "")?;
-    talk.publish(1, "foo.bar", "")?;
-    talk.subscribe(1, ">", "2")?;
-    talk.subscribe(1, "foo.bar", "1")?;
-    assert_eq!(rt; talk.standing()?.as_str(), "3 1 foo.* 1\n");
-    assert_eq!(rt; talk.hub.waiting(1), Some((2, false)));
+    let asks = [
+        Ask::Connect(1, "limited", "limited"),
+        Ask::Connect(2, "demo", "demo"),
+        Ask::Sub(1, "foo.*", "1"),
+        Ask::Pub(2, "foo.bar", "b"),
+        Ask::Pub(2, "foo.baz", "z"),
+        Ask::Pub(1, "foo.baz", "z"),
+        Ask::Pub(1, "bar", ""),
+        Ask::Pub(1, "foo.bar", ""),
+        Ask::Sub(1, ">", "2"),
+        Ask::Sub(1, "foo.bar", "1"),
+        Ask::Standing,
+        Ask::Waiting(1),
+    ];
+    let told = told(rt.alloc(), Given::Builtin, ROOM, &asks)?;
     assert_eq!(rt;
-        talk.told.as_str(),
+        told.as_str(),
         "1.1 connected
 1.2 connected
 1.3 subscribed
@@ -76,6 +86,8 @@ fn permissions_bound_a_session(rt: HostRuntime) -> Result<(), Fail> {
 1.8 denied DeniedBy(0)
 1.9 denied NoAllow
 1.10 denied DeniedBy(0)
+standing [3 1 foo.* 1]
+1 has 2, missed false
 "
     );
     Ok(())
@@ -83,23 +95,27 @@ fn permissions_bound_a_session(rt: HostRuntime) -> Result<(), Fail> {
 
 #[test]
 fn a_full_outbox_is_told_once(rt: HostRuntime) -> Result<(), Fail> {
-    let mut talk = Talk::with_caps(rt.alloc(), ROOM_FOR_ONE)?;
-    talk.connect(1, "demo", "demo")?;
-    talk.connect(2, "demo", "demo")?;
-    talk.subscribe(1, "q", "7")?;
-    talk.publish(2, "q", "a")?;
-    talk.publish(2, "q", "b")?;
-    assert_eq!(rt; talk.hub.waiting(1), Some((1, true)));
-    assert_eq!(rt; talk.hub.waiting(2), Some((0, false)));
-    talk.take(1, 5)?;
-    talk.take(1, 5)?;
+    let asks = [
+        Ask::Connect(1, "demo", "demo"),
+        Ask::Connect(2, "demo", "demo"),
+        Ask::Sub(1, "q", "7"),
+        Ask::Pub(2, "q", "a"),
+        Ask::Pub(2, "q", "b"),
+        Ask::Waiting(1),
+        Ask::Waiting(2),
+        Ask::Take(1, 5),
+        Ask::Take(1, 5),
+    ];
+    let told = told(rt.alloc(), Given::Builtin, ROOM_FOR_ONE, &asks)?;
     assert_eq!(rt;
-        talk.told.as_str(),
+        told.as_str(),
         "1.1 connected
 1.2 connected
 1.3 subscribed
 1.4 published All, entered 1 7
 1.5 published All, full 1 7
+1 has 1, missed true
+2 has 0, missed false
 1.6 taken q 7 [a], missed true
 1.7 taken, missed false
 "
@@ -109,29 +125,35 @@ fn a_full_outbox_is_told_once(rt: HostRuntime) -> Result<(), Fail> {
 
 #[test]
 fn a_close_takes_all_with_it(rt: HostRuntime) -> Result<(), Fail> {
-    let mut talk = Talk::with_caps(rt.alloc(), ROOM)?;
-    talk.connect(1, "demo", "demo")?;
-    talk.connect(2, "demo", "demo")?;
-    talk.subscribe(1, "foo", "1")?;
-    talk.subscribe(2, "foo", "1")?;
-    talk.publish(1, "foo", "a")?;
-    talk.close(1)?;
-    assert_eq!(rt; talk.hub.waiting(1), None);
-    assert_eq!(rt; talk.standing()?.as_str(), "4 2 foo 1\n");
-    talk.close(1)?;
-    talk.connect(1, "demo", "demo")?;
-    assert_eq!(rt; talk.hub.waiting(1), Some((0, false)));
-    assert_eq!(rt; talk.hub.waiting(2), Some((1, false)));
+    let asks = [
+        Ask::Connect(1, "demo", "demo"),
+        Ask::Connect(2, "demo", "demo"),
+        Ask::Sub(1, "foo", "1"),
+        Ask::Sub(2, "foo", "1"),
+        Ask::Pub(1, "foo", "a"),
+        Ask::Close(1),
+        Ask::Waiting(1),
+        Ask::Standing,
+        Ask::Close(1),
+        Ask::Connect(1, "demo", "demo"),
+        Ask::Waiting(1),
+        Ask::Waiting(2),
+    ];
+    let told = told(rt.alloc(), Given::Builtin, ROOM, &asks)?;
     assert_eq!(rt;
-        talk.told.as_str(),
+        told.as_str(),
         "1.1 connected
 1.2 connected
 1.3 subscribed
 1.4 subscribed
 1.5 published All, entered 1 1, entered 2 1
 1.6 closed
+1 has no session
+standing [4 2 foo 1]
 NoSession
 1.7 connected
+1 has 0, missed false
+2 has 1, missed false
 "
     );
     Ok(())
@@ -139,27 +161,25 @@ NoSession
 
 #[test]
 fn a_stranger_has_no_session(rt: HostRuntime) -> Result<(), Fail> {
-    let mut talk = Talk::with_caps(rt.alloc(), ROOM)?;
-    talk.connect(1, "demo", "limited")?;
-    talk.connect(1, "Demo", "demo")?;
-    talk.connect(1, "", "")?;
-    let nobody = Command::Connect {
-        conn: 1,
-        user: None,
-        pass: Bytes::from_static(b"demo"),
-    };
-    talk.ask(0, nobody)?;
-    assert_eq!(rt; talk.hub.waiting(1), None);
-    talk.subscribe(1, "foo", "1")?;
-    talk.publish(1, "foo", "")?;
-    talk.take(1, 1)?;
-    talk.close(1)?;
+    let asks = [
+        Ask::Connect(1, "demo", "limited"),
+        Ask::Connect(1, "Demo", "demo"),
+        Ask::Connect(1, "", ""),
+        Ask::ConnectNobody(1),
+        Ask::Waiting(1),
+        Ask::Sub(1, "foo", "1"),
+        Ask::Pub(1, "foo", ""),
+        Ask::Take(1, 1),
+        Ask::Close(1),
+    ];
+    let told = told(rt.alloc(), Given::Builtin, ROOM, &asks)?;
     assert_eq!(rt;
-        talk.told.as_str(),
+        told.as_str(),
         "1.1 authorization violation
 1.2 authorization violation
 1.3 authorization violation
 1.4 authorization violation
+1 has no session
 NoSession
 NoSession
 NoSession
@@ -171,17 +191,22 @@ NoSession
 
 #[test]
 fn a_refused_event_takes_no_number(rt: HostRuntime) -> Result<(), Fail> {
-    let mut talk = Talk::with_caps(rt.alloc(), ROOM)?;
-    talk.connect(1, "demo", "demo")?;
-    talk.publish(9, "foo", "hi")?;
-    talk.connect(1, "demo", "wrong")?;
-    talk.take(1, 0)?;
+    let asks = [
+        Ask::Connect(1, "demo", "demo"),
+        Ask::At(7),
+        Ask::Pub(9, "foo", "hi"),
+        Ask::Connect(1, "demo", "wrong"),
+        Ask::Take(1, 0),
+        Ask::History,
+    ];
+    let told = told(rt.alloc(), Given::Builtin, ROOM, &asks)?;
     assert_eq!(rt;
-        talk.told.as_str(),
+        told.as_str(),
         "1.1 connected
 NoSession
 SessionTaken
 1.2 taken, missed false
+history of 2, same true
 "
     );
     Ok(())
@@ -189,20 +214,20 @@ SessionTaken
 
 #[test]
 fn sessions_have_a_limit(rt: HostRuntime) -> Result<(), Fail> {
-    let mut talk = Talk::with_caps(rt.alloc(), ROOM_FOR_ONE)?;
-    for conn in 1..4097 {
-        talk.connect(conn, "demo", "demo")?;
-        assert_eq!(rt; talk.hub.waiting(conn), Some((0, false)));
-    }
-    talk.told = String::new(rt.alloc());
-    talk.connect(4097, "demo", "demo")?;
-    talk.connect(4097, "demo", "wrong")?;
-    talk.connect(4096, "demo", "demo")?;
-    talk.close(5)?;
-    talk.connect(4097, "demo", "demo")?;
+    let asks = [
+        Ask::ConnectAll(1, 4097),
+        Ask::Waiting(4096),
+        Ask::Connect(4097, "demo", "demo"),
+        Ask::Connect(4097, "demo", "wrong"),
+        Ask::Connect(4096, "demo", "demo"),
+        Ask::Close(5),
+        Ask::Connect(4097, "demo", "demo"),
+    ];
+    let told = told(rt.alloc(), Given::Builtin, ROOM_FOR_ONE, &asks)?;
     assert_eq!(rt;
-        talk.told.as_str(),
-        "SessionLimit
+        told.as_str(),
+        "4096 has 0, missed false
+SessionLimit
 SessionLimit
 SessionTaken
 1.4097 closed
@@ -212,69 +237,36 @@ SessionTaken
     Ok(())
 }
 
-// Connect 1, Sub, Pub, Take of 9 and Connect 1 again, each at moment 0.
-fn five_events(alloc: Global) -> Result<Vec<Event>, Fail> {
-    let mut events = Vec::new(alloc);
-    add(&mut events, connect(alloc, 1, "demo", "demo")?)?;
-    add(&mut events, subscribe(alloc, 1, "foo", "1")?)?;
-    add(&mut events, publish(alloc, 1, "foo", "hi")?)?;
-    add(&mut events, Command::Take { conn: 9, most: 1 })?;
-    add(&mut events, connect(alloc, 1, "demo", "demo")?)?;
-    Ok(events)
-}
-
-fn add(events: &mut Vec<Event>, what: Command) -> Result<(), Fail> {
-    events.push(Event { now: 0, what })?;
-    Ok(())
-}
-
-// The number of each answer, or the refusal, of a run of these events.
-fn numbers(talk: &mut Talk, events: Vec<Event>) -> Result<String, Fail> {
-    let answers = talk.hub.run(events).ok().ok_or("no room for the answers")?;
-    let mut numbers = String::new(talk.alloc);
-    for answer in answers.iter() {
-        numbers.push_str(number_of(talk.alloc, answer)?.as_str())?;
-    }
-    Ok(numbers)
-}
-
-fn number_of(alloc: Global, answer: &Result<Answer, (Event, HubRefusal)>) -> Result<String, Fail> {
-    match answer {
-        Ok(answer) => Ok(format!(in alloc; "{}\n", answer.number)?),
-        Err((event, refusal)) => Ok(format!(in alloc; "{refusal:?} {event:?}\n")?),
-    }
-}
-
 #[test]
-fn a_run_answers_each_event(rt: HostRuntime) -> Result<(), Fail> {
-    let mut talk = Talk::with_caps(rt.alloc(), ROOM)?;
-    let numbers = numbers(&mut talk, five_events(rt.alloc())?)?;
-    assert!(rt;
-        numbers.as_str().starts_with(
-            "1\n2\n3\nNoSession Event { now: 0, what: Take { conn: 9, most: 1 } }\nSessionTaken "
-        )
+fn every_answer_is_remembered(rt: HostRuntime) -> Result<(), Fail> {
+    let asks = [
+        Ask::History,
+        Ask::At(7),
+        Ask::Connect(1, "limited", "limited"),
+        Ask::At(3),
+        Ask::Sub(1, "foo.*", "1"),
+        Ask::At(8),
+        Ask::Sub(1, ">", "2"),
+        Ask::Pub(1, "foo.a", "first"),
+        Ask::Take(1, 5),
+        Ask::Close(9),
+        Ask::Reload(Given::FourUsers),
+        Ask::History,
+    ];
+    let told = told(rt.alloc(), Given::Builtin, ROOM_FOR_ONE, &asks)?;
+    assert_eq!(rt;
+        told.as_str(),
+        "history of 0, same true
+1.1 connected
+1.2 subscribed
+1.3 denied NoAllow
+1.4 published Index(0), entered 1 1
+1.5 taken foo.a 1 [first], missed false
+NoSession
+2.6 gone 1, removed
+history of 6, same true
+"
     );
-    assert_eq!(rt; talk.hub.waiting(1), Some((1, false)));
-    Ok(())
-}
-
-#[test]
-fn a_full_history_takes_no_event(rt: HostRuntime) -> Result<(), Fail> {
-    let caps = Caps {
-        outbox: 16,
-        history: 2,
-    };
-    let mut talk = Talk::with_caps(rt.alloc(), caps)?;
-    let numbers = numbers(&mut talk, five_events(rt.alloc())?)?;
-    assert!(rt; numbers.as_str().starts_with("1\n2\nHistoryFull "));
-    assert!(rt;
-        numbers.as_str().contains(
-            "\nHistoryFull Event { now: 0, what: Take { conn: 9, most: 1 } }\nHistoryFull "
-        )
-    );
-    assert_eq!(rt; talk.hub.waiting(1), Some((0, false)));
-    assert_eq!(rt; talk.standing()?.as_str(), "2 1 foo 1\n");
-    assert_eq!(rt; talk.entries()?.as_str(), "1.1 connected\n1.2 subscribed\n");
     Ok(())
 }
 
@@ -284,63 +276,215 @@ fn a_history_without_room_takes_nothing(rt: HostRuntime) -> Result<(), Fail> {
         outbox: 16,
         history: 0,
     };
-    let mut talk = Talk::with_caps(rt.alloc(), caps)?;
-    talk.connect(1, "demo", "demo")?;
-    assert_eq!(rt; talk.told.as_str(), "HistoryFull\n");
-    assert_eq!(rt; talk.hub.waiting(1), None);
-    assert!(rt; talk.hub.history().is_empty());
-    Ok(())
-}
-
-#[test]
-fn every_answer_is_remembered(rt: HostRuntime) -> Result<(), Fail> {
-    let mut talk = Talk::with_caps(rt.alloc(), ROOM_FOR_ONE)?;
-    assert!(rt; talk.hub.history().is_empty());
-    talk.ask(7, connect(rt.alloc(), 1, "limited", "limited")?)?;
-    talk.ask(3, subscribe(rt.alloc(), 1, "foo.*", "1")?)?;
-    talk.ask(8, subscribe(rt.alloc(), 1, ">", "2")?)?;
-    talk.ask(8, publish(rt.alloc(), 1, "foo.a", "first")?)?;
-    talk.ask(9, Command::Take { conn: 1, most: 5 })?;
+    let asks = [
+        Ask::Connect(1, "demo", "demo"),
+        Ask::Waiting(1),
+        Ask::History,
+    ];
+    let told = told(rt.alloc(), Given::Builtin, caps, &asks)?;
     assert_eq!(rt;
-        talk.entries()?.as_str(),
-        "1.1 connected
-1.2 subscribed
-1.3 denied NoAllow
-1.4 published Index(0), entered 1 1
-1.5 taken foo.a 1 [first], missed false
+        told.as_str(),
+        "HistoryFull
+1 has no session
+history of 0, same true
 "
     );
-    assert_eq!(rt; talk.told.as_str(), talk.entries()?.as_str());
-    assert_eq!(rt; talk.asked.as_str(), talk.events()?.as_str());
-    assert!(rt;
-        talk.asked
-            .as_str()
-            .starts_with("Event { now: 7, what: Connect { conn: 1, ")
-    );
     Ok(())
 }
 
 #[test]
-fn a_refusal_is_not_remembered(rt: HostRuntime) -> Result<(), Fail> {
-    let mut talk = Talk::with_caps(rt.alloc(), ROOM)?;
-    talk.connect(1, "demo", "demo")?;
-    talk.close(9)?;
-    talk.close(1)?;
+fn a_full_history_takes_no_event(rt: HostRuntime) -> Result<(), Fail> {
+    let caps = Caps {
+        outbox: 16,
+        history: 2,
+    };
+    let asks = [
+        Ask::Connect(1, "demo", "demo"),
+        Ask::Sub(1, "foo", "1"),
+        Ask::Pub(1, "foo", "hi"),
+        Ask::Take(9, 1),
+        Ask::Connect(1, "demo", "demo"),
+        Ask::Waiting(1),
+        Ask::Standing,
+        Ask::History,
+    ];
+    let told = told(rt.alloc(), Given::Builtin, caps, &asks)?;
     assert_eq!(rt;
-        talk.told.as_str(),
-        "1.1 connected\nNoSession\n1.2 closed\n"
+        told.as_str(),
+        "1.1 connected
+1.2 subscribed
+HistoryFull
+HistoryFull
+HistoryFull
+1 has 0, missed false
+standing [2 1 foo 1]
+history of 2, same true
+"
     );
-    assert_eq!(rt; talk.entries()?.as_str(), "1.1 connected\n1.2 closed\n");
     Ok(())
 }
 
 #[test]
-fn a_hub_begins_with_its_policy(rt: HostRuntime) -> Result<(), Fail> {
-    let talk = Talk::with_caps(rt.alloc(), ROOM)?;
-    assert_eq!(rt; talk.hub.epoch(), 1);
-    assert_eq!(rt; talk.standing()?.as_str(), "");
-    assert!(rt; is_builtin(talk.hub.policy()));
-    assert!(rt; is_builtin(talk.hub.ready().policy()));
+fn a_reload_removes_what_it_refuses(rt: HostRuntime) -> Result<(), Fail> {
+    let asks = [
+        Ask::Connect(1, "u", "u"),
+        Ask::Sub(1, "a", "7"),
+        Ask::Sub(1, "b", "8"),
+        Ask::Reload(Given::SubscribeToOne),
+        Ask::Standing,
+        Ask::Sub(1, "b", "8"),
+        Ask::Reload(Given::SubscribeToOne),
+        Ask::Take(1, 1),
+        Ask::Standing,
+        Ask::History,
+    ];
+    let told = told(rt.alloc(), Given::SubscribeToBoth, ROOM, &asks)?;
+    assert_eq!(rt;
+        told.as_str(),
+        "1.1 connected
+1.2 subscribed
+1.3 subscribed
+2.4 gone, removed 3 1 8 NoAllow
+standing [2 1 a 7]
+2.5 denied NoAllow
+3.6 gone, removed
+3.7 taken, missed false
+standing [2 1 a 7]
+history of 7, same true
+"
+    );
+    Ok(())
+}
+
+#[test]
+fn a_reload_closes_whom_it_has_no_more(rt: HostRuntime) -> Result<(), Fail> {
+    let asks = [
+        Ask::Connect(9, "leaves", "x"),
+        Ask::Connect(3, "stays", "x"),
+        Ask::Connect(4, "changes", "x"),
+        Ask::Connect(6, "moves", "x"),
+        Ask::Sub(9, "s", "1"),
+        Ask::Sub(3, "s", "1"),
+        Ask::Sub(4, "s", "1"),
+        Ask::Sub(6, "s", "1"),
+        Ask::Pub(4, "s", "a"),
+        Ask::Pub(4, "s", "b"),
+        Ask::Reload(Given::OneStays),
+        Ask::Waiting(9),
+        Ask::Waiting(4),
+        Ask::Waiting(6),
+        Ask::Waiting(3),
+        Ask::Standing,
+        Ask::Connect(4, "changes", "y"),
+        Ask::Waiting(4),
+        Ask::Take(3, 5),
+    ];
+    let told = told(rt.alloc(), Given::FourUsers, ROOM_FOR_ONE, &asks)?;
+    assert_eq!(rt;
+        told.as_str(),
+        "1.1 connected
+1.2 connected
+1.3 connected
+1.4 connected
+1.5 subscribed
+1.6 subscribed
+1.7 subscribed
+1.8 subscribed
+1.9 published All, entered 9 1, entered 3 1, entered 4 1, entered 6 1
+1.10 published All, full 9 1, full 3 1, full 4 1, full 6 1
+2.11 gone 4 6 9, removed
+9 has no session
+4 has no session
+6 has no session
+3 has 1, missed true
+standing [6 3 s 1]
+2.12 connected
+4 has 0, missed false
+2.13 taken s 1 [a], missed true
+"
+    );
+    Ok(())
+}
+
+// The numbers of the answers, or the refusals, of a run: Connect 1, Sub, Pub, Take of 9 and Connect 1 again.
+fn numbers(alloc: Global, caps: Caps) -> Result<String, Fail>
+    requires low { 1 ≤ caps.outbox }
+    requires high { caps.outbox ≤ 65536 }
+{
+    let mut hub = Hub::new(alloc, Given::Builtin.ready(alloc)?, caps)
+        .ok()
+        .ok_or("no hub is open")?;
+    let answers = run(&mut hub, five_events(alloc)?)?;
+    let mut numbers = String::new(alloc);
+    for answer in answers.as_slice() {
+        numbers.push_str(number_of(alloc, answer)?.as_str())?;
+    }
+    Ok(numbers)
+}
+
+// A run without its clauses: what a test asserts, it computes.
+fn run(
+    hub: &mut Hub,
+    events: Vec<Event>,
+) -> Result<Vec<Result<Answer, (Event, HubRefusal)>>, &'static str> {
+    hub.run(events).ok().ok_or("no room for the answers")
+}
+
+fn five_events(alloc: Global) -> Result<Vec<Event>, Fail> {
+    let mut events = Vec::new(alloc);
+    for ask in [
+        Ask::Connect(1, "demo", "demo"),
+        Ask::Sub(1, "foo", "1"),
+        Ask::Pub(1, "foo", "hi"),
+        Ask::Take(9, 1),
+        Ask::Close(9),
+    ] {
+        events.push(Event {
+            now: 0,
+            what: command(alloc, ask)?,
+        })?;
+    }
+    Ok(events)
+}
+
+fn number_of(alloc: Global, answer: &Result<Answer, (Event, HubRefusal)>) -> Result<String, Fail> {
+    match answer {
+        Ok(answer) => Ok(format!(in alloc; "{}\n", answer.number)?),
+        Err((event, refusal)) => Ok(format!(in alloc; "{refusal:?} to {:?}\n", event.what)?),
+    }
+}
+
+#[test]
+fn a_run_answers_each_event(rt: HostRuntime) -> Result<(), Fail> {
+    let numbers = numbers(rt.alloc(), ROOM)?;
+    assert_eq!(rt;
+        numbers.as_str(),
+        "1
+2
+3
+NoSession to Take { conn: 9, most: 1 }
+NoSession to Close { conn: 9 }
+"
+    );
+    Ok(())
+}
+
+#[test]
+fn a_run_goes_on_behind_a_refusal(rt: HostRuntime) -> Result<(), Fail> {
+    let caps = Caps {
+        outbox: 16,
+        history: 3,
+    };
+    let numbers = numbers(rt.alloc(), caps)?;
+    assert_eq!(rt;
+        numbers.as_str(),
+        "1
+2
+3
+HistoryFull to Take { conn: 9, most: 1 }
+HistoryFull to Close { conn: 9 }
+"
+    );
     Ok(())
 }
 
@@ -355,122 +499,20 @@ fn is_builtin(policy: &Policy) -> bool {
 }
 
 #[test]
-fn a_reload_removes_what_it_refuses(rt: HostRuntime) -> Result<(), Fail> {
-    let mut talk = Talk::over(rt.alloc(), of_u(rt.alloc(), &["a", "b"])?, ROOM)?;
-    talk.connect(1, "u", "u")?;
-    talk.subscribe(1, "a", "7")?;
-    talk.subscribe(1, "b", "8")?;
-    talk.ask(0, Command::Reload(of_u(rt.alloc(), &["a"])?))?;
-    assert_eq!(rt; talk.standing()?.as_str(), "2 1 a 7\n");
-    talk.subscribe(1, "b", "8")?;
-    talk.ask(0, Command::Reload(of_u(rt.alloc(), &["a"])?))?;
-    talk.take(1, 1)?;
-    assert_eq!(rt; talk.standing()?.as_str(), "2 1 a 7\n");
-    assert_eq!(rt; talk.hub.epoch(), 3);
-    assert_eq!(rt;
-        talk.told.as_str(),
-        "1.1 connected
-1.2 subscribed
-1.3 subscribed
-2.4 gone, removed 3 1 8 NoAllow
-2.5 denied NoAllow
-3.6 gone, removed
-3.7 taken, missed false
-"
-    );
-    assert_eq!(rt; talk.told.as_str(), talk.entries()?.as_str());
+fn a_hub_begins_with_its_policy(rt: HostRuntime) -> Result<(), Fail> {
+    let ready = Given::Builtin.ready(rt.alloc())?;
+    let hub = Hub::new(rt.alloc(), ready, ROOM)
+        .ok()
+        .ok_or("no hub is open")?;
+    assert_eq!(rt; hub.epoch(), 1);
+    assert!(rt; is_builtin(hub.policy()));
+    assert!(rt; is_builtin(hub.ready().policy()));
     Ok(())
 }
 
-#[test]
-fn a_reload_closes_whom_it_has_no_more(rt: HostRuntime) -> Result<(), Fail> {
-    let mut talk = Talk::over(rt.alloc(), four_users(rt.alloc())?, ROOM_FOR_ONE)?;
-    talk.connect(9, "leaves", "x")?;
-    talk.connect(3, "stays", "x")?;
-    talk.connect(4, "changes", "x")?;
-    talk.connect(6, "moves", "x")?;
-    for conn in [9, 3, 4, 6] {
-        talk.subscribe(conn, "s", "1")?;
-    }
-    talk.publish(4, "s", "a")?;
-    talk.publish(4, "s", "b")?;
-    talk.told = String::new(rt.alloc());
-    talk.ask(0, Command::Reload(one_stays(rt.alloc())?))?;
-    for conn in [9, 4, 6] {
-        assert_eq!(rt; talk.hub.waiting(conn), None);
-    }
-    assert_eq!(rt; talk.hub.waiting(3), Some((1, true)));
-    assert_eq!(rt; talk.standing()?.as_str(), "6 3 s 1\n");
-    talk.connect(4, "changes", "y")?;
-    assert_eq!(rt; talk.hub.waiting(4), Some((0, false)));
-    talk.take(3, 5)?;
-    assert_eq!(rt;
-        talk.told.as_str(),
-        "2.11 gone 4 6 9, removed
-2.12 connected
-2.13 taken s 1 [a], missed true
-"
-    );
-    Ok(())
-}
-
-#[test]
-fn an_outbox_gives_back_what_has_no_room(rt: HostRuntime) -> Result<(), Fail> {
-    let mut outbox = Outbox::new(rt.alloc(), 1)?;
-    assert!(rt; !outbox.is_full());
-    assert_eq!(rt; outbox.offer(3_u8), Ok(()));
-    assert_eq!(rt; outbox.offer(4), Err(4));
-    assert!(rt; outbox.is_full());
-    assert_eq!(rt; outbox.take(0)?.len(), 0);
-    assert_eq!(rt; outbox.len(), 1);
-    assert_eq!(rt; outbox.take(5)?.as_slice(), [3].as_slice());
-    assert_eq!(rt; outbox.len(), 0);
-    Ok(())
-}
-
-// Asks one hub for a command, and the other for a copy of it.
-fn ask_both(talk: &mut Talk, other: &mut Talk, what: Command) -> Result<(), Fail> {
-    let copy = what.copy(talk.alloc)?;
-    talk.ask(0, what)?;
-    other.ask(0, copy)
-}
-
-#[test]
-fn copies_do_and_say_the_same(rt: HostRuntime) -> Result<(), Fail> {
-    let alloc = rt.alloc();
-    let mut talk = Talk::over(alloc, of_u(alloc, &["a", "b"])?, ROOM)?;
-    let ready = talk.hub.ready().copy(alloc)?;
-    let mut other = Talk::over(alloc, ready, ROOM)?;
-    ask_both(&mut talk, &mut other, connect(alloc, 2, "u", "v")?)?;
-    ask_both(&mut talk, &mut other, connect(alloc, 1, "u", "u")?)?;
-    ask_both(&mut talk, &mut other, subscribe(alloc, 1, "a", "1")?)?;
-    ask_both(&mut talk, &mut other, subscribe(alloc, 1, "b", "8")?)?;
-    ask_both(&mut talk, &mut other, subscribe(alloc, 1, "c", "9")?)?;
-    ask_both(&mut talk, &mut other, publish(alloc, 1, "a", "z")?)?;
-    ask_both(&mut talk, &mut other, Command::Reload(of_u(alloc, &["a"])?))?;
-    ask_both(&mut talk, &mut other, Command::Take { conn: 1, most: 5 })?;
-    ask_both(&mut talk, &mut other, Command::Close { conn: 1 })?;
-    assert_eq!(rt; other.told.as_str(), talk.told.as_str());
-    assert_eq!(rt; other.asked.as_str(), talk.asked.as_str());
-    assert_eq!(rt;
-        talk.told.as_str(),
-        "1.1 authorization violation
-1.2 connected
-1.3 subscribed
-1.4 subscribed
-1.5 denied NoAllow
-1.6 published All, entered 1 1
-2.7 gone, removed 4 1 8 NoAllow
-2.8 taken a 1 [z], missed false
-2.9 closed
-"
-    );
-    Ok(())
-}
-
-#[test]
-fn a_copied_user_keeps_its_permissions(rt: HostRuntime) -> Result<(), Fail> {
-    let policy = Policy::builtin(rt.alloc())?;
+// User limited of the built-in policy, with another password.
+fn limited(alloc: Global) -> Result<User, Fail> {
+    let policy = Policy::builtin(alloc)?;
     let account = policy
         .doc()
         .accounts
@@ -478,13 +520,17 @@ fn a_copied_user_keeps_its_permissions(rt: HostRuntime) -> Result<(), Fail> {
         .first()
         .ok_or("no account")?;
     let limited = account.account.users.as_slice().last().ok_or("no user")?;
-    let user = User {
+    Ok(User {
         account: account.name.clone()?,
         user: limited.user.clone()?,
         password: Bytes::from_static(b"secret"),
-        rules: Compiled::of(rt.alloc(), limited)?,
-    };
-    let copy = user.copy(rt.alloc())?;
+        rules: Compiled::of(alloc, limited)?,
+    })
+}
+
+#[test]
+fn a_copied_user_keeps_its_permissions(rt: HostRuntime) -> Result<(), Fail> {
+    let copy = limited(rt.alloc())?.copy(rt.alloc())?;
     assert_eq!(rt; copy.account.as_slice(), b"DEMO".as_slice());
     assert_eq!(rt; copy.user.as_slice(), b"limited".as_slice());
     assert_eq!(rt; copy.password.as_slice(), b"secret".as_slice());

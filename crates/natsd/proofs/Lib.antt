@@ -1,4 +1,3 @@
-pub mod Json
 pub mod Numbers
 pub mod Writes
 pub mod Answering

@@ -1,6 +1,5 @@
 pub mod Script
 pub mod Output
-pub mod Connect
 pub mod Device
 pub mod Input
 pub mod Session

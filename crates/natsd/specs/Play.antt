@@ -7,6 +7,7 @@ use Rattle.policy_doc.specs.declared.document.PolicyDoc.{PolicyDoc}
 use Rattle.wire_read.specs.Framing.{Reader, frames_of}
 use Rattle.wire_read.specs.declared.frame.Frame.{Frame}
 use Rattle.wire_write.specs.Texts.{info_line}
+use Rattle.connect_opts.specs.Info.{info_text}
 use Rattle.hub.specs.History.{State, opening_state}
 use Rattle.hub.specs.Shown.{waiting_of}
 use Rattle.hub.specs.declared.event.Command.TheVariants as command
@@ -197,7 +198,7 @@ abbrev pub line_act : ℕ → Part → Line → State → List Client → Act
 line_act number part Skip w ks = act [] ks w false
 line_act number part (Open conn) w ks =
     if is_open ks conn then act (refused_line number) ks w true
-    else act (shown_line conn (info_line conn)) (with_client (new_client conn) ks) w false
+    else act (shown_line conn (info_line (info_text conn))) (with_client (new_client conn) ks) w false
 line_act number part (Send conn bytes) w ks = sent conn bytes w ks
 line_act number part (Policy text) w ks = policy_line_act number part text w ks
 line_act number part Other w ks = act (refused_line number) ks w true

@@ -21,9 +21,9 @@ use Rattle.hub.specs.declared.answer.Outcome.{Outcome}
 use Rattle.hub.specs.declared.answer.Outcome.TheVariants as outcome
 use Rattle.hub.specs.declared.answer.HubRefusal.{HubRefusal}
 use Rattle.hub.specs.declared.answer.HubRefusal.TheVariants as refusal
-use Rattle.natsd.specs.Connect.{connect_of, json_of}
-use Rattle.natsd.specs.declared.connect.ConnectOptions.{ConnectOptions}
-use Rattle.natsd.specs.declared.connect.ConnectError.{ConnectError}
+use Rattle.connect_opts.specs.Opts.{opts_of}
+use Rattle.connect_opts.specs.declared.error.ConnectError.{ConnectError}
+use Rattle.connect_opts.specs.declared.opts.ConnectOpts.{ConnectOpts}
 use Rattle.natsd.specs.declared.stage.Stage.{Stage}
 use Rattle.natsd.specs.declared.stage.Stage.TheVariants as stage
 use Rattle.natsd.specs.declared.stage.Next.{Next}
@@ -151,9 +151,9 @@ unasked w text s = record { text = text; next = Goes s; world = w }
 abbrev pub asked : (Result Outcome HubRefusal → Reply) → Result Outcome HubRefusal × State → Turn
 asked reply a = record { text = (reply a.0).text; next = (reply a.0).next; world = a.1 }
 
-abbrev pub connect_turn : ℕ → ℕ → State → Result ConnectOptions ConnectError → Turn
+abbrev pub connect_turn : ℕ → ℕ → State → Result ConnectOpts ConnectError → Turn
 connect_turn now conn w (Ok o) =
-    asked (reply_to_connect o.verbose) (answered w (record { now = now; what = command.Connect conn o.user o.password }))
+    asked (reply_to_connect o.verbose) (answered w (record { now = now; what = command.Connect conn o.user o.pass }))
 connect_turn now conn w (Err _) = unasked w (err_line error.ParserError) (stage.Closed false)
 
 abbrev pub publish_turn : ℕ → ℕ → State → Bool → List ℕ → List ℕ → Turn
@@ -168,7 +168,7 @@ subscribe_turn now conn w verbose subject sid =
 
 -- before CONNECT: nothing but CONNECT, PING and a fault is looked at
 abbrev pub fresh_turn : ℕ → ℕ → State → Frame → Turn
-fresh_turn now conn w (frame.Connect text) = connect_turn now conn w (connect_of (json_of text))
+fresh_turn now conn w (frame.Connect text) = connect_turn now conn w (opts_of text)
 fresh_turn now conn w frame.Ping = unasked w pong_line stage.Fresh
 fresh_turn now conn w (frame.Fault f) = unasked w (fault_line f) (stage.Closed false)
 fresh_turn now conn w (frame.Pub _ _) = unasked w (err_line error.Authorization) (stage.Closed false)

@@ -3,12 +3,12 @@ ghost use Rattle.std.specs.Prelude.{◌≡◌, ◌++◌, IfOk, OnOk, OnErr, fals
 ghost use Rattle.subjects.specs.Subject.{tokens_of};
 ghost use Rattle.subjects.specs.Fault.{subject_fault, pattern_fault};
 ghost use Rattle.hub.specs.declared.event.Event.{Event};
-ghost use Rattle.natsd.specs.Connect.{connect_of, json_of};
+ghost use Rattle.connect_opts.specs.Opts.{opts_of};
 ghost use Rattle.natsd.specs.Session.{answered, reply_to_connect, reply_to_publish, reply_to_subscribe, reply_to_take, ok_if, fault_line, delivery_text, connect_turn, publish_turn, subscribe_turn, fresh_turn, connected_turn, frame_turn, frames_turn, Reply, IsTurn, IsReply, pattern_if, subject_if, is_memory_refusal, is_memory_fault, after_taken};
 
-use crate::connect::{ConnectError, ConnectOptions, read_connect};
 use crate::stage::{Next, Stage};
 use bytes::Bytes;
+use connect_opts::{ConnectError, ConnectOpts};
 use hub::{Command, Delivery, Event, Hub, HubRefusal, Outcome};
 use lists::{Items, NoMemory};
 use std::alloc::Global;
@@ -247,25 +247,22 @@ fn on_connect(
     out: &mut Vec<u8>,
     text: &[u8],
 ) -> Result<Next, NoMemory>
-    ensures { IfOk result (λ next. IsTurn (connect_turn now conn hub.old (connect_of (json_of text.now))) out.old.items out.new.items next hub.new) }
+    ensures { IfOk result (λ next. IsTurn (connect_turn now conn hub.old (opts_of text.now)) out.old.items out.new.items next hub.new) }
 {
-    match read_connect(alloc, text) {
-        Ok(options) => {
-            let ConnectOptions {
+    match ConnectOpts::read(alloc, text) {
+        Ok(opts) => {
+            let ConnectOpts {
                 user,
-                password,
+                pass,
                 verbose,
-            } = options;
-            let what = Command::Connect {
-                conn,
-                user,
-                pass: password,
-            };
+                ..
+            } = opts;
+            let what = Command::Connect { conn, user, pass };
             let answer = submit(hub, Event { now, what })?;
             reply_to_connect(out, verbose, &answer)
         }
         Err(ConnectError::NoMemory) => Err(NoMemory),
-        Err(_) => {
+        Err(ConnectError::NotJson | ConnectError::NotObject | ConnectError::FieldType) => {
             write_err(out, ServerError::ParserError)?;
             Ok(Next::Goes(Stage::Closed { session: false }))
         }

@@ -4,7 +4,6 @@
 mod check;
 mod client;
 mod conn;
-mod connect;
 mod device;
 mod fail_at;
 mod fault;

@@ -19,6 +19,7 @@ use crate::output::{write_refused, write_shown};
 use crate::policy::policy_or_line;
 use crate::script::{Line, Part, read_line};
 use crate::stage::{Next, Stage};
+use connect_opts::info_text;
 use hub::{Caps, Hub, Ready};
 use lists::{NoMemory, Pieces};
 use policy_doc::Policy;
@@ -133,9 +134,10 @@ fn open(
         write_refused(out, number)?;
         return Ok(true);
     }
-    let mut info = Vec::new(alloc);
-    write_info(&mut info, conn)?;
-    write_shown(out, conn, info.as_slice())?;
+    let info = info_text(alloc, conn)?;
+    let mut line = Vec::new(alloc);
+    write_info(&mut line, &info)?;
+    write_shown(out, conn, line.as_slice())?;
     add_client(clients, Client::new(alloc, conn))?;
     Ok(false)
 }

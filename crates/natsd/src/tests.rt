@@ -2,7 +2,6 @@ mod checks;
 mod plays;
 mod words;
 
-use crate::connect::{ConnectError, read_connect};
 use crate::device::{ReadSource, Source, WriteSink, write_all};
 use crate::fail_at::FailAt;
 use crate::fault::PlayFault;
@@ -91,49 +90,6 @@ fn printed_lines(rt: HostRuntime) {
     let expected: &[u8] =
         b"1< PONG\\r\\n\n20< \\\\ ~\\x00\\x1f\\x7f\\xab\n20 closed\nscript line 3\n";
     assert_eq!(rt; out.as_slice(), expected);
-}
-
-#[test]
-fn connects(rt: HostRuntime) {
-    let text = b"{\"user\":\"demo\",\"pass\":\"demo\",\"verbose\":false,\"lang\":[1]}";
-    match read_connect(rt.alloc(), text) {
-        Ok(options) => {
-            assert!(rt;
-                options
-                    .user
-                    .as_ref()
-                    .is_some_and(|user| user.as_slice() == b"demo".as_slice())
-            );
-            assert_eq!(rt; options.password.as_slice(), b"demo".as_slice());
-            assert!(rt; !options.verbose);
-        }
-        Err(_) => panic!(rt; "a good CONNECT was refused"),
-    }
-    for text in [
-        &b"{}"[..],
-        b" {\"user\":null,\"verbose\":null,\"pass\":null} ",
-    ] {
-        match read_connect(rt.alloc(), text) {
-            Ok(options) => {
-                assert!(rt; options.user.is_none());
-                assert!(rt; options.password.is_empty());
-                assert!(rt; options.verbose);
-            }
-            Err(_) => panic!(rt; "an empty CONNECT was refused"),
-        }
-    }
-    for (text, refusal) in [
-        (&b""[..], ConnectError::NotJson),
-        (b"{", ConnectError::NotJson),
-        (b"{\"a\":\"\xff\"}", ConnectError::NotJson),
-        (b"[]", ConnectError::NotObject),
-        (b"null", ConnectError::NotObject),
-        (b"{\"user\":1}", ConnectError::FieldType),
-        (b"{\"pass\":true}", ConnectError::FieldType),
-        (b"{\"verbose\":\"no\"}", ConnectError::FieldType),
-    ] {
-        assert!(rt; matches!(read_connect(rt.alloc(), text), Err(error) if error == refusal));
-    }
 }
 
 #[test]

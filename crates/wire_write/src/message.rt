@@ -6,21 +6,14 @@ use crate::append::{append, make_room, put};
 use itoa::Buffer;
 use lists::NoMemory;
 
-/// Appends the INFO line of the connection with number `conn`, which the server writes at its opening.
+/// Appends the INFO line, which the server writes at a connection's opening: `info` is its JSON.
 /// `NoMemory` comes only where the buffer has no room for it and can't grow, and leaves it as it was.
-pub fn write_info(out: &mut Vec<u8>, conn: u64) -> Result<(), NoMemory>
-    ensures ok { OnOk result (out.new.items ≡ out.old.items ++ info_line conn) }
+pub fn write_info(out: &mut Vec<u8>, info: &[u8]) -> Result<(), NoMemory>
+    ensures ok { OnOk result (out.new.items ≡ out.old.items ++ info_line info.now) }
     ensures err { OnErr result (out.new.items ≡ out.old.items) }
-    ensures full { OnErr result (vec_capacity out.old < vec_len out.old + length (info_line conn)) }
+    ensures full { OnErr result (vec_capacity out.old < vec_len out.old + length (info_line info.now)) }
 {
-    let mut digits = Buffer::new();
-    let number = digits.format(conn).as_bytes();
-    append(
-        out,
-        b"INFO {\"auth_required\":true,\"client_id\":",
-        number,
-        b",\"headers\":true,\"max_payload\":1048576,\"proto\":1,\"server_id\":\"natsd\",\"version\":\"0.1.0\"}\r\n",
-    )
+    append(out, b"INFO ", info, b"\r\n")
 }
 
 /// Appends a delivery: the MSG line with the payload's size in bytes, then the payload.

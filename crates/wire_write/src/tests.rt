@@ -3,13 +3,13 @@ use crate::{ServerError, write_err, write_info, write_msg, write_ok, write_pong}
 #[test]
 fn first_message(rt: HostRuntime) {
     let mut out = Vec::new(rt.alloc());
-    assert!(rt; write_info(&mut out, 1).is_ok());
+    assert!(rt; write_info(&mut out, b"{\"proto\":1}").is_ok());
     assert!(rt; write_pong(&mut out).is_ok());
     assert!(rt; write_ok(&mut out).is_ok());
     assert!(rt; write_msg(&mut out, b"foo", b"1", b"hi").is_ok());
     assert!(rt; write_msg(&mut out, b"a*b", b"22", b"").is_ok());
     let expected: &[u8] =
-        b"INFO {\"auth_required\":true,\"client_id\":1,\"headers\":true,\"max_payload\":1048576,\"proto\":1,\"server_id\":\"natsd\",\"version\":\"0.1.0\"}\r\nPONG\r\n+OK\r\nMSG foo 1 2\r\nhi\r\nMSG a*b 22 0\r\n\r\n";
+        b"INFO {\"proto\":1}\r\nPONG\r\n+OK\r\nMSG foo 1 2\r\nhi\r\nMSG a*b 22 0\r\n\r\n";
     assert_eq!(rt; out.as_slice(), expected);
 }
 

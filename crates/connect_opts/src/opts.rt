@@ -1,0 +1,101 @@
+ghost use Rattle.std.specs.Prelude.{◌≡◌, MatchResult, option_copied};
+ghost use Rattle.serde_json.specs.View.{view};
+ghost use Rattle.connect_opts.specs.declared.error.ConnectError.TheVariants as fault;
+ghost use Rattle.connect_opts.specs.Read.{Gives};
+ghost use Rattle.connect_opts.specs.Opts.{json_at, object_at};
+
+use crate::ConnectError;
+use crate::field::{text_field, truth_field};
+use bytes::Bytes;
+use serde_json::Value;
+use std::alloc::Global;
+
+/// Who a client says it is, and how the server is to answer.
+#[derive(Debug, Drop)]
+pub struct ConnectOpts {
+    /// The user's name, if the client gave one.
+    pub user: Option<Bytes>,
+    /// The user's password, empty if the client gave none.
+    pub pass: Bytes,
+    /// Whether each accepted message is answered by `+OK`, as it is if the client doesn't say.
+    pub verbose: bool,
+    /// Whether the client's own messages come to its own subscriptions, as they do if the client doesn't say.
+    pub echo: bool,
+    /// Whether the client takes and sends headers, as it doesn't if it doesn't say.
+    pub headers: bool,
+}
+
+impl ConnectOpts {
+    ghost use Rattle.connect_opts.specs.Read.{Gives};
+    ghost use Rattle.connect_opts.specs.Opts.{opts_of};
+
+    /// Reads the text of a CONNECT: one JSON object, of which the server knows the fields `user`, `pass`,
+    /// `verbose`, `echo` and `headers`. Of equal keys the last counts. A field that is null counts as absent,
+    /// and other fields are ignored.
+    ///
+    /// `NotJson` where the text is no JSON or isn't UTF-8, else `NotObject` where it is no object, else
+    /// `FieldType` where a field above has a value of another kind. `NoMemory` wherever memory could not be had.
+    #[tactic(auto, unfolding(crate::specs::Opts::opts_of))]
+    pub fn read(alloc: Global, text: &[u8]) -> Result<ConnectOpts, ConnectError>
+        ensures { Gives (λ opts. opts) result (opts_of text.now) }
+    {
+        let value = read_object(alloc, text)?;
+        let user = text_field(&value, "user")?;
+        let pass = text_field(&value, "pass")?;
+        let verbose = truth_field(&value, "verbose")?;
+        let echo = truth_field(&value, "echo")?;
+        let headers = truth_field(&value, "headers")?;
+        Ok(ConnectOpts {
+            user: keep_option(alloc, user)?,
+            pass: keep(alloc, pass.unwrap_or(""))?,
+            verbose: verbose.unwrap_or(true),
+            echo: echo.unwrap_or(true),
+            headers: headers.unwrap_or(false),
+        })
+    }
+}
+
+/// The JSON object that a text is.
+fn read_object(alloc: Global, text: &[u8]) -> Result<Value, ConnectError>
+    ensures { Gives (λ value. view value) result (object_at text.now) }
+{
+    let value = read_json(alloc, text)?;
+    if value.is_object() {
+        Ok(value)
+    } else {
+        Err(ConnectError::NotObject)
+    }
+}
+
+/// The JSON value that a text is.
+fn read_json(alloc: Global, text: &[u8]) -> Result<Value, ConnectError>
+    ensures { Gives (λ value. view value) result (json_at text.now) }
+{
+    match Value::from_slice(alloc, text) {
+        Ok(value) => Ok(value),
+        Err(error) => {
+            if error.is_memory() {
+                Err(ConnectError::NoMemory)
+            } else {
+                Err(ConnectError::NotJson)
+            }
+        }
+    }
+}
+
+/// The same text with an owner of its own.
+fn keep(alloc: Global, text: &str) -> Result<Bytes, ConnectError>
+    ensures { MatchResult result (λ kept. kept ≡ text.now) (λ error. error ≡ fault.NoMemory) }
+{
+    Ok(Bytes::copy_from_slice(alloc, text.as_bytes())?)
+}
+
+/// The same text, if there is one, with an owner of its own.
+fn keep_option(alloc: Global, text: Option<&str>) -> Result<Option<Bytes>, ConnectError>
+    ensures { MatchResult result (λ kept. kept ≡ option_copied text.entry) (λ error. error ≡ fault.NoMemory) }
+{
+    match text {
+        None => Ok(None),
+        Some(text) => Ok(Some(keep(alloc, text)?)),
+    }
+}

@@ -1,0 +1,12 @@
+-- the first elements are moved, and the ring has the others
+use Rattle.std.proofs.Common.{◌≡◌, take, drop, vec_len, vec_capacity}
+use Rattle.outbox.proofs.bounded.take_front.Given as goal
+
+abbrev pub invariant-moving : goal.invariant-moving
+invariant-moving g l = record {
+  taken : l.taken.items ≡ take l.counter l.initial.ring.items;
+  rest : l.ring.items ≡ drop l.counter l.initial.ring.items;
+  room : l.ring.capacity ≡ l.initial.ring.capacity;
+  moved : vec_len l.taken ≡ l.counter;
+  reserved : vec_capacity l.taken ≡ l.count;
+}

@@ -1,0 +1,8 @@
+//! The outbox of a session: what waits for a client, oldest first, and no more than its capacity.
+#![tactic(auto)]
+
+mod bounded;
+#[cfg(test)]
+mod tests;
+
+pub use bounded::Outbox;
