@@ -145,17 +145,15 @@ impl Talk {
     }
 
     fn tell_waiting(&mut self, conn: u64) -> Result<(), Fail> {
-        match self.hub.waiting(conn) {
-            None => self.tell(format!(in self.alloc; "{conn} has no session")?),
-            Some((waiting, missed)) => {
-                self.tell(format!(in self.alloc; "{conn} has {waiting}, missed {missed}")?)
-            }
-        }
+        let line = waiting_in_words(self.alloc, &self.hub, conn)?;
+        self.told.push_str(line.as_str())?;
+        Ok(())
     }
 
     fn tell_standing(&mut self) -> Result<(), Fail> {
-        let lines = standing_in_words(self.alloc, &self.hub)?;
-        self.tell(format!(in self.alloc; "standing{lines}")?)
+        let line = standing_in_words(self.alloc, &self.hub)?;
+        self.told.push_str(line.as_str())?;
+        Ok(())
     }
 
     fn tell_history(&mut self) -> Result<(), Fail> {
@@ -202,15 +200,27 @@ pub fn command(alloc: Global, ask: Ask) -> Result<Command, Fail> {
     }
 }
 
-fn standing_in_words(alloc: Global, hub: &Hub) -> Result<String, Fail> {
-    let mut words = String::new(alloc);
+/// What waits for a connection, as a line.
+pub fn waiting_in_words(alloc: Global, hub: &Hub, conn: u64) -> Result<String, Fail> {
+    match hub.waiting(conn) {
+        None => Ok(format!(in alloc; "{conn} has no session\n")?),
+        Some((waiting, missed)) => {
+            Ok(format!(in alloc; "{conn} has {waiting}, missed {missed}\n")?)
+        }
+    }
+}
+
+/// The standing subscriptions, as a line.
+pub fn standing_in_words(alloc: Global, hub: &Hub) -> Result<String, Fail> {
+    let mut line = String::from_str(alloc, "standing")?;
     for one in hub.standing()?.as_slice() {
         let subject = text(one.subject.bytes())?;
         let sid = text(one.sid.as_slice())?;
-        let line = format!(in alloc; " [{} {} {subject} {sid}]", one.id, one.conn)?;
-        words.push_str(line.as_str())?;
+        let word = format!(in alloc; " [{} {} {subject} {sid}]", one.id, one.conn)?;
+        line.push_str(word.as_str())?;
     }
-    Ok(words)
+    line.push_str("\n")?;
+    Ok(line)
 }
 
 // The events and the answers of the history, a line each.

@@ -1,9 +1,9 @@
 ghost use Rattle.std.specs.Prelude.{◌≤◌};
 
 use crate::policies::Given;
-use crate::talk::{Ask, command, told};
+use crate::talk::{Ask, command, standing_in_words, told, waiting_in_words};
 use bytes::Bytes;
-use hub::{Answer, Caps, Event, Hub, HubRefusal, User};
+use hub::{Answer, Caps, Command, Event, Hub, HubRefusal, User};
 use lists::{Copying, NoMemory};
 use permissions::{Compiled, Verdict};
 use policy_doc::Policy;
@@ -406,8 +406,8 @@ standing [6 3 s 1]
     Ok(())
 }
 
-// The numbers of the answers, or the refusals, of a run: Connect 1, Sub, Pub, Take of 9 and Connect 1 again.
-fn numbers(alloc: Global, caps: Caps) -> Result<String, Fail>
+// What a run answers, and the tables behind it: Connect 1, Sub, Pub, Take of 9 and Close of 9.
+fn ran(alloc: Global, caps: Caps) -> Result<String, Fail>
     requires low { 1 ≤ caps.outbox }
     requires high { caps.outbox ≤ 65536 }
 {
@@ -415,11 +415,13 @@ fn numbers(alloc: Global, caps: Caps) -> Result<String, Fail>
         .ok()
         .ok_or("no hub is open")?;
     let answers = run(&mut hub, five_events(alloc)?)?;
-    let mut numbers = String::new(alloc);
+    let mut told = String::new(alloc);
     for answer in answers.as_slice() {
-        numbers.push_str(number_of(alloc, answer)?.as_str())?;
+        told.push_str(answer_in_words(alloc, answer)?.as_str())?;
     }
-    Ok(numbers)
+    told.push_str(waiting_in_words(alloc, &hub, 1)?.as_str())?;
+    told.push_str(standing_in_words(alloc, &hub)?.as_str())?;
+    Ok(told)
 }
 
 // A run without its clauses: what a test asserts, it computes.
@@ -447,42 +449,64 @@ fn five_events(alloc: Global) -> Result<Vec<Event>, Fail> {
     Ok(events)
 }
 
-fn number_of(alloc: Global, answer: &Result<Answer, (Event, HubRefusal)>) -> Result<String, Fail> {
+// The number of an answer; or the refusal, and what was handed back.
+fn answer_in_words(
+    alloc: Global,
+    answer: &Result<Answer, (Event, HubRefusal)>,
+) -> Result<String, Fail> {
     match answer {
         Ok(answer) => Ok(format!(in alloc; "{}\n", answer.number)?),
-        Err((event, refusal)) => Ok(format!(in alloc; "{refusal:?} to {:?}\n", event.what)?),
+        Err((event, refusal)) => {
+            let back = name_of(&event.what);
+            Ok(format!(in alloc; "{refusal:?} to {back}\n")?)
+        }
+    }
+}
+
+fn name_of(command: &Command) -> &'static str {
+    match command {
+        Command::Connect { .. } => "Connect",
+        Command::Sub { .. } => "Sub",
+        Command::Pub { .. } => "Pub",
+        Command::Take { .. } => "Take",
+        Command::Close { .. } => "Close",
+        Command::Reload(_) => "Reload",
     }
 }
 
 #[test]
 fn a_run_answers_each_event(rt: HostRuntime) -> Result<(), Fail> {
-    let numbers = numbers(rt.alloc(), ROOM)?;
+    let told = ran(rt.alloc(), ROOM)?;
     assert_eq!(rt;
-        numbers.as_str(),
+        told.as_str(),
         "1
 2
 3
-NoSession to Take { conn: 9, most: 1 }
-NoSession to Close { conn: 9 }
+NoSession to Take
+NoSession to Close
+1 has 1, missed false
+standing [2 1 foo 1]
 "
     );
     Ok(())
 }
 
 #[test]
-fn a_run_goes_on_behind_a_refusal(rt: HostRuntime) -> Result<(), Fail> {
+fn a_run_changes_nothing_once_the_history_is_full(rt: HostRuntime) -> Result<(), Fail> {
     let caps = Caps {
         outbox: 16,
-        history: 3,
+        history: 2,
     };
-    let numbers = numbers(rt.alloc(), caps)?;
+    let told = ran(rt.alloc(), caps)?;
     assert_eq!(rt;
-        numbers.as_str(),
+        told.as_str(),
         "1
 2
-3
-HistoryFull to Take { conn: 9, most: 1 }
-HistoryFull to Close { conn: 9 }
+HistoryFull to Pub
+HistoryFull to Take
+HistoryFull to Close
+1 has 0, missed false
+standing [2 1 foo 1]
 "
     );
     Ok(())

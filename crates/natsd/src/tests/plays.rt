@@ -449,6 +449,35 @@ fn long_lines(rt: HostRuntime) {
     }
 }
 
+// A script in which user demo publishes so many messages in one send, all of them for nobody, and one more in another.
+fn published(alloc: Global, messages: usize) -> Result<(u8, Vec<u8>), PlayFault> {
+    let mut lines = Vec::from_slice(alloc, b"send 1 ")?;
+    lines.extend_from_slice(repeated(alloc, br"PUB foo 0\r\n\r\n", messages)?.as_slice())?;
+    lines.extend_from_slice(b"\nsend 1 PING\\r\\nPUB foo 0\\r\\n\\r\\n\n")?;
+    answered(alloc, as_demo(alloc, lines.as_slice())?.as_slice())
+}
+
+#[test]
+fn a_full_history_stops_a_script(rt: HostRuntime) {
+    match published(rt.alloc(), 99_998) {
+        Ok((status, printed)) => {
+            assert_eq!(rt; status, 0);
+            assert_eq!(rt; printed.as_slice(), b"1< PONG\\r\\n\n".as_slice());
+        }
+        Err(fault) => panic!(rt; "{fault}"),
+    }
+    match published(rt.alloc(), 99_999) {
+        Ok((status, printed)) => {
+            assert_eq!(rt; status, 1);
+            assert_eq!(rt;
+                printed.as_slice(),
+                b"1< PONG\\r\\n\nhistory full\n".as_slice()
+            );
+        }
+        Err(fault) => panic!(rt; "{fault}"),
+    }
+}
+
 // A text with the longest payload behind it, and its end.
 fn with_longest_payload(alloc: Global, head: &[u8]) -> Result<Vec<u8>, AllocError> {
     let mut text = Vec::new(alloc);
