@@ -1,6 +1,11 @@
-use crate::{AccountDoc, Accounts, Place, Policy, PolicyDoc, PolicyFault, UserDoc};
+use crate::{
+    AccountDoc, Accounts, Direction, NamedAccount, PermDoc, PermEntry, Place, Policy, PolicyDoc,
+    PolicyFault, UserDoc,
+};
 use bytes::Bytes;
 use lists::{Copying, Items, NoMemory};
+use std::alloc::Global;
+use std::str;
 use std::test::Fail;
 
 // An account with users of these names.
@@ -18,8 +23,65 @@ fn account(rt: &HostRuntime, names: &[&'static [u8]]) -> Result<AccountDoc, NoMe
     })
 }
 
-#[test]
-fn accounts_stand_by_their_names_bytes(rt: HostRuntime) -> Result<(), Fail> {
+fn text(bytes: &[u8]) -> Result<&str, Fail> {
+    Ok(str::from_utf8(bytes).ok().ok_or("no text")?)
+}
+
+// The accounts in words, a line each: the name, and each user with its password and its lists.
+fn in_words(alloc: Global, accounts: &[NamedAccount]) -> Result<String, Fail> {
+    let mut words = String::new(alloc);
+    for named in accounts {
+        words.push_str(text(named.name.as_slice())?)?;
+        words.push_str(users_in_words(alloc, named.account.users.as_slice())?.as_str())?;
+        words.push_str("\n")?;
+    }
+    Ok(words)
+}
+
+fn users_in_words(alloc: Global, users: &[UserDoc]) -> Result<String, Fail> {
+    let mut words = String::new(alloc);
+    for user in users {
+        let name = text(user.user.as_slice())?;
+        let password = text(user.password.as_slice())?;
+        words.push_str(format!(in alloc; " {name}:{password}")?.as_str())?;
+        words.push_str(permissions_in_words(alloc, &user.permissions)?.as_str())?;
+    }
+    Ok(words)
+}
+
+fn permissions_in_words(alloc: Global, permissions: &Option<PermDoc>) -> Result<String, Fail> {
+    match permissions {
+        None => Ok(String::new(alloc)),
+        Some(permissions) => {
+            let publish = direction_in_words(alloc, &permissions.publish)?;
+            let subscribe = direction_in_words(alloc, &permissions.subscribe)?;
+            Ok(format!(in alloc; " (publish{publish}; subscribe{subscribe})")?)
+        }
+    }
+}
+
+fn direction_in_words(alloc: Global, direction: &Direction) -> Result<String, Fail> {
+    let deny = entries_in_words(alloc, direction.deny.as_slice())?;
+    match &direction.allow {
+        None => Ok(format!(in alloc; " all, deny{deny}")?),
+        Some(allow) => {
+            let allow = entries_in_words(alloc, allow.as_slice())?;
+            Ok(format!(in alloc; " allow{allow}, deny{deny}")?)
+        }
+    }
+}
+
+fn entries_in_words(alloc: Global, entries: &[PermEntry]) -> Result<String, Fail> {
+    let mut words = String::new(alloc);
+    for entry in entries {
+        words.push_str(" ")?;
+        words.push_str(text(entry.subject.bytes())?)?;
+    }
+    Ok(words)
+}
+
+// A copy of accounts under names that don't come in order, one of them twice.
+fn unordered(rt: &HostRuntime) -> Result<Accounts, NoMemory> {
     let mut accounts = Accounts::new(rt.alloc());
     for name in [
         b"b".as_slice(),
@@ -29,50 +91,28 @@ fn accounts_stand_by_their_names_bytes(rt: HostRuntime) -> Result<(), Fail> {
         b"\xc3\xa9".as_slice(),
         b"b".as_slice(),
     ] {
-        accounts.insert(Bytes::from_static(name), account(&rt, &[b"u"])?)?;
+        accounts.insert(Bytes::from_static(name), account(rt, &[b"u"])?)?;
     }
-    accounts.insert(Bytes::from_static(b"aa"), account(&rt, &[b"w"])?)?;
-    let copy = accounts.copy(rt.alloc())?;
-    let mut shown = Vec::new(rt.alloc());
-    for named in copy.as_slice() {
-        shown.extend_from_slice(named.name.as_slice())?;
-        for user in named.account.users.as_slice() {
-            shown.extend_from_slice(b":")?;
-            shown.extend_from_slice(user.user.as_slice())?;
-            shown.extend_from_slice(b" ")?;
-        }
-    }
-    assert_eq!(rt;
-        shown.as_slice(),
-        b"B:u a:u aa:w b:u \xc3\xa9:u ".as_slice()
-    );
+    accounts.insert(Bytes::from_static(b"aa"), account(rt, &[b"w"])?)?;
+    accounts.copy(rt.alloc())
+}
+
+#[test]
+fn accounts_stand_by_their_names_bytes(rt: HostRuntime) -> Result<(), Fail> {
+    let accounts = unordered(&rt)?;
+    let words = in_words(rt.alloc(), accounts.as_slice())?;
+    assert_eq!(rt; words.as_str(), "B u:x\na u:x\naa w:x\nb u:x\n\u{e9} u:x\n");
     Ok(())
 }
 
 #[test]
 fn the_builtin_policy_has_two_users(rt: HostRuntime) -> Result<(), Fail> {
-    let policy = Policy::builtin(rt.alloc())?;
-    let copy = policy.copy(rt.alloc())?;
-    let accounts = copy.doc().accounts.as_slice();
-    assert_eq!(rt; accounts.len(), 1);
-    let named = &accounts[0];
-    assert_eq!(rt; named.name.as_slice(), b"DEMO".as_slice());
-    let users = named.account.users.as_slice();
-    assert_eq!(rt; users.len(), 2);
-    assert_eq!(rt; users[0].user.as_slice(), b"demo".as_slice());
-    assert_eq!(rt; users[0].password.as_slice(), b"demo".as_slice());
-    assert!(rt; users[0].permissions.is_none());
-    assert_eq!(rt; users[1].user.as_slice(), b"limited".as_slice());
-    assert_eq!(rt; users[1].password.as_slice(), b"limited".as_slice());
-    let permissions = users[1].permissions.as_ref().ok_or("no permissions")?;
-    for direction in [&permissions.publish, &permissions.subscribe] {
-        let allow = direction.allow.as_ref().ok_or("no allow list")?.as_slice();
-        let deny = direction.deny.as_slice();
-        assert_eq!(rt; allow.len(), 1);
-        assert_eq!(rt; allow[0].subject.bytes(), b"foo.>".as_slice());
-        assert_eq!(rt; deny.len(), 1);
-        assert_eq!(rt; deny[0].subject.bytes(), b"foo.bar".as_slice());
-    }
+    let policy = Policy::builtin(rt.alloc())?.copy(rt.alloc())?;
+    let words = in_words(rt.alloc(), policy.doc().accounts.as_slice())?;
+    assert_eq!(rt;
+        words.as_str(),
+        "DEMO demo:demo limited:limited (publish allow foo.>, deny foo.bar; subscribe allow foo.>, deny foo.bar)\n"
+    );
     Ok(())
 }
 
