@@ -21,7 +21,7 @@ pub enum Given {
 }
 
 impl Given {
-    pub fn ready(&self, alloc: Global) -> Result<Ready, Fail> {
+    pub(crate) fn ready(&self, alloc: Global) -> Result<Ready, Fail> {
         match self {
             Given::Builtin => ready_of(alloc, Policy::builtin(alloc)?),
             Given::SubscribeToBoth => of_u(alloc, &["a", "b"]),

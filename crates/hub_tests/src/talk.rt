@@ -37,7 +37,7 @@ pub enum Ask {
 }
 
 /// What is told: the epoch, number and outcome of each answer, or the refusal; and what was looked at.
-pub fn told(alloc: Global, given: Given, caps: Caps, asks: &[Ask]) -> Result<String, Fail>
+pub(crate) fn told(alloc: Global, given: Given, caps: Caps, asks: &[Ask]) -> Result<String, Fail>
     requires low { 1 ≤ caps.outbox }
     requires high { caps.outbox ≤ 65536 }
 {
@@ -171,7 +171,7 @@ fn step(hub: &mut Hub, event: Event) -> Result<Answer, (Event, HubRefusal)> {
 }
 
 /// The command that is asked for.
-pub fn command(alloc: Global, ask: Ask) -> Result<Command, Fail> {
+pub(crate) fn command(alloc: Global, ask: Ask) -> Result<Command, Fail> {
     match ask {
         Ask::Connect(conn, user, pass) => Ok(Command::Connect {
             conn,
@@ -201,7 +201,7 @@ pub fn command(alloc: Global, ask: Ask) -> Result<Command, Fail> {
 }
 
 /// What waits for a connection, as a line.
-pub fn waiting_in_words(alloc: Global, hub: &Hub, conn: u64) -> Result<String, Fail> {
+pub(crate) fn waiting_in_words(alloc: Global, hub: &Hub, conn: u64) -> Result<String, Fail> {
     match hub.waiting(conn) {
         None => Ok(format!(in alloc; "{conn} has no session\n")?),
         Some((waiting, missed)) => {
@@ -211,7 +211,7 @@ pub fn waiting_in_words(alloc: Global, hub: &Hub, conn: u64) -> Result<String, F
 }
 
 /// The standing subscriptions, as a line.
-pub fn standing_in_words(alloc: Global, hub: &Hub) -> Result<String, Fail> {
+pub(crate) fn standing_in_words(alloc: Global, hub: &Hub) -> Result<String, Fail> {
     let mut line = String::from_str(alloc, "standing")?;
     for one in hub.standing()?.as_slice() {
         let subject = text(one.subject.bytes())?;
@@ -239,7 +239,7 @@ fn text(bytes: &[u8]) -> Result<&str, Fail> {
     Ok(str::from_utf8(bytes).ok().ok_or("no text")?)
 }
 
-pub fn bytes(alloc: Global, text: &str) -> Result<Bytes, Fail> {
+pub(crate) fn bytes(alloc: Global, text: &str) -> Result<Bytes, Fail> {
     Ok(Bytes::copy_from_slice(alloc, text.as_bytes())?)
 }
 
