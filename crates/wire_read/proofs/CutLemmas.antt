@@ -4,19 +4,18 @@ use Rattle.std.specs.List.{before_first, position_or_len, flat_map}
 use Rattle.std.proofs.lemmas.List.{get_or_append_left, take_all, take_at, take-append-le, drop-append-le, drop_all}
 use Rattle.std.proofs.lemmas.List.Sums.{position_or_len_is, fails_before_first, passes_at_first, prefix_len-le-length}
 use Rattle.std.proofs.lemmas.Bool.{cases_lt, cases_eq}
-use Rattle.wire_read.specs.declared.fault.WireFault.TheVariants.{ParserError}
 use Rattle.wire_read.specs.declared.fault.FeedError.TheVariants.{Failed, NoMemory}
 use Rattle.wire_read.specs.declared.frame.Frame.{Frame}
 use Rattle.wire_read.specs.declared.frame.Frame.TheVariants as frame
+use Rattle.wire_read.specs.declared.command.Announced.{Announced}
 use Rattle.wire_read.specs.declared.command.Command.{Command}
 use Rattle.wire_read.specs.declared.command.Command.TheVariants.{Alone, Publish, Refused}
+use Rattle.wire_read.specs.declared.front.End.TheVariants as ends
 use Rattle.wire_read.specs.declared.line.Line.{Line}
 use Rattle.wire_read.specs.declared.line.Line.TheVariants.{Open, TooLong, Ended}
-use Rattle.wire_read.specs.declared.front.Front.{Front}
-use Rattle.wire_read.specs.declared.front.Front.TheVariants.{Whole, More, Wrong}
+use Rattle.wire_read.specs.Front.{Front, Whole, More, Wrong, front, front_at, after_line, after_announced, published, message, ended_by}
 use Rattle.wire_read.specs.Line.{is_lf, line_of, without_cr}
 use Rattle.wire_read.specs.Command.{command}
-use Rattle.wire_read.specs.Front.{front, front_at, after_line, published}
 use Rattle.wire_read.specs.Framing.{framing, behind, framed_by, first_frames, frames_of, followed, Reader, IsRun, Call, taken_by, given_by, CutAnywhere, ReadsAnyPieces}
 use Rattle.wire_read.proofs.LineLemmas.{without_cr-bounds, line_long, line_ended, line_parts}
 use Rattle.wire_read.proofs.FramingLemmas.{front_len, frames_step}
@@ -45,7 +44,7 @@ lf_behind a b none =
     both t fails passes = cc
 
 -- a line that ended stays as it is
-ended_more : (a b : List ℕ) (end : ℕ) → line_of a ≡ Ended end → line_of (a ++ b) ≡ Ended end
+pub ended_more : (a b : List ℕ) (end : ℕ) → line_of a ≡ Ended end → line_of (a ++ b) ≡ Ended end
 ended_more a b end is =
     let parts = (line_parts a).2 end is in
     let at : position_or_len is_lf (a ++ b) ≡ end = lf_more a b (omega arith) ∙ parts.1 in
@@ -77,25 +76,29 @@ long_more a b is =
     (cases_lt (position_or_len is_lf a) (length a))
 
 -- bytes after a payload that settle the message settle it however they go on
-published_more : (s p : List ℕ) (n : ℕ) (rest more : List ℕ) → (published s p n rest ≡ More → ⊥) → published s p n (rest ++ more) ≡ published s p n rest
-published_more s p n [] more settled = absurd (settled refl)
-published_more s p n (b ∷ []) [] settled = refl
-published_more s p n (b ∷ []) (c ∷ more) settled = by_test (eqb b 13) settled
+published_more : (f : Frame) (n : ℕ) (rest more : List ℕ) → (published f n rest ≡ More → ⊥) → published f n (rest ++ more) ≡ published f n rest
+published_more f n [] more settled = absurd (settled refl)
+published_more f n (b ∷ []) [] settled = refl
+published_more f n (b ∷ []) (c ∷ more) settled = by_test (eqb b 13) settled
   where
-    by_test : (t : Bool) → (cond t More (Wrong ParserError) ≡ More → ⊥) → cond (t && eqb c 10) (Whole (frame.Pub s p) n) (Wrong ParserError) ≡ cond t More (Wrong ParserError)
+    by_test : (t : Bool) → (ended_by (cond t ends.Open ends.Wrong) f n ≡ More → ⊥) → ended_by (cond (t && eqb c 10) ends.Whole ends.Wrong) f n ≡ ended_by (cond t ends.Open ends.Wrong) f n
     by_test true open_end = absurd (open_end refl)
     by_test false _ = refl
-published_more s p n (b ∷ c ∷ cs) more settled = refl
+published_more f n (b ∷ c ∷ cs) more settled = refl
+
+after_announced_more : (a : Announced) (n : ℕ) (rest more : List ℕ) → (after_announced a n rest ≡ More → ⊥) → after_announced a n (rest ++ more) ≡ after_announced a n rest
+after_announced_more a n rest more settled =
+    ⊎_elim
+    (λ short. absurd (settled (ap (published (message a.subject a.reply a.head (take a.total rest)) (n + a.total + 2)) (drop_all a.total rest (omega arith)))))
+    (λ (enough : a.total ≤ length rest).
+    rw (take-append-le a.total rest more enough, drop-append-le a.total rest more enough)
+    (published_more (message a.subject a.reply a.head (take a.total rest)) (n + a.total + 2) (drop a.total rest) more settled))
+    (cases_lt (length rest) a.total)
 
 after_line_more : (c : Command) (n : ℕ) (rest more : List ℕ) → (after_line c n rest ≡ More → ⊥) → after_line c n (rest ++ more) ≡ after_line c n rest
 after_line_more (Refused w) n rest more settled = refl
 after_line_more (Alone f) n rest more settled = refl
-after_line_more (Publish s size) n rest more settled =
-    ⊎_elim
-    (λ short. absurd (settled (ap (published s (take size rest) (n + size + 2)) (drop_all size rest (omega arith)))))
-    (λ (enough : size ≤ length rest).
-    rw (take-append-le size rest more enough, drop-append-le size rest more enough) (published_more s (take size rest) (n + size + 2) (drop size rest) more settled))
-    (cases_lt (length rest) size)
+after_line_more (Publish a) n rest more settled = after_announced_more a n rest more settled
 
 front_at_more : (l : Line) (a b : List ℕ) → line_of a ≡ l → (front_at l a ≡ More → ⊥) → front_at l (a ++ b) ≡ front_at l a
 front_at_more Open a b is settled = absurd (settled refl)

@@ -1,10 +1,10 @@
 -- The fields of a line, taken off one by one.
-use Rattle.std.proofs.Common.{◌≡◌, ℕ, suc, ◌+◌, Bool, true, false, not, cond, List, [], ◌∷◌, length, drop, filter, refl, sym, ap, ◌∙◌, subst, arith, ⊎_elim, length-take, Option, Some, None}
+use Rattle.std.proofs.Common.{◌≡◌, ℕ, suc, ◌+◌, Bool, true, false, not, cond, List, [], ◌∷◌, length, drop, filter, refl, sym, ap, ◌∙◌, subst, arith, length-take}
 use Rattle.std.specs.List.{slice_split, onto_first, prefix_len, take_while}
 use Rattle.std.proofs.lemmas.List.{drop_all}
 use Rattle.std.proofs.lemmas.List.Sums.{take_while-cons, prefix_len-le-length}
-use Rattle.std.proofs.lemmas.Bool.{cases_eq, cond-true, ne_eqb}
-use Rattle.wire_read.specs.Field.{is_separator, has_byte, fields, trimmed, first_field, after_first_field, pair_of}
+use Rattle.std.proofs.lemmas.Bool.{cond-true, ne_eqb}
+use Rattle.wire_read.specs.Field.{is_separator, has_byte, fields, trimmed, first_field, after_first_field}
 
 module _ (p : ℕ → Bool) where
   abbrev other : ℕ → Bool
@@ -86,28 +86,10 @@ after_none line e =
     let nothing = starts is_separator line (no_prefix is_separator (trimmed line) e) in
     drop_all _ (trimmed line) (omega (arith, ap length nothing))
 
--- the fields of a line, of which three were taken off
-pub pair_short : (line a b : List ℕ) → a ≡ after_first_field line → b ≡ first_field a → length b ≡ 0 → None ≡ pair_of (fields line)
-pair_short line a b is first e =
-    ⊎_elim
-    (λ none. sym (ap pair_of (fields_none line none)))
-    (λ some. sym (ap pair_of (fields_some line some ∙ ap (λ fs. first_field line ∷ fs) (ap fields (sym is) ∙ fields_none a (ap length (sym first) ∙ e)))))
-    (cases_eq (length (first_field line)) 0)
+-- the fields of a line, of which the first was taken off
+pub fields_end : (line field : List ℕ) → field ≡ first_field line → length field ≡ 0 → fields line ≡ []
+fields_end line field is none = fields_none line (ap length (sym is) ∙ none)
 
-pub pair_long : (line a b c d : List ℕ) → a ≡ after_first_field line → b ≡ first_field a → c ≡ after_first_field a → d ≡ first_field c → (length d ≡ 0 → ⊥) → None ≡ pair_of (fields line)
-pair_long line a b c d h1 h2 h3 h4 e =
-    let third : fields c ≡ first_field c ∷ fields (after_first_field c) = fields_some c (λ none. e (ap length h4 ∙ none)) in
-    ⊎_elim
-    (λ none. sym (ap pair_of (fields_none line none)))
-    (λ some. ⊎_elim
-    (λ none. pair_short line a b h1 h2 (ap length h2 ∙ none))
-    (λ more. sym (ap pair_of (fields_some line some ∙ ap (λ fs. first_field line ∷ fs) (ap fields (sym h1) ∙ fields_some a more ∙ ap (λ fs. first_field a ∷ fs) (ap fields (sym h3) ∙ third)))))
-    (cases_eq (length (first_field a)) 0))
-    (cases_eq (length (first_field line)) 0)
-
-pub pair_exact : (line z a b c d : List ℕ) → z ≡ first_field line → a ≡ after_first_field line → b ≡ first_field a → (length b ≡ 0 → ⊥) → c ≡ after_first_field a → d ≡ first_field c → length d ≡ 0 → Some (z, b) ≡ pair_of (fields line)
-pair_exact line z a b c d h0 h1 h2 hb h3 h4 e =
-    let some : length (first_field line) ≡ 0 → ⊥ = λ none. hb (ap length h2 ∙ ap (λ t. length (first_field t)) (h1 ∙ after_none line none)) in
-    let more : length (first_field a) ≡ 0 → ⊥ = λ none. hb (ap length h2 ∙ none) in
-    let same : ◌≡◌ {A = Option (List ℕ × List ℕ)} (Some (first_field line, first_field a)) (Some (z, b)) = rw (h0, h2) refl in
-    sym (ap pair_of (fields_some line some ∙ ap (λ fs. first_field line ∷ fs) (ap fields (sym h1) ∙ fields_some a more ∙ ap (λ fs. first_field a ∷ fs) (ap fields (sym h3) ∙ fields_none c (ap length (sym h4) ∙ e)))) ∙ same)
+pub fields_more : (line field rest : List ℕ) → field ≡ first_field line → rest ≡ after_first_field line → (length field ≡ 0 → ⊥) → fields line ≡ field ∷ fields rest
+fields_more line field rest is after some =
+    fields_some line (λ none. some (ap length is ∙ none)) ∙ rw (is, after) refl

@@ -2,42 +2,41 @@
 use Rattle.std.proofs.Common.{◌≡◌, ℕ, zero, suc, ◌+◌, ◌<◌, ◌≤◌, Bool, true, false, cond, ◌&&◌, eqb, List, [], ◌∷◌, ◌++◌, length, take, drop, refl, sym, ap, ◌∙◌, arith, length-drop, append-nil, append_assoc}
 use Rattle.std.proofs.lemmas.List.{nil_from_length}
 use Rattle.wire_read.specs.declared.fault.WireFault.{WireFault}
-use Rattle.wire_read.specs.declared.fault.WireFault.TheVariants.{ParserError}
 use Rattle.wire_read.specs.declared.frame.Frame.{Frame}
 use Rattle.wire_read.specs.declared.frame.Frame.TheVariants as frame
 use Rattle.wire_read.specs.declared.command.Command.{Command}
 use Rattle.wire_read.specs.declared.command.Command.TheVariants.{Alone, Publish, Refused}
+use Rattle.wire_read.specs.declared.front.End.TheVariants as ends
 use Rattle.wire_read.specs.declared.line.Line.{Line}
 use Rattle.wire_read.specs.declared.line.Line.TheVariants.{Open, TooLong, Ended}
-use Rattle.wire_read.specs.declared.front.Front.{Front}
-use Rattle.wire_read.specs.declared.front.Front.TheVariants.{Whole, More, Wrong}
+use Rattle.wire_read.specs.Front.{Front, Whole, More, Wrong, front, front_at, after_line, published, message, ended_by}
 use Rattle.wire_read.specs.Line.{line_of, without_cr}
 use Rattle.wire_read.specs.Command.{command}
-use Rattle.wire_read.specs.Front.{front, front_at, after_line, published}
 use Rattle.wire_read.specs.Framing.{Framing, framing, behind, framed_by, first_frames, frames_of}
 use Rattle.wire_read.proofs.LineLemmas.{ended_within}
 
 -- a message ends with two bytes behind its payload
-pub published_len : (s p : List ℕ) (taken : ℕ) (rest : List ℕ) (f : Frame) (n : ℕ) → published s p taken rest ≡ Whole f n → (n ≡ taken) × (2 ≤ length rest)
-published_len s p taken [] f n e = cc
-published_len s p taken (b ∷ []) f n e = by_test (eqb b 13) e
+pub published_len : (g : Frame) (taken : ℕ) (rest : List ℕ) (f : Frame) (n : ℕ) → published g taken rest ≡ Whole f n → (n ≡ taken) × (2 ≤ length rest)
+published_len g taken [] f n e = cc
+published_len g taken (b ∷ []) f n e = by_test (eqb b 13) e
   where
-    by_test : (t : Bool) → cond t More (Wrong ParserError) ≡ Whole f n → (n ≡ taken) × (2 ≤ 1)
+    by_test : (t : Bool) → ended_by (cond t ends.Open ends.Wrong) g taken ≡ Whole f n → (n ≡ taken) × (2 ≤ 1)
     by_test true h = cc
     by_test false h = cc
-published_len s p taken (b ∷ c ∷ cs) f n e = (by_test (eqb b 13 && eqb c 10) e, omega arith)
+published_len g taken (b ∷ c ∷ cs) f n e = (by_test (eqb b 13 && eqb c 10) e, omega arith)
   where
-    by_test : (t : Bool) → cond t (Whole (frame.Pub s p) taken) (Wrong ParserError) ≡ Whole f n → n ≡ taken
+    by_test : (t : Bool) → ended_by (cond t ends.Whole ends.Wrong) g taken ≡ Whole f n → n ≡ taken
     by_test true h = cc
     by_test false h = cc
 
 after_line_len : (c : Command) (bytes : List ℕ) (end : ℕ) (f : Frame) (n : ℕ) → end < length bytes → after_line c (end + 1) (drop (end + 1) bytes) ≡ Whole f n → (0 < n) × (n ≤ length bytes)
 after_line_len (Refused w) bytes end f n within e = cc
 after_line_len (Alone g) bytes end f n within e = let is : n ≡ end + 1 = cc in (omega arith, omega arith)
-after_line_len (Publish s size) bytes end f n within e =
+after_line_len (Publish a) bytes end f n within e =
     let rest : List ℕ = drop (end + 1) bytes in
-    let ends : (n ≡ end + 1 + size + 2) × (2 ≤ length (drop size rest)) = published_len s (take size rest) (end + 1 + size + 2) (drop size rest) f n e in
-    (omega arith, omega (arith, length-drop size (drop (end + 1) bytes), length-drop (end + 1) bytes))
+    let ends : (n ≡ end + 1 + a.total + 2) × (2 ≤ length (drop a.total rest)) =
+    published_len (message a.subject a.reply a.head (take a.total rest)) (end + 1 + a.total + 2) (drop a.total rest) f n e in
+    (omega arith, omega (arith, length-drop a.total (drop (end + 1) bytes), length-drop (end + 1) bytes))
 
 front_at_len : (l : Line) (bytes : List ℕ) (f : Frame) (n : ℕ) → line_of bytes ≡ l → front_at l bytes ≡ Whole f n → (0 < n) × (n ≤ length bytes)
 front_at_len Open bytes f n is e = cc
@@ -85,17 +84,17 @@ frames_step bytes =
     rw (← left) (enough_fuel n (length (drop n bytes)) (drop n bytes) (omega arith)))
 
 -- the frames of a stream that were read so far, and what is left
-pub scan_more : (bytes left : List ℕ) (fs : List Frame) → behind fs (frames_of left) ≡ frames_of bytes → More ≡ front left → framing fs left false ≡ frames_of bytes
-scan_more bytes left fs so_far is =
-    ap (λ gs. framing gs left false) (sym (append-nil fs)) ∙ sym (ap (behind fs) (frames_step left ∙ ap (λ r. framed_by r (λ taken. frames_of (drop taken left)) left) (sym is))) ∙ so_far
+pub scan_more : (whole : Framing) (left : List ℕ) (fs : List Frame) → behind fs (frames_of left) ≡ whole → front left ≡ More → framing fs left false ≡ whole
+scan_more whole left fs so_far is =
+    ap (λ gs. framing gs left false) (sym (append-nil fs)) ∙ sym (ap (behind fs) (frames_step left ∙ ap (λ r. framed_by r (λ taken. frames_of (drop taken left)) left) is)) ∙ so_far
 
-pub scan_wrong : (bytes left : List ℕ) (fs gs : List Frame) (w : WireFault) → behind fs (frames_of left) ≡ frames_of bytes → Wrong w ≡ front left → gs ≡ fs ++ frame.Fault w ∷ [] → framing gs [] true ≡ frames_of bytes
-scan_wrong bytes left fs gs w so_far is pushed =
-    ap (λ xs. framing xs [] true) pushed ∙ sym (ap (behind fs) (frames_step left ∙ ap (λ r. framed_by r (λ taken. frames_of (drop taken left)) left) (sym is))) ∙ so_far
+pub scan_wrong : (whole : Framing) (left : List ℕ) (fs gs : List Frame) (w : WireFault) → behind fs (frames_of left) ≡ whole → front left ≡ Wrong w → gs ≡ fs ++ frame.Fault w ∷ [] → framing gs [] true ≡ whole
+scan_wrong whole left fs gs w so_far is pushed =
+    ap (λ xs. framing xs [] true) pushed ∙ sym (ap (behind fs) (frames_step left ∙ ap (λ r. framed_by r (λ taken. frames_of (drop taken left)) left) is)) ∙ so_far
 
-pub scan_whole : (bytes left : List ℕ) (fs gs : List Frame) (f : Frame) (n : ℕ) → behind fs (frames_of left) ≡ frames_of bytes → Whole f n ≡ front left → gs ≡ fs ++ f ∷ [] → behind gs (frames_of (drop n left)) ≡ frames_of bytes
-scan_whole bytes left fs gs f n so_far is pushed =
+pub scan_whole : (whole : Framing) (left : List ℕ) (fs gs : List Frame) (f : Frame) (n : ℕ) → behind fs (frames_of left) ≡ whole → front left ≡ Whole f n → gs ≡ fs ++ f ∷ [] → behind gs (frames_of (drop n left)) ≡ whole
+scan_whole whole left fs gs f n so_far is pushed =
     ap (λ xs. behind xs (frames_of (drop n left))) pushed
     ∙ ap (λ xs. framing xs (frames_of (drop n left)).rest (frames_of (drop n left)).failed) (append_assoc fs (f ∷ []) (frames_of (drop n left)).frames)
-    ∙ sym (ap (behind fs) (frames_step left ∙ ap (λ r. framed_by r (λ taken. frames_of (drop taken left)) left) (sym is)))
+    ∙ sym (ap (behind fs) (frames_step left ∙ ap (λ r. framed_by r (λ taken. frames_of (drop taken left)) left) is))
     ∙ so_far

@@ -1,143 +1,27 @@
 -- What lines, frames and faults are in the words of the grammar.
-use Rattle.std.proofs.Common.{◌≡◌, inl, inr, ℕ, zero, suc, ◌+◌, ◌<◌, ◌≤◌, Bool, true, false, not, cond, ◌&&◌, eqb, ltb, List, [], ◌∷◌, ◌++◌, length, get_or, take, drop, Option, Some, None, Ok, Err, IsTrue, refl, sym, ap, ◌∙◌, subst, arith, ⊎_elim, length-drop, length-take, length-append, append_assoc}
+use Rattle.std.proofs.Common.{◌≡◌, inl, inr, ℕ, zero, suc, ◌+◌, ◌<◌, ◌≤◌, Bool, true, false, cond, ◌&&◌, eqb, List, [], ◌∷◌, ◌++◌, length, get_or, take, drop, Option, Some, None, refl, sym, ap, ◌∙◌, subst, arith, ⊎_elim, length-drop, length-take, length-append, append_assoc}
 use Rattle.std.specs.List.{before_first, position_or_len}
-use Rattle.std.specs.Str.Parse.{digits_value}
 use Rattle.std.proofs.lemmas.List.{get_or_append_left, get_or_at, take_at, drop_at, take_more, take-append-drop, get_or-take}
 use Rattle.std.proofs.lemmas.List.Sums.{position_or_len_is, fails_before_first, passes_at_first}
-use Rattle.std.proofs.lemmas.Bool.{cases_eq, eqb-true, eqb-false, ne_eqb, ltb-true, ltb-false, lt-ltb, le-ltb, cond-true, cond-false}
+use Rattle.std.proofs.lemmas.Bool.{eqb-true, eqb-false, ne_eqb, cond-false}
 use Rattle.wire_read.specs.declared.fault.WireFault.{WireFault}
-use Rattle.wire_read.specs.declared.fault.WireFault.TheVariants.{UnknownOperation, ParserError, ControlLine, Payload}
+use Rattle.wire_read.specs.declared.fault.WireFault.TheVariants.{ParserError, ControlLine}
 use Rattle.wire_read.specs.declared.frame.Frame.{Frame}
 use Rattle.wire_read.specs.declared.frame.Frame.TheVariants as frame
-use Rattle.wire_read.specs.declared.operation.Operation.{Operation}
-use Rattle.wire_read.specs.declared.operation.Operation.TheVariants.{Connect, Pub, Sub, Ping}
+use Rattle.wire_read.specs.declared.command.Announced.{Announced}
 use Rattle.wire_read.specs.declared.command.Command.{Command}
 use Rattle.wire_read.specs.declared.command.Command.TheVariants.{Alone, Publish, Refused}
+use Rattle.wire_read.specs.declared.front.End.TheVariants as ends
 use Rattle.wire_read.specs.declared.line.Line.{Line}
 use Rattle.wire_read.specs.declared.line.Line.TheVariants.{Open, TooLong, Ended}
-use Rattle.wire_read.specs.declared.front.Front.{Front}
-use Rattle.wire_read.specs.declared.front.Front.TheVariants.{Whole, More, Wrong}
+use Rattle.wire_read.specs.Front.{Front, Whole, More, Wrong, front, front_at, after_line, after_announced, published, message, ended_by}
 use Rattle.wire_read.specs.Line.{is_lf, line_of, without_cr}
-use Rattle.wire_read.specs.Field.{fields, first_field, after_first_field}
-use Rattle.wire_read.specs.Operation.{operation}
-use Rattle.wire_read.specs.Size.{is_number, size}
-use Rattle.wire_read.specs.Command.{command, said_by, subscription, publication, sized}
-use Rattle.wire_read.specs.Front.{front, front_at, after_line, published}
+use Rattle.wire_read.specs.Command.{command, announced}
 use Rattle.wire_read.specs.Framing.{Framing, framing, behind, framed_by, frames_of}
-use Rattle.wire_read.specs.Grammar.{IsLine, Has, IsNoPublication, IsNoSubscription, Says, IsSpelling, IsSpelled, IsRead, IsNoEnd, Shows, IsShown, IsFault, IsPartial, IsFramedBy, IsFraming, HasFraming, HasOneFraming}
+use Rattle.wire_read.specs.Grammar.{IsLine, Announces, Says, IsMessage, IsSpelling, IsSpelled, IsRead, IsNoEnd, Shows, IsShown, IsFault, IsPartial, IsFramedBy, IsFraming, HasFraming, HasOneFraming}
 use Rattle.wire_read.proofs.LineLemmas.{line_long, line_ended, line_parts}
-use Rattle.wire_read.proofs.FieldLemmas.{fields_none, fields_some}
+use Rattle.wire_read.proofs.SaysLemmas.{says_command, command_says}
 use Rattle.wire_read.proofs.FramingLemmas.{front_len, frames_step}
-
--- no operation has an empty name
-nameless : operation [] ≡ None
-unfolding operation
-nameless = refl
-
-named : (name : List ℕ) (op : Operation) → operation name ≡ Some op → length name ≡ 0 → ⊥
-named [] op is none = let e : None ≡ Some op = sym nameless ∙ is in cc
-named (b ∷ bs) op is none = omega arith
-
--- the fields of a line with an operation, from its first field and from the line behind it
-has_from : (line : List ℕ) (op : Operation) → operation (first_field line) ≡ Some op → Has line op (fields (after_first_field line))
-has_from line op is = (first_field line, is, fields_some line (named (first_field line) op is))
-
-has_parts : (line : List ℕ) (op : Operation) (others : List (List ℕ)) → Has line op others → (operation (first_field line) ≡ Some op) × (fields (after_first_field line) ≡ others)
-has_parts line op others has =
-    ⊎_elim
-    (λ (none : length (first_field line) ≡ 0).
-    let e : [] ≡ has.0 ∷ others = sym (fields_none line none) ∙ has.2 in cc)
-    (λ (some : length (first_field line) ≡ 0 → ⊥).
-    let e : first_field line ∷ fields (after_first_field line) ≡ has.0 ∷ others = sym (fields_some line some) ∙ has.2 in
-    let first : first_field line ≡ has.0 = cc in
-    let rest : fields (after_first_field line) ≡ others = cc in
-    (ap operation first ∙ has.1, rest))
-    (cases_eq (length (first_field line)) 0)
-
--- what a subscription says
-says_subscription : (line : List ℕ) (others : List (List ℕ)) → Has line Sub others → Says line (subscription others)
-says_subscription line [] has = inl ([], has, λ s d e. cc)
-says_subscription line (a ∷ []) has = inl (a ∷ [], has, λ s d e. cc)
-says_subscription line (a ∷ b ∷ []) has = has
-says_subscription line (a ∷ b ∷ c ∷ cs) has = inl (a ∷ b ∷ c ∷ cs, has, λ s d e. cc)
-
--- what a publication says, by its size
-says_sized : (line a d : List ℕ) (number big : Bool) → Has line Pub (a ∷ d ∷ []) → is_number d ≡ number → ltb 1048576 (digits_value 10 d) ≡ big →
-    Says line (sized a (cond (not number) (Err ParserError) (cond big (Err Payload) (Ok (digits_value 10 d)))))
-says_sized line a d false big has is_n is_b =
-    inr (a ∷ d ∷ [], has, λ s e same. let last : d ≡ e = cc in sym (ap is_number last) ∙ is_n)
-says_sized line a d true true has is_n is_b = (a, d, has, is_n, ltb-true 1048576 _ is_b)
-says_sized line a d true false has is_n is_b = (d, has, is_n, refl, ltb-false 1048576 _ is_b)
-
-says_publication : (line : List ℕ) (others : List (List ℕ)) → Has line Pub others → Says line (publication others)
-unfolding size
-says_publication line [] has = inr ([], has, λ s d e. cc)
-says_publication line (a ∷ []) has = inr (a ∷ [], has, λ s d e. cc)
-says_publication line (a ∷ d ∷ []) has = says_sized line a d (is_number d) (ltb 1048576 (digits_value 10 d)) has refl refl
-says_publication line (a ∷ b ∷ c ∷ cs) has = inr (a ∷ b ∷ c ∷ cs, has, λ s d e. cc)
-
-says_by : (op : Option Operation) (line : List ℕ) → operation (first_field line) ≡ op → Says line (said_by op (after_first_field line))
-says_by None line is = is
-says_by (Some Connect) line is = (fields (after_first_field line), has_from line Connect is, refl)
-says_by (Some Pub) line is = says_publication line (fields (after_first_field line)) (has_from line Pub is)
-says_by (Some Sub) line is = says_subscription line (fields (after_first_field line)) (has_from line Sub is)
-says_by (Some Ping) line is = (fields (after_first_field line), has_from line Ping is)
-
--- a line says its command
-pub says_command : (line : List ℕ) → Says line (command line)
-unfolding command
-says_command line = says_by (operation (first_field line)) line refl
-
--- and no other
-by_parts : (line : List ℕ) (op : Operation) (others : List (List ℕ)) → Has line op others → command line ≡ said_by (Some op) (after_first_field line)
-unfolding command
-by_parts line op others has = ap (λ o. said_by o (after_first_field line)) (has_parts line op others has).0
-
-no_subscription : (others : List (List ℕ)) → IsNoSubscription others → subscription others ≡ Refused ParserError
-no_subscription [] none = refl
-no_subscription (a ∷ []) none = refl
-no_subscription (a ∷ b ∷ []) none = absurd (none a b refl)
-no_subscription (a ∷ b ∷ c ∷ cs) none = refl
-
-not_number : (d : List ℕ) → is_number d ≡ false → size d ≡ Err ParserError
-unfolding size
-not_number d is = cond-true _ _ _ (ap not is)
-
-no_publication : (others : List (List ℕ)) → IsNoPublication others → publication others ≡ Refused ParserError
-no_publication [] none = refl
-no_publication (a ∷ []) none = refl
-no_publication (a ∷ d ∷ []) none = ap (sized a) (not_number d (none a d refl))
-no_publication (a ∷ b ∷ c ∷ cs) none = refl
-
-too_big : (d : List ℕ) → IsTrue (is_number d) → 1048576 < digits_value 10 d → size d ≡ Err Payload
-unfolding size
-too_big d number big = cond-false _ _ _ (ap not number) ∙ cond-true _ _ _ (lt-ltb 1048576 _ big)
-
-small : (d : List ℕ) (n : ℕ) → IsTrue (is_number d) → digits_value 10 d ≡ n → n ≤ 1048576 → size d ≡ Ok n
-unfolding size
-small d n number is few = cond-false _ _ _ (ap not number) ∙ cond-false _ _ _ (le-ltb 1048576 (digits_value 10 d) (omega arith)) ∙ ap Ok is
-
-unknown : (line : List ℕ) → operation (first_field line) ≡ None → command line ≡ Refused UnknownOperation
-unfolding command
-unknown line is = ap (λ o. said_by o (after_first_field line)) is
-
-pub command_says : (line : List ℕ) (c : Command) → Says line c → command line ≡ c
-command_says line (Alone (frame.Connect options)) says = by_parts line Connect says.0 says.1 ∙ ap (λ o. Alone (frame.Connect o)) (sym says.2)
-command_says line (Alone (frame.Sub subject sid)) says = by_parts line Sub _ says ∙ ap subscription (has_parts line Sub _ says).1
-command_says line (Alone frame.Ping) says = by_parts line Ping says.0 says.1
-command_says line (Alone (frame.Pub subject payload)) says = absurd says
-command_says line (Alone (frame.Fault fault)) says = absurd says
-command_says line (Publish subject n) says =
-    by_parts line Pub _ says.1 ∙ ap publication (has_parts line Pub _ says.1).1 ∙ ap (sized subject) (small says.0 n says.2 says.3 says.4)
-command_says line (Refused UnknownOperation) says = unknown line says
-command_says line (Refused ParserError) says =
-    ⊎_elim
-    (λ sub. by_parts line Sub _ sub.1 ∙ ap subscription (has_parts line Sub _ sub.1).1 ∙ no_subscription sub.0 sub.2)
-    (λ pub_line. by_parts line Pub _ pub_line.1 ∙ ap publication (has_parts line Pub _ pub_line.1).1 ∙ no_publication pub_line.0 pub_line.2)
-    says
-command_says line (Refused Payload) says =
-    by_parts line Pub _ says.2 ∙ ap publication (has_parts line Pub _ says.2).1 ∙ ap (sized says.0) (too_big says.1 says.3 says.4)
-command_says line (Refused ControlLine) says = absurd says
 
 -- a line that was found, with its end
 line_found : (stream : List ℕ) (end : ℕ) → line_of stream ≡ Ended end → IsLine (without_cr (take end stream)) (take (end + 1) stream)
@@ -183,48 +67,48 @@ front_line line head more is =
     ∙ ap (λ n. after_line (command line) n more) (sym size_is)
 
 -- a message ends with CR LF
-published_whole : (s p : List ℕ) (taken : ℕ) (rest : List ℕ) (f : Frame) (n : ℕ) → published s p taken rest ≡ Whole f n →
-    (f ≡ frame.Pub s p) × (n ≡ taken) × ((more : List ℕ) × (rest ≡ 13 ∷ 10 ∷ more))
-published_whole s p taken [] f n e = cc
-published_whole s p taken (b ∷ []) f n e = by_test (eqb b 13) e
+published_whole : (g : Frame) (taken : ℕ) (rest : List ℕ) (f : Frame) (n : ℕ) → published g taken rest ≡ Whole f n →
+    (f ≡ g) × (n ≡ taken) × ((more : List ℕ) × (rest ≡ 13 ∷ 10 ∷ more))
+published_whole g taken [] f n e = cc
+published_whole g taken (b ∷ []) f n e = by_test (eqb b 13) e
   where
-    by_test : (t : Bool) → cond t More (Wrong ParserError) ≡ Whole f n → (f ≡ frame.Pub s p) × (n ≡ taken) × ((more : List ℕ) × (b ∷ [] ≡ 13 ∷ 10 ∷ more))
+    by_test : (t : Bool) → ended_by (cond t ends.Open ends.Wrong) g taken ≡ Whole f n → (f ≡ g) × (n ≡ taken) × ((more : List ℕ) × (b ∷ [] ≡ 13 ∷ 10 ∷ more))
     by_test true h = cc
     by_test false h = cc
-published_whole s p taken (b ∷ c ∷ cs) f n e = by_test (eqb b 13) (eqb c 10) refl refl e
+published_whole g taken (b ∷ c ∷ cs) f n e = by_test (eqb b 13) (eqb c 10) refl refl e
   where
-    by_test : (t u : Bool) → eqb b 13 ≡ t → eqb c 10 ≡ u → cond (t && u) (Whole (frame.Pub s p) taken) (Wrong ParserError) ≡ Whole f n →
-        (f ≡ frame.Pub s p) × (n ≡ taken) × ((more : List ℕ) × (b ∷ c ∷ cs ≡ 13 ∷ 10 ∷ more))
+    by_test : (t u : Bool) → eqb b 13 ≡ t → eqb c 10 ≡ u → ended_by (cond (t && u) ends.Whole ends.Wrong) g taken ≡ Whole f n →
+        (f ≡ g) × (n ≡ taken) × ((more : List ℕ) × (b ∷ c ∷ cs ≡ 13 ∷ 10 ∷ more))
     by_test true true is_b is_c h =
         let cr : b ≡ 13 = eqb-true b 13 is_b in
         let lf : c ≡ 10 = eqb-true c 10 is_c in
-        let what : f ≡ frame.Pub s p = cc in
+        let what : f ≡ g = cc in
         let count : n ≡ taken = cc in
         (what, count, (cs, rw (cr, lf) refl))
     by_test true false is_b is_c h = cc
     by_test false u is_b is_c h = cc
 
-published_wrong : (s p : List ℕ) (taken : ℕ) (rest : List ℕ) (w : WireFault) → published s p taken rest ≡ Wrong w → (w ≡ ParserError) × IsNoEnd rest
-published_wrong s p taken [] w e = cc
-published_wrong s p taken (b ∷ []) w e = by_test (eqb b 13) refl e
+published_wrong : (g : Frame) (taken : ℕ) (rest : List ℕ) (w : WireFault) → published g taken rest ≡ Wrong w → (w ≡ ParserError) × IsNoEnd rest
+published_wrong g taken [] w e = cc
+published_wrong g taken (b ∷ []) w e = by_test (eqb b 13) refl e
   where
-    by_test : (t : Bool) → eqb b 13 ≡ t → cond t More (Wrong ParserError) ≡ Wrong w → (w ≡ ParserError) × (b ≡ 13 → ⊥)
+    by_test : (t : Bool) → eqb b 13 ≡ t → ended_by (cond t ends.Open ends.Wrong) g taken ≡ Wrong w → (w ≡ ParserError) × (b ≡ 13 → ⊥)
     by_test true is h = cc
     by_test false is h = let what : w ≡ ParserError = cc in (what, eqb-false b 13 is)
-published_wrong s p taken (b ∷ c ∷ cs) w e = by_test (eqb b 13) (eqb c 10) refl refl e
+published_wrong g taken (b ∷ c ∷ cs) w e = by_test (eqb b 13) (eqb c 10) refl refl e
   where
-    by_test : (t u : Bool) → eqb b 13 ≡ t → eqb c 10 ≡ u → cond (t && u) (Whole (frame.Pub s p) taken) (Wrong ParserError) ≡ Wrong w →
+    by_test : (t u : Bool) → eqb b 13 ≡ t → eqb c 10 ≡ u → ended_by (cond (t && u) ends.Whole ends.Wrong) g taken ≡ Wrong w →
         (w ≡ ParserError) × ((b ≡ 13) × (c ≡ 10) → ⊥)
     by_test true true is_b is_c h = cc
     by_test true false is_b is_c h = let what : w ≡ ParserError = cc in (what, λ both. eqb-false c 10 is_c both.1)
     by_test false u is_b is_c h = let what : w ≡ ParserError = cc in (what, λ both. eqb-false b 13 is_b both.0)
 
-no_end : (s p : List ℕ) (taken : ℕ) (rest : List ℕ) → IsNoEnd rest → published s p taken rest ≡ Wrong ParserError
-no_end s p taken [] none = absurd none
-no_end s p taken (b ∷ []) none = cond-false _ _ _ (ne_eqb b 13 none)
-no_end s p taken (b ∷ c ∷ cs) none = by_test (eqb b 13) (eqb c 10) refl refl
+no_end : (g : Frame) (taken : ℕ) (rest : List ℕ) → IsNoEnd rest → published g taken rest ≡ Wrong ParserError
+no_end g taken [] none = absurd none
+no_end g taken (b ∷ []) none = ap (λ e. ended_by e g taken) (cond-false _ _ _ (ne_eqb b 13 none))
+no_end g taken (b ∷ c ∷ cs) none = by_test (eqb b 13) (eqb c 10) refl refl
   where
-    by_test : (t u : Bool) → eqb b 13 ≡ t → eqb c 10 ≡ u → cond (t && u) (Whole (frame.Pub s p) taken) (Wrong ParserError) ≡ Wrong ParserError
+    by_test : (t u : Bool) → eqb b 13 ≡ t → eqb c 10 ≡ u → ended_by (cond (t && u) ends.Whole ends.Wrong) g taken ≡ Wrong ParserError
     by_test true true is_b is_c = absurd (none (eqb-true b 13 is_b, eqb-true c 10 is_c))
     by_test true false is_b is_c = refl
     by_test false u is_b is_c = refl
@@ -232,31 +116,42 @@ no_end s p taken (b ∷ c ∷ cs) none = by_test (eqb b 13) (eqb c 10) refl refl
 -- a frame that a line says by itself
 spelled_alone : (f : Frame) (line text : List ℕ) → IsLine line text → Says line (Alone f) → IsSpelling f text
 spelled_alone (frame.Connect options) line text is says = (line, is, says)
-spelled_alone (frame.Pub subject payload) line text is says = absurd says
-spelled_alone (frame.Sub subject sid) line text is says = (line, is, says)
+spelled_alone (frame.Pub subject reply payload) line text is says = absurd says
+spelled_alone (frame.Hpub subject reply head payload) line text is says = absurd says
+spelled_alone (frame.Sub subject queue sid) line text is says = (line, is, says)
+spelled_alone (frame.Unsub sid most) line text is says = (line, is, says)
 spelled_alone frame.Ping line text is says = (line, is, says)
+spelled_alone frame.Pong line text is says = (line, is, says)
 spelled_alone (frame.Fault fault) line text is says = absurd says
 
+-- a message by the bytes that its line announced
+spelled_block : (line start s : List ℕ) (reply : Option (List ℕ)) (head : Option ℕ) (block text : List ℕ) → IsLine line start → Announces line s reply head (length block) →
+    text ≡ start ++ (block ++ 13 ∷ 10 ∷ []) → IsSpelling (message s reply head block) text
+spelled_block line start s reply None block text is says e = (line, start, is, says, e)
+spelled_block line start s reply (Some k) block text is says e =
+    let len : length (take k block) ≡ k = omega (arith, length-take k block, says.6) in
+    rw (len, take-append-drop k block) (line, start, is, says, e)
+
 -- a message by its line and the bytes behind it
-spelled_message : (line head stream s : List ℕ) (size k : ℕ) → stream ≡ head ++ drop k stream → length head ≡ k → IsLine line head → Says line (Publish s size) →
-    (f : Frame) (n : ℕ) → published s (take size (drop k stream)) (k + size + 2) (drop size (drop k stream)) ≡ Whole f n → (n ≤ length stream) × IsSpelling f (take n stream)
-spelled_message line head stream s size k cut k_is is says f n e =
+spelled_message : (line head stream : List ℕ) (a : Announced) (k : ℕ) → stream ≡ head ++ drop k stream → length head ≡ k → IsLine line head → Announces line a.subject a.reply a.head a.total →
+    (f : Frame) (n : ℕ) → after_announced a k (drop k stream) ≡ Whole f n → (n ≤ length stream) × IsSpelling f (take n stream)
+spelled_message line head stream a k cut k_is is says f n e =
     let rest : List ℕ = drop k stream in
-    let payload : List ℕ = take size rest in
-    let found : (f ≡ frame.Pub s payload) × (n ≡ k + size + 2) × ((more : List ℕ) × (drop size rest ≡ 13 ∷ 10 ∷ more)) =
-    published_whole s payload (k + size + 2) (drop size rest) f n e in
+    let block : List ℕ = take a.total rest in
+    let found : (f ≡ message a.subject a.reply a.head block) × (n ≡ k + a.total + 2) × ((more : List ℕ) × (drop a.total rest ≡ 13 ∷ 10 ∷ more)) =
+    published_whole (message a.subject a.reply a.head block) (k + a.total + 2) (drop a.total rest) f n e in
     let more : List ℕ = found.2.0 in
-    let room : length (drop size rest) ≡ 2 + length more = ap length found.2.1 ∙ omega arith in
-    let size_is : length payload ≡ size = omega (arith, length-take size rest, length-drop size rest) in
-    let text : List ℕ = head ++ (payload ++ 13 ∷ 10 ∷ []) in
-    let text_len : length text ≡ n = omega (arith, length-append head (payload ++ 13 ∷ 10 ∷ []), length-append payload (13 ∷ 10 ∷ []), found.1) in
-    let rest_is : rest ≡ (payload ++ 13 ∷ 10 ∷ []) ++ more =
-    sym (take-append-drop size rest) ∙ ap (λ t. payload ++ t) found.2.1 ∙ sym (append_assoc payload (13 ∷ 10 ∷ []) more) in
-    let stream_is : stream ≡ text ++ more = cut ∙ ap (λ t. head ++ t) rest_is ∙ sym (append_assoc head (payload ++ 13 ∷ 10 ∷ []) more) in
+    let room : length (drop a.total rest) ≡ 2 + length more = ap length found.2.1 ∙ omega arith in
+    let size_is : length block ≡ a.total = omega (arith, length-take a.total rest, length-drop a.total rest) in
+    let text : List ℕ = head ++ (block ++ 13 ∷ 10 ∷ []) in
+    let text_len : length text ≡ n = omega (arith, length-append head (block ++ 13 ∷ 10 ∷ []), length-append block (13 ∷ 10 ∷ []), found.1) in
+    let rest_is : rest ≡ (block ++ 13 ∷ 10 ∷ []) ++ more =
+    sym (take-append-drop a.total rest) ∙ ap (λ t. block ++ t) found.2.1 ∙ sym (append_assoc block (13 ∷ 10 ∷ []) more) in
+    let stream_is : stream ≡ text ++ more = cut ∙ ap (λ t. head ++ t) rest_is ∙ sym (append_assoc head (block ++ 13 ∷ 10 ∷ []) more) in
     let taken : take n stream ≡ text = ap (take n) stream_is ∙ take_at text more n text_len in
-    let Q : ℕ → Type 0 = λ m. Says line (Publish s m) in (
+    let Q : ℕ → Type 0 = λ m. Announces line a.subject a.reply a.head m in (
       omega (arith, ap length stream_is, length-append text more),
-      rw (found.0, taken) (line, head, is, subst Q (sym size_is) says, refl),
+      rw (found.0, taken) (spelled_block line head a.subject a.reply a.head block text is (subst Q (sym size_is) says) refl),
     )
 
 spelled_by : (c : Command) (stream : List ℕ) (end : ℕ) (f : Frame) (n : ℕ) → line_of stream ≡ Ended end → Says (without_cr (take end stream)) c →
@@ -267,9 +162,9 @@ spelled_by (Alone g) stream end f n is says e =
     let count : n ≡ end + 1 = cc in
     let parts = (line_parts stream).2 end is in
     (omega (arith, parts.2), rw (what, count) (spelled_alone g (without_cr (take end stream)) (take (end + 1) stream) (line_found stream end is) says))
-spelled_by (Publish s size) stream end f n is says e =
+spelled_by (Publish a) stream end f n is says e =
     let parts = (line_parts stream).2 end is in
-    spelled_message (without_cr (take end stream)) (take (end + 1) stream) stream s size (end + 1)
+    spelled_message (without_cr (take end stream)) (take (end + 1) stream) stream a (end + 1)
     (sym (take-append-drop (end + 1) stream)) (omega (arith, length-take (end + 1) stream, parts.2)) (line_found stream end is) says f n e
 
 spelled_at : (l : Line) (stream : List ℕ) (f : Frame) (n : ℕ) → line_of stream ≡ l → front_at l stream ≡ Whole f n → (n ≤ length stream) × IsSpelling f (take n stream)
@@ -285,25 +180,37 @@ is_spelled stream f n e = spelled_at (line_of stream) stream f n refl e
 read_alone : (f : Frame) (line text more : List ℕ) → IsLine line text → Says line (Alone f) → front (text ++ more) ≡ Whole f (length text)
 read_alone f line text more is says = front_line line text more is ∙ ap (λ c. after_line c (length text) more) (command_says line (Alone f) says)
 
+-- a message in front, by the bytes that its line announced
+read_message : (s : List ℕ) (reply : Option (List ℕ)) (head : Option ℕ) (block text more : List ℕ) → IsMessage s reply head block text →
+    front (text ++ more) ≡ Whole (message s reply head block) (length text)
+read_message s reply head block text more is =
+    let line : List ℕ = is.0 in
+    let start : List ℕ = is.1 in
+    let a : Announced = announced s reply head (length block) in
+    let whole : text ++ more ≡ start ++ (block ++ (13 ∷ 10 ∷ more)) =
+    ap (λ t. t ++ more) is.4 ∙ append_assoc start (block ++ 13 ∷ 10 ∷ []) more ∙ ap (λ t. start ++ t) (append_assoc block (13 ∷ 10 ∷ []) more) in
+    let count : length text ≡ length start + length block + 2 =
+    omega (arith, ap length is.4, length-append start (block ++ 13 ∷ 10 ∷ []), length-append block (13 ∷ 10 ∷ [])) in
+    ap front whole
+    ∙ front_line line start (block ++ (13 ∷ 10 ∷ more)) is.2
+    ∙ ap (λ c. after_line c (length start) (block ++ (13 ∷ 10 ∷ more))) (command_says line (Publish a) is.3)
+    ∙ ap (λ p. published (message s reply head p) (length start + length block + 2) (drop (length block) (block ++ (13 ∷ 10 ∷ more)))) (take_at block (13 ∷ 10 ∷ more) (length block) refl)
+    ∙ ap (published (message s reply head block) (length start + length block + 2)) (drop_at block (13 ∷ 10 ∷ more) (length block) refl)
+    ∙ ap (Whole (message s reply head block)) (sym count)
+
 -- a text of a frame in front is that frame
 pub is_read : IsRead
 is_read (frame.Connect options) text more is = read_alone (frame.Connect options) is.0 text more is.1 is.2
-is_read (frame.Sub subject sid) text more is = read_alone (frame.Sub subject sid) is.0 text more is.1 is.2
+is_read (frame.Sub subject queue sid) text more is = read_alone (frame.Sub subject queue sid) is.0 text more is.1 is.2
+is_read (frame.Unsub sid most) text more is = read_alone (frame.Unsub sid most) is.0 text more is.1 is.2
 is_read frame.Ping text more is = read_alone frame.Ping is.0 text more is.1 is.2
+is_read frame.Pong text more is = read_alone frame.Pong is.0 text more is.1 is.2
 is_read (frame.Fault fault) text more is = read_alone (frame.Fault fault) is.0 text more is.1 is.2
-is_read (frame.Pub subject payload) text more is =
-    let line : List ℕ = is.0 in
-    let head : List ℕ = is.1 in
-    let whole : text ++ more ≡ head ++ (payload ++ (13 ∷ 10 ∷ more)) =
-    ap (λ t. t ++ more) is.4 ∙ append_assoc head (payload ++ 13 ∷ 10 ∷ []) more ∙ ap (λ t. head ++ t) (append_assoc payload (13 ∷ 10 ∷ []) more) in
-    let count : length text ≡ length head + length payload + 2 =
-    omega (arith, ap length is.4, length-append head (payload ++ 13 ∷ 10 ∷ []), length-append payload (13 ∷ 10 ∷ [])) in
-    ap front whole
-    ∙ front_line line head (payload ++ (13 ∷ 10 ∷ more)) is.2
-    ∙ ap (λ c. after_line c (length head) (payload ++ (13 ∷ 10 ∷ more))) (command_says line (Publish subject (length payload)) is.3)
-    ∙ ap (λ p. published subject p (length head + length payload + 2) (drop (length payload) (payload ++ (13 ∷ 10 ∷ more)))) (take_at payload (13 ∷ 10 ∷ more) (length payload) refl)
-    ∙ ap (published subject payload (length head + length payload + 2)) (drop_at payload (13 ∷ 10 ∷ more) (length payload) refl)
-    ∙ ap (Whole (frame.Pub subject payload)) (sym count)
+is_read (frame.Pub subject reply payload) text more is = read_message subject reply None payload text more is
+is_read (frame.Hpub subject reply head payload) text more is =
+    read_message subject reply (Some (length head)) (head ++ payload) text more is
+    ∙ ap (λ h. Whole (frame.Hpub subject reply h (drop (length head) (head ++ payload))) (length text)) (take_at head payload (length head) refl)
+    ∙ ap (λ p. Whole (frame.Hpub subject reply head p) (length text)) (drop_at head payload (length head) refl)
 
 shown_by : (c : Command) (stream : List ℕ) (end : ℕ) (w : WireFault) → line_of stream ≡ Ended end → Says (without_cr (take end stream)) c →
     after_line c (end + 1) (drop (end + 1) stream) ≡ Wrong w → Shows w stream
@@ -312,9 +219,9 @@ shown_by (Refused v) stream end w is says e =
     let Q : WireFault → Type 0 = λ x. Says (without_cr (take end stream)) (Refused x) in
     inr (inl (without_cr (take end stream), take (end + 1) stream, drop (end + 1) stream, sym (take-append-drop (end + 1) stream), line_found stream end is, subst Q what says))
 shown_by (Alone g) stream end w is says e = cc
-shown_by (Publish s size) stream end w is says e =
-    let found = published_wrong s (take size (drop (end + 1) stream)) (end + 1 + size + 2) (drop size (drop (end + 1) stream)) w e in
-    inr (inr (found.0, (without_cr (take end stream), take (end + 1) stream, drop (end + 1) stream, s, size, sym (take-append-drop (end + 1) stream), line_found stream end is, says, found.1)))
+shown_by (Publish a) stream end w is says e =
+    let found = published_wrong (message a.subject a.reply a.head (take a.total (drop (end + 1) stream))) (end + 1 + a.total + 2) (drop a.total (drop (end + 1) stream)) w e in
+    inr (inr (found.0, (without_cr (take end stream), take (end + 1) stream, drop (end + 1) stream, a, sym (take-append-drop (end + 1) stream), line_found stream end is, says, found.1)))
 
 shown_at : (l : Line) (stream : List ℕ) (w : WireFault) → line_of stream ≡ l → front_at l stream ≡ Wrong w → Shows w stream
 shown_at Open stream w is e = cc
@@ -337,13 +244,14 @@ is_fault stream w shows =
     (λ long. long_front stream long.1 ∙ ap Wrong (sym long.0))
     (⊎_elim
     (λ line. ap front line.3 ∙ front_line line.0 line.1 line.2 line.4 ∙ ap (λ c. after_line c (length line.1) line.2) (command_says line.0 (Refused w) line.5))
-    (λ message.
-    let m = message.1 in
-    ap front m.5
-    ∙ front_line m.0 m.1 m.2 m.6
-    ∙ ap (λ c. after_line c (length m.1) m.2) (command_says m.0 (Publish m.3 m.4) m.7)
-    ∙ no_end m.3 (take m.4 m.2) (length m.1 + m.4 + 2) (drop m.4 m.2) m.8
-    ∙ ap Wrong (sym message.0)))
+    (λ wrong.
+    let m = wrong.1 in
+    let a : Announced = m.3 in
+    ap front m.4
+    ∙ front_line m.0 m.1 m.2 m.5
+    ∙ ap (λ c. after_line c (length m.1) m.2) (command_says m.0 (Publish a) m.6)
+    ∙ no_end (message a.subject a.reply a.head (take a.total m.2)) (length m.1 + a.total + 2) (drop a.total m.2) m.7
+    ∙ ap Wrong (sym wrong.0)))
     shows
 
 -- bytes are partial exactly where more is needed
@@ -375,8 +283,11 @@ only_by [] stream rest failed is =
 only_by (frame.Fault w ∷ fs) stream rest failed is =
     rw (is.1, is.2, is.3) (sym (step_by stream (Wrong w) (is_fault stream w is.0)))
 only_by (frame.Connect o ∷ fs) stream rest failed is = only_whole _ fs stream is.0 is.1 rest failed is.2 is.3 (only_by fs is.1 rest failed is.4)
-only_by (frame.Pub s p ∷ fs) stream rest failed is = only_whole _ fs stream is.0 is.1 rest failed is.2 is.3 (only_by fs is.1 rest failed is.4)
-only_by (frame.Sub s i ∷ fs) stream rest failed is = only_whole _ fs stream is.0 is.1 rest failed is.2 is.3 (only_by fs is.1 rest failed is.4)
+only_by (frame.Pub s r p ∷ fs) stream rest failed is = only_whole _ fs stream is.0 is.1 rest failed is.2 is.3 (only_by fs is.1 rest failed is.4)
+only_by (frame.Hpub s r h p ∷ fs) stream rest failed is = only_whole _ fs stream is.0 is.1 rest failed is.2 is.3 (only_by fs is.1 rest failed is.4)
+only_by (frame.Sub s q i ∷ fs) stream rest failed is = only_whole _ fs stream is.0 is.1 rest failed is.2 is.3 (only_by fs is.1 rest failed is.4)
+only_by (frame.Unsub i m ∷ fs) stream rest failed is = only_whole _ fs stream is.0 is.1 rest failed is.2 is.3 (only_by fs is.1 rest failed is.4)
+only_by (frame.Pong ∷ fs) stream rest failed is = only_whole _ fs stream is.0 is.1 rest failed is.2 is.3 (only_by fs is.1 rest failed is.4)
 only_by (frame.Ping ∷ fs) stream rest failed is = only_whole _ fs stream is.0 is.1 rest failed is.2 is.3 (only_by fs is.1 rest failed is.4)
 
 -- a stream has no other framing
@@ -387,8 +298,11 @@ found_whole : (f : Frame) (fs : List Frame) (stream text more rest : List ℕ) (
     IsFramedBy more fs rest failed → IsFramedBy stream (f ∷ fs) rest failed
 found_whole (frame.Fault w) fs stream text more rest failed cut spelled after = absurd spelled.2
 found_whole (frame.Connect o) fs stream text more rest failed cut spelled after = (text, more, cut, spelled, after)
-found_whole (frame.Pub s p) fs stream text more rest failed cut spelled after = (text, more, cut, spelled, after)
-found_whole (frame.Sub s i) fs stream text more rest failed cut spelled after = (text, more, cut, spelled, after)
+found_whole (frame.Pub s r p) fs stream text more rest failed cut spelled after = (text, more, cut, spelled, after)
+found_whole (frame.Hpub s r h p) fs stream text more rest failed cut spelled after = (text, more, cut, spelled, after)
+found_whole (frame.Sub s q i) fs stream text more rest failed cut spelled after = (text, more, cut, spelled, after)
+found_whole (frame.Unsub i m) fs stream text more rest failed cut spelled after = (text, more, cut, spelled, after)
+found_whole frame.Pong fs stream text more rest failed cut spelled after = (text, more, cut, spelled, after)
 found_whole frame.Ping fs stream text more rest failed cut spelled after = (text, more, cut, spelled, after)
 
 found_by : (r : Front) (stream : List ℕ) → ((c : List ℕ) → length c < length stream → IsFraming c (frames_of c)) → front stream ≡ r → IsFraming stream (frames_of stream)

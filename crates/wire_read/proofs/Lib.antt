@@ -3,4 +3,6 @@ pub mod LineLemmas
 pub mod SizeLemmas
 pub mod FramingLemmas
 pub mod CutLemmas
+pub mod AwaitedLemmas
+pub mod SaysLemmas
 pub mod GrammarLemmas

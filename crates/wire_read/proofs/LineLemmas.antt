@@ -48,7 +48,7 @@ pub line_long : (bytes : List ℕ) → 4096 < length (without_cr (before_first i
 unfolding line_of
 line_long bytes long = sym (cond-true _ _ _ (lt-ltb 4096 _ long))
 
-line_open : (bytes : List ℕ) → length (without_cr (before_first is_lf bytes)) ≤ 4096 → position_or_len is_lf bytes ≡ length bytes → Open ≡ line_of bytes
+pub line_open : (bytes : List ℕ) → length (without_cr (before_first is_lf bytes)) ≤ 4096 → position_or_len is_lf bytes ≡ length bytes → Open ≡ line_of bytes
 unfolding line_of
 line_open bytes short is = sym (cond-false _ _ _ (le-ltb 4096 _ short) ∙ cond-true _ _ _ (eq-eqb _ _ is))
 

@@ -1,23 +1,50 @@
 -- The number that a field writes, digit by digit.
-use Rattle.std.proofs.Common.{◌≡◌, ℕ, ◌+◌, ◌-◌, ◌*◌, ◌<◌, ◌≤◌, true, false, not, eqb, List, length, get_or, take, min, Some, None, sym, ap, ◌∙◌, arith, if◌then◌else◌}
+use Rattle.std.proofs.Common.{◌≡◌, ℕ, ◌+◌, ◌-◌, ◌*◌, ◌<◌, ◌≤◌, Bool, true, false, not, cond, eqb, ltb, List, length, get_or, take, min, Some, None, Result, Ok, Err, refl, sym, ap, ◌∙◌, arith, if◌then◌else◌}
 use Rattle.std.specs.Char.{is_ascii_digit, IsAsciiDigit}
 use Rattle.std.specs.Str.Parse.{digits_value}
 use Rattle.std.proofs.lemmas.Int.Digits.{digits_value_more}
 use Rattle.std.proofs.lemmas.Str.{digit_value_digit}
 use Rattle.std.proofs.lemmas.List.{take_all, get_or_default}
 use Rattle.std.proofs.lemmas.List.Sums.{list_all-from_AllPass}
-use Rattle.std.proofs.lemmas.Bool.{cond-true, and_from}
-use Rattle.wire_read.specs.Size.{is_number}
+use Rattle.std.proofs.lemmas.Bool.{cond-true, cond-false, and_from, ltb-false, le-ltb}
+use Rattle.wire_read.specs.declared.fault.WireFault.{WireFault}
+use Rattle.wire_read.specs.declared.fault.WireFault.TheVariants.{ParserError, Payload}
+use Rattle.wire_read.specs.Size.{is_number, size, sizes, head_within}
 
 -- one digit more
-pub number_more : (field : List ℕ) (i n r : ℕ) → i < length field → IsAsciiDigit (get_or field i 0) → n ≡ min (digits_value 10 (take i field)) 1048577 →
-    r ≡ min (n * 10 + (get_or field i 0 - 48)) 1048577 → r ≡ min (digits_value 10 (take (i + 1) field)) 1048577
-number_more field i n r within digit old new =
+pub number_more : (most : ℕ) (field : List ℕ) (i n m r : ℕ) → i < length field → IsAsciiDigit (get_or field i 0) → n ≡ min (digits_value 10 (take i field)) most →
+    m ≡ min (n * 10) most → r ≡ min (m + (get_or field i 0 - 48)) most → r ≡ min (digits_value 10 (take (i + 1) field)) most
+number_more most field i n m r within digit old ten new =
     omega (arith, digits_value_more 10 field i within, digit_value_digit _ digit, digit)
 
 -- every digit was read
-pub number_whole : (field : List ℕ) (i n : ℕ) → eqb (length field) 0 ≡ false → length field ≤ i → ((k : ℕ) → k < i → is_ascii_digit (get_or field k 0) ≡ true) →
-    n ≡ min (digits_value 10 (take i field)) 1048577 → Some n ≡ (if is_number field then Some (min (digits_value 10 field) 1048577) else None)
-number_whole field i n some end digits is =
+pub number_whole : (most : ℕ) (field : List ℕ) (i n : ℕ) → eqb (length field) 0 ≡ false → length field ≤ i → ((k : ℕ) → k < i → is_ascii_digit (get_or field k 0) ≡ true) →
+    n ≡ min (digits_value 10 (take i field)) most → Some n ≡ (if is_number field then Some (min (digits_value 10 field) most) else None)
+number_whole most field i n some end digits is =
     let all = list_all-from_AllPass is_ascii_digit field (λ k d h. rw (get_or_default field k d 0 h) (digits k (omega arith))) in
-    sym (cond-true (is_number field) _ _ (and_from _ _ (ap not some) all) ∙ ap Some (sym (is ∙ ap (λ f. min (digits_value 10 f) 1048577) (take_all i field end))))
+    sym (cond-true (is_number field) _ _ (and_from _ _ (ap not some) all) ∙ ap Some (sym (is ∙ ap (λ f. min (digits_value 10 f) most) (take_all i field end))))
+
+-- a size that was read is within the limit
+small_by : (number large : Bool) (v n : ℕ) → ltb 1048576 v ≡ large → Ok n ≡ cond (not number) (Err ParserError) (cond large (Err Payload) (Ok v)) → n ≤ 1048576
+small_by false large v n e is = cc
+small_by true true v n e is = cc
+small_by true false v n e is = let same : n ≡ v = cc in omega (arith, ltb-false 1048576 v e)
+
+pub size_small : (field : List ℕ) (n : ℕ) → Ok n ≡ size field → n ≤ 1048576
+unfolding size
+size_small field n is = small_by (is_number field) (ltb 1048576 (digits_value 10 field)) (digits_value 10 field) n refl is
+
+-- the sizes of a header block and of all that follows the line
+within_by : (t : Bool) (v h n : ℕ) (total : Result ℕ WireFault) → Some h ≡ cond t (Some (min v 18446744073709551615)) None → Ok n ≡ total → n ≤ 1048576 → h ≤ n →
+    Ok (h, n) ≡ cond (not t) (Err ParserError) (head_within v total)
+within_by false v h n total is_head is_total few within = cc
+within_by true v h n total is_head is_total few within =
+    let cut : h ≡ min v 18446744073709551615 = cc in
+    let whole : v ≡ h = omega arith in
+    rw (← is_total, whole) (sym (cond-false _ _ _ (le-ltb n h within)))
+
+pub sizes_within : (head total : List ℕ) (h n : ℕ) → Some h ≡ (if is_number head then Some (min (digits_value 10 head) 18446744073709551615) else None) → Ok n ≡ size total → h ≤ n →
+    Ok (h, n) ≡ sizes head total
+unfolding sizes
+sizes_within head total h n is_head is_total within =
+    within_by (is_number head) (digits_value 10 head) h n (size total) is_head is_total (size_small total n is_total) within

@@ -1,6 +1,8 @@
 -- The fields of a control line (NATS documentation, "Client Protocol").
-use Rattle.std.specs.Prelude.{ℕ, ◌==◌, ◌||◌, Bool, not, List, [], ◌∷◌, length, drop, filter, Option, Some, None}
+use Rattle.std.specs.Prelude.{ℕ, ◌==◌, ◌||◌, Bool, not, List, [], ◌∷◌, length, drop, filter}
 use Rattle.std.specs.List.{slice_split, prefix_len, take_while}
+use Rattle.wire_read.specs.declared.field.Fields.{Fields}
+use Rattle.wire_read.specs.declared.field.Fields.TheVariants.{One, Two, Three, Four, Other}
 
 -- fields are parted by spaces and tabs
 abbrev pub is_separator : ℕ → Bool
@@ -29,7 +31,10 @@ first_field line = take_while is_field_byte (trimmed line)
 abbrev pub after_first_field : List ℕ → List ℕ
 after_first_field line = drop (prefix_len is_field_byte (trimmed line)) (trimmed line)
 
--- the fields, where there are two
-abbrev pub pair_of : List (List ℕ) → Option (List ℕ × List ℕ)
-pair_of (a ∷ b ∷ []) = Some (a, b)
-pair_of _ = None
+-- the fields, as many as an operation may take
+abbrev pub counted : List (List ℕ) → Fields
+counted (a ∷ []) = One a
+counted (a ∷ b ∷ []) = Two a b
+counted (a ∷ b ∷ c ∷ []) = Three a b c
+counted (a ∷ b ∷ c ∷ d ∷ []) = Four a b c d
+counted _ = Other

@@ -5,9 +5,7 @@ use Rattle.wire_read.specs.declared.frame.Frame.{Frame}
 use Rattle.wire_read.specs.declared.frame.Frame.TheVariants as frame
 use Rattle.wire_read.specs.declared.fault.FeedError.{FeedError}
 use Rattle.wire_read.specs.declared.fault.FeedError.TheVariants.{Failed, NoMemory}
-use Rattle.wire_read.specs.declared.front.Front.{Front}
-use Rattle.wire_read.specs.declared.front.Front.TheVariants.{Whole, More, Wrong}
-use Rattle.wire_read.specs.Front.{front}
+use Rattle.wire_read.specs.Front.{Front, Whole, More, Wrong, front}
 
 -- the frames of a stream, what is left of it, and whether its last frame is a fault
 pub record Framing : Type 0 where

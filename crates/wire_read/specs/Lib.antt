@@ -4,6 +4,7 @@ pub mod Operation
 pub mod Size
 pub mod Command
 pub mod Front
+pub mod Awaited
 pub mod Framing
 pub mod Grammar
 pub mod Faults

@@ -10,12 +10,13 @@ use std::fmt;
 pub enum WireFault {
     /// A line has no field, or its first names no operation that is known.
     UnknownOperation,
-    /// The fields after the operation aren't what it takes, a size has a byte that is no digit,
-    /// or a payload is not followed by CR LF.
+    /// The fields after the operation aren't what it takes, a number has a byte that is no digit,
+    /// a header block is to be longer than itself and its payload, a count of messages is above
+    /// 2^63 - 1, or a payload is not followed by CR LF.
     ParserError,
     /// A line has more than 4,096 bytes, however it goes on.
     ControlLine,
-    /// A payload is to have more than 1,048,576 bytes.
+    /// A payload, with its header block if it has one, is to have more than 1,048,576 bytes.
     Payload,
 }
 

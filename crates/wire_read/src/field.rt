@@ -1,9 +1,20 @@
 ghost use Rattle.std.specs.Prelude.{◌≡◌, ◌≤◌, length, IfOk};
 ghost use Rattle.std.specs.List.{prefix_len};
-ghost use Rattle.wire_read.specs.Field.{is_separator, is_field_byte, first_field, after_first_field, fields, pair_of, trimmed};
+ghost use Rattle.wire_read.specs.Field.{is_separator, is_field_byte, first_field, after_first_field, fields, counted, trimmed};
 
 use bytes::Bytes;
 use std::alloc::AllocError;
+
+/// The fields of a line, as many as an operation may take.
+#[derive(Drop)]
+pub enum Fields {
+    One(Bytes),
+    Two(Bytes, Bytes),
+    Three(Bytes, Bytes, Bytes),
+    Four(Bytes, Bytes, Bytes, Bytes),
+    /// There are none, or more than four.
+    Other,
+}
 
 fn is_separator(byte: u8) -> bool
     ensures { result ≡ is_separator byte }
@@ -56,18 +67,31 @@ pub fn take_field(line: &mut Bytes) -> Result<Bytes, AllocError>
     line.split_to(len)
 }
 
-/// The fields of a line that has two.
-pub fn pair_of(mut line: Bytes) -> Result<Option<(Bytes, Bytes)>, AllocError>
-    ensures { IfOk result (λ pair. pair ≡ pair_of (fields line)) }
+/// The fields of a line.
+#[tactic(auto, using(crate::proofs::FieldLemmas::fields_end, crate::proofs::FieldLemmas::fields_more))]
+pub fn fields_of(mut line: Bytes) -> Result<Fields, AllocError>
+    ensures { IfOk result (λ f. f ≡ counted (fields line)) }
 {
     let first = take_field(&mut line)?;
+    if first.is_empty() {
+        return Ok(Fields::Other);
+    }
     let second = take_field(&mut line)?;
-    let third = take_field(&mut line)?;
     if second.is_empty() {
-        Ok(None)
-    } else if third.is_empty() {
-        Ok(Some((first, second)))
+        return Ok(Fields::One(first));
+    }
+    let third = take_field(&mut line)?;
+    if third.is_empty() {
+        return Ok(Fields::Two(first, second));
+    }
+    let fourth = take_field(&mut line)?;
+    if fourth.is_empty() {
+        return Ok(Fields::Three(first, second, third));
+    }
+    let fifth = take_field(&mut line)?;
+    if fifth.is_empty() {
+        Ok(Fields::Four(first, second, third, fourth))
     } else {
-        Ok(None)
+        Ok(Fields::Other)
     }
 }

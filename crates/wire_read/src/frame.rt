@@ -7,12 +7,34 @@ use bytes::Bytes;
 pub enum Frame {
     /// The rest of the line after the operation and the separators that follow it. It may be empty.
     Connect(Bytes),
-    /// A message for a subject.
-    Pub { subject: Bytes, payload: Bytes },
-    /// A subscription, under the client's own name for it.
-    Sub { subject: Bytes, sid: Bytes },
+    /// A message for a subject, with the subject for answers to it if the client named one.
+    Pub {
+        subject: Bytes,
+        reply: Option<Bytes>,
+        payload: Bytes,
+    },
+    /// A message with a header block in front of its payload. The block isn't judged either.
+    Hpub {
+        subject: Bytes,
+        reply: Option<Bytes>,
+        head: Bytes,
+        payload: Bytes,
+    },
+    /// A subscription, under the client's own name for it, as a member of a queue if the client named one.
+    Sub {
+        subject: Bytes,
+        queue: Option<Bytes>,
+        sid: Bytes,
+    },
+    /// The end of a subscription, at once or after so many messages since its beginning, at most 2^63 - 1.
+    Unsub {
+        sid: Bytes,
+        most: Option<u64>,
+    },
     /// A question whether the server is there.
     Ping,
+    /// The answer to the server's question whether the client is there.
+    Pong,
     /// What is wrong with the stream. No frame follows.
     Fault(WireFault),
 }

@@ -1,9 +1,12 @@
 ghost use Rattle.std.specs.Prelude.{◌≡◌, ◌<◌, ◌≤◌, ◌+◌, length, take, drop, IfOk};
-ghost use Rattle.wire_read.specs.Line.{without_cr};
-ghost use Rattle.wire_read.specs.Command.{command};
-ghost use Rattle.wire_read.specs.Front.{front, after_line, published};
+ghost use Rattle.wire_read.specs.Line.{line_of};
+ghost use Rattle.wire_read.specs.declared.line.Line.TheVariants as line_is;
+ghost use Rattle.wire_read.specs.Awaited.{IsFound, AwaitsBlock, front_of};
+ghost use Rattle.wire_read.specs.Command.{IsWithin};
+ghost use Rattle.wire_read.specs.Front.{after_announced, end_of, message};
 
-use crate::command::{Command, read_command};
+use crate::awaited::Awaited;
+use crate::command::{Announced, Command, read_command};
 use crate::line::{Line, find_line, len_without_cr};
 use crate::{Frame, WireFault};
 use bytes::Bytes;
@@ -11,55 +14,109 @@ use std::alloc::AllocError;
 
 /// What some bytes begin with.
 #[derive(Drop)]
-pub enum Front {
+pub enum Found {
     /// A frame, and how many bytes it takes.
     Whole(Frame, usize),
-    /// Less than a frame.
-    More,
+    /// Less than a frame, and what they wait for.
+    More(Awaited),
     /// No frame, however they go on.
     Wrong(WireFault),
 }
 
-/// The message of which the size is known, where the payload starts at `start`.
-fn publish(bytes: &Bytes, start: usize, subject: Bytes, size: usize) -> Result<Front, AllocError>
-    requires { start ≤ length bytes.now }
-    ensures { IfOk result (λ f. f ≡ published subject (take size (drop start bytes.now)) (start + size + 2) (drop size (drop start bytes.now))) }
+/// How the bytes behind a block end it.
+pub enum End {
+    /// They may go on to be CR LF.
+    Open,
+    /// CR LF is in front.
+    Whole,
+    /// They are something else.
+    Wrong,
+}
+
+/// How these bytes, which stand behind a block, end it.
+fn find_end(rest: &[u8]) -> End
+    ensures { result ≡ end_of rest.now }
 {
-    if bytes.len() - start < size {
-        return Ok(Front::More);
+    match rest {
+        [] | [b'\r'] => End::Open,
+        [b'\r', b'\n', ..] => End::Whole,
+        _ => End::Wrong,
     }
-    let end = start + size;
-    match &bytes.as_slice()[end..] {
-        [] | [b'\r'] => Ok(Front::More),
-        [b'\r', b'\n', ..] => {
-            let payload = bytes.slice(start..end)?;
-            Ok(Front::Whole(Frame::Pub { subject, payload }, end + 2))
+}
+
+/// A message by the bytes behind its line.
+fn message(
+    subject: Bytes,
+    reply: Option<Bytes>,
+    head: Option<usize>,
+    mut block: Bytes,
+) -> Result<Frame, AllocError>
+    requires { IsWithin head (length block) }
+    ensures { IfOk result (λ f. f ≡ message subject reply head block) }
+{
+    match head {
+        None => Ok(Frame::Pub {
+            subject,
+            reply,
+            payload: block,
+        }),
+        Some(len) => {
+            let head = block.split_to(len)?;
+            Ok(Frame::Hpub {
+                subject,
+                reply,
+                head,
+                payload: block,
+            })
         }
-        _ => Ok(Front::Wrong(WireFault::ParserError)),
+    }
+}
+
+/// The message that a line announced, where the bytes behind the line start at `start`.
+fn publish(bytes: &Bytes, start: usize, line: Announced) -> Result<Found, AllocError>
+    requires start { start ≤ length bytes.now }
+    requires head { IsWithin line.head line.total }
+    requires total { line.total ≤ 1048576 }
+    ensures front { IfOk result (λ f. front_of f ≡ after_announced line start (drop start bytes.now)) }
+    ensures awaited { IfOk result (λ f. AwaitsBlock f (start + line.total)) }
+{
+    let len = bytes.len();
+    let end = start + line.total;
+    if len < end {
+        return Ok(Found::More(Awaited::Block(end)));
+    }
+    match find_end(&bytes.as_slice()[end..]) {
+        End::Open => Ok(Found::More(Awaited::Block(end))),
+        End::Wrong => Ok(Found::Wrong(WireFault::ParserError)),
+        End::Whole => {
+            let block = bytes.slice(start..end)?;
+            let frame = message(line.subject, line.reply, line.head, block)?;
+            Ok(Found::Whole(frame, end + 2))
+        }
     }
 }
 
 /// What begins with a line that a LF at `end` follows.
-fn after_end(bytes: &Bytes, end: usize) -> Result<Front, AllocError>
-    requires { end < length bytes.now }
-    ensures { IfOk result (λ f. f ≡ after_line (command (without_cr (take end bytes.now))) (end + 1) (drop (end + 1) bytes.now)) }
+fn after_end(bytes: &Bytes, end: usize) -> Result<Found, AllocError>
+    requires within { end < length bytes.now }
+    requires line { line_of bytes.now ≡ line_is.Ended end }
+    ensures { IfOk result (λ f. IsFound f bytes.now) }
 {
     let len = len_without_cr(&bytes.as_slice()[..end]);
     match read_command(bytes.slice(0..len)?)? {
-        Command::Refused(fault) => Ok(Front::Wrong(fault)),
-        Command::Alone(frame) => Ok(Front::Whole(frame, end + 1)),
-        Command::Publish(subject, size) => publish(bytes, end + 1, subject, size),
+        Command::Refused(fault) => Ok(Found::Wrong(fault)),
+        Command::Alone(frame) => Ok(Found::Whole(frame, end + 1)),
+        Command::Publish(line) => publish(bytes, end + 1, line),
     }
 }
 
 /// What the bytes begin with.
-#[tactic(auto, unfolding(crate::specs::Front::front))]
-pub fn read_front(bytes: &Bytes) -> Result<Front, AllocError>
-    ensures { IfOk result (λ f. f ≡ front bytes.now) }
+pub fn read_front(bytes: &Bytes) -> Result<Found, AllocError>
+    ensures { IfOk result (λ f. IsFound f bytes.now) }
 {
     match find_line(bytes.as_slice()) {
-        Line::Open => Ok(Front::More),
-        Line::TooLong => Ok(Front::Wrong(WireFault::ControlLine)),
+        Line::Open => Ok(Found::More(Awaited::LineEnd)),
+        Line::TooLong => Ok(Found::Wrong(WireFault::ControlLine)),
         Line::Ended(end) => after_end(bytes, end),
     }
 }

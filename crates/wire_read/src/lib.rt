@@ -1,6 +1,8 @@
 //! The frames of the NATS client protocol, read from a stream in any pieces (NATS documentation, "Client Protocol").
 #![tactic(auto)]
 
+mod awaited;
+mod buffer;
 mod command;
 mod fault;
 mod field;
@@ -9,9 +11,11 @@ mod front;
 mod laws;
 mod line;
 mod operation;
+mod progress;
 mod reader;
 mod scan;
 mod size;
+mod step;
 
 pub use fault::{FeedError, WireFault};
 pub use frame::Frame;

@@ -7,8 +7,11 @@ ghost use Rattle.wire_read.specs.Operation.{operation};
 pub enum Operation {
     Connect,
     Pub,
+    Hpub,
     Sub,
+    Unsub,
     Ping,
+    Pong,
 }
 
 fn is_name(field: &[u8], name: &[u8]) -> bool
@@ -26,10 +29,16 @@ pub fn find_operation(field: &[u8]) -> Option<Operation>
         Some(Operation::Connect)
     } else if is_name(field, b"PUB") {
         Some(Operation::Pub)
+    } else if is_name(field, b"HPUB") {
+        Some(Operation::Hpub)
     } else if is_name(field, b"SUB") {
         Some(Operation::Sub)
+    } else if is_name(field, b"UNSUB") {
+        Some(Operation::Unsub)
     } else if is_name(field, b"PING") {
         Some(Operation::Ping)
+    } else if is_name(field, b"PONG") {
+        Some(Operation::Pong)
     } else {
         None
     }

@@ -1,37 +1,31 @@
-ghost use Rattle.std.specs.Prelude.{◌≡◌, ◌++◌, IfOk};
-
-use crate::scan::{Scan, scan_frames};
+use crate::awaited::Awaited;
+use crate::buffer::Buffer;
+use crate::progress::{Progress, read_on, read_whole};
+use crate::step::{Step, next_step};
 use crate::{FeedError, Frame};
-use bytes::Bytes;
 use lists::Items;
-use std::alloc::{AllocError, Global};
+use std::alloc::Global;
 use std::marker::Model;
 
 /// Reads the frames of a stream that comes in pieces, however it was cut. A clause sees what is left
 /// of the pieces, less than a frame, and whether a fault was given.
 #[derive(Debug, Drop)]
 pub struct FrameReader {
-    rest: Bytes,
+    kept: Buffer,
+    awaited: Awaited,
     failed: bool,
     alloc: Global,
 }
 
 impl Model for FrameReader {
     ghost use Rattle.wire_read.specs.Framing.{Reader};
+    ghost use Rattle.wire_read.specs.Awaited.{IsAwaiting};
 
     ghost Value = { Reader };
 
-    ghost view = { λ r. record { rest = r.rest; failed = r.failed } };
-}
+    ghost view = { λ r. record { rest = r.kept; failed = r.failed } };
 
-/// The bytes of both, in order.
-fn join(alloc: Global, rest: &[u8], piece: &[u8]) -> Result<Bytes, AllocError>
-    ensures { IfOk result (λ b. b ≡ rest.now ++ piece.now) }
-{
-    let mut whole = Vec::with_capacity(alloc, rest.len().saturating_add(piece.len()))?;
-    whole.extend_from_slice(rest)?;
-    whole.extend_from_slice(piece)?;
-    Ok(Bytes::from_vec(whole)?)
+    ghost invariant = { λ r. IsAwaiting r.awaited r.kept };
 }
 
 impl FrameReader {
@@ -39,11 +33,13 @@ impl FrameReader {
     ghost use Rattle.wire_read.specs.Framing.{Reader, IsFed};
 
     /// A reader of a stream of which nothing came. It takes no memory.
+    #[tactic(auto, using(crate::proofs::AwaitedLemmas::nothing_awaits))]
     pub fn new(alloc: Global) -> FrameReader
         ensures { result ≡ record { rest = []; failed = false } }
     {
         FrameReader {
-            rest: Bytes::new(),
+            kept: Buffer::new(alloc),
+            awaited: Awaited::LineEnd,
             failed: false,
             alloc,
         }
@@ -58,14 +54,26 @@ impl FrameReader {
         if self.failed {
             return Err(FeedError::Failed);
         }
-        let whole = join(self.alloc, self.rest.as_slice(), piece)?;
-        let Scan {
-            frames,
-            rest,
-            failed,
-        } = scan_frames(self.alloc, whole)?;
-        self.rest = rest;
-        self.failed = failed;
-        Ok(Items::from_vec(frames))
+        match next_step(&self.kept, self.awaited, piece) {
+            Step::Quiet => {
+                self.kept.append(piece)?;
+                Ok(Items::new(self.alloc))
+            }
+            Step::Takes(len) => {
+                let (part, behind) = piece.split_at(len);
+                let whole = self.kept.share(part)?;
+                let first = read_whole(self.alloc, Vec::new(self.alloc), whole)?;
+                let Progress {
+                    frames,
+                    kept,
+                    awaited,
+                    failed,
+                } = read_on(self.alloc, first, behind)?;
+                self.kept = kept;
+                self.awaited = awaited;
+                self.failed = failed;
+                Ok(Items::from_vec(frames))
+            }
+        }
     }
 }

@@ -1,43 +1,48 @@
 ghost use Rattle.std.specs.Prelude.{◌≡◌, IfOk};
-ghost use Rattle.wire_read.specs.Framing.{frames_of, framing};
+ghost use Rattle.wire_read.specs.Framing.{behind, frames_of, framing};
+ghost use Rattle.wire_read.specs.Awaited.{IsAwaiting};
 
 use crate::Frame;
-use crate::front::{Front, read_front};
+use crate::awaited::Awaited;
+use crate::front::{Found, read_front};
 use bytes::Bytes;
-use std::alloc::{AllocError, Global};
+use std::alloc::AllocError;
 
-/// The frames of some bytes, and what is left of them.
+/// The frames of some bytes, what is left of them, and what that waits for.
 #[derive(Drop)]
 pub struct Scan {
     pub frames: Vec<Frame>,
     pub rest: Bytes,
+    pub awaited: Awaited,
     pub failed: bool,
 }
 
-/// The frames that the bytes begin with, up to less than a frame or a fault.
-pub fn scan_frames(alloc: Global, bytes: Bytes) -> Result<Scan, AllocError>
-    ensures { IfOk result (λ s. framing s.frames.items s.rest s.failed ≡ frames_of bytes) }
+/// The frames that the bytes begin with, up to less than a frame or a fault, behind these frames.
+pub fn scan_frames(mut frames: Vec<Frame>, bytes: Bytes) -> Result<Scan, AllocError>
+    ensures framing { IfOk result (λ s. framing s.frames.items s.rest s.failed ≡ behind frames.items (frames_of bytes)) }
+    ensures awaited { IfOk result (λ s. IsAwaiting s.awaited s.rest) }
 {
-    let mut frames = Vec::new(alloc);
     let mut left = bytes;
     loop {
         match read_front(&left)? {
-            Front::More => {
+            Found::More(awaited) => {
                 return Ok(Scan {
                     frames,
                     rest: left,
+                    awaited,
                     failed: false,
                 });
             }
-            Front::Wrong(fault) => {
+            Found::Wrong(fault) => {
                 frames.push(Frame::Fault(fault))?;
                 return Ok(Scan {
                     frames,
                     rest: Bytes::new(),
+                    awaited: Awaited::LineEnd,
                     failed: true,
                 });
             }
-            Front::Whole(frame, len) => {
+            Found::Whole(frame, len) => {
                 frames.push(frame)?;
                 left.advance(len);
             }

@@ -1,25 +1,30 @@
 ghost use Rattle.std.specs.Prelude.{◌≡◌, min, Some, None, if◌then◌else◌};
 ghost use Rattle.std.specs.Str.Parse.{digits_value};
-ghost use Rattle.wire_read.specs.Size.{is_number, size};
+ghost use Rattle.wire_read.specs.Size.{is_number, size, sizes, count};
 
 use crate::WireFault;
 
-/// The most bytes of a payload.
-pub const MAX_PAYLOAD: usize = 1_048_576;
+/// The most bytes of a payload, its header block among them.
+pub const MAX_PAYLOAD: u64 = 1_048_576;
 
-/// The number that a field of digits writes, or one more than the largest payload if it is larger.
-fn number_of(field: &[u8]) -> Option<usize>
-    ensures { result ≡ (if is_number field.now then Some (min (digits_value 10 field.now) 1048577) else None) }
+/// The most messages that a client may count.
+pub const MAX_COUNT: u64 = 9_223_372_036_854_775_807;
+
+/// The number that a field of digits writes, or `u64::MAX` if it is larger.
+fn number_of(field: &[u8]) -> Option<u64>
+    ensures { result ≡ (if is_number field.now then Some (min (digits_value 10 field.now) u64.MAX) else None) }
 {
     if field.is_empty() {
         return None;
     }
-    let mut number = 0;
+    let mut number = 0u64;
     for byte in field {
         if !byte.is_ascii_digit() {
             return None;
         }
-        number = (number * 10 + (*byte - b'0') as usize).min(MAX_PAYLOAD + 1);
+        number = number
+            .saturating_mul(10)
+            .saturating_add((*byte - b'0') as u64);
     }
     Some(number)
 }
@@ -35,7 +40,45 @@ pub fn size_of(field: &[u8]) -> Result<usize, WireFault>
             if number > MAX_PAYLOAD {
                 Err(WireFault::Payload)
             } else {
-                Ok(number)
+                Ok(number as usize)
+            }
+        }
+    }
+}
+
+/// The sizes that two fields write: of a header block, and of all that follows the line.
+#[tactic(auto, unfolding(crate::specs::Size::sizes))]
+pub fn sizes_of(head: &[u8], total: &[u8]) -> Result<(usize, usize), WireFault>
+    ensures { result ≡ sizes head.now total.now }
+{
+    match number_of(head) {
+        None => Err(WireFault::ParserError),
+        Some(head) => match size_of(total) {
+            Err(fault) => Err(fault),
+            Ok(total) => {
+                let most = total as u64;
+                if head > most {
+                    Err(WireFault::ParserError)
+                } else {
+                    Ok((head as usize, total))
+                }
+            }
+        },
+    }
+}
+
+/// The count of messages that a field writes.
+#[tactic(auto, unfolding(crate::specs::Size::count))]
+pub fn count_of(field: &[u8]) -> Option<u64>
+    ensures { result ≡ count field.now }
+{
+    match number_of(field) {
+        None => None,
+        Some(number) => {
+            if number > MAX_COUNT {
+                None
+            } else {
+                Some(number)
             }
         }
     }

@@ -52,3 +52,26 @@ pub(crate) fn append(
     put(out, third);
     Ok(())
 }
+
+/// Appends five pieces, or leaves the buffer as it is.
+pub(crate) fn append_five(
+    out: &mut Vec<u8>,
+    first: &[u8],
+    second: &[u8],
+    third: &[u8],
+    fourth: &[u8],
+    fifth: &[u8],
+) -> Result<(), NoMemory>
+    ensures ok { OnOk result (out.new.items ≡ out.old.items ++ (first.now ++ second.now ++ third.now ++ fourth.now ++ fifth.now)) }
+    ensures err { OnErr result (out.new.items ≡ out.old.items) }
+    ensures full { OnErr result (vec_capacity out.old < vec_len out.old + length (first.now ++ second.now ++ third.now ++ fourth.now ++ fifth.now)) }
+{
+    let more = fourth.len().saturating_add(fifth.len());
+    make_room(out, first, second, third, more)?;
+    put(out, first);
+    put(out, second);
+    put(out, third);
+    put(out, fourth);
+    put(out, fifth);
+    Ok(())
+}

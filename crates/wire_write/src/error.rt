@@ -1,8 +1,8 @@
-ghost use Rattle.std.specs.Prelude.{◌≡◌, ◌+◌, ◌++◌, ◌<◌, length, OnOk, OnErr};
+ghost use Rattle.std.specs.Prelude.{◌≡◌, ◌+◌, ◌++◌, ◌<◌, length, OnOk, OnErr, option_copied};
 ghost use Rattle.std.specs.Vec.{vec_len, vec_capacity};
-ghost use Rattle.wire_write.specs.Errors.{err_line, closes_after};
+ghost use Rattle.wire_write.specs.Errors.{err_line, closes_after, subscription_denied_line};
 
-use crate::append::append;
+use crate::append::{append, append_five};
 use lists::NoMemory;
 
 /// What the server tells a client by `-ERR` (NATS documentation, "Client Protocol", "+OK/ERR").
@@ -30,8 +30,11 @@ pub enum ServerError<'a> {
     SubscriptionsExceeded,
     /// The user may not publish on the subject.
     PublishDenied(&'a [u8]),
-    /// The user may not subscribe to the subject.
-    SubscriptionDenied(&'a [u8]),
+    /// The user may not subscribe to the subject, or not in the queue.
+    SubscriptionDenied {
+        subject: &'a [u8],
+        queue: Option<&'a [u8]>,
+    },
 }
 
 impl ServerError<'_> {
@@ -51,8 +54,36 @@ impl ServerError<'_> {
             ServerError::InvalidSubject => false,
             ServerError::SubscriptionsExceeded => false,
             ServerError::PublishDenied(_) => false,
-            ServerError::SubscriptionDenied(_) => false,
+            ServerError::SubscriptionDenied {
+                subject: _,
+                queue: _,
+            } => false,
         }
+    }
+}
+
+const SUBSCRIPTION_DENIED: &[u8] = b"-ERR 'Permissions Violation for Subscription to \"";
+
+/// Appends the `-ERR` line of a subscription that the user's permissions refuse.
+fn write_subscription_denied(
+    out: &mut Vec<u8>,
+    subject: &[u8],
+    queue: Option<&[u8]>,
+) -> Result<(), NoMemory>
+    ensures ok { OnOk result (out.new.items ≡ out.old.items ++ subscription_denied_line subject.now (option_copied queue.entry)) }
+    ensures err { OnErr result (out.new.items ≡ out.old.items) }
+    ensures full { OnErr result (vec_capacity out.old < vec_len out.old + length (subscription_denied_line subject.now (option_copied queue.entry))) }
+{
+    match queue {
+        None => append(out, SUBSCRIPTION_DENIED, subject, b"\"'\r\n"),
+        Some(queue) => append_five(
+            out,
+            SUBSCRIPTION_DENIED,
+            subject,
+            b"\" using queue \"",
+            queue,
+            b"\"'\r\n",
+        ),
     }
 }
 
@@ -94,11 +125,8 @@ pub fn write_err(out: &mut Vec<u8>, error: ServerError<'_>) -> Result<(), NoMemo
             subject,
             b"\"'\r\n",
         )?),
-        ServerError::SubscriptionDenied(subject) => Ok(append(
-            out,
-            b"-ERR 'Permissions Violation for Subscription to \"",
-            subject,
-            b"\"'\r\n",
-        )?),
+        ServerError::SubscriptionDenied { subject, queue } => {
+            write_subscription_denied(out, subject, queue)
+        }
     }
 }

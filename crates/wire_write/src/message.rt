@@ -1,6 +1,6 @@
-ghost use Rattle.std.specs.Prelude.{◌≡◌, ◌+◌, ◌++◌, ◌<◌, length, OnOk, OnErr};
+ghost use Rattle.std.specs.Prelude.{◌≡◌, ◌+◌, ◌++◌, ◌<◌, ◌≤◌, length, OnOk, OnErr, option_copied};
 ghost use Rattle.std.specs.Vec.{vec_len, vec_capacity};
-ghost use Rattle.wire_write.specs.Texts.{info_line, msg_line, ok_line, pong_line};
+ghost use Rattle.wire_write.specs.Texts.{info_line, address, body, reply_room, msg_line, hmsg_line, ok_line, pong_line};
 
 use crate::append::{append, make_room, put};
 use itoa::Buffer;
@@ -16,30 +16,113 @@ pub fn write_info(out: &mut Vec<u8>, info: &[u8]) -> Result<(), NoMemory>
     append(out, b"INFO ", info, b"\r\n")
 }
 
+/// Appends where a message goes, for which there is room.
+fn put_address(out: &mut Vec<u8>, subject: &[u8], sid: &[u8], reply: Option<&[u8]>)
+    requires { vec_len out.old + length (address subject.now sid.now (option_copied reply)) ≤ vec_capacity out.old }
+    ensures items { out.new.items ≡ out.old.items ++ address subject.now sid.now (option_copied reply.entry) }
+    ensures len { vec_len out.new ≡ vec_len out.old + length (address subject.now sid.now (option_copied reply.entry)) }
+    ensures capacity { vec_capacity out.old ≤ vec_capacity out.new }
+{
+    put(out, subject);
+    put(out, b" ");
+    put(out, sid);
+    put(out, b" ");
+    match reply {
+        None => {}
+        Some(reply) => {
+            put(out, reply);
+            put(out, b" ");
+        }
+    }
+}
+
+/// Appends the end of a line and what stands behind it, for which there is room.
+fn put_body(out: &mut Vec<u8>, head: &[u8], payload: &[u8])
+    requires { vec_len out.old + length (body head.now payload.now) ≤ vec_capacity out.old }
+    ensures items { out.new.items ≡ out.old.items ++ body head.now payload.now }
+    ensures len { vec_len out.new ≡ vec_len out.old + length (body head.now payload.now) }
+    ensures capacity { vec_capacity out.old ≤ vec_capacity out.new }
+{
+    put(out, b"\r\n");
+    put(out, head);
+    put(out, payload);
+    put(out, b"\r\n");
+}
+
+/// How many bytes a reply subject takes with the space behind it.
+fn reply_len(reply: Option<&[u8]>) -> usize
+    ensures { result ≡ reply_room (option_copied reply.entry) }
+{
+    match reply {
+        None => 0,
+        Some(reply) => reply.len() + 1,
+    }
+}
+
 /// Appends a delivery: the MSG line with the payload's size in bytes, then the payload.
 /// `NoMemory` comes only where the buffer has no room for it and can't grow, and leaves it as it was.
 pub fn write_msg(
     out: &mut Vec<u8>,
     subject: &[u8],
     sid: &[u8],
+    reply: Option<&[u8]>,
     payload: &[u8],
 ) -> Result<(), NoMemory>
-    ensures ok { OnOk result (out.new.items ≡ out.old.items ++ msg_line subject.now sid.now payload.now) }
+    ensures ok { OnOk result (out.new.items ≡ out.old.items ++ msg_line subject.now sid.now (option_copied reply.entry) payload.now) }
     ensures err { OnErr result (out.new.items ≡ out.old.items) }
-    ensures full { OnErr result (vec_capacity out.old < vec_len out.old + length (msg_line subject.now sid.now payload.now)) }
+    ensures full { OnErr result (vec_capacity out.old < vec_len out.old + length (msg_line subject.now sid.now (option_copied reply.entry) payload.now)) }
 {
     let mut digits = Buffer::new();
     let size = digits.format(payload.len()).as_bytes();
-    make_room(out, subject, sid, payload, size.len() + 10)?;
+    make_room(
+        out,
+        subject,
+        sid,
+        payload,
+        reply_len(reply) + size.len() + 10,
+    )?;
     put(out, b"MSG ");
-    put(out, subject);
-    put(out, b" ");
-    put(out, sid);
-    put(out, b" ");
+    put_address(out, subject, sid, reply);
     put(out, size);
     put(out, b"\r\n");
     put(out, payload);
     put(out, b"\r\n");
+    Ok(())
+}
+
+/// Appends a delivery with a header block: the HMSG line with the size in bytes of the block, and that of
+/// the block and the payload, then both.
+/// `NoMemory` comes only where the buffer has no room for it and can't grow, and leaves it as it was.
+pub fn write_hmsg(
+    out: &mut Vec<u8>,
+    subject: &[u8],
+    sid: &[u8],
+    reply: Option<&[u8]>,
+    head: &[u8],
+    payload: &[u8],
+) -> Result<(), NoMemory>
+    ensures ok { OnOk result (out.new.items ≡ out.old.items ++ hmsg_line subject.now sid.now (option_copied reply.entry) head.now payload.now) }
+    ensures err { OnErr result (out.new.items ≡ out.old.items) }
+    ensures full { OnErr result (vec_capacity out.old < vec_len out.old + length (hmsg_line subject.now sid.now (option_copied reply.entry) head.now payload.now)) }
+{
+    let mut head_digits = Buffer::new();
+    let head_size = head_digits.format(head.len()).as_bytes();
+    let mut total_digits = Buffer::new();
+    let total_size = total_digits.format(head.len() + payload.len()).as_bytes();
+    let fields = reply_len(reply) + head_size.len() + total_size.len() + 12;
+    make_room(
+        out,
+        subject,
+        sid,
+        payload,
+        head.len().saturating_add(fields),
+    )?;
+    put(out, b"HMSG ");
+    put_address(out, subject, sid, reply);
+    put(out, head_size);
+    put(out, b" ");
+    put(out, total_size);
+    put_body(out, head, payload);
     Ok(())
 }
 

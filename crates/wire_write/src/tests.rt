@@ -1,4 +1,4 @@
-use crate::{ServerError, write_err, write_info, write_msg, write_ok, write_pong};
+use crate::{ServerError, write_err, write_hmsg, write_info, write_msg, write_ok, write_pong};
 
 #[test]
 fn first_message(rt: HostRuntime) {
@@ -6,16 +6,28 @@ fn first_message(rt: HostRuntime) {
     assert!(rt; write_info(&mut out, b"{\"proto\":1}").is_ok());
     assert!(rt; write_pong(&mut out).is_ok());
     assert!(rt; write_ok(&mut out).is_ok());
-    assert!(rt; write_msg(&mut out, b"foo", b"1", b"hi").is_ok());
-    assert!(rt; write_msg(&mut out, b"a*b", b"22", b"").is_ok());
+    assert!(rt; write_msg(&mut out, b"foo", b"1", None, b"hi").is_ok());
+    assert!(rt; write_msg(&mut out, b"a*b", b"22", None, b"").is_ok());
     let expected: &[u8] =
         b"INFO {\"proto\":1}\r\nPONG\r\n+OK\r\nMSG foo 1 2\r\nhi\r\nMSG a*b 22 0\r\n\r\n";
     assert_eq!(rt; out.as_slice(), expected);
 }
 
 #[test]
+fn replies_and_headers(rt: HostRuntime) {
+    let mut out = Vec::new(rt.alloc());
+    assert!(rt; write_msg(&mut out, b"foo", b"1", Some(b"re.1"), b"hi").is_ok());
+    assert!(rt; write_hmsg(&mut out, b"foo", b"1", None, b"NATS/1.0\r\n\r\n", b"hi").is_ok());
+    assert!(rt; write_hmsg(&mut out, b"a.b", b"22", Some(b"r"), b"ab", b"").is_ok());
+    assert!(rt; write_hmsg(&mut out, b"c", b"3", None, b"", b"").is_ok());
+    let expected: &[u8] =
+        b"MSG foo 1 re.1 2\r\nhi\r\nHMSG foo 1 12 14\r\nNATS/1.0\r\n\r\nhi\r\nHMSG a.b 22 r 2 2\r\nab\r\nHMSG c 3 0 0\r\n\r\n";
+    assert_eq!(rt; out.as_slice(), expected);
+}
+
+#[test]
 fn error_texts(rt: HostRuntime) {
-    let expected: [(ServerError, &[u8], bool); 12] = [
+    let expected: [(ServerError, &[u8], bool); 13] = [
         (
             ServerError::UnknownOperation,
             b"-ERR 'Unknown Protocol Operation'\r\n",
@@ -64,8 +76,19 @@ fn error_texts(rt: HostRuntime) {
             false,
         ),
         (
-            ServerError::SubscriptionDenied(b">"),
+            ServerError::SubscriptionDenied {
+                subject: b">",
+                queue: None,
+            },
             b"-ERR 'Permissions Violation for Subscription to \">\"'\r\n",
+            false,
+        ),
+        (
+            ServerError::SubscriptionDenied {
+                subject: b"foo.*",
+                queue: Some(b"v.prod"),
+            },
+            b"-ERR 'Permissions Violation for Subscription to \"foo.*\" using queue \"v.prod\"'\r\n",
             false,
         ),
     ];

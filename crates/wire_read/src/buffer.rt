@@ -1,0 +1,123 @@
+ghost use Rattle.std.specs.Prelude.{◌≡◌, ◌<◌, ◌++◌, [], length, take, IfOk, OnOk, OnErr};
+
+use bytes::Bytes;
+use std::alloc::{AllocError, Global};
+use std::marker::Model;
+use std::mem;
+
+/// Bytes that grow at their end until they are shared. A clause sees them all, in order.
+#[derive(Debug, Drop)]
+pub struct Buffer {
+    /// What was shared when memory ran out afterwards. Elsewhere there is nothing.
+    shared: Bytes,
+    /// The bytes behind.
+    grown: Vec<u8>,
+    alloc: Global,
+}
+
+impl Model for Buffer {
+    ghost use Rattle.std.specs.Prelude.{List, ℕ, ◌++◌};
+
+    ghost Value = { List ℕ };
+
+    ghost view = { λ b. b.shared ++ b.grown.items };
+}
+
+impl Buffer {
+    /// A buffer without a byte. It takes no memory.
+    pub fn new(alloc: Global) -> Buffer
+        ensures { result ≡ [] }
+    {
+        Buffer {
+            shared: Bytes::new(),
+            grown: Vec::new(alloc),
+            alloc,
+        }
+    }
+
+    /// A buffer of a copy of these bytes, with room for `room` in all.
+    pub fn of(alloc: Global, bytes: &[u8], room: usize) -> Result<Buffer, AllocError>
+        ensures { IfOk result (λ b. b ≡ bytes.now) }
+    {
+        let mut grown = Vec::with_capacity(alloc, room)?;
+        grown.extend_from_slice(bytes)?;
+        Ok(Buffer {
+            shared: Bytes::new(),
+            grown,
+            alloc,
+        })
+    }
+
+    /// How many bytes there are.
+    pub fn len(&self) -> usize
+        ensures value { result ≡ length self.now }
+        ensures bound { result < usize.MAX }
+    {
+        self.shared.len() + self.grown.len()
+    }
+
+    /// Appends a piece, or leaves the buffer as it is.
+    pub fn append(&mut self, piece: &[u8]) -> Result<(), AllocError>
+        ensures ok { OnOk result (self.new ≡ self.old ++ piece.now) }
+        ensures err { OnErr result (self.new ≡ self.old) }
+    {
+        self.grown.extend_from_slice(piece)
+    }
+
+    /// The bytes with these behind them, of which only the latter are copied. The buffer stays as it is.
+    pub fn share(&mut self, more: &[u8]) -> Result<Bytes, AllocError>
+        ensures same { self.new ≡ self.old }
+        ensures ok { IfOk result (λ b. b ≡ self.old ++ more.now) }
+    {
+        if !self.shared.is_empty() {
+            return join(
+                self.alloc,
+                self.shared.as_slice(),
+                self.grown.as_slice(),
+                more,
+            );
+        }
+        let len = self.grown.len();
+        self.grown.extend_from_slice(more)?;
+        let grown = mem::replace(&mut self.grown, Vec::new(self.alloc));
+        match Bytes::from_vec(grown) {
+            Ok(whole) => self.keep_front(whole, len),
+            Err(refused) => {
+                self.grown = refused.value;
+                self.grown.truncate(len);
+                Err(AllocError)
+            }
+        }
+    }
+
+    /// Keeps the first bytes of what was just shared, where nothing else is kept.
+    fn keep_front(&mut self, mut whole: Bytes, len: usize) -> Result<Bytes, AllocError>
+        requires { self.old ≡ [] }
+        ensures kept { self.new ≡ take len whole }
+        ensures ok { IfOk result (λ b. b ≡ whole) }
+    {
+        match whole.clone() {
+            Ok(mut front) => {
+                front.truncate(len);
+                self.shared = front;
+                Ok(whole)
+            }
+            Err(refused) => {
+                whole.truncate(len);
+                self.shared = whole;
+                Err(refused)
+            }
+        }
+    }
+}
+
+/// The bytes of all three, in order.
+fn join(alloc: Global, first: &[u8], second: &[u8], third: &[u8]) -> Result<Bytes, AllocError>
+    ensures { IfOk result (λ b. b ≡ first.now ++ second.now ++ third.now) }
+{
+    let mut whole = Vec::new(alloc);
+    whole.extend_from_slice(first)?;
+    whole.extend_from_slice(second)?;
+    whole.extend_from_slice(third)?;
+    Ok(Bytes::from_vec(whole)?)
+}
