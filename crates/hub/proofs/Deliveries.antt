@@ -5,10 +5,10 @@ use Rattle.std.specs.Option.{option_map}
 use Rattle.std.proofs.lemmas.List.{append_assoc, append-nil, length-append}
 use Rattle.std.proofs.lemmas.Bool.{eqb-true, eq-eqb, ne_eqb, ltb-true, ltb-false, lt-ltb, le-ltb, cases_eq}
 use Rattle.std.proofs.lemmas.List.Elements.{All-head, All-tail}
-use Rattle.subjects.specs.Subject.{Token}
 use Rattle.hub.specs.World.{session_of, with_session}
-use Rattle.hub.specs.Routing.{offered, addressed_to, after_offer, item_of, delivered, has_room}
-use Rattle.hub.specs.Guarantee.{receives, delivery_to, of_connection, room_in, items_of, items_with_room, item_names, names_of}
+use Rattle.hub.specs.Transition.{of_connection}
+use Rattle.hub.specs.Routing.{Message, delivery_to, offered, addressed_to, after_offer, item_of, delivered, has_room}
+use Rattle.hub.specs.Guarantee.{receives, room_in, items_of, items_with_room, item_names, names_of}
 use Rattle.hub.specs.declared.tables.Session.{Session}
 use Rattle.hub.specs.declared.tables.Subscription.{Subscription}
 use Rattle.hub.specs.declared.answer.Delivery.{Delivery}
@@ -160,8 +160,8 @@ map-twice f g h [] same = refl
 map-twice f g h (x ∷ xs) same = ap (λ y. y ∷ map g (map f xs)) (same x) ∙ ap (λ ys. h x ∷ ys) (map-twice f g h xs same)
 
 -- what a session gets of a message
-abbrev pub gets : List Token → List ℕ → List Subscription → Session → Session
-gets s body subs z = receives (map (delivery_to s body) (of_connection z.conn subs)) z
+abbrev pub gets : Message → List Subscription → Session → Session
+gets m subs z = receives (map (delivery_to m) (of_connection z.conn subs)) z
 
 only-conn : (d : Delivery) (conn : ℕ) (z : Session) → (only (offered d) conn z).conn ≡ z.conn
 only-conn d conn z = here (z.conn == conn)
@@ -170,53 +170,53 @@ only-conn d conn z = here (z.conn == conn)
     here true = offered-conn d z
     here false = refl
 
-gets-more : (s : List Token) (body : List ℕ) (sub : Subscription) (subs : List Subscription) (z : Session) →
-    gets s body subs (only (offered (delivery_to s body sub)) sub.conn z) ≡ gets s body (sub ∷ subs) z
-gets-more s body sub subs z = here (cases_eq z.conn sub.conn)
+gets-more : (m : Message) (sub : Subscription) (subs : List Subscription) (z : Session) →
+    gets m subs (only (offered (delivery_to m sub)) sub.conn z) ≡ gets m (sub ∷ subs) z
+gets-more m sub subs z = here (cases_eq z.conn sub.conn)
   where
     own : List Subscription
     own = of_connection z.conn subs
 
-    here : (z.conn ≡ sub.conn) ⊎ (z.conn ≡ sub.conn → ⊥) → gets s body subs (only (offered (delivery_to s body sub)) sub.conn z) ≡ gets s body (sub ∷ subs) z
+    here : (z.conn ≡ sub.conn) ⊎ (z.conn ≡ sub.conn → ⊥) → gets m subs (only (offered (delivery_to m sub)) sub.conn z) ≡ gets m (sub ∷ subs) z
     here (inl e) =
-        let d : Delivery = delivery_to s body sub in
-        ap (λ b. gets s body subs (cond b (offered d z) z)) (eq-eqb z.conn sub.conn e)
-        ∙ ap (λ n. receives (map (delivery_to s body) (of_connection n subs)) (offered d z)) (offered-conn d z)
-        ∙ receives-more d (map (delivery_to s body) (of_connection z.conn subs)) z
-        ∙ sym (ap (λ b. receives (map (delivery_to s body) (cond b (sub ∷ of_connection z.conn subs) (of_connection z.conn subs))) z) (eq-eqb sub.conn z.conn (sym e)))
+        let d : Delivery = delivery_to m sub in
+        ap (λ b. gets m subs (cond b (offered d z) z)) (eq-eqb z.conn sub.conn e)
+        ∙ ap (λ n. receives (map (delivery_to m) (of_connection n subs)) (offered d z)) (offered-conn d z)
+        ∙ receives-more d (map (delivery_to m) (of_connection z.conn subs)) z
+        ∙ sym (ap (λ b. receives (map (delivery_to m) (cond b (sub ∷ of_connection z.conn subs) (of_connection z.conn subs))) z) (eq-eqb sub.conn z.conn (sym e)))
     here (inr ne) =
-        ap (λ b. gets s body subs (cond b (offered (delivery_to s body sub) z) z)) (ne_eqb z.conn sub.conn ne)
-        ∙ sym (ap (λ b. receives (map (delivery_to s body) (cond b (sub ∷ of_connection z.conn subs) (of_connection z.conn subs))) z) (ne_eqb sub.conn z.conn (λ e. ne (sym e))))
+        ap (λ b. gets m subs (cond b (offered (delivery_to m sub) z) z)) (ne_eqb z.conn sub.conn ne)
+        ∙ sym (ap (λ b. receives (map (delivery_to m) (cond b (sub ∷ of_connection z.conn subs) (of_connection z.conn subs))) z) (ne_eqb sub.conn z.conn (λ e. ne (sym e))))
 
 abbrev AreApart : List Session → Type 0
 AreApart zs = AllPairs (λ (y z : Session). y.conn ≢ z.conn) zs
 
-pub outboxes : (s : List Token) (body : List ℕ) (subs : List Subscription) (zs : List Session) → AreApart zs →
-    (delivered (map (addressed_to s body) subs) zs).0 ≡ map (gets s body subs) zs
-outboxes s body [] zs apart = sym (map-itself (gets s body []) zs receives-none)
-outboxes s body (sub ∷ subs) zs apart =
-    let d : Delivery = delivery_to s body sub in
+pub outboxes : (m : Message) (subs : List Subscription) (zs : List Session) → AreApart zs →
+    (delivered (map (addressed_to m) subs) zs).0 ≡ map (gets m subs) zs
+outboxes m [] zs apart = sym (map-itself (gets m []) zs receives-none)
+outboxes m (sub ∷ subs) zs apart =
+    let d : Delivery = delivery_to m sub in
     let changed = with_session-map (offered d) sub.conn zs apart in
     let still : AreApart (map (only (offered d) sub.conn) zs) =
     AllPairs-map (λ (y z : Session). y.conn ≢ z.conn) (only (offered d) sub.conn) zs (λ y z ne e. ne (sym (only-conn d sub.conn y) ∙ e ∙ only-conn d sub.conn z)) apart in
-    outboxes s body subs (after_offer (addressed_to s body sub) zs) (subst AreApart (sym changed) still)
-    ∙ ap (map (gets s body subs)) changed
-    ∙ map-twice (only (offered d) sub.conn) (gets s body subs) (gets s body (sub ∷ subs)) zs (gets-more s body sub subs)
+    outboxes m subs (after_offer (addressed_to m sub) zs) (subst AreApart (sym changed) still)
+    ∙ ap (map (gets m subs)) changed
+    ∙ map-twice (only (offered d) sub.conn) (gets m subs) (gets m (sub ∷ subs)) zs (gets-more m sub subs)
 
 -- ---- the items
 
-pub one_each : (s : List Token) (body : List ℕ) (subs : List Subscription) (zs : List Session) → map item_names (delivered (map (addressed_to s body) subs) zs).1 ≡ map names_of subs
-one_each s body [] zs = refl
-one_each s body (sub ∷ subs) zs =
-    ap (λ n. n ∷ map item_names (delivered (map (addressed_to s body) subs) (after_offer (addressed_to s body sub) zs)).1) (here (has_room (session_of zs sub.conn)))
-    ∙ ap (λ rest. names_of sub ∷ rest) (one_each s body subs (after_offer (addressed_to s body sub) zs))
+pub one_each : (m : Message) (subs : List Subscription) (zs : List Session) → map item_names (delivered (map (addressed_to m) subs) zs).1 ≡ map names_of subs
+one_each m [] zs = refl
+one_each m (sub ∷ subs) zs =
+    ap (λ n. n ∷ map item_names (delivered (map (addressed_to m) subs) (after_offer (addressed_to m sub) zs)).1) (here (has_room (session_of zs sub.conn)))
+    ∙ ap (λ rest. names_of sub ∷ rest) (one_each m subs (after_offer (addressed_to m sub) zs))
   where
     here : (b : Bool) → item_names (cond b (Entered sub.conn sub.sid) (Full sub.conn sub.sid)) ≡ names_of sub
     here true = refl
     here false = refl
 
-abbrev pub items_after : List Token → List ℕ → List Subscription → List Session → List Item
-items_after s body subs zs = (delivered (map (addressed_to s body) subs) zs).1
+abbrev pub items_after : Message → List Subscription → List Session → List Item
+items_after m subs zs = (delivered (map (addressed_to m) subs) zs).1
 
 -- the item of one delivery to the connection, before the items of the others
 with_room-more : (o : Option Session) (d : Delivery) (sub : Subscription) (own : List Subscription) →
@@ -245,23 +245,23 @@ item-conn o sub = here (has_room o)
     here true = refl
     here false = refl
 
-pub with_room : (s : List Token) (body : List ℕ) (subs : List Subscription) (zs : List Session) (conn : ℕ) →
-    items_of conn (items_after s body subs zs) ≡ items_with_room (room_in (session_of zs conn)) (of_connection conn subs)
-with_room s body [] zs conn = none (room_in (session_of zs conn))
+pub with_room : (m : Message) (subs : List Subscription) (zs : List Session) (conn : ℕ) →
+    items_of conn (items_after m subs zs) ≡ items_with_room (room_in (session_of zs conn)) (of_connection conn subs)
+with_room m [] zs conn = none (room_in (session_of zs conn))
   where
     none : (n : ℕ) → [] ≡ items_with_room n []
     none zero = refl
     none (suc n) = refl
-with_room s body (sub ∷ subs) zs conn = here (cases_eq sub.conn conn) (with_room s body subs (after_offer (addressed_to s body sub) zs) conn)
+with_room m (sub ∷ subs) zs conn = here (cases_eq sub.conn conn) (with_room m subs (after_offer (addressed_to m sub) zs) conn)
   where
     here : (sub.conn ≡ conn) ⊎ (sub.conn ≡ conn → ⊥) →
-        items_of conn (items_after s body subs (after_offer (addressed_to s body sub) zs)) ≡ items_with_room (room_in (session_of (after_offer (addressed_to s body sub) zs) conn)) (of_connection conn subs) →
-        items_of conn (items_after s body (sub ∷ subs) zs) ≡ items_with_room (room_in (session_of zs conn)) (of_connection conn (sub ∷ subs))
+        items_of conn (items_after m subs (after_offer (addressed_to m sub) zs)) ≡ items_with_room (room_in (session_of (after_offer (addressed_to m sub) zs) conn)) (of_connection conn subs) →
+        items_of conn (items_after m (sub ∷ subs) zs) ≡ items_with_room (room_in (session_of zs conn)) (of_connection conn (sub ∷ subs))
     here (inl e) later =
-        let d : Delivery = delivery_to s body sub in
-        let item : Item = item_of (addressed_to s body sub) zs in
-        let rest : List Item = items_after s body subs (after_offer (addressed_to s body sub) zs) in
-        let changed : session_of (after_offer (addressed_to s body sub) zs) conn ≡ option_map (offered d) (session_of zs conn) =
+        let d : Delivery = delivery_to m sub in
+        let item : Item = item_of (addressed_to m sub) zs in
+        let rest : List Item = items_after m subs (after_offer (addressed_to m sub) zs) in
+        let changed : session_of (after_offer (addressed_to m sub) zs) conn ≡ option_map (offered d) (session_of zs conn) =
         subst (λ n. session_of (with_session (offered d) sub.conn zs) n ≡ option_map (offered d) (session_of zs n)) e (session_of-changed (offered d) sub.conn zs (offered-conn d)) in
         ap (λ b. cond b (item ∷ items_of conn rest) (items_of conn rest)) (eq-eqb _ conn (item-conn (session_of zs sub.conn) sub ∙ e))
         ∙ ap (λ n. cond (has_room (session_of zs n)) (Entered sub.conn sub.sid) (Full sub.conn sub.sid) ∷ items_of conn rest) e
@@ -269,9 +269,9 @@ with_room s body (sub ∷ subs) zs conn = here (cases_eq sub.conn conn) (with_ro
         ∙ with_room-more (session_of zs conn) d sub (of_connection conn subs)
         ∙ sym (ap (λ b. items_with_room (room_in (session_of zs conn)) (cond b (sub ∷ of_connection conn subs) (of_connection conn subs))) (eq-eqb sub.conn conn e))
     here (inr ne) later =
-        let d : Delivery = delivery_to s body sub in
-        let item : Item = item_of (addressed_to s body sub) zs in
-        let rest : List Item = items_after s body subs (after_offer (addressed_to s body sub) zs) in
+        let d : Delivery = delivery_to m sub in
+        let item : Item = item_of (addressed_to m sub) zs in
+        let rest : List Item = items_after m subs (after_offer (addressed_to m sub) zs) in
         ap (λ b. cond b (item ∷ items_of conn rest) (items_of conn rest)) (ne_eqb _ conn (λ is. ne (sym (item-conn (session_of zs sub.conn) sub) ∙ is)))
         ∙ later
         ∙ ap (λ o. items_with_room (room_in o) (of_connection conn subs)) (session_of-other (offered d) sub.conn conn zs (offered-conn d) ne)

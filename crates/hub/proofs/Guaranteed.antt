@@ -1,6 +1,6 @@
 -- The transition keeps the guarantee, command by command.
 use Rattle.std.proofs.Common.{◌||◌, ◌≡◌, ◌∙◌, ◌==◌, ◌&&◌, ℕ, ◌+◌, ◌-◌, ◌≤◌, Bool, true, false, not, cond, List, [], ◌∷◌, ◌++◌, map, filter, length, take, drop, Option, Some, None, Result, Ok, Err, ap, sym, refl, subst, arith, max}
-use Rattle.std.specs.Prelude.{IsSomeAnd, is_some, nat_le, IfOk}
+use Rattle.std.specs.Prelude.{IsSomeAnd, is_some, nat_lt, nat_le, IfOk}
 use Rattle.std.proofs.lemmas.List.{length-append, length-take, length-drop}
 use Rattle.std.proofs.lemmas.List.Elements.{filter_agree}
 use Rattle.subjects.specs.Subject.{Token, in_set}
@@ -11,26 +11,29 @@ use Rattle.policy_doc.specs.declared.document.PolicyDoc.{PolicyDoc}
 use Rattle.hub.specs.Users.{user_with_password}
 use Rattle.hub.specs.World.{World, session_of, with_session, advanced}
 use Rattle.hub.specs.Sound.{IsSound, user_behind, user_at, may_subscribe}
-use Rattle.hub.specs.Routing.{admitted, is_admitted, lets_through, addressed_to, delivered}
-use Rattle.hub.specs.Transition.{IsReasoned, new_session, subscription_of, stands, drained, taken, connected, subscribed, published, closed, in_session, in_new_session, on_sessions, moved, numbered, transition, IsRefusal}
+use Rattle.hub.specs.Routing.{Message, message, admitted, is_admitted, may_hear, lets_through, addressed_to, delivered}
+use Rattle.hub.specs.Limit.{has_entered, unended, counted, is_under, limit_of, limited}
+use Rattle.hub.specs.Transition.{IsReasoned, new_session, has_all, subscription_of, stands, drained, taken, connected, subscribed, unsubscribed, published, closed, in_session, in_new_session, on_sessions, moved, numbered, transition, IsRefusal}
 use Rattle.hub.specs.InForce.{policy_after, epoch_after}
 use Rattle.hub.specs.History.{State, is_history_full, entry_of, answer_of, remembered, stepped, IsStep}
-use Rattle.hub.specs.Guarantee.{accepts, allows, may_publish, may_receive, is_for, recipients, IsDenial, HasReason, IsDelivered, IsUntouched, IsEffect, is_connect, is_nobodys, has_session, is_fit, is_in_order, is_due, is_at_limit, IsRouted, KeepsGuarantee, IsGuarded}
+use Rattle.hub.specs.Guarantee.{accepts, allows, may_publish, may_receive, has_echo, is_for, recipients, IsDenial, HasReason, IsDelivered, IsUntouched, IsEffect, is_connect, is_nobodys, has_session, is_fit, is_in_order, is_due, is_at_limit, IsRouted, KeepsGuarantee, IsGuarded}
 use Rattle.hub.specs.declared.ready.User.{User}
 use Rattle.hub.specs.declared.tables.Session.{Session}
 use Rattle.hub.specs.declared.tables.Subscription.{Subscription}
 use Rattle.hub.specs.declared.event.Event.{Event}
 use Rattle.hub.specs.declared.event.Command.{Command}
-use Rattle.hub.specs.declared.event.Command.TheVariants.{Connect, Sub, Pub, Take, Close, Reload}
+use Rattle.hub.specs.declared.event.Command.TheVariants.{Connect, Sub, Unsub, Pub, Take, Close, Reload}
 use Rattle.hub.specs.declared.answer.Answer.{Answer}
 use Rattle.hub.specs.declared.answer.Delivery.{Delivery}
 use Rattle.hub.specs.declared.answer.Item.{Item}
 use Rattle.hub.specs.declared.answer.Outcome.{Outcome}
-use Rattle.hub.specs.declared.answer.Outcome.TheVariants.{Connected, AuthViolation, Subscribed, SameSid, Denied, Published, Taken, Closed}
+use Rattle.hub.specs.declared.answer.Outcome.TheVariants.{Connected, AuthViolation, Subscribed, SameSid, SubLimit, Denied, Unsubscribed, Published, Taken, Closed}
 use Rattle.hub.specs.declared.answer.HubRefusal.{HubRefusal}
 use Rattle.hub.specs.declared.answer.HubRefusal.TheVariants.{HistoryFull, NoSession, SessionTaken, SessionLimit, NoMemory}
+use Rattle.std.proofs.lemmas.Bool.{eqb-true}
+use Rattle.hub.proofs.Finds.{find-passes}
 use Rattle.hub.proofs.Naming.{user_named-again}
-use Rattle.hub.proofs.Soundness.{next, KeepsSession, user_at-session, sound-same, sound-map, sound-open, sound-add, sound-close}
+use Rattle.hub.proofs.Soundness.{next, KeepsSession, KeepsSubscription, user_at-session, sound-same, sound-map, sound-limits, sound-open, sound-add, sound-close}
 use Rattle.hub.proofs.Reloads.{in_force, sound-reload}
 use Rattle.hub.proofs.Deliveries.{only, with_session-map, gets, items_after, outboxes, one_each, with_room}
 
@@ -96,26 +99,26 @@ session-fit o z e = ap is_some e
 
 -- ---- Connect
 
-connect-keeps : (w : World) (now conn : ℕ) (name : Option (List ℕ)) (password : List ℕ) → IsSound w →
-    Keeps w (event now (Connect conn name password)) (numbered (w.number + 1) (moved (advanced w now) (Connect conn name password)))
-connect-keeps w now conn name password sound = by_session (session_of w.sessions conn) refl
+connect-keeps : (w : World) (now conn : ℕ) (name : Option (List ℕ)) (password : List ℕ) (echo : Bool) → IsSound w →
+    Keeps w (event now (Connect conn name password echo)) (numbered (w.number + 1) (moved (advanced w now) (Connect conn name password echo)))
+connect-keeps w now conn name password echo sound = by_session (session_of w.sessions conn) refl
   where
-    by_user : (uo : Option User) → user_with_password w.policy name password ≡ uo → session_of w.sessions conn ≡ None → nat_le 4096 (length w.sessions) ≡ false → is_fit w (Connect conn name password) ≡ true →
-        Keeps w (event now (Connect conn name password)) (numbered (w.number + 1) (Ok (connected (advanced w now) conn uo)))
-    by_user None u e room fit = routed w now (Connect conn name password) AuthViolation w.sessions w.subscriptions (refl, refl) fit (sym (ap is_some u)) (λ _. tt) (untouched w now) (sound-same w now sound)
+    by_user : (uo : Option User) → user_with_password w.policy name password ≡ uo → session_of w.sessions conn ≡ None → nat_le 4096 (length w.sessions) ≡ false → is_fit w (Connect conn name password echo) ≡ true →
+        Keeps w (event now (Connect conn name password echo)) (numbered (w.number + 1) (Ok (connected (advanced w now) conn echo uo)))
+    by_user None u e room fit = routed w now (Connect conn name password echo) AuthViolation w.sessions w.subscriptions (refl, refl) fit (sym (ap is_some u)) (λ _. tt) (untouched w now) (sound-same w now sound)
     by_user (Some user) u e room fit =
-        let zs : List Session = w.sessions ++ new_session conn user w.capacity ∷ [] in
-        routed w now (Connect conn name password) Connected zs w.subscriptions (refl, refl) fit (sym (ap is_some u)) (λ _. tt)
-        (subst (λ o. IsSomeAnd o (λ (v : User). zs ≡ w.sessions ++ new_session conn v w.capacity ∷ [])) (sym u) refl, refl)
-        (sound-open w now conn user e room (user_named-again w.policy name password user sound.policy u) sound)
+        let zs : List Session = w.sessions ++ new_session conn user echo w.capacity ∷ [] in
+        routed w now (Connect conn name password echo) Connected zs w.subscriptions (refl, refl) fit (sym (ap is_some u)) (λ _. tt)
+        (subst (λ o. IsSomeAnd o (λ (v : User). zs ≡ w.sessions ++ new_session conn v echo w.capacity ∷ [])) (sym u) refl, refl)
+        (sound-open w now conn user echo e room (user_named-again w.policy name password user sound.policy u) sound)
 
     by_limit : (l : Bool) → nat_le 4096 (length w.sessions) ≡ l → session_of w.sessions conn ≡ None →
-        Keeps w (event now (Connect conn name password)) (numbered (w.number + 1) (cond l (Err SessionLimit) (Ok (connected (advanced w now) conn (user_with_password w.policy name password)))))
+        Keeps w (event now (Connect conn name password echo)) (numbered (w.number + 1) (cond l (Err SessionLimit) (Ok (connected (advanced w now) conn echo (user_with_password w.policy name password)))))
     by_limit true limit e = limit-due (is_at_limit w) (session_of w.sessions conn) e limit
     by_limit false limit e = by_user (user_with_password w.policy name password) refl e limit (connect-fit (is_at_limit w) (session_of w.sessions conn) e limit)
 
     by_session : (o : Option Session) → session_of w.sessions conn ≡ o →
-        Keeps w (event now (Connect conn name password)) (numbered (w.number + 1) (in_new_session (advanced w now) o (connected (advanced w now) conn (user_with_password w.policy name password))))
+        Keeps w (event now (Connect conn name password echo)) (numbered (w.number + 1) (in_new_session (advanced w now) o (connected (advanced w now) conn echo (user_with_password w.policy name password))))
     by_session (Some z) e = taken-due (session_of w.sessions conn) z e
     by_session None e = by_limit (nat_le 4096 (length w.sessions)) refl e
 
@@ -134,11 +137,16 @@ sub-keeps w now conn p sid sound = by_session (session_of w.sessions conn) refl
     allowed : (v : Verdict) (z : Session) → subscribe_verdict z.user.rules p ≡ v → user_at w conn ≡ Some z.user → may_subscribe (user_at w conn) p ≡ is_allowed v
     allowed v z e u = ap (λ o. may_subscribe o p) u ∙ ap is_allowed e
 
+    by_limit : (l : Bool) → has_all w.subscriptions conn ≡ l → stands w.subscriptions conn sid ≡ false → may_subscribe (user_at w conn) p ≡ true → is_fit w (Sub conn p sid) ≡ true →
+        Keeps w (event now (Sub conn p sid)) (numbered (w.number + 1) (Ok (cond l (SubLimit, advanced w now) (Subscribed, record (advanced w now) { subscriptions = w.subscriptions ++ subscription_of (w.number + 1) conn p sid ∷ [] }))))
+    by_limit true limit taken may fit = routed w now (Sub conn p sid) SubLimit w.sessions w.subscriptions (refl, refl) fit (sym may) (λ _. tt) (taken, limit, untouched w now) (sound-same w now sound)
+    by_limit false limit taken may fit =
+        routed w now (Sub conn p sid) Subscribed w.sessions (w.subscriptions ++ subscription_of (w.number + 1) conn p sid ∷ []) (refl, refl) fit (sym may) (λ _. tt) (taken, limit, refl, refl) (sound-add w now conn p sid may taken sound)
+
     by_sid : (t : Bool) → stands w.subscriptions conn sid ≡ t → may_subscribe (user_at w conn) p ≡ true → is_fit w (Sub conn p sid) ≡ true →
-        Keeps w (event now (Sub conn p sid)) (numbered (w.number + 1) (Ok (cond t (SameSid, advanced w now) (Subscribed, record (advanced w now) { subscriptions = w.subscriptions ++ subscription_of (w.number + 1) conn p sid ∷ [] }))))
+        Keeps w (event now (Sub conn p sid)) (numbered (w.number + 1) (Ok (cond t (SameSid, advanced w now) (cond (has_all w.subscriptions conn) (SubLimit, advanced w now) (Subscribed, record (advanced w now) { subscriptions = w.subscriptions ++ subscription_of (w.number + 1) conn p sid ∷ [] })))))
     by_sid true taken may fit = routed w now (Sub conn p sid) SameSid w.sessions w.subscriptions (refl, refl) fit (sym may) (λ _. tt) (taken, untouched w now) (sound-same w now sound)
-    by_sid false taken may fit =
-        routed w now (Sub conn p sid) Subscribed w.sessions (w.subscriptions ++ subscription_of (w.number + 1) conn p sid ∷ []) (refl, refl) fit (sym may) (λ _. tt) (taken, refl, refl) (sound-add w now conn p sid may taken sound)
+    by_sid false taken may fit = by_limit (has_all w.subscriptions conn) refl taken may fit
 
     by_verdict : (v : Verdict) (z : Session) → subscribe_verdict z.user.rules p ≡ v → session_of w.sessions conn ≡ Some z → user_at w conn ≡ Some z.user → is_fit w (Sub conn p sid) ≡ true →
         Keeps w (event now (Sub conn p sid)) (numbered (w.number + 1) (Ok (subscribed (advanced w now) conn p sid v)))
@@ -159,28 +167,67 @@ lets-same : (doc : PolicyDoc) (account : List ℕ) (s : List Token) (o : Option 
 lets-same doc account s None known = refl
 lets-same doc account s (Some z) known = sym (ap (may_receive account s) (known z refl))
 
-pub recipients-same : (w : World) (account : List ℕ) (s : List Token) → IsSound w → filter (is_admitted w.sessions account s) w.subscriptions ≡ recipients w account s
-recipients-same w account s sound =
-    filter_agree (is_admitted w.sessions account s) (is_for w account s)
-    (λ sub. ap (λ b. in_set sub.subject s && b) (lets-same w.policy account s (session_of w.sessions sub.conn) (λ z e. user_at-session w sound sub.conn z e))) w.subscriptions
+pub recipients-same : (w : World) (conn : ℕ) (z : Session) (s : List Token) → IsSound w → session_of w.sessions conn ≡ Some z → filter (is_admitted w.sessions z s) w.subscriptions ≡ recipients w conn z.user.account s
+recipients-same w conn z s sound at =
+    filter_agree (is_admitted w.sessions z s) (is_for w conn z.user.account s)
+    (λ sub. ap (λ b. in_set sub.subject s && b && lets_through z.user.account s (session_of w.sessions sub.conn)) (hears sub)
+    ∙ ap (λ b. in_set sub.subject s && (has_echo (session_of w.sessions conn) || not (sub.conn == conn)) && b) (lets-same w.policy z.user.account s (session_of w.sessions sub.conn) (λ y e. user_at-session w sound sub.conn y e)))
+    w.subscriptions
+  where
+    own : z.conn ≡ conn
+    own = eqb-true z.conn conn (find-passes (λ (y : Session). y.conn == conn) w.sessions z at)
+
+    hears : (sub : Subscription) → may_hear z sub ≡ (has_echo (session_of w.sessions conn) || not (sub.conn == conn))
+    hears sub = ap (λ n. z.echo || not (sub.conn == n)) own ∙ sym (ap (λ o. has_echo o || not (sub.conn == conn)) at)
 
 -- an outbox takes no more than it has room for
 bounded : (ws ds : List Delivery) (capacity bound : ℕ) → (capacity ≡ bound) × (length ws ≤ bound) → length (ws ++ take (capacity - length ws) ds) ≤ bound
 bounded ws ds capacity bound h = omega (arith, h, length-append ws (take (capacity - length ws) ds), length-take (capacity - length ws) ds)
 
-gets-keeps : (capacity : ℕ) (s : List Token) (body : List ℕ) (subs : List Subscription) → KeepsSession capacity (gets s body subs)
-gets-keeps capacity s body subs = record {
+gets-keeps : (capacity : ℕ) (m : Message) (subs : List Subscription) → KeepsSession capacity (gets m subs)
+gets-keeps capacity m subs = record {
   conn = λ z. refl;
   user = λ z. refl;
   outbox = λ z is. (is.0, bounded z.outbox.waiting _ z.outbox.capacity capacity is);
 }
 
-pub-keeps : (w : World) (now conn : ℕ) (s : List Token) (body : List ℕ) → IsSound w →
-    Keeps w (event now (Pub conn s body)) (numbered (w.number + 1) (moved (advanced w now) (Pub conn s body)))
-pub-keeps w now conn s body sound = by_session (session_of w.sessions conn) refl
+-- counting changes nothing but the count
+counted-keeps : (items : List Item) → KeepsSubscription (counted items)
+counted-keeps items = record {
+  id = λ s. id_is s (has_entered items s && nat_lt s.received 18446744073709551615);
+  conn = λ s. conn_is s (has_entered items s && nat_lt s.received 18446744073709551615);
+  subject = λ s. subject_is s (has_entered items s && nat_lt s.received 18446744073709551615);
+  sid = λ s. sid_is s (has_entered items s && nat_lt s.received 18446744073709551615);
+}
   where
+    id_is : (s : Subscription) (b : Bool) → (cond b (record s { received = s.received + 1 }) s).id ≡ s.id
+    id_is s true = refl
+    id_is s false = refl
+
+    conn_is : (s : Subscription) (b : Bool) → (cond b (record s { received = s.received + 1 }) s).conn ≡ s.conn
+    conn_is s true = refl
+    conn_is s false = refl
+
+    subject_is : (s : Subscription) (b : Bool) → (cond b (record s { received = s.received + 1 }) s).subject ≡ s.subject
+    subject_is s true = refl
+    subject_is s false = refl
+
+    sid_is : (s : Subscription) (b : Bool) → (cond b (record s { received = s.received + 1 }) s).sid ≡ s.sid
+    sid_is s true = refl
+    sid_is s false = refl
+
+pub-keeps : (w : World) (now conn : ℕ) (s : List Token) (reply : Option (List Token)) (head body : List ℕ) (word : ℕ) → IsSound w →
+    Keeps w (event now (Pub conn s reply head body word)) (numbered (w.number + 1) (moved (advanced w now) (Pub conn s reply head body word)))
+pub-keeps w now conn s reply head body word sound = by_session (session_of w.sessions conn) refl
+  where
+    m : Message
+    m = message s reply head body
+
+    command : Command
+    command = Pub conn s reply head body word
+
     denied : (v : Verdict) (z : Session) → publish_verdict z.user.rules s ≡ v → session_of w.sessions conn ≡ Some z → user_at w conn ≡ Some z.user →
-        IsSomeAnd (session_of w.sessions conn) (λ (y : Session). IsJustifiedPublish s y.user.rules.publish v) → IsDenial w (Pub conn s body) v
+        IsSomeAnd (session_of w.sessions conn) (λ (y : Session). IsJustifiedPublish s y.user.rules.publish v) → IsDenial w command v
     denied v z e at u reasoned =
         subst (λ o. IsSomeAnd o (λ (user : User). (v ≡ publish_verdict user.rules s) × IsJustifiedPublish s user.rules.publish v)) (sym u)
         (sym e, subst (λ o. IsSomeAnd o (λ (y : Session). IsJustifiedPublish s y.user.rules.publish v)) at reasoned)
@@ -188,32 +235,73 @@ pub-keeps w now conn s body sound = by_session (session_of w.sessions conn) refl
     allowed : (v : Verdict) (z : Session) → publish_verdict z.user.rules s ≡ v → user_at w conn ≡ Some z.user → may_publish (user_at w conn) s ≡ is_allowed v
     allowed v z e u = ap (λ o. may_publish o s) u ∙ ap is_allowed e
 
-    handed : (account : List ℕ) → IsDelivered w s body (recipients w account s) (items_after s body (admitted w account s) w.sessions) (delivered (map (addressed_to s body) (admitted w account s)) w.sessions).0
-    handed account =
-        subst (λ subs. IsDelivered w s body subs (items_after s body (admitted w account s) w.sessions) (delivered (map (addressed_to s body) (admitted w account s)) w.sessions).0)
-        (recipients-same w account s sound)
+    handed : (z : Session) → session_of w.sessions conn ≡ Some z → IsDelivered w m (recipients w conn z.user.account s) (items_after m (admitted w z s) w.sessions) (delivered (map (addressed_to m) (admitted w z s)) w.sessions).0
+    handed z at =
+        subst (λ subs. IsDelivered w m subs (items_after m (admitted w z s) w.sessions) (delivered (map (addressed_to m) (admitted w z s)) w.sessions).0)
+        (recipients-same w conn z s sound at)
         (record {
-          one_each = one_each s body (admitted w account s) w.sessions;
-          with_room = with_room s body (admitted w account s) w.sessions;
-          outboxes = outboxes s body (admitted w account s) w.sessions sound.connections;
+          one_each = one_each m (admitted w z s) w.sessions;
+          with_room = with_room m (admitted w z s) w.sessions;
+          outboxes = outboxes m (admitted w z s) w.sessions sound.connections;
         })
 
-    by_verdict : (v : Verdict) (z : Session) → publish_verdict z.user.rules s ≡ v → session_of w.sessions conn ≡ Some z → user_at w conn ≡ Some z.user → is_fit w (Pub conn s body) ≡ true →
-        Keeps w (event now (Pub conn s body)) (numbered (w.number + 1) (Ok (published (advanced w now) z s body v)))
+    by_verdict : (v : Verdict) (z : Session) → publish_verdict z.user.rules s ≡ v → session_of w.sessions conn ≡ Some z → user_at w conn ≡ Some z.user → is_fit w command ≡ true →
+        Keeps w (event now command) (numbered (w.number + 1) (Ok (published (advanced w now) z m v)))
     by_verdict (Allowed by) z e at u fit =
-        let zs : List Session = (delivered (map (addressed_to s body) (admitted w z.user.account s)) w.sessions).0 in
-        let items : List Item = items_after s body (admitted w z.user.account s) w.sessions in
-        routed w now (Pub conn s body) (Published by items) zs w.subscriptions (refl, refl) fit (sym (allowed (Allowed by) z e u)) (λ _. tt)
-        (subst (λ o. IsSomeAnd o (λ (user : User). (publish_verdict user.rules s ≡ Allowed by) × IsDelivered w s body (recipients w user.account s) items zs)) (sym u) (e, handed z.user.account), refl)
-        (subst (λ ys. IsSound (next w now ys w.subscriptions)) (sym (outboxes s body (admitted w z.user.account s) w.sessions sound.connections))
-        (sound-map w now (gets s body (admitted w z.user.account s)) (gets-keeps w.capacity s body (admitted w z.user.account s)) sound))
-    by_verdict (DeniedBy i) z e at u fit = routed w now (Pub conn s body) (Denied (DeniedBy i)) w.sessions w.subscriptions (refl, refl) fit (sym (allowed (DeniedBy i) z e u)) (denied (DeniedBy i) z e at u) (untouched w now) (sound-same w now sound)
-    by_verdict NoAllow z e at u fit = routed w now (Pub conn s body) (Denied NoAllow) w.sessions w.subscriptions (refl, refl) fit (sym (allowed NoAllow z e u)) (denied NoAllow z e at u) (untouched w now) (sound-same w now sound)
+        let zs : List Session = (delivered (map (addressed_to m) (admitted w z s)) w.sessions).0 in
+        let items : List Item = items_after m (admitted w z s) w.sessions in
+        let subs : List Subscription = unended (map (counted items) w.subscriptions) in
+        routed w now command (Published by items) zs subs (refl, refl) fit (sym (allowed (Allowed by) z e u)) (λ _. tt)
+        (subst (λ o. IsSomeAnd o (λ (user : User). (publish_verdict user.rules s ≡ Allowed by) × IsDelivered w m (recipients w conn user.account s) items zs)) (sym u) (e, handed z at), refl)
+        (subst (λ ys. IsSound (next w now ys subs)) (sym (outboxes m (admitted w z s) w.sessions sound.connections))
+        (sound-limits (next w now (map (gets m (admitted w z s)) w.sessions) w.subscriptions) (counted items) (counted-keeps items)
+        (sound-map w now (gets m (admitted w z s)) (gets-keeps w.capacity m (admitted w z s)) sound)))
+    by_verdict (DeniedBy i) z e at u fit = routed w now command (Denied (DeniedBy i)) w.sessions w.subscriptions (refl, refl) fit (sym (allowed (DeniedBy i) z e u)) (denied (DeniedBy i) z e at u) (untouched w now) (sound-same w now sound)
+    by_verdict NoAllow z e at u fit = routed w now command (Denied NoAllow) w.sessions w.subscriptions (refl, refl) fit (sym (allowed NoAllow z e u)) (denied NoAllow z e at u) (untouched w now) (sound-same w now sound)
 
     by_session : (o : Option Session) → session_of w.sessions conn ≡ o →
-        Keeps w (event now (Pub conn s body)) (numbered (w.number + 1) (in_session o (λ z. published (advanced w now) z s body (publish_verdict z.user.rules s))))
+        Keeps w (event now command) (numbered (w.number + 1) (in_session o (λ z. published (advanced w now) z m (publish_verdict z.user.rules s))))
     by_session None e = none-due (session_of w.sessions conn) e
     by_session (Some z) e = by_verdict (publish_verdict z.user.rules s) z refl e (user_at-session w sound conn z e) (session-fit (session_of w.sessions conn) z e)
+
+-- ---- Unsub
+
+-- so does a limit
+limited-keeps : (conn : ℕ) (sid : List ℕ) (most : Option ℕ) → KeepsSubscription (limited conn sid most)
+limited-keeps conn sid most = record {
+  id = λ s. id_is s (is_under conn sid s);
+  conn = λ s. conn_is s (is_under conn sid s);
+  subject = λ s. subject_is s (is_under conn sid s);
+  sid = λ s. sid_is s (is_under conn sid s);
+}
+  where
+    id_is : (s : Subscription) (b : Bool) → (cond b (record s { most = Some (limit_of most) }) s).id ≡ s.id
+    id_is s true = refl
+    id_is s false = refl
+
+    conn_is : (s : Subscription) (b : Bool) → (cond b (record s { most = Some (limit_of most) }) s).conn ≡ s.conn
+    conn_is s true = refl
+    conn_is s false = refl
+
+    subject_is : (s : Subscription) (b : Bool) → (cond b (record s { most = Some (limit_of most) }) s).subject ≡ s.subject
+    subject_is s true = refl
+    subject_is s false = refl
+
+    sid_is : (s : Subscription) (b : Bool) → (cond b (record s { most = Some (limit_of most) }) s).sid ≡ s.sid
+    sid_is s true = refl
+    sid_is s false = refl
+
+unsub-keeps : (w : World) (now conn : ℕ) (sid : List ℕ) (most : Option ℕ) → IsSound w →
+    Keeps w (event now (Unsub conn sid most)) (numbered (w.number + 1) (moved (advanced w now) (Unsub conn sid most)))
+unsub-keeps w now conn sid most sound = by_session (session_of w.sessions conn) refl
+  where
+    by_session : (o : Option Session) → session_of w.sessions conn ≡ o →
+        Keeps w (event now (Unsub conn sid most)) (numbered (w.number + 1) (in_session o (λ z. unsubscribed (advanced w now) conn sid most)))
+    by_session None e = none-due (session_of w.sessions conn) e
+    by_session (Some z) e =
+        routed w now (Unsub conn sid most) Unsubscribed w.sessions (unended (map (limited conn sid most) w.subscriptions)) (refl, refl)
+        (session-fit (session_of w.sessions conn) z e) refl (λ _. tt) (refl, refl)
+        (sound-limits (next w now w.sessions w.subscriptions) (limited conn sid most) (limited-keeps conn sid most) (sound-same w now sound))
 
 -- ---- Take and Close
 
@@ -283,9 +371,10 @@ reload-keeps w now doc sound = (
 -- ---- a step, and a run
 
 moves : (w : World) (now : ℕ) (c : Command) → IsSound w → Keeps w (event now c) (numbered (w.number + 1) (moved (advanced w now) c))
-moves w now (Connect conn name password) = connect-keeps w now conn name password
+moves w now (Connect conn name password echo) = connect-keeps w now conn name password echo
 moves w now (Sub conn p sid) = sub-keeps w now conn p sid
-moves w now (Pub conn s body) = pub-keeps w now conn s body
+moves w now (Unsub conn sid most) = unsub-keeps w now conn sid most
+moves w now (Pub conn s reply head body word) = pub-keeps w now conn s reply head body word
 moves w now (Take conn most) = take-keeps w now conn most
 moves w now (Close conn) = close-keeps w now conn
 moves w now (Reload doc) = reload-keeps w now doc

@@ -16,10 +16,11 @@ use Rattle.policy_doc.specs.Document.{IsValidPolicy}
 use Rattle.policy_doc.specs.declared.document.PolicyDoc.{PolicyDoc}
 use Rattle.permissions.specs.Verdicts.{subscribe_verdict, IsJustifiedSubscribe}
 use Rattle.hub.specs.Users.{users_of}
+use Rattle.hub.specs.Limit.{has_ended}
 use Rattle.hub.specs.World.{World, session_of}
 use Rattle.hub.specs.Sound.{IsSound, has_same_sid, user_named, user_behind, may_subscribe}
 use Rattle.hub.specs.Reload.{is_same_user, user_again, user_again_of, stays, goes, with_user, renewed, remaining, connection_of, closed_conns, user_after, verdict_for, may_stand, stands_on, removal, removal_after, IsReasonedVerdict, IsReasonedReload}
-use Rattle.hub.specs.InForce.{goes_on_for, goes_on, for_user, under, removal_for, IsInForce}
+use Rattle.hub.specs.InForce.{goes_on_for, goes_on, under, removal_for, IsInForce}
 use Rattle.hub.specs.declared.ready.User.{User}
 use Rattle.hub.specs.declared.tables.Session.{Session}
 use Rattle.hub.specs.declared.tables.Subscription.{Subscription}
@@ -90,7 +91,7 @@ stay-same doc (z ∷ zs) valid =
     by_login u e true is later =
         ap (λ y. y ∷ map (renewed doc) (filter (stays doc) zs)) (
         ap (with_user z) (user_again-by_name doc z.user valid ∙ ap (same_login z.user) e ∙ ap (λ b. cond b (Some u) None) is)
-        ∙ sym (ap (for_user z) e))
+        ∙ sym (ap (with_user z) e))
         ∙ ap (λ ys. under doc z ∷ ys) later
 
     by_name : (o : Option User) → user_named doc z.user.user ≡ o → map (renewed doc) (filter (stays doc) zs) ≡ map (under doc) (filter (goes_on doc) zs) →
@@ -237,6 +238,7 @@ sound-reload w now doc sound valid = record {
       (λ k d h. with_user-bound w.capacity _ _ (All-filter (stays doc) (HasBound w.capacity) w.sessions sound.outboxes k d h));
   subscriptions = λ k d h. sym (stands-same doc w.sessions (get_or (filter (stands_on doc w.sessions) w.subscriptions) k d) valid sound.connections)
       ∙ filter_passes (stands_on doc w.sessions) w.subscriptions k d h;
+  limits = All-filter (stands_on doc w.sessions) (λ (s : Subscription). has_ended s ≡ false) w.subscriptions sound.limits;
   sids = AllPairs-filter (λ (s t : Subscription). has_same_sid s t ≡ false) (stands_on doc w.sessions) w.subscriptions sound.sids;
   ids = AllPairs-filter (λ (s t : Subscription). s.id < t.id) (stands_on doc w.sessions) w.subscriptions sound.ids;
   numbers = All-filter (stands_on doc w.sessions) (λ (s : Subscription). s.id ≤ w.number + 1) w.subscriptions (λ k d h. let n = sound.numbers k d h in omega arith);

@@ -1,7 +1,8 @@
 -- What every hub keeps is kept by each kind of change.
-use Rattle.std.proofs.Common.{◌≡◌, ◌∙◌, ◌==◌, ℕ, ◌+◌, ◌<◌, ◌≤◌, Bool, true, false, not, List, [], ◌∷◌, ◌++◌, map, filter, length, get_or, Option, Some, None, ap, sym, refl, arith, max}
-use Rattle.std.specs.Prelude.{All, ◌≢◌, nat_le}
+use Rattle.std.proofs.Common.{◌≡◌, ◌∙◌, ◌==◌, ◌&&◌, ℕ, ◌+◌, ◌<◌, ◌≤◌, Bool, true, false, not, List, [], ◌∷◌, ◌++◌, map, filter, length, get_or, Option, Some, None, ap, sym, refl, arith, max}
+use Rattle.std.specs.Prelude.{All, ◌≢◌, nat_le, nat_eq}
 use Rattle.std.specs.Option.{option_map}
+use Rattle.std.specs.Cmp.Lexicographic.{pointwise}
 use Rattle.std.proofs.lemmas.Bool.{eqb-true, eqb-false, leb-false}
 use Rattle.std.proofs.lemmas.List.{length-map, length-append}
 use Rattle.std.proofs.lemmas.List.Filters.{length-filter_both}
@@ -11,6 +12,7 @@ use Rattle.std.proofs.lemmas.List.Quantifiers.{all_pairs_push}
 use Rattle.subjects.specs.Subject.{Token}
 use Rattle.policy_doc.specs.declared.document.PolicyDoc.{PolicyDoc}
 use Rattle.hub.specs.World.{World, session_of}
+use Rattle.hub.specs.Limit.{has_ended, unended}
 use Rattle.hub.specs.Sound.{IsSound, has_same_sid, user_named, user_behind, user_at, may_subscribe}
 use Rattle.hub.specs.Transition.{new_session, subscription_of, stands}
 use Rattle.hub.specs.declared.ready.User.{User}
@@ -57,6 +59,7 @@ sound-same w now sound = record {
   users = sound.users;
   outboxes = sound.outboxes;
   subscriptions = sound.subscriptions;
+  limits = sound.limits;
   sids = sound.sids;
   ids = sound.ids;
   numbers = numbers-next w sound;
@@ -87,6 +90,7 @@ sound-map w now f keeps sound = record {
   users = All-map (IsOfPolicy w.policy) f w.sessions (λ k d h. of_policy (get_or w.sessions k d) (sound.users k d h));
   outboxes = All-map (HasBound w.capacity) f w.sessions (λ k d h. keeps.outbox _ (sound.outboxes k d h));
   subscriptions = λ k d h. allowed-map w.policy f w.sessions keeps.conn keeps.user (get_or w.subscriptions k d) (sound.subscriptions k d h);
+  limits = sound.limits;
   sids = sound.sids;
   ids = sound.ids;
   numbers = numbers-next w sound;
@@ -104,14 +108,15 @@ allowed-open doc zs y s is = by_session (session_of zs s.conn) refl is
     by_session None e h = absurd (cc)
     by_session (Some z) e h = ap (λ o. may_subscribe (user_behind doc o) s.subject) (find-append (λ (z : Session). z.conn == s.conn) zs (y ∷ []) z e) ∙ h
 
-pub sound-open : (w : World) (now conn : ℕ) (u : User) → session_of w.sessions conn ≡ None → nat_le 4096 (length w.sessions) ≡ false → user_named w.policy u.user ≡ Some u → IsSound w → IsSound (next w now (w.sessions ++ new_session conn u w.capacity ∷ []) w.subscriptions)
-sound-open w now conn u free room is sound = record {
+pub sound-open : (w : World) (now conn : ℕ) (u : User) (echo : Bool) → session_of w.sessions conn ≡ None → nat_le 4096 (length w.sessions) ≡ false → user_named w.policy u.user ≡ Some u → IsSound w → IsSound (next w now (w.sessions ++ new_session conn u echo w.capacity ∷ []) w.subscriptions)
+sound-open w now conn u echo free room is sound = record {
   policy = sound.policy;
-  limit = omega (arith, length-append w.sessions (new_session conn u w.capacity ∷ []), leb-false 4096 (length w.sessions) room);
-  connections = all_pairs_push IsApart w.sessions (new_session conn u w.capacity) sound.connections (λ k d h same. eqb-false _ _ (find-none (λ (z : Session). z.conn == conn) w.sessions free k d h) same);
-  users = All-push (IsOfPolicy w.policy) w.sessions (new_session conn u w.capacity) sound.users is;
-  outboxes = All-push (HasBound w.capacity) w.sessions (new_session conn u w.capacity) sound.outboxes (refl, omega arith);
-  subscriptions = λ k d h. allowed-open w.policy w.sessions (new_session conn u w.capacity) (get_or w.subscriptions k d) (sound.subscriptions k d h);
+  limit = omega (arith, length-append w.sessions (new_session conn u echo w.capacity ∷ []), leb-false 4096 (length w.sessions) room);
+  connections = all_pairs_push IsApart w.sessions (new_session conn u echo w.capacity) sound.connections (λ k d h same. eqb-false _ _ (find-none (λ (z : Session). z.conn == conn) w.sessions free k d h) same);
+  users = All-push (IsOfPolicy w.policy) w.sessions (new_session conn u echo w.capacity) sound.users is;
+  outboxes = All-push (HasBound w.capacity) w.sessions (new_session conn u echo w.capacity) sound.outboxes (refl, omega arith);
+  subscriptions = λ k d h. allowed-open w.policy w.sessions (new_session conn u echo w.capacity) (get_or w.subscriptions k d) (sound.subscriptions k d h);
+  limits = sound.limits;
   sids = sound.sids;
   ids = sound.ids;
   numbers = numbers-next w sound;
@@ -128,6 +133,7 @@ sound-add w now conn p sid may free sound = record {
   users = sound.users;
   outboxes = sound.outboxes;
   subscriptions = All-push (IsAllowed w.policy w.sessions) w.subscriptions (subscription_of (w.number + 1) conn p sid) sound.subscriptions may;
+  limits = All-push (λ (s : Subscription). has_ended s ≡ false) w.subscriptions (subscription_of (w.number + 1) conn p sid) sound.limits refl;
   sids = all_pairs_push (λ (s t : Subscription). has_same_sid s t ≡ false) w.subscriptions (subscription_of (w.number + 1) conn p sid) sound.sids (any-none (λ (s : Subscription). has_same_sid s (subscription_of (w.number + 1) conn p sid)) w.subscriptions free);
   ids = all_pairs_push (λ (s t : Subscription). s.id < t.id) w.subscriptions (subscription_of (w.number + 1) conn p sid) sound.ids (λ k d h. let n = sound.numbers k d h in omega arith);
   numbers = All-push (λ (s : Subscription). s.id ≤ w.number + 1) w.subscriptions (subscription_of (w.number + 1) conn p sid) (numbers-next w sound) (omega arith);
@@ -156,8 +162,61 @@ sound-close w now conn sound = record {
   users = All-filter (λ (z : Session). not (z.conn == conn)) (IsOfPolicy w.policy) w.sessions sound.users;
   outboxes = All-filter (λ (z : Session). not (z.conn == conn)) (HasBound w.capacity) w.sessions sound.outboxes;
   subscriptions = λ k d h. allowed-close w.policy w.sessions conn (get_or (filter (λ (s : Subscription). not (s.conn == conn)) w.subscriptions) k d) (filter_passes (λ (s : Subscription). not (s.conn == conn)) w.subscriptions k d h) (All-filter (λ (s : Subscription). not (s.conn == conn)) (IsAllowed w.policy w.sessions) w.subscriptions sound.subscriptions k d h);
+  limits = All-filter (λ (s : Subscription). not (s.conn == conn)) (λ (s : Subscription). has_ended s ≡ false) w.subscriptions sound.limits;
   sids = AllPairs-filter (λ (s t : Subscription). has_same_sid s t ≡ false) (λ (s : Subscription). not (s.conn == conn)) w.subscriptions sound.sids;
   ids = AllPairs-filter (λ (s t : Subscription). s.id < t.id) (λ (s : Subscription). not (s.conn == conn)) w.subscriptions sound.ids;
   numbers = All-filter (λ (s : Subscription). not (s.conn == conn)) (λ (s : Subscription). s.id ≤ w.number + 1) w.subscriptions (numbers-next w sound);
   epoch = epoch-next w sound;
 }
+
+-- subscriptions have counted a message or taken a limit, and those that have ended are gone
+pub record KeepsSubscription (f : Subscription → Subscription) : Type 0 where
+  pub id : (s : Subscription) → (f s).id ≡ s.id
+  pub conn : (s : Subscription) → (f s).conn ≡ s.conn
+  pub subject : (s : Subscription) → (f s).subject ≡ s.subject
+  pub sid : (s : Subscription) → (f s).sid ≡ s.sid
+
+allowed-again : (doc : PolicyDoc) (zs : List Session) (f : Subscription → Subscription) → KeepsSubscription f → (s : Subscription) → IsAllowed doc zs s → IsAllowed doc zs (f s)
+allowed-again doc zs f keeps s is =
+    ap (λ n. may_subscribe (user_behind doc (session_of zs n)) (f s).subject) (keeps.conn s)
+    ∙ ap (λ p. may_subscribe (user_behind doc (session_of zs s.conn)) p) (keeps.subject s)
+    ∙ is
+
+apart-again : (f : Subscription → Subscription) → KeepsSubscription f → (s t : Subscription) → has_same_sid s t ≡ false → has_same_sid (f s) (f t) ≡ false
+apart-again f keeps s t is =
+    ap (λ n. (n == (f t).conn) && pointwise nat_eq (f s).sid (f t).sid) (keeps.conn s)
+    ∙ ap (λ n. (s.conn == n) && pointwise nat_eq (f s).sid (f t).sid) (keeps.conn t)
+    ∙ ap (λ sid. (s.conn == t.conn) && pointwise nat_eq sid (f t).sid) (keeps.sid s)
+    ∙ ap (λ sid. (s.conn == t.conn) && pointwise nat_eq s.sid sid) (keeps.sid t)
+    ∙ is
+
+rising-again : (f : Subscription → Subscription) → KeepsSubscription f → (s t : Subscription) → s.id < t.id → (f s).id < (f t).id
+rising-again f keeps s t is = let e = keeps.id s in let g = keeps.id t in omega arith
+
+below-again : (n : ℕ) (f : Subscription → Subscription) → KeepsSubscription f → (s : Subscription) → s.id ≤ n → (f s).id ≤ n
+below-again n f keeps s is = let e = keeps.id s in omega arith
+
+still-open : (b : Bool) → not b ≡ true → b ≡ false
+still-open true is = absurd (cc)
+still-open false is = refl
+
+pub sound-limits : (w : World) (f : Subscription → Subscription) → KeepsSubscription f → IsSound w → IsSound (record w { subscriptions = unended (map f w.subscriptions) })
+sound-limits w f keeps sound = record {
+  policy = sound.policy;
+  limit = sound.limit;
+  connections = sound.connections;
+  users = sound.users;
+  outboxes = sound.outboxes;
+  subscriptions = All-filter IsOpen (IsAllowed w.policy w.sessions) subs (All-map (IsAllowed w.policy w.sessions) f w.subscriptions (λ k d h. allowed-again w.policy w.sessions f keeps (get_or w.subscriptions k d) (sound.subscriptions k d h)));
+  limits = λ k d h. still-open (has_ended (get_or (unended subs) k d)) (filter_passes IsOpen subs k d h);
+  sids = AllPairs-filter (λ (s t : Subscription). has_same_sid s t ≡ false) IsOpen subs (AllPairs-map (λ (s t : Subscription). has_same_sid s t ≡ false) f w.subscriptions (apart-again f keeps) sound.sids);
+  ids = AllPairs-filter (λ (s t : Subscription). s.id < t.id) IsOpen subs (AllPairs-map (λ (s t : Subscription). s.id < t.id) f w.subscriptions (rising-again f keeps) sound.ids);
+  numbers = All-filter IsOpen (λ (s : Subscription). s.id ≤ w.number) subs (All-map (λ (s : Subscription). s.id ≤ w.number) f w.subscriptions (λ k d h. below-again w.number f keeps (get_or w.subscriptions k d) (sound.numbers k d h)));
+  epoch = sound.epoch;
+}
+  where
+    IsOpen : Subscription → Bool
+    IsOpen s = not (has_ended s)
+
+    subs : List Subscription
+    subs = map f w.subscriptions

@@ -13,33 +13,37 @@ use Rattle.hub.specs.Sound.{IsSound, user_at, may_subscribe}
 use Rattle.hub.specs.History.{State, is_history_full, entry_of}
 use Rattle.hub.specs.InForce.{IsInForce, policy_after, epoch_after}
 use Rattle.hub.specs.Run.{EachStep}
-use Rattle.hub.specs.Transition.{new_session, subscription_of, stands, drained}
+use Rattle.hub.specs.Routing.{Message, message, delivery_to}
+use Rattle.hub.specs.Limit.{unended, counted, limited}
+use Rattle.hub.specs.Transition.{new_session, of_connection, subscription_of, stands, drained}
 use Rattle.hub.specs.declared.ready.User.{User}
 use Rattle.hub.specs.declared.tables.Session.{Session}
 use Rattle.hub.specs.declared.tables.Subscription.{Subscription}
 use Rattle.hub.specs.declared.event.Event.{Event}
 use Rattle.hub.specs.declared.event.Command.{Command}
-use Rattle.hub.specs.declared.event.Command.TheVariants.{Connect, Sub, Pub, Take, Close, Reload}
+use Rattle.hub.specs.declared.event.Command.TheVariants.{Connect, Sub, Unsub, Pub, Take, Close, Reload}
 use Rattle.hub.specs.declared.answer.Answer.{Answer}
 use Rattle.hub.specs.declared.answer.Delivery.{Delivery}
 use Rattle.hub.specs.declared.answer.Item.{Item}
 use Rattle.hub.specs.declared.answer.Item.TheVariants.{Entered, Full}
 use Rattle.hub.specs.declared.answer.Outcome.{Outcome}
-use Rattle.hub.specs.declared.answer.Outcome.TheVariants.{Connected, AuthViolation, Subscribed, SameSid, Denied, Published, Taken, Closed, Reloaded}
+use Rattle.hub.specs.declared.answer.Outcome.TheVariants.{Connected, AuthViolation, Subscribed, SameSid, SubLimit, Denied, Unsubscribed, Published, Taken, Closed, Reloaded}
 use Rattle.hub.specs.declared.answer.HubRefusal.{HubRefusal}
 use Rattle.hub.specs.declared.answer.HubRefusal.TheVariants.{HistoryFull, NoSession, SessionTaken, SessionLimit, NoMemory}
 
 -- ---- accepted and allowed
 
--- whether an outcome accepts its command
+-- whether an outcome accepts its command. A limit is no denial: it comes only to what the policy allows.
 abbrev pub accepts : Outcome → Bool
 accepts Connected = true
 accepts AuthViolation = false
 accepts Subscribed = true
 accepts SameSid = true
+accepts SubLimit = true
 accepts (Denied verdict) = false
 accepts (Published by items) = true
 accepts (Taken deliveries missed) = true
+accepts Unsubscribed = true
 accepts Closed = true
 accepts (Reloaded gone removed) = true
 
@@ -51,9 +55,10 @@ may_publish (Some u) s = is_allowed (publish_verdict u.rules s)
 -- Whether the policy in force allows a command: a Connect, where a user has that name and password; a Sub and
 -- a Pub, by the permissions of the connection's user; the others always.
 abbrev pub allows : World → Command → Bool
-allows w (Connect conn name password) = is_some (user_with_password w.policy name password)
+allows w (Connect conn name password echo) = is_some (user_with_password w.policy name password)
 allows w (Sub conn p sid) = may_subscribe (user_at w conn) p
-allows w (Pub conn s body) = may_publish (user_at w conn) s
+allows w (Unsub conn sid most) = true
+allows w (Pub conn s reply head body word) = may_publish (user_at w conn) s
 allows w (Take conn most) = true
 allows w (Close conn) = true
 allows w (Reload doc) = true
@@ -64,11 +69,12 @@ allows w (Reload doc) = true
 -- names is the least deny entry that has all that was asked; or no deny entry has it, an allow list is given, and
 -- each of its entries lacks some of it. Only a Sub and a Pub are denied.
 abbrev pub IsDenial : World → Command → Verdict → Type 0
-IsDenial w (Connect conn name password) v = ⊥
+IsDenial w (Connect conn name password echo) v = ⊥
 IsDenial w (Sub conn p sid) v =
     IsSomeAnd (user_at w conn) (λ (u : User). (v ≡ subscribe_verdict u.rules p)
     × IsJustifiedSubscribe p u.rules.subscribe v)
-IsDenial w (Pub conn s body) v =
+IsDenial w (Unsub conn sid most) v = ⊥
+IsDenial w (Pub conn s reply head body word) v =
     IsSomeAnd (user_at w conn) (λ (u : User). (v ≡ publish_verdict u.rules s)
     × IsJustifiedPublish s u.rules.publish v)
 IsDenial w (Take conn most) v = ⊥
@@ -87,27 +93,26 @@ abbrev pub may_receive : List ℕ → List Token → Option User → Bool
 may_receive account s None = false
 may_receive account s (Some u) = pointwise nat_eq u.account account && is_allowed (delivery_verdict u.rules s)
 
--- a message of an account is for a subscription that has its subject, and whose user in the policy in force is of
--- that account and may be sent it
-abbrev pub is_for : World → List ℕ → List Token → Subscription → Bool
-is_for w account s sub = in_set sub.subject s && may_receive account s (user_at w sub.conn)
+-- whether a connection is sent its own messages, as its session was asked to
+abbrev pub has_echo : Option Session → Bool
+has_echo None = false
+has_echo (Some z) = z.echo
+
+-- a message that a connection publishes, of an account, is for a subscription that has its subject, that isn't the
+-- connection's own where it is sent none of its own, and whose user in the policy in force is of that account and
+-- may be sent it
+abbrev pub is_for : World → ℕ → List ℕ → List Token → Subscription → Bool
+is_for w conn account s sub =
+    in_set sub.subject s && (has_echo (session_of w.sessions conn) || not (sub.conn == conn)) && may_receive account s (user_at w sub.conn)
 
 -- the subscriptions that a message is for, oldest first
-abbrev pub recipients : World → List ℕ → List Token → List Subscription
-recipients w account s = filter (is_for w account s) w.subscriptions
-
--- those of one connection
-abbrev pub of_connection : ℕ → List Subscription → List Subscription
-of_connection conn subs = filter (λ (sub : Subscription). sub.conn == conn) subs
+abbrev pub recipients : World → ℕ → List ℕ → List Token → List Subscription
+recipients w conn account s = filter (is_for w conn account s) w.subscriptions
 
 -- how many more deliveries the outbox of a connection's session has room for
 abbrev pub room_in : Option Session → ℕ
 room_in None = 0
 room_in (Some z) = z.outbox.capacity - length z.outbox.waiting
-
--- what a subscriber is sent
-abbrev pub delivery_to : List Token → List ℕ → Subscription → Delivery
-delivery_to s body sub = record { subject = s; sid = sub.sid; body = body }
 
 -- A session after deliveries: its outbox holds what it held, and as many of them, oldest first, as it had room
 -- for; one was missed if it has missed one before, or there was no room for all.
@@ -141,13 +146,13 @@ abbrev pub items_of : ℕ → List Item → List Item
 items_of conn items = filter (λ (item : Item). (item_names item).0 == conn) items
 
 -- A message on its way to those that it is for.
-pub record IsDelivered (w : World) (s : List Token) (body : List ℕ) (subs : List Subscription) (items : List Item) (after : List Session) : Type 0 where
+pub record IsDelivered (w : World) (m : Message) (subs : List Subscription) (items : List Item) (after : List Session) : Type 0 where
   -- each of them has one item, oldest first, and nobody else has one
   pub one_each : map item_names items ≡ map names_of subs
   -- those of a connection have entered as long as there was room in its outbox; Full is reported of the others
   pub with_room : (conn : ℕ) → items_of conn items ≡ items_with_room (room_in (session_of w.sessions conn)) (of_connection conn subs)
   -- and these deliveries are what came into the outboxes
-  pub outboxes : after ≡ map (λ (z : Session). receives (map (delivery_to s body) (of_connection z.conn subs)) z) w.sessions
+  pub outboxes : after ≡ map (λ (z : Session). receives (map (delivery_to m) (of_connection z.conn subs)) z) w.sessions
 
 -- ---- what a step does
 
@@ -156,25 +161,37 @@ pub record IsUntouched (w after : World) : Type 0 where
   pub sessions : after.sessions ≡ w.sessions
   pub subscriptions : after.subscriptions ≡ w.subscriptions
 
+-- 4,096 subscriptions of the connection stand
+abbrev pub has_all : World → ℕ → Bool
+has_all w conn = nat_le 4096 (length (of_connection conn w.subscriptions))
+
 -- What an answered command does to the sessions and subscriptions, by what it was answered.
 abbrev pub IsEffect : World → Command → Outcome → World → Type 0
 -- a session of the user stands, the last, with nothing in its outbox
-IsEffect w (Connect conn name password) Connected after =
-    IsSomeAnd (user_with_password w.policy name password) (λ (u : User). after.sessions ≡ w.sessions ++ new_session conn u w.capacity ∷ [])
+IsEffect w (Connect conn name password echo) Connected after =
+    IsSomeAnd (user_with_password w.policy name password) (λ (u : User). after.sessions ≡ w.sessions ++ new_session conn u echo w.capacity ∷ [])
     × (after.subscriptions ≡ w.subscriptions)
-IsEffect w (Connect conn name password) AuthViolation after = IsUntouched w after
--- the subscription stands, the youngest, where none of that id stood; else nothing changes
+IsEffect w (Connect conn name password echo) AuthViolation after = IsUntouched w after
+-- the subscription stands, the youngest, where none of that id stood and fewer than 4,096 of the connection's; else
+-- nothing changes
 IsEffect w (Sub conn p sid) Subscribed after =
-    (stands w.subscriptions conn sid ≡ false) × (after.sessions ≡ w.sessions)
+    (stands w.subscriptions conn sid ≡ false) × (has_all w conn ≡ false) × (after.sessions ≡ w.sessions)
     × (after.subscriptions ≡ w.subscriptions ++ subscription_of after.number conn p sid ∷ [])
 IsEffect w (Sub conn p sid) SameSid after = (stands w.subscriptions conn sid ≡ true) × IsUntouched w after
+IsEffect w (Sub conn p sid) SubLimit after =
+    (stands w.subscriptions conn sid ≡ false) × (has_all w conn ≡ true) × IsUntouched w after
 IsEffect w (Sub conn p sid) (Denied v) after = IsUntouched w after
--- the message, by the rule that allows it, to those of the user's account that it is for, and to nobody else
-IsEffect w (Pub conn s body) (Published by items) after =
+-- the connection's subscription of that id, if one stands, takes the limit, in place of an earlier one, and ends where
+-- it has received as many; no other changes
+IsEffect w (Unsub conn sid most) Unsubscribed after =
+    (after.sessions ≡ w.sessions) × (after.subscriptions ≡ unended (map (limited conn sid most) w.subscriptions))
+-- the message, by the rule that allows it, to those of the user's account that it is for, and to nobody else; each
+-- subscription that it has entered for counts it, and ends where that was the last that it was to receive
+IsEffect w (Pub conn s reply head body word) (Published by items) after =
     IsSomeAnd (user_at w conn) (λ (u : User). (publish_verdict u.rules s ≡ Allowed by)
-    × IsDelivered w s body (recipients w u.account s) items after.sessions)
-    × (after.subscriptions ≡ w.subscriptions)
-IsEffect w (Pub conn s body) (Denied v) after = IsUntouched w after
+    × IsDelivered w (message s reply head body) (recipients w conn u.account s) items after.sessions)
+    × (after.subscriptions ≡ unended (map (counted items) w.subscriptions))
+IsEffect w (Pub conn s reply head body word) (Denied v) after = IsUntouched w after
 -- the oldest deliveries of the connection's session leave its outbox, and what was missed has been told
 IsEffect w (Take conn most) (Taken deliveries missed) after =
     IsSomeAnd (session_of w.sessions conn) (λ (z : Session). (deliveries ≡ take most z.outbox.waiting) × (missed ≡ z.missed))
@@ -194,17 +211,19 @@ IsEffect w command outcome after = ⊥
 -- the connection that a command names, if it names one; whether the command is to begin its session; and whether it
 -- is nobody's
 abbrev pub connection : Command → Option ℕ
-connection (Connect conn name password) = Some conn
+connection (Connect conn name password echo) = Some conn
 connection (Sub conn p sid) = Some conn
-connection (Pub conn s body) = Some conn
+connection (Unsub conn sid most) = Some conn
+connection (Pub conn s reply head body word) = Some conn
 connection (Take conn most) = Some conn
 connection (Close conn) = Some conn
 connection (Reload doc) = None
 
 abbrev pub is_connect : Command → Bool
-is_connect (Connect conn name password) = true
+is_connect (Connect conn name password echo) = true
 is_connect (Sub conn p sid) = false
-is_connect (Pub conn s body) = false
+is_connect (Unsub conn sid most) = false
+is_connect (Pub conn s reply head body word) = false
 is_connect (Take conn most) = false
 is_connect (Close conn) = false
 is_connect (Reload doc) = false

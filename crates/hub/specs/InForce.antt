@@ -4,30 +4,32 @@ use Rattle.std.specs.List.{filter_map, list_any}
 use Rattle.std.specs.Cmp.Lexicographic.{pointwise}
 use Rattle.policy_doc.specs.declared.document.PolicyDoc.{PolicyDoc}
 use Rattle.permissions.specs.Verdicts.{subscribe_verdict, is_allowed, IsJustifiedSubscribe}
-use Rattle.permissions.specs.declared.verdict.Verdict.{Verdict}
 use Rattle.hub.specs.World.{World, session_of}
+use Rattle.hub.specs.Reload.{with_user, removed_by}
 use Rattle.hub.specs.Sound.{user_named, user_at, may_subscribe}
 use Rattle.hub.specs.declared.ready.User.{User}
 use Rattle.hub.specs.declared.tables.Session.{Session}
 use Rattle.hub.specs.declared.tables.Subscription.{Subscription}
 use Rattle.hub.specs.declared.event.Command.{Command}
-use Rattle.hub.specs.declared.event.Command.TheVariants.{Connect, Sub, Pub, Take, Close, Reload}
+use Rattle.hub.specs.declared.event.Command.TheVariants.{Connect, Sub, Unsub, Pub, Take, Close, Reload}
 use Rattle.hub.specs.declared.answer.Removed.{Removed}
 
 -- the policy in force after a command: a reload brings its own, and nothing else changes it
 abbrev pub policy_after : World → Command → PolicyDoc
-policy_after w (Connect conn name password) = w.policy
+policy_after w (Connect conn name password echo) = w.policy
 policy_after w (Sub conn p sid) = w.policy
-policy_after w (Pub conn s body) = w.policy
+policy_after w (Unsub conn sid most) = w.policy
+policy_after w (Pub conn s reply head body word) = w.policy
 policy_after w (Take conn most) = w.policy
 policy_after w (Close conn) = w.policy
 policy_after w (Reload doc) = doc
 
 -- the epoch after a command: a reload begins the next one
 abbrev pub epoch_after : World → Command → ℕ
-epoch_after w (Connect conn name password) = w.epoch
+epoch_after w (Connect conn name password echo) = w.epoch
 epoch_after w (Sub conn p sid) = w.epoch
-epoch_after w (Pub conn s body) = w.epoch
+epoch_after w (Unsub conn sid most) = w.epoch
+epoch_after w (Pub conn s reply head body word) = w.epoch
 epoch_after w (Take conn most) = w.epoch
 epoch_after w (Close conn) = w.epoch
 epoch_after w (Reload doc) = w.epoch + 1
@@ -42,22 +44,15 @@ abbrev pub goes_on : PolicyDoc → Session → Bool
 goes_on doc z = goes_on_for z (user_named doc z.user.user)
 
 -- the session for the user as the policy has it; what waits in its outbox, and whether a delivery was missed, stay
-abbrev pub for_user : Session → Option User → Session
-for_user z None = z
-for_user z (Some u) = record z { user = u }
-
 abbrev pub under : PolicyDoc → Session → Session
-under doc z = for_user z (user_named doc z.user.user)
+under doc z = with_user z (user_named doc z.user.user)
 
--- what is reported of a subscription: nothing where no session has it any more, or its user may have it; else the
--- verdict
-abbrev pub report : Subscription → Verdict → Removed
-report sub v = record { id = sub.id; conn = sub.conn; sid = sub.sid; verdict = v }
-
+-- what is reported of a subscription: nothing where no session has it any more, or its user may have it; else its
+-- removal by the verdict
 abbrev pub removal_for : Subscription → Option User → Option Removed
 removal_for sub None = None
 removal_for sub (Some u) =
-    if is_allowed (subscribe_verdict u.rules sub.subject) then None else Some (report sub (subscribe_verdict u.rules sub.subject))
+    if is_allowed (subscribe_verdict u.rules sub.subject) then None else Some (removed_by sub (subscribe_verdict u.rules sub.subject))
 
 -- A policy that has come into force.
 pub record IsInForce (w : World) (doc : PolicyDoc) (closed : List ℕ) (lost : List Removed) (after : World) : Type 0 where

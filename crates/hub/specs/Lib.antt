@@ -1,6 +1,7 @@
 pub mod Users
 pub mod World
 pub mod Routing
+pub mod Limit
 pub mod Reload
 pub mod Transition
 pub mod History

@@ -9,7 +9,7 @@ use Rattle.hub.specs.declared.answer.HubRefusal.{HubRefusal}
 use Rattle.hub.specs.declared.answer.HubRefusal.TheVariants.{HistoryFull, NoSession, SessionTaken, SessionLimit, NoMemory}
 
 abbrev pub standing_of : Subscription → Standing
-standing_of s = record { id = s.id; conn = s.conn; subject = s.subject; sid = s.sid }
+standing_of s = record { id = s.id; conn = s.conn; subject = s.subject; sid = s.sid; received = s.received; most = s.most }
 
 -- how much waits in a session's outbox, and whether a delivery was missed
 abbrev pub waiting_in : Session → ℕ × Bool

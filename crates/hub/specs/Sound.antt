@@ -8,6 +8,7 @@ use Rattle.policy_doc.specs.declared.document.PolicyDoc.{PolicyDoc}
 use Rattle.permissions.specs.Verdicts.{subscribe_verdict, is_allowed}
 use Rattle.hub.specs.Users.{users_of}
 use Rattle.hub.specs.World.{World, session_of}
+use Rattle.hub.specs.Limit.{has_ended}
 use Rattle.hub.specs.declared.ready.User.{User}
 use Rattle.hub.specs.declared.tables.Session.{Session}
 use Rattle.hub.specs.declared.tables.Subscription.{Subscription}
@@ -48,6 +49,8 @@ pub record IsSound (w : World) : Type 0 where
   pub outboxes : All (λ (z : Session). (z.outbox.capacity ≡ w.capacity) × (length z.outbox.waiting ≤ w.capacity)) w.sessions
   -- the policy in force refuses no standing subscription: its connection has a session, whose user may have it
   pub subscriptions : All (λ (s : Subscription). may_subscribe (user_at w s.conn) s.subject ≡ true) w.subscriptions
+  -- each is still to receive: none has received as many messages as it was to
+  pub limits : All (λ (s : Subscription). has_ended s ≡ false) w.subscriptions
   -- no connection has two of one sid
   pub sids : AllPairs (λ (s t : Subscription). has_same_sid s t ≡ false) w.subscriptions
   -- their ids rise, and none is above the last number

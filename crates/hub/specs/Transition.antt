@@ -8,51 +8,67 @@ use Rattle.permissions.specs.declared.verdict.Verdict.{Verdict}
 use Rattle.permissions.specs.declared.verdict.Verdict.TheVariants.{Allowed, DeniedBy, NoAllow}
 use Rattle.hub.specs.Users.{user_with_password}
 use Rattle.hub.specs.World.{World, session_of, with_session, advanced}
-use Rattle.hub.specs.Routing.{admitted, addressed_to, delivered}
+use Rattle.hub.specs.Routing.{Message, message, admitted, addressed_to, delivered}
+use Rattle.hub.specs.Limit.{unended, counted, limited}
 use Rattle.hub.specs.Reload.{reloaded, IsReasonedReload}
 use Rattle.hub.specs.declared.ready.User.{User}
 use Rattle.hub.specs.declared.tables.Session.{Session}
 use Rattle.hub.specs.declared.tables.Subscription.{Subscription}
 use Rattle.hub.specs.declared.event.Event.{Event}
 use Rattle.hub.specs.declared.event.Command.{Command}
-use Rattle.hub.specs.declared.event.Command.TheVariants.{Connect, Sub, Pub, Take, Close, Reload}
+use Rattle.hub.specs.declared.event.Command.TheVariants.{Connect, Sub, Unsub, Pub, Take, Close, Reload}
 use Rattle.hub.specs.declared.answer.Outcome.{Outcome}
-use Rattle.hub.specs.declared.answer.Outcome.TheVariants.{Connected, AuthViolation, Subscribed, SameSid, Denied, Published, Taken, Closed, Reloaded}
+use Rattle.hub.specs.declared.answer.Outcome.TheVariants.{Connected, AuthViolation, Subscribed, SameSid, SubLimit, Denied, Unsubscribed, Published, Taken, Closed, Reloaded}
 use Rattle.hub.specs.declared.answer.HubRefusal.{HubRefusal}
 use Rattle.hub.specs.declared.answer.HubRefusal.TheVariants.{NoSession, SessionTaken, SessionLimit, NoMemory}
 
 -- a session with nothing in its outbox
-abbrev pub new_session : ℕ → User → ℕ → Session
-new_session conn u capacity = record { conn = conn; user = u; missed = false; outbox = record { capacity = capacity; waiting = [] } }
+abbrev pub new_session : ℕ → User → Bool → ℕ → Session
+new_session conn u echo capacity = record { conn = conn; user = u; echo = echo; missed = false; outbox = record { capacity = capacity; waiting = [] } }
 
 -- a session with an empty outbox, where a user has that name and password
-abbrev pub connected : World → ℕ → Option User → Outcome × World
-connected w conn None = (AuthViolation, w)
-connected w conn (Some u) =
-    (Connected, record w { sessions = w.sessions ++ new_session conn u w.capacity ∷ [] })
+abbrev pub connected : World → ℕ → Bool → Option User → Outcome × World
+connected w conn echo None = (AuthViolation, w)
+connected w conn echo (Some u) =
+    (Connected, record w { sessions = w.sessions ++ new_session conn u echo w.capacity ∷ [] })
 
 -- whether a subscription of the connection stands under that id
 abbrev pub stands : List Subscription → ℕ → List ℕ → Bool
 stands subs conn sid = list_any (λ s. (s.conn == conn) && pointwise nat_eq s.sid sid) subs
 
-abbrev pub subscription_of : ℕ → ℕ → List Token → List ℕ → Subscription
-subscription_of id conn p sid = record { id = id; conn = conn; subject = p; sid = sid }
+-- the standing subscriptions of a connection
+abbrev pub of_connection : ℕ → List Subscription → List Subscription
+of_connection conn subs = filter (λ (sub : Subscription). sub.conn == conn) subs
 
--- the verdict first, then whether the id is taken
+-- 4,096 subscriptions of the connection stand
+abbrev pub has_all : List Subscription → ℕ → Bool
+has_all subs conn = nat_le 4096 (length (of_connection conn subs))
+
+-- a subscription that has received nothing yet, without a limit
+abbrev pub subscription_of : ℕ → ℕ → List Token → List ℕ → Subscription
+subscription_of id conn p sid = record { id = id; conn = conn; subject = p; sid = sid; received = 0; most = None }
+
+-- the verdict first, then whether the id is taken, then whether the connection has all that it may have
 abbrev pub subscribed : World → ℕ → List Token → List ℕ → Verdict → Outcome × World
 subscribed w conn p sid (Allowed by) =
     if stands w.subscriptions conn sid then (SameSid, w)
+    else if has_all w.subscriptions conn then (SubLimit, w)
     else (Subscribed, record w { subscriptions = w.subscriptions ++ subscription_of (w.number + 1) conn p sid ∷ [] })
 subscribed w conn p sid (DeniedBy i) = (Denied (DeniedBy i), w)
 subscribed w conn p sid NoAllow = (Denied NoAllow, w)
 
--- the verdict first, then the message to whom it is for
-abbrev pub published : World → Session → List Token → List ℕ → Verdict → Outcome × World
-published w z s body (Allowed by) =
-    let after = delivered (map (addressed_to s body) (admitted w z.user.account s)) w.sessions in
-    (Published by after.1, record w { sessions = after.0 })
-published w z s body (DeniedBy i) = (Denied (DeniedBy i), w)
-published w z s body NoAllow = (Denied NoAllow, w)
+-- a subscription takes a limit, and ends where it has reached it; an id that none has changes nothing
+abbrev pub unsubscribed : World → ℕ → List ℕ → Option ℕ → Outcome × World
+unsubscribed w conn sid most =
+    (Unsubscribed, record w { subscriptions = unended (map (limited conn sid most) w.subscriptions) })
+
+-- the verdict first, then the message to whom it is for, which count it
+abbrev pub published : World → Session → Message → Verdict → Outcome × World
+published w z m (Allowed by) =
+    let after = delivered (map (addressed_to m) (admitted w z m.subject)) w.sessions in
+    (Published by after.1, record w { sessions = after.0; subscriptions = unended (map (counted after.1) w.subscriptions) })
+published w z m (DeniedBy i) = (Denied (DeniedBy i), w)
+published w z m NoAllow = (Denied NoAllow, w)
 
 -- a session after a Take: its oldest deliveries have left, and what was missed has been told
 abbrev pub drained : ℕ → Session → Session
@@ -84,12 +100,13 @@ in_new_session w None r = if nat_le 4096 (length w.sessions) then Err SessionLim
 
 -- what a command makes of the world, or why it is refused
 abbrev pub moved : World → Command → Result (Outcome × World) HubRefusal
-moved w (Connect conn user pass) =
-    in_new_session w (session_of w.sessions conn) (connected w conn (user_with_password w.policy user pass))
+moved w (Connect conn user pass echo) =
+    in_new_session w (session_of w.sessions conn) (connected w conn echo (user_with_password w.policy user pass))
 moved w (Sub conn p sid) =
     in_session (session_of w.sessions conn) (λ z. subscribed w conn p sid (subscribe_verdict z.user.rules p))
-moved w (Pub conn s body) =
-    in_session (session_of w.sessions conn) (λ z. published w z s body (publish_verdict z.user.rules s))
+moved w (Unsub conn sid most) = in_session (session_of w.sessions conn) (λ z. unsubscribed w conn sid most)
+moved w (Pub conn s reply head body word) =
+    in_session (session_of w.sessions conn) (λ z. published w z (message s reply head body) (publish_verdict z.user.rules s))
 moved w (Take conn most) = on_sessions w (in_session (session_of w.sessions conn) (taken w.sessions conn most))
 moved w (Close conn) = in_session (session_of w.sessions conn) (λ z. closed w conn)
 moved w (Reload doc) = Ok (reloaded w doc)
@@ -103,13 +120,17 @@ numbered n (Err e) = Err e
 abbrev pub transition : World → Event → Result (Outcome × World) HubRefusal
 transition w e = numbered (w.number + 1) (moved (advanced w e.now) e.what)
 
+-- the Pub of a message
+abbrev pub pub_of : ℕ → Message → ℕ → Command
+pub_of conn m word = Pub conn m.subject m.reply m.head m.body word
+
 -- What is denied has its reason in the lists of the session's user: the least deny entry that has all that was
 -- asked, or no deny entry has it, an allow list is given, and each of its entries lacks some of it. So has what a
 -- reload removes, whose policy is valid.
 abbrev pub IsReasoned : World → Command → Outcome → Type 0
 IsReasoned w (Sub conn p sid) (Denied v) =
     IsSomeAnd (session_of w.sessions conn) (λ (z : Session). IsJustifiedSubscribe p z.user.rules.subscribe v)
-IsReasoned w (Pub conn s body) (Denied v) =
+IsReasoned w (Pub conn s reply head body word) (Denied v) =
     IsSomeAnd (session_of w.sessions conn) (λ (z : Session). IsJustifiedPublish s z.user.rules.publish v)
 IsReasoned w (Reload doc) (Reloaded gone removed) = IsReasonedReload doc w.sessions w.subscriptions
 IsReasoned w command outcome = Unit {0}
@@ -130,8 +151,10 @@ is_plain Connected = true
 is_plain AuthViolation = true
 is_plain Subscribed = true
 is_plain SameSid = true
+is_plain SubLimit = true
 is_plain (Denied verdict) = true
 is_plain (Published by items) = false
 is_plain (Taken deliveries missed) = false
+is_plain Unsubscribed = true
 is_plain Closed = true
 is_plain (Reloaded gone removed) = false

@@ -16,6 +16,10 @@ pub struct Delivery {
     pub subject: Subject,
     /// The subscriber's own id of the subscription.
     pub sid: Bytes,
+    /// The subject to answer on, if the message has one.
+    pub reply: Option<Subject>,
+    /// The header block, empty where the message has none.
+    pub head: Bytes,
     /// The payload.
     pub body: Bytes,
 }
@@ -53,12 +57,16 @@ pub enum Outcome {
     Subscribed,
     /// A subscription of that id stands already, and stays as it is.
     SameSid,
+    /// The connection has 4,096 subscriptions, and this one is not added. It is a limit and no denial.
+    SubLimit,
     /// The user's permissions refuse the command, by this verdict.
     Denied(Verdict),
     /// The message is accepted by this rule, and met these subscriptions, oldest first.
     Published(By, Items<Item>),
     /// These deliveries left the outbox, and whether a full outbox has lost one since the Connect or last Take.
     Taken(Items<Delivery>, bool),
+    /// The subscription of that id, if one stood, has ended or has its limit.
+    Unsubscribed,
     /// The session is gone.
     Closed,
     /// The policy is in force. The sessions of these connections are gone, ascending; and the sessions that stay

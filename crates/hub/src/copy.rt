@@ -5,12 +5,28 @@ use crate::answer::{Answer, Delivery, Item, Outcome, Removed};
 use crate::event::Command;
 use lists::{Copying, Items, NoMemory};
 use std::alloc::Global;
+use subjects::Subject;
+
+/// A copy of the subject to answer on, if there is one.
+pub(crate) fn copy_reply(
+    alloc: Global,
+    reply: &Option<Subject>,
+) -> Result<Option<Subject>, NoMemory>
+    ensures { IfOk result (λ same. same ≡ reply.now) }
+{
+    match reply {
+        Some(subject) => Ok(Some(subject.copy(alloc)?)),
+        None => Ok(None),
+    }
+}
 
 impl Copying for Delivery {
     fn copy(&self, alloc: Global) -> Result<Delivery, NoMemory> {
         Ok(Delivery {
             subject: self.subject.copy(alloc)?,
             sid: self.sid.clone()?,
+            reply: copy_reply(alloc, &self.reply)?,
+            head: self.head.clone()?,
             body: self.body.clone()?,
         })
     }
@@ -56,11 +72,13 @@ impl Copying for Outcome {
             Outcome::AuthViolation => Ok(Outcome::AuthViolation),
             Outcome::Subscribed => Ok(Outcome::Subscribed),
             Outcome::SameSid => Ok(Outcome::SameSid),
+            Outcome::SubLimit => Ok(Outcome::SubLimit),
             Outcome::Denied(verdict) => Ok(Outcome::Denied(*verdict)),
             Outcome::Published(by, items) => Ok(Outcome::Published(*by, items.copy(alloc)?)),
             Outcome::Taken(deliveries, missed) => {
                 Ok(Outcome::Taken(deliveries.copy(alloc)?, *missed))
             }
+            Outcome::Unsubscribed => Ok(Outcome::Unsubscribed),
             Outcome::Closed => Ok(Outcome::Closed),
             Outcome::Reloaded { gone, removed } => Ok(Outcome::Reloaded {
                 gone: copy_numbers(alloc, gone)?,
@@ -83,27 +101,48 @@ impl Copying for Answer {
 impl Copying for Command {
     fn copy(&self, alloc: Global) -> Result<Command, NoMemory> {
         match self {
-            Command::Connect { conn, user, pass } => Ok(Command::Connect {
+            Command::Connect {
+                conn,
+                user,
+                pass,
+                echo,
+            } => Ok(Command::Connect {
                 conn: *conn,
                 user: match user {
                     Some(name) => Some(name.clone()?),
                     None => None,
                 },
                 pass: pass.clone()?,
+                echo: *echo,
             }),
             Command::Sub { conn, subject, sid } => Ok(Command::Sub {
                 conn: *conn,
                 subject: subject.copy(alloc)?,
                 sid: sid.clone()?,
             }),
+            Command::Unsub {
+                conn,
+                sid,
+                most: limit,
+            } => Ok(Command::Unsub {
+                conn: *conn,
+                sid: sid.clone()?,
+                most: *limit,
+            }),
             Command::Pub {
                 conn,
                 subject,
+                reply,
+                head,
                 body,
+                word,
             } => Ok(Command::Pub {
                 conn: *conn,
                 subject: subject.copy(alloc)?,
+                reply: copy_reply(alloc, reply)?,
+                head: head.clone()?,
                 body: body.clone()?,
+                word: *word,
             }),
             Command::Take { conn, most } => Ok(Command::Take {
                 conn: *conn,

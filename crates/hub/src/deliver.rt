@@ -1,11 +1,12 @@
 //! A message to the subscriptions that it is for.
 ghost use Rattle.std.specs.Prelude.{◌≡◌, [], ◌∷◌, ◌++◌, ◌+◌, ◌≤◌, IfOk, OnOk, map, filter, length, vec_len, vec_capacity};
-ghost use Rattle.hub.specs.Routing.{lets_through, is_admitted, addressed_to, after_offer, item_of, delivered};
+ghost use Rattle.hub.specs.Routing.{lets_through, may_hear, is_admitted, addressed_to, after_offer, item_of, delivered};
 ghost use Rattle.hub.specs.World.{session_of};
 ghost use Rattle.std.specs.Option.{option_copied};
 ghost use Rattle.hub.specs.declared.answer.Item.TheVariants as item;
 
 use crate::answer::{Delivery, Item};
+use crate::copy::copy_reply;
 use crate::session::{find_session, place_of};
 use crate::tables::{Session, Subscription};
 use crate::twice::Twice;
@@ -14,7 +15,30 @@ use lists::{Copying, NoMemory};
 use permissions::By;
 use std::alloc::Global;
 use std::collections::VecDeque;
+use std::marker::Model;
 use subjects::Subject;
+
+/// A message that is published: what all that it is for are sent alike. A clause sees what it is lent.
+#[derive(Drop)]
+pub(crate) struct Message<'a> {
+    /// The subject that it is published on.
+    pub subject: &'a Subject,
+    /// The subject to answer on, if there is one.
+    pub reply: &'a Option<Subject>,
+    /// The header block, which may be empty.
+    pub head: &'a Bytes,
+    /// The payload.
+    pub body: &'a Bytes,
+}
+
+impl<'a> Model for Message<'a> {
+    ghost use Rattle.hub.specs.Routing.{message};
+    ghost use Rattle.hub.specs.Routing;
+
+    ghost Value = { Routing.Message };
+
+    ghost view = { λ m. message m.subject.now m.reply.now m.head.now m.body.now };
+}
 
 /// A delivery, and the subscription that it is for.
 #[derive(Debug, Drop)]
@@ -39,35 +63,48 @@ fn is_open_to(session: Option<&Session>, account: &Bytes, subject: &Subject) -> 
     }
 }
 
-/// Whether a message of the account on the subject is for the subscription.
+/// Whether the subscription may hear the publisher: it isn't its own, or the publisher is sent its own messages.
+fn may_hear(publisher: &Session, subscription: &Subscription) -> bool
+    ensures { result ≡ may_hear publisher.now subscription.now }
+{
+    publisher.echo || subscription.conn != publisher.conn
+}
+
+/// Whether a message of the publisher on the subject is for the subscription.
 fn is_for(
     sessions: &[Session],
-    account: &Bytes,
+    publisher: &Session,
     subject: &Subject,
     subscription: &Subscription,
 ) -> bool
-    ensures { result ≡ is_admitted sessions.now account.now subject.now subscription.now }
+    ensures { result ≡ is_admitted sessions.now publisher.now subject.now subscription.now }
 {
     subscription.subject.matches(subject)
-        && is_open_to(find_session(sessions, subscription.conn), account, subject)
+        && may_hear(publisher, subscription)
+        && is_open_to(
+            find_session(sessions, subscription.conn),
+            &publisher.user.account,
+            subject,
+        )
 }
 
 /// The message, made ready to be handed to one subscription. Copies share its bytes.
 fn address(
     alloc: Global,
-    subject: &Subject,
-    body: &Bytes,
+    message: &Message<'_>,
     subscription: &Subscription,
 ) -> Result<Addressed, NoMemory>
-    ensures { IfOk result (λ made. made ≡ addressed_to subject.now body.now subscription.now) }
+    ensures { IfOk result (λ made. made ≡ addressed_to message.now subscription.now) }
 {
     Ok(Addressed {
         conn: subscription.conn,
         sid: Twice::of(subscription.sid.clone()?, subscription.sid.clone()?),
         delivery: Delivery {
-            subject: subject.copy(alloc)?,
+            subject: message.subject.copy(alloc)?,
             sid: subscription.sid.clone()?,
-            body: body.clone()?,
+            reply: copy_reply(alloc, message.reply)?,
+            head: message.head.clone()?,
+            body: message.body.clone()?,
         },
     })
 }
@@ -77,16 +114,15 @@ fn address_if_for(
     alloc: Global,
     all: &mut VecDeque<Addressed>,
     sessions: &[Session],
-    account: &Bytes,
-    subject: &Subject,
-    body: &Bytes,
+    publisher: &Session,
+    message: &Message<'_>,
     subscription: &Subscription,
 ) -> Result<(), NoMemory>
-    ensures { OnOk result (all.new.items ≡ all.old.items ++ map (addressed_to subject.now body.now)
-        (filter (is_admitted sessions.now account.now subject.now) (subscription.now ∷ []))) }
+    ensures { OnOk result (all.new.items ≡ all.old.items ++ map (addressed_to message.now)
+        (filter (is_admitted sessions.now publisher.now message.now.subject) (subscription.now ∷ []))) }
 {
-    if is_for(sessions, account, subject, subscription) {
-        all.push_back(address(alloc, subject, body, subscription)?)?;
+    if is_for(sessions, publisher, message.subject, subscription) {
+        all.push_back(address(alloc, message, subscription)?)?;
     }
     Ok(())
 }
@@ -97,24 +133,15 @@ pub(crate) fn address_all(
     alloc: Global,
     sessions: &[Session],
     subscriptions: &[Subscription],
-    account: &Bytes,
-    subject: &Subject,
-    body: &Bytes,
+    publisher: &Session,
+    message: &Message<'_>,
 ) -> Result<VecDeque<Addressed>, NoMemory>
-    ensures { IfOk result (λ all. all.items ≡ map (addressed_to subject.now body.now)
-        (filter (is_admitted sessions.now account.now subject.now) subscriptions.now)) }
+    ensures { IfOk result (λ all. all.items ≡ map (addressed_to message.now)
+        (filter (is_admitted sessions.now publisher.now message.now.subject) subscriptions.now)) }
 {
     let mut all = VecDeque::new(alloc);
     for subscription in subscriptions {
-        address_if_for(
-            alloc,
-            &mut all,
-            sessions,
-            account,
-            subject,
-            body,
-            subscription,
-        )?;
+        address_if_for(alloc, &mut all, sessions, publisher, message, subscription)?;
     }
     Ok(all)
 }
@@ -137,19 +164,18 @@ pub(crate) fn route(
     by: By,
     sessions: &[Session],
     subscriptions: &[Subscription],
-    account: &Bytes,
-    subject: &Subject,
-    body: &Bytes,
+    publisher: &Session,
+    message: &Message<'_>,
 ) -> Result<Routed, NoMemory>
     ensures by { IfOk result (λ routed. routed.by ≡ by) }
-    ensures all { IfOk result (λ routed. routed.all.items ≡ map (addressed_to subject.now body.now)
-        (filter (is_admitted sessions.now account.now subject.now) subscriptions.now)) }
+    ensures all { IfOk result (λ routed. routed.all.items ≡ map (addressed_to message.now)
+        (filter (is_admitted sessions.now publisher.now message.now.subject) subscriptions.now)) }
     ensures told { IfOk result (λ routed. routed.told.items ≡ []) }
     ensures kept { IfOk result (λ routed. routed.kept.items ≡ []) }
     ensures told_room { IfOk result (λ routed. vec_len routed.told + length routed.all.items ≤ vec_capacity routed.told) }
     ensures kept_room { IfOk result (λ routed. vec_len routed.kept + length routed.all.items ≤ vec_capacity routed.kept) }
 {
-    let all = address_all(alloc, sessions, subscriptions, account, subject, body)?;
+    let all = address_all(alloc, sessions, subscriptions, publisher, message)?;
     let told = Vec::with_capacity(alloc, all.len())?;
     let kept = Vec::with_capacity(alloc, all.len())?;
     Ok(Routed {

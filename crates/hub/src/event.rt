@@ -15,10 +15,12 @@ pub struct Event {
 #[derive(Debug, Drop)]
 pub enum Command {
     /// A client has shown who it is (NATS documentation, "Client Protocol", CONNECT). No user is nobody's session.
+    /// Without `echo` the client's own messages don't come to its own subscriptions.
     Connect {
         conn: u64,
         user: Option<Bytes>,
         pass: Bytes,
+        echo: bool,
     },
     /// A subscription under the client's own id for it (SUB).
     Sub {
@@ -26,11 +28,23 @@ pub enum Command {
         subject: Pattern,
         sid: Bytes,
     },
-    /// A message for whoever subscribes to its subject (PUB).
+    /// The end of a subscription (UNSUB): at once, or once it has received `most` messages since its SUB. The limit
+    /// takes the place of an earlier one. An id that no subscription has is no mistake.
+    Unsub {
+        conn: u64,
+        sid: Bytes,
+        most: Option<u64>,
+    },
+    /// A message for whoever subscribes to its subject (PUB, HPUB), with the subject to answer on, if it has one, and
+    /// its header block, which may be empty. The word, which is drawn by the caller, has no effect yet: it is to
+    /// choose the members of queue groups.
     Pub {
         conn: u64,
         subject: Subject,
+        reply: Option<Subject>,
+        head: Bytes,
         body: Bytes,
+        word: u64,
     },
     /// The next deliveries of a session's outbox, `most` at most, oldest first.
     Take {

@@ -35,6 +35,10 @@ pub struct Standing {
     pub subject: Pattern,
     /// The client's own id for it.
     pub sid: Bytes,
+    /// How many messages it has received since its SUB. It stays at 2^64 - 1.
+    pub received: u64,
+    /// How many it is to receive in all, where an UNSUB has said so.
+    pub most: Option<u64>,
 }
 
 /// The router, and the history of its steps. A clause sees the world that its tables show, the one that it opened
@@ -286,5 +290,7 @@ fn show_standing(alloc: Global, subscription: &Subscription) -> Result<Standing,
         conn: subscription.conn,
         subject: subscription.subject.copy(alloc)?,
         sid: subscription.sid.clone()?,
+        received: subscription.received,
+        most: subscription.most,
     })
 }

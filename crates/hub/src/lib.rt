@@ -8,6 +8,7 @@ mod deliver;
 mod event;
 mod history;
 mod hub;
+mod limit;
 mod ready;
 mod reload;
 mod router;

@@ -1,11 +1,12 @@
 //! One step of the tables, command by command.
 use crate::answer::{HubRefusal, Outcome};
-use crate::deliver::{Routed, hand_over_all, route};
+use crate::deliver::{Message, Routed, hand_over_all, route};
 use crate::event::{Command, Event};
+use crate::limit::{count_entered, end_subscription};
 use crate::ready::Ready;
 use crate::reload::{Prepared, keep_allowed, prepare, renew_sessions};
 use crate::session::{find_session, has_session, open_session, remove_session, take_from};
-use crate::subscribe::{add_subscription, is_sid_taken, remove_subscriptions};
+use crate::subscribe::{add_subscription, has_all, is_sid_taken, remove_subscriptions};
 use crate::tables::{Session, Subscription};
 use crate::twice::Twice;
 use bytes::Bytes;
@@ -13,7 +14,7 @@ use lists::{Copying, Items};
 use permissions::Verdict;
 use std::alloc::Global;
 use std::marker::Model;
-use subjects::{Pattern, Subject};
+use subjects::Pattern;
 
 /// How many sessions may stand.
 const SESSIONS: usize = 4096;
@@ -53,7 +54,8 @@ impl Model for Router {
 impl Router {
     ghost use Rattle.std.specs.Prelude.{◌≡◌, ◌==◌, ◌<◌, ◌≤◌, ◌+◌, ℕ, IfOk, true, false};
     ghost use Rattle.hub.specs.World.{World, session_of, advanced};
-    ghost use Rattle.hub.specs.Transition.{IsReasoned, IsRefusal, Gives, transition, moved, in_session, in_new_session, is_plain};
+    ghost use Rattle.hub.specs.Transition.{IsReasoned, IsRefusal, Gives, transition, moved, published, pub_of, in_session, in_new_session, is_plain};
+    ghost use Rattle.permissions.specs.Verdicts.{publish_verdict};
     ghost use Rattle.hub.specs.declared.event.Command.TheVariants as command;
 
     /// One event, which stays with the caller: the outcome and the tables after it are the transition's. A refusal
@@ -86,6 +88,7 @@ impl Router {
         match &event.what {
             Command::Connect { conn, .. } => self.refusal_of_connect(*conn),
             Command::Sub { conn, .. } => self.refusal_in_session(*conn),
+            Command::Unsub { conn, .. } => self.refusal_in_session(*conn),
             Command::Pub { conn, .. } => self.refusal_in_session(*conn),
             Command::Take { conn, .. } => self.refusal_in_session(*conn),
             Command::Close { conn } => self.refusal_in_session(*conn),
@@ -120,17 +123,34 @@ impl Router {
         ensures reason { IfOk result (λ outcome. IsReasoned self.old command.now outcome) }
     {
         match command {
-            Command::Connect { conn, user, pass } => {
-                Ok(Twice::plain(self.connect(*conn, user, pass)?))
-            }
+            Command::Connect {
+                conn,
+                user,
+                pass,
+                echo,
+            } => Ok(Twice::plain(self.connect(*conn, user, pass, *echo)?)),
             Command::Sub { conn, subject, sid } => {
                 Ok(Twice::plain(self.subscribe(*conn, subject, sid)?))
+            }
+            Command::Unsub { conn, sid, most } => {
+                Ok(Twice::plain(self.unsubscribe(*conn, sid, *most)?))
             }
             Command::Pub {
                 conn,
                 subject,
+                reply,
+                head,
                 body,
-            } => self.publish(*conn, subject, body),
+                word: _,
+            } => self.publish(
+                *conn,
+                &Message {
+                    subject,
+                    reply,
+                    head,
+                    body,
+                },
+            ),
             Command::Take { conn, most } => self.take(*conn, *most),
             Command::Close { conn } => Ok(Twice::plain(self.close(*conn)?)),
             Command::Reload(ready) => self.reload(ready),
@@ -142,8 +162,9 @@ impl Router {
         conn: u64,
         user: &Option<Bytes>,
         pass: &Bytes,
+        echo: bool,
     ) -> Result<Outcome, HubRefusal>
-        ensures step { Gives self.old (moved self.old (command.Connect conn user.now pass.now)) result self.new }
+        ensures step { Gives self.old (moved self.old (command.Connect conn user.now pass.now echo)) result self.new }
         ensures plain { IfOk result (λ outcome. is_plain outcome ≡ true) }
     {
         if has_session(&self.sessions, conn) {
@@ -155,7 +176,7 @@ impl Router {
         match self.ready.user_with_password(user, pass) {
             None => Ok(Outcome::AuthViolation),
             Some(user) => {
-                let session = open_session(self.alloc, conn, user, self.capacity)?;
+                let session = open_session(self.alloc, conn, user, echo, self.capacity)?;
                 self.sessions.push(session)?;
                 Ok(Outcome::Connected)
             }
@@ -182,6 +203,9 @@ impl Router {
                 if is_sid_taken(&self.subscriptions, conn, sid) {
                     return Ok(Outcome::SameSid);
                 }
+                if has_all(&self.subscriptions, conn) {
+                    return Ok(Outcome::SubLimit);
+                }
                 add_subscription(
                     self.alloc,
                     &mut self.subscriptions,
@@ -197,30 +221,39 @@ impl Router {
         }
     }
 
-    fn publish(
+    fn unsubscribe(
         &mut self,
         conn: u64,
-        subject: &Subject,
-        body: &Bytes,
-    ) -> Result<Twice<Outcome>, HubRefusal>
-        ensures step { Gives self.old (moved self.old (command.Pub conn subject.now body.now)) result self.new }
-        ensures reason { IfOk result (λ outcome. IsReasoned self.old (command.Pub conn subject.now body.now) outcome) }
+        sid: &Bytes,
+        most: Option<u64>,
+    ) -> Result<Outcome, HubRefusal>
+        ensures step { Gives self.old (moved self.old (command.Unsub conn sid.now most)) result self.new }
+        ensures plain { IfOk result (λ outcome. is_plain outcome ≡ true) }
+    {
+        match find_session(&self.sessions, conn) {
+            None => Err(HubRefusal::NoSession),
+            Some(_) => {
+                end_subscription(&mut self.subscriptions, conn, sid, most);
+                Ok(Outcome::Unsubscribed)
+            }
+        }
+    }
+
+    fn publish(&mut self, conn: u64, message: &Message<'_>) -> Result<Twice<Outcome>, HubRefusal>
+        ensures step { Gives self.old (in_session (session_of self.old.sessions conn) (λ z. published self.old z message.now (publish_verdict z.user.rules message.now.subject))) result self.new }
+        ensures reason { IfOk result (λ outcome. (word : ℕ) → IsReasoned self.old (pub_of conn message.now word) outcome) }
     {
         let routed = match find_session(&self.sessions, conn) {
             None => return Err(HubRefusal::NoSession),
-            Some(session) => match session.user.rules.publish(subject) {
-                Verdict::Allowed(by) => {
-                    let account = &session.user.account;
-                    route(
-                        self.alloc,
-                        by,
-                        &self.sessions,
-                        &self.subscriptions,
-                        account,
-                        subject,
-                        body,
-                    )?
-                }
+            Some(session) => match session.user.rules.publish(message.subject) {
+                Verdict::Allowed(by) => route(
+                    self.alloc,
+                    by,
+                    &self.sessions,
+                    &self.subscriptions,
+                    session,
+                    message,
+                )?,
                 Verdict::DeniedBy(index) => {
                     return Ok(Twice::plain(Outcome::Denied(Verdict::DeniedBy(index))));
                 }
@@ -234,6 +267,7 @@ impl Router {
             kept,
         } = routed;
         let (told, kept) = hand_over_all(&mut self.sessions, all, told, kept);
+        count_entered(&mut self.subscriptions, told.as_slice());
         Ok(Twice::of(
             Outcome::Published(by, Items::from_vec(told)),
             Outcome::Published(by, Items::from_vec(kept)),

@@ -18,14 +18,16 @@ pub(crate) fn open_session(
     alloc: Global,
     conn: u64,
     user: &User,
+    echo: bool,
     capacity: usize,
 ) -> Result<Session, NoMemory>
     requires { 1 ≤ capacity }
-    ensures { IfOk result (λ session. session ≡ new_session conn user.now capacity) }
+    ensures { IfOk result (λ session. session ≡ new_session conn user.now echo capacity) }
 {
     Ok(Session {
         conn,
         user: user.copy(alloc)?,
+        echo,
         missed: false,
         outbox: Outbox::new(alloc, capacity)?,
     })

@@ -1,6 +1,6 @@
 //! A subscription of a session.
-ghost use Rattle.std.specs.Prelude.{◌≡◌, ◌++◌, ◌∷◌, ◌==◌, [], OnOk, OnErr, filter, not};
-ghost use Rattle.hub.specs.Transition.{stands, subscription_of};
+ghost use Rattle.std.specs.Prelude.{◌≡◌, ◌++◌, ◌∷◌, ◌==◌, [], OnOk, OnErr, filter, length, not};
+ghost use Rattle.hub.specs.Transition.{stands, has_all, of_connection, subscription_of};
 
 use crate::tables::Subscription;
 use bytes::Bytes;
@@ -8,11 +8,31 @@ use lists::{Copying, NoMemory};
 use std::alloc::Global;
 use subjects::Pattern;
 
+/// How many subscriptions of a connection may stand.
+const SUBSCRIPTIONS: usize = 4096;
+
 /// Whether a subscription of the connection stands under that id.
 pub(crate) fn is_sid_taken(subscriptions: &[Subscription], conn: u64, sid: &Bytes) -> bool
     ensures { result ≡ stands subscriptions.now conn sid.now }
 {
     subscriptions.iter().any(|subscription| subscription.conn == conn && subscription.sid == *sid)
+}
+
+/// How many subscriptions of the connection stand.
+fn count_of(subscriptions: &[Subscription], conn: u64) -> usize
+    ensures { result ≡ length (of_connection conn subscriptions.now) }
+{
+    subscriptions
+        .iter()
+        .filter(|subscription| subscription.conn == conn)
+        .count()
+}
+
+/// Whether the connection has as many subscriptions as it may have.
+pub(crate) fn has_all(subscriptions: &[Subscription], conn: u64) -> bool
+    ensures { result ≡ has_all subscriptions.now conn }
+{
+    SUBSCRIPTIONS <= count_of(subscriptions, conn)
 }
 
 /// Adds a subscription, the youngest of all.
@@ -33,6 +53,8 @@ pub(crate) fn add_subscription(
         conn,
         subject: subject.copy(alloc)?,
         sid: sid.clone()?,
+        received: 0,
+        most: None,
     };
     subscriptions.push(subscription)?;
     Ok(())

@@ -14,6 +14,8 @@ pub struct Session {
     pub conn: u64,
     /// Whom it acts for, as the policy in force has it.
     pub user: User,
+    /// Whether its own messages come to its own subscriptions.
+    pub echo: bool,
     /// Whether a full outbox has lost a delivery since the Connect or last Take.
     pub missed: bool,
     /// What waits for the client.
@@ -31,4 +33,8 @@ pub struct Subscription {
     pub subject: Pattern,
     /// The client's own id for it.
     pub sid: Bytes,
+    /// How many messages it has received since its SUB. It stays at 2^64 - 1.
+    pub received: u64,
+    /// How many it is to receive in all, where an UNSUB has said so.
+    pub most: Option<u64>,
 }

@@ -14,14 +14,22 @@ use subjects::{Pattern, Subject};
 pub enum Ask {
     /// The connection, the user and the password.
     Connect(u64, &'static str, &'static str),
+    /// The same, without echo.
+    ConnectUnheard(u64, &'static str, &'static str),
     /// A Connect of no user.
     ConnectNobody(u64),
     /// A Connect of user demo on each of these connections, the last one left out. Nothing is told of it.
     ConnectAll(u64, u64),
+    /// A Sub of the connection to foo under each of these numbers as sid, the last one left out. Nothing is told.
+    SubAll(u64, u64, u64),
     /// The connection, the subject and the sid.
     Sub(u64, &'static str, &'static str),
+    /// The connection, the sid and the limit, if there is one.
+    Unsub(u64, &'static str, Option<u64>),
     /// The connection, the subject and the payload.
     Pub(u64, &'static str, &'static str),
+    /// The connection, the subject, the reply, the header block and the payload.
+    PubWhole(u64, &'static str, &'static str, &'static str, &'static str),
     /// The connection, and how many deliveries at most.
     Take(u64, usize),
     Close(u64),
@@ -79,6 +87,7 @@ impl Talk {
     fn ask(&mut self, ask: Ask) -> Result<(), Fail> {
         match ask {
             Ask::ConnectAll(from, to) => self.connect_all(from, to),
+            Ask::SubAll(conn, from, to) => self.sub_all(conn, from, to),
             Ask::At(now) => {
                 self.now = now;
                 Ok(())
@@ -144,6 +153,21 @@ impl Talk {
         Ok(())
     }
 
+    fn sub_all(&mut self, conn: u64, from: u64, to: u64) -> Result<(), Fail> {
+        for number in from..to {
+            let sid = format!(in self.alloc; "{number}")?;
+            let event = Event {
+                now: self.now,
+                what: subscribe(self.alloc, conn, "foo", sid.as_str())?,
+            };
+            match step(&mut self.hub, event) {
+                Ok(_) => {}
+                Err(_) => return Err("refused".into()),
+            }
+        }
+        Ok(())
+    }
+
     fn tell_waiting(&mut self, conn: u64) -> Result<(), Fail> {
         let line = waiting_in_words(self.alloc, &self.hub, conn)?;
         self.told.push_str(line.as_str())?;
@@ -170,29 +194,65 @@ fn step(hub: &mut Hub, event: Event) -> Result<Answer, (Event, HubRefusal)> {
     hub.step(event)
 }
 
+fn subscribe(alloc: Global, conn: u64, subject: &str, sid: &str) -> Result<Command, Fail> {
+    Ok(Command::Sub {
+        conn,
+        subject: Pattern::parse(alloc, subject.as_bytes())?,
+        sid: bytes(alloc, sid)?,
+    })
+}
+
+fn connect(alloc: Global, conn: u64, user: &str, pass: &str, echo: bool) -> Result<Command, Fail> {
+    Ok(Command::Connect {
+        conn,
+        user: Some(bytes(alloc, user)?),
+        pass: bytes(alloc, pass)?,
+        echo,
+    })
+}
+
+fn publish(
+    alloc: Global,
+    conn: u64,
+    subject: &str,
+    reply: Option<&str>,
+    head: &str,
+    body: &str,
+) -> Result<Command, Fail> {
+    Ok(Command::Pub {
+        conn,
+        subject: Subject::parse(alloc, subject.as_bytes())?,
+        reply: match reply {
+            Some(reply) => Some(Subject::parse(alloc, reply.as_bytes())?),
+            None => None,
+        },
+        head: bytes(alloc, head)?,
+        body: bytes(alloc, body)?,
+        word: 7,
+    })
+}
+
 /// The command that is asked for.
 pub(crate) fn command(alloc: Global, ask: Ask) -> Result<Command, Fail> {
     match ask {
-        Ask::Connect(conn, user, pass) => Ok(Command::Connect {
-            conn,
-            user: Some(bytes(alloc, user)?),
-            pass: bytes(alloc, pass)?,
-        }),
+        Ask::Connect(conn, user, pass) => connect(alloc, conn, user, pass, true),
+        Ask::ConnectUnheard(conn, user, pass) => connect(alloc, conn, user, pass, false),
         Ask::ConnectNobody(conn) => Ok(Command::Connect {
             conn,
             user: None,
             pass: Bytes::from_static(b"demo"),
+            echo: true,
         }),
-        Ask::Sub(conn, subject, sid) => Ok(Command::Sub {
+        Ask::Sub(conn, subject, sid) => subscribe(alloc, conn, subject, sid),
+        Ask::Unsub(conn, sid, most) => Ok(Command::Unsub {
             conn,
-            subject: Pattern::parse(alloc, subject.as_bytes())?,
             sid: bytes(alloc, sid)?,
+            most,
         }),
-        Ask::Pub(conn, subject, body) => Ok(Command::Pub {
-            conn,
-            subject: Subject::parse(alloc, subject.as_bytes())?,
-            body: bytes(alloc, body)?,
-        }),
+        Ask::Pub(conn, subject, body) => publish(alloc, conn, subject, None, "", body),
+        Ask::PubWhole(conn, subject, reply, head, body) => {
+            publish(alloc, conn, subject, Some(reply), head, body)
+        }
         Ask::Take(conn, most) => Ok(Command::Take { conn, most }),
         Ask::Close(conn) => Ok(Command::Close { conn }),
         Ask::Reload(given) => Ok(Command::Reload(given.ready(alloc)?)),
@@ -216,11 +276,20 @@ pub(crate) fn standing_in_words(alloc: Global, hub: &Hub) -> Result<String, Fail
     for one in hub.standing()?.as_slice() {
         let subject = text(one.subject.bytes())?;
         let sid = text(one.sid.as_slice())?;
-        let word = format!(in alloc; " [{} {} {subject} {sid}]", one.id, one.conn)?;
+        let limit = limit_in_words(alloc, one.received, one.most)?;
+        let word = format!(in alloc; " [{} {} {subject} {sid}{limit}]", one.id, one.conn)?;
         line.push_str(word.as_str())?;
     }
     line.push_str("\n")?;
     Ok(line)
+}
+
+// How much a subscription has received of how much, where it has a limit.
+fn limit_in_words(alloc: Global, received: u64, most: Option<u64>) -> Result<String, Fail> {
+    match most {
+        None => Ok(String::new(alloc)),
+        Some(most) => Ok(format!(in alloc; " {received} of {most}")?),
+    }
 }
 
 // The events and the answers of the history, a line each.
@@ -255,6 +324,7 @@ fn outcome_in_words(alloc: Global, outcome: &Outcome) -> Result<String, Fail> {
         Outcome::AuthViolation => Ok(String::from_str(alloc, "authorization violation")?),
         Outcome::Subscribed => Ok(String::from_str(alloc, "subscribed")?),
         Outcome::SameSid => Ok(String::from_str(alloc, "same sid")?),
+        Outcome::SubLimit => Ok(String::from_str(alloc, "subscription limit")?),
         Outcome::Denied(verdict) => Ok(format!(in alloc; "denied {verdict:?}")?),
         Outcome::Published(by, items) => {
             let items = items_in_words(alloc, items)?;
@@ -264,6 +334,7 @@ fn outcome_in_words(alloc: Global, outcome: &Outcome) -> Result<String, Fail> {
             let deliveries = deliveries_in_words(alloc, deliveries)?;
             Ok(format!(in alloc; "taken{deliveries}, missed {missed}")?)
         }
+        Outcome::Unsubscribed => Ok(String::from_str(alloc, "unsubscribed")?),
         Outcome::Closed => Ok(String::from_str(alloc, "closed")?),
         Outcome::Reloaded { gone, removed } => {
             let gone = numbers_in_words(alloc, gone)?;
@@ -297,12 +368,23 @@ fn item_in_words(alloc: Global, item: &Item) -> Result<String, Fail> {
 fn deliveries_in_words(alloc: Global, deliveries: &Items<Delivery>) -> Result<String, Fail> {
     let mut words = String::new(alloc);
     for delivery in deliveries.as_slice() {
-        let subject = text(delivery.subject.bytes())?;
-        let sid = text(delivery.sid.as_slice())?;
-        let body = text(delivery.body.as_slice())?;
-        words.push_str(format!(in alloc; " {subject} {sid} [{body}]")?.as_str())?;
+        words.push_str(delivery_in_words(alloc, delivery)?.as_str())?;
     }
     Ok(words)
+}
+
+fn delivery_in_words(alloc: Global, delivery: &Delivery) -> Result<String, Fail> {
+    let subject = text(delivery.subject.bytes())?;
+    let sid = text(delivery.sid.as_slice())?;
+    let head = text(delivery.head.as_slice())?;
+    let body = text(delivery.body.as_slice())?;
+    match &delivery.reply {
+        None => Ok(format!(in alloc; " {subject} {sid} [{head}{body}]")?),
+        Some(reply) => {
+            let reply = text(reply.bytes())?;
+            Ok(format!(in alloc; " {subject} {sid} to {reply} [{head}|{body}]")?)
+        }
+    }
 }
 
 fn numbers_in_words(alloc: Global, numbers: &Items<u64>) -> Result<String, Fail> {

@@ -238,6 +238,155 @@ SessionTaken
 }
 
 #[test]
+fn subscriptions_have_a_limit(rt: HostRuntime) -> Result<(), Fail> {
+    let asks = [
+        Ask::Connect(1, "demo", "demo"),
+        Ask::Connect(2, "demo", "demo"),
+        Ask::SubAll(1, 0, 4096),
+        Ask::Sub(1, "foo", "7"),
+        Ask::Sub(1, "foo", "4096"),
+        Ask::Sub(2, "foo", "1"),
+    ];
+    let told = told(rt.alloc(), Given::Builtin, ROOM_FOR_ONE, &asks)?;
+    assert_eq!(rt;
+        told.as_str(),
+        "1.1 connected
+1.2 connected
+1.4099 same sid
+1.4100 subscription limit
+1.4101 subscribed
+"
+    );
+    Ok(())
+}
+
+#[test]
+fn a_subscription_ends_at_its_limit(rt: HostRuntime) -> Result<(), Fail> {
+    let asks = [
+        Ask::Connect(1, "demo", "demo"),
+        Ask::Sub(1, "foo", "1"),
+        Ask::Pub(1, "foo", "a"),
+        Ask::Unsub(1, "1", Some(9)),
+        Ask::Unsub(1, "1", Some(3)),
+        Ask::Unsub(1, "9", None),
+        Ask::Pub(1, "foo", "b"),
+        Ask::Standing,
+        Ask::Pub(1, "foo", "c"),
+        Ask::Standing,
+        Ask::Pub(1, "foo", "d"),
+        Ask::Sub(1, "foo", "1"),
+        Ask::Unsub(1, "1", Some(2)),
+        Ask::Standing,
+    ];
+    let told = told(rt.alloc(), Given::Builtin, ROOM, &asks)?;
+    assert_eq!(rt;
+        told.as_str(),
+        "1.1 connected
+1.2 subscribed
+1.3 published All, entered 1 1
+1.4 unsubscribed
+1.5 unsubscribed
+1.6 unsubscribed
+1.7 published All, entered 1 1
+standing [2 1 foo 1 2 of 3]
+1.8 published All, entered 1 1
+standing
+1.9 published All
+1.10 subscribed
+1.11 unsubscribed
+standing [10 1 foo 1 0 of 2]
+"
+    );
+    Ok(())
+}
+
+#[test]
+fn a_limit_that_is_reached_ends_at_once(rt: HostRuntime) -> Result<(), Fail> {
+    let asks = [
+        Ask::Connect(1, "demo", "demo"),
+        Ask::Sub(1, "foo", "1"),
+        Ask::Sub(1, "foo", "2"),
+        Ask::Sub(1, "z", "3"),
+        Ask::Unsub(1, "3", Some(0)),
+        Ask::Unsub(1, "2", None),
+        Ask::Unsub(2, "1", None),
+        Ask::Pub(1, "foo", "a"),
+        Ask::Pub(1, "foo", "b"),
+        Ask::Unsub(1, "1", Some(2)),
+        Ask::Standing,
+        Ask::Take(1, 1),
+        Ask::Unsub(1, "1", Some(1)),
+        Ask::Standing,
+    ];
+    let told = told(rt.alloc(), Given::Builtin, ROOM_FOR_ONE, &asks)?;
+    assert_eq!(rt;
+        told.as_str(),
+        "1.1 connected
+1.2 subscribed
+1.3 subscribed
+1.4 subscribed
+1.5 unsubscribed
+1.6 unsubscribed
+NoSession
+1.7 published All, entered 1 1
+1.8 published All, full 1 1
+1.9 unsubscribed
+standing [2 1 foo 1 1 of 2]
+1.10 taken foo 1 [a], missed true
+1.11 unsubscribed
+standing
+"
+    );
+    Ok(())
+}
+
+#[test]
+fn reply_and_head_come_along(rt: HostRuntime) -> Result<(), Fail> {
+    let asks = [
+        Ask::Connect(1, "demo", "demo"),
+        Ask::Sub(1, "foo", "1"),
+        Ask::PubWhole(1, "foo", "r.1", "NATS/1.0", "hi"),
+        Ask::Take(1, 5),
+        Ask::History,
+    ];
+    let told = told(rt.alloc(), Given::Builtin, ROOM, &asks)?;
+    assert_eq!(rt;
+        told.as_str(),
+        "1.1 connected
+1.2 subscribed
+1.3 published All, entered 1 1
+1.4 taken foo 1 to r.1 [NATS/1.0|hi], missed false
+history of 4, same true
+"
+    );
+    Ok(())
+}
+
+#[test]
+fn without_echo_nothing_comes_back(rt: HostRuntime) -> Result<(), Fail> {
+    let asks = [
+        Ask::ConnectUnheard(1, "demo", "demo"),
+        Ask::Connect(2, "demo", "demo"),
+        Ask::Sub(1, "foo", "1"),
+        Ask::Sub(2, "foo", "1"),
+        Ask::Pub(1, "foo", "a"),
+        Ask::Pub(2, "foo", "b"),
+    ];
+    let told = told(rt.alloc(), Given::Builtin, ROOM, &asks)?;
+    assert_eq!(rt;
+        told.as_str(),
+        "1.1 connected
+1.2 connected
+1.3 subscribed
+1.4 subscribed
+1.5 published All, entered 2 1
+1.6 published All, entered 1 1, entered 2 1
+"
+    );
+    Ok(())
+}
+
+#[test]
 fn every_answer_is_remembered(rt: HostRuntime) -> Result<(), Fail> {
     let asks = [
         Ask::History,
@@ -467,6 +616,7 @@ fn name_of(command: &Command) -> &'static str {
     match command {
         Command::Connect { .. } => "Connect",
         Command::Sub { .. } => "Sub",
+        Command::Unsub { .. } => "Unsub",
         Command::Pub { .. } => "Pub",
         Command::Take { .. } => "Take",
         Command::Close { .. } => "Close",

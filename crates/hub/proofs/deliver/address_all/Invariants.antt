@@ -5,4 +5,4 @@ use Rattle.hub.proofs.deliver.address_all.Given as goal
 
 abbrev pub invariant-loop-subscription : goal.invariant-loop-subscription
 invariant-loop-subscription l = l.all.items ≡
-    map (addressed_to l.subject l.body) (filter (is_admitted l.sessions l.account l.subject) (take l.subscription-index l.subscriptions))
+    map (addressed_to l.message) (filter (is_admitted l.sessions l.publisher l.message.subject) (take l.subscription-index l.subscriptions))

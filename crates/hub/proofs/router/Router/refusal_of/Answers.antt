@@ -13,7 +13,7 @@ returns-in-Connect c =
     let now = c.args.event.now.now in
     let P : Command → Type 0 = λ command. IsRefusal (numbered (w.number + 1) (moved (advanced w now) command)) c.refusal_of_connect.result in
     subst P (sym c.in-Connect.is)
-    (numbered-refusal _ _ _ (c.refusal_of_connect.ensures now (connected (advanced w now) c.in-Connect.conn (user_with_password w.policy c.in-Connect.user c.in-Connect.pass))))
+    (numbered-refusal _ _ _ (c.refusal_of_connect.ensures now (connected (advanced w now) c.in-Connect.conn c.in-Connect.echo (user_with_password w.policy c.in-Connect.user c.in-Connect.pass))))
 
 pub returns-in-Take : goal.returns-in-Take
 returns-in-Take c =
