@@ -10,7 +10,8 @@ use Rattle.hub.specs.declared.event.Event.{Event}
 use Rattle.hub.specs.declared.answer.Answer.{Answer}
 use Rattle.hub.specs.declared.answer.Outcome.{Outcome}
 use Rattle.hub.specs.declared.answer.HubRefusal.{HubRefusal}
-use Rattle.natsd.specs.Session.{answered, by_step, is_memory_refusal, is_memory_fault}
+use Rattle.natsd.specs.Server.{heard, by_step, is_memory_refusal}
+use Rattle.natsd.specs.Session.{is_memory_fault}
 
 -- a text that parses has these tokens
 pub parsed : (text : List ℕ) (fault : Option SubjectError) (ts : List Token) → IsParse text fault (Ok ts) →
@@ -25,8 +26,8 @@ refused text None e h other = let memory : is_memory_fault e ≡ true = ap is_me
 refused text (Some f) e h other = refl
 
 -- an answered step
-pub answered_ok : (w : State) (e : Event) (a : Answer) (after : State) → IsStep w e (Ok a) after → (Ok a.outcome, after) ≡ answered w e
-unfolding answered
+pub answered_ok : (w : State) (e : Event) (a : Answer) (after : State) → IsStep w e (Ok a) after → (Ok a.outcome, after) ≡ heard w e
+unfolding heard
 answered_ok w e a after h = sym (ap (by_step w) h.0)
 
 -- a refusal, by the step
@@ -36,7 +37,7 @@ by_refusal w (Err e) r h other = ap (λ (x : HubRefusal). (Err x, w)) h
 
 -- a refused step, memory apart
 pub answered_err : (w : State) (e : Event) (refused : Event × HubRefusal) (after : State) → IsStep w e (Err refused) after → is_memory_refusal refused.1 ≡ false →
-    (Err refused.1, after) ≡ answered w e
-unfolding answered
+    (Err refused.1, after) ≡ heard w e
+unfolding heard
 answered_err w e refused after h other =
     ap (λ (v : State). (Err refused.1, v)) h.1 ∙ by_refusal w (stepped w e) refused.1 h.2 other

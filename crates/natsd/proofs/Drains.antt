@@ -3,56 +3,57 @@ use Rattle.std.proofs.Common.{◌≡◌, ◌∙◌, ◌+◌, ◌<◌, ◌++◌, 
 use Rattle.std.proofs.lemmas.List.{append_assoc, append-nil, take-append-drop, take-set, drop-set, drop-set-lt, set-get_or, take_more, take_more_set}
 use Rattle.std.proofs.Math.Seq.{drop-cons}
 use Rattle.std.proofs.Math.ListN.{drop_of_length-le}
-use Rattle.hub.specs.History.{State}
+use Rattle.natsd.specs.Server.{Serving}
 use Rattle.natsd.specs.declared.client.Client.{Client}
+use Rattle.natsd.specs.declared.script.Deed.{Deed}
 use Rattle.natsd.specs.declared.stage.Stage.{Stage}
 use Rattle.natsd.specs.declared.stage.Next.{Next}
 use Rattle.natsd.specs.declared.stage.Next.TheVariants.{Goes, HistoryFull}
 use Rattle.natsd.specs.Session.{Turn, IsTurn}
-use Rattle.natsd.specs.Play.{Act, act, reached, beside, received, reader_after, bytes_turn, drain_turn, drained, sent, IsAct}
+use Rattle.natsd.specs.Play.{Act, act, reached, beside, done_to, after_deed, deed_turn, drain_turn, drained, done_in, IsAct}
 
 -- what is left to come, behind what is printed and the connections that are done, is what all comes to
 pub record Leads (written : List ℕ) (front : List Client) (rest : Act) (start : List ℕ) (all : Act) : Type 0 where
   pub text : written ++ rest.text ≡ start ++ all.text
   pub clients : front ++ rest.clients ≡ all.clients
-  pub world : rest.world ≡ all.world
+  pub server : rest.server ≡ all.server
   pub stops : rest.stops ≡ all.stops
 
 -- nothing is left to come
-pub leads_done : (written start : List ℕ) (front : List Client) (w : State) (all : Act) →
+pub leads_done : (written start : List ℕ) (front : List Client) (w : Serving) (all : Act) →
     Leads written front (act [] [] w false) start all → IsAct all start written front w false
 leads_done written start front w all h = record {
   text = sym (append-nil written) ∙ h.text;
   clients_are = sym (append-nil front) ∙ h.clients;
-  world_is = h.world;
+  server_is = h.server;
   stops_is = h.stops;
 }
 
 -- a connection goes on, and then the rest
-pub leads_more : (written now start : List ℕ) (front : List Client) (k : Client) (t : Turn) (s : Stage) (w : State) (more : State → Act) (ks : List Client) (all : Act) →
+pub leads_more : (written now start : List ℕ) (front : List Client) (k : Client) (t : Turn) (s : Stage) (w : Serving) (more : Serving → Act) (ks : List Client) (all : Act) →
     IsTurn t written now (Goes s) w → Leads written front (reached k t t.next more ks) start all →
     Leads now (front ++ record k { stage = s } ∷ []) (more w) start all
 leads_more written now start front k t s w more ks all is h =
-    let rest : State → Act = λ v. act (t.text ++ (more v).text) (record k { stage = s } ∷ (more v).clients) (more v).world (more v).stops in
+    let rest : Serving → Act = λ v. act (t.text ++ (more v).text) (record k { stage = s } ∷ (more v).clients) (more v).server (more v).stops in
     let same : reached k t t.next more ks ≡ rest w =
-    ap (λ (n : Next). reached k t n more ks) (sym is.next_is) ∙ ap rest (sym is.world_is) in
+    ap (λ (n : Next). reached k t n more ks) (sym is.next_is) ∙ ap rest (sym is.server_is) in
     record {
       text = ap (λ (a : List ℕ). a ++ (more w).text) is.text ∙ append_assoc written t.text (more w).text ∙ ap (λ (a : Act). written ++ a.text) (sym same) ∙ h.text;
       clients = append_assoc front (record k { stage = s } ∷ []) (more w).clients ∙ ap (λ (a : Act). front ++ a.clients) (sym same) ∙ h.clients;
-      world = ap (λ (a : Act). a.world) (sym same) ∙ h.world;
+      server = ap (λ (a : Act). a.server) (sym same) ∙ h.server;
       stops = ap (λ (a : Act). a.stops) (sym same) ∙ h.stops;
     }
 
 -- the history is full, and the others are not reached
-pub leads_full : (written now start : List ℕ) (front : List Client) (k : Client) (t : Turn) (w : State) (more : State → Act) (ks : List Client) (all : Act) →
+pub leads_full : (written now start : List ℕ) (front : List Client) (k : Client) (t : Turn) (w : Serving) (more : Serving → Act) (ks : List Client) (all : Act) →
     IsTurn t written now HistoryFull w → Leads written front (reached k t t.next more ks) start all →
     IsAct all start now (front ++ k ∷ ks) w true
 leads_full written now start front k t w more ks all is h =
-    let same : reached k t t.next more ks ≡ act t.text (k ∷ ks) t.world true = ap (λ (n : Next). reached k t n more ks) (sym is.next_is) in
+    let same : reached k t t.next more ks ≡ act t.text (k ∷ ks) t.server true = ap (λ (n : Next). reached k t n more ks) (sym is.next_is) in
     record {
       text = is.text ∙ ap (λ (a : Act). written ++ a.text) (sym same) ∙ h.text;
       clients_are = ap (λ (a : Act). front ++ a.clients) (sym same) ∙ h.clients;
-      world_is = is.world_is ∙ ap (λ (a : Act). a.world) (sym same) ∙ h.world;
+      server_is = is.server_is ∙ ap (λ (a : Act). a.server) (sym same) ∙ h.server;
       stops_is = ap (λ (a : Act). a.stops) (sym same) ∙ h.stops;
     }
 
@@ -74,13 +75,13 @@ whole_at : (ks : List Client) (i : ℕ) (z : Client) → i < length ks → ks �
 whole_at ks i z h = sym (take-append-drop i ks) ∙ ap (λ (l : List Client). take i ks ++ l) (cut_at ks i z h)
 
 -- the drains from an index on, by the connection there
-drained_at : (ks : List Client) (i : ℕ) (z : Client) (w : State) → i < length ks →
+drained_at : (ks : List Client) (i : ℕ) (z : Client) (w : Serving) → i < length ks →
     drained (drop i ks) w ≡ reached (get_or ks i z) (drain_turn w (get_or ks i z)) (drain_turn w (get_or ks i z)).next (λ v. drained (drop (i + 1) ks) v) (drop (i + 1) ks)
 unfolding drained
 drained_at ks i z w h = ap (λ (l : List Client). drained l w) (cut_at ks i z h)
 
 -- a connection is drained and goes on
-pub draining_more : (ks : List Client) (i : ℕ) (z : Client) (s : Stage) (w w' : State) (written now start : List ℕ) (all : Act) → i < length ks →
+pub draining_more : (ks : List Client) (i : ℕ) (z : Client) (s : Stage) (w w' : Serving) (written now start : List ℕ) (all : Act) → i < length ks →
     IsTurn (drain_turn w (get_or ks i z)) written now (Goes s) w' →
     Leads written (take i ks) (drained (drop i ks) w) start all →
     Leads now (take (i + 1) (set ks i (record (get_or ks i z) { stage = s }))) (drained (drop (i + 1) (set ks i (record (get_or ks i z) { stage = s }))) w') start all
@@ -94,7 +95,7 @@ draining_more ks i z s w w' written now start all h is leads =
     (subst Q (sym (take_more_set ks i (record k { stage = s }) h)) next)
 
 -- a connection at which the history is full
-pub draining_full : (ks : List Client) (i : ℕ) (z : Client) (w w' : State) (written now start : List ℕ) (all : Act) → i < length ks →
+pub draining_full : (ks : List Client) (i : ℕ) (z : Client) (w w' : Serving) (written now start : List ℕ) (all : Act) → i < length ks →
     IsTurn (drain_turn w (get_or ks i z)) written now HistoryFull w' →
     Leads written (take i ks) (drained (drop i ks) w) start all →
     IsAct all start now (set ks i (get_or ks i z)) w' true
@@ -106,7 +107,7 @@ draining_full ks i z w w' written now start all h is leads =
     (leads_full written now start (take i ks) k (drain_turn w k) w' (λ v. drained (drop (i + 1) ks) v) (drop (i + 1) ks) all is (subst P (drained_at ks i z w h) leads))
 
 -- all connections are drained
-pub draining_done : (ks : List Client) (i : ℕ) (w : State) (written start : List ℕ) (all : Act) → length ks ≤ i →
+pub draining_done : (ks : List Client) (i : ℕ) (w : Serving) (written start : List ℕ) (all : Act) → length ks ≤ i →
     Leads written (take i ks) (drained (drop i ks) w) start all → IsAct all start written ks w false
 unfolding drained
 draining_done ks i w written start all h leads =
@@ -114,103 +115,99 @@ draining_done ks i w written start all h leads =
     let Q : List Client → Type 0 = λ l. IsAct all start written l w false in
     subst Q (take_all ks i h) (leads_done written start (take i ks) w all (subst P (drop_of_length-le ks h) leads))
 
--- the bytes from an index on, by the connection there
-sent_at : (conn : ℕ) (bytes : List ℕ) (w : State) (ks : List Client) (i : ℕ) (z : Client) → i < length ks →
-    sent conn bytes w (drop i ks) ≡ cond ((get_or ks i z).conn == conn) (received w (get_or ks i z) bytes (drop (i + 1) ks)) (beside (get_or ks i z ∷ []) (sent conn bytes w (drop (i + 1) ks)))
-unfolding sent
-sent_at conn bytes w ks i z h = ap (λ (l : List Client). sent conn bytes w l) (cut_at ks i z h)
+-- what is done from an index on, by the connection there
+done_at : (conn : ℕ) (deed : Deed) (w : Serving) (ks : List Client) (i : ℕ) (z : Client) → i < length ks →
+    done_in conn deed w (drop i ks) ≡ cond ((get_or ks i z).conn == conn) (done_to w (get_or ks i z) deed (drop (i + 1) ks)) (beside (get_or ks i z ∷ []) (done_in conn deed w (drop (i + 1) ks)))
+unfolding done_in
+done_at conn deed w ks i z h = ap (λ (l : List Client). done_in conn deed w l) (cut_at ks i z h)
 
 -- no connection before the index has the number
-pub record IsPast (conn : ℕ) (bytes : List ℕ) (w : State) (ks : List Client) (i : ℕ) : Type 0 where
-  pub left : sent conn bytes w ks ≡ beside (take i ks) (sent conn bytes w (drop i ks))
+pub record IsPast (conn : ℕ) (deed : Deed) (w : Serving) (ks : List Client) (i : ℕ) : Type 0 where
+  pub left : done_in conn deed w ks ≡ beside (take i ks) (done_in conn deed w (drop i ks))
 
 -- nor the one at it
-pub past_more : (conn : ℕ) (bytes : List ℕ) (w : State) (ks : List Client) (i : ℕ) (z : Client) → i < length ks →
-    (get_or ks i z).conn == conn ≡ false → IsPast conn bytes w ks i → IsPast conn bytes w ks (i + 1)
-past_more conn bytes w ks i z h other past = record {
+pub past_more : (conn : ℕ) (deed : Deed) (w : Serving) (ks : List Client) (i : ℕ) (z : Client) → i < length ks →
+    (get_or ks i z).conn == conn ≡ false → IsPast conn deed w ks i → IsPast conn deed w ks (i + 1)
+past_more conn deed w ks i z h other past = record {
   left =
       past.left
-      ∙ ap (beside (take i ks)) (sent_at conn bytes w ks i z h
-      ∙ ap (λ (b : Bool). cond b (received w (get_or ks i z) bytes (drop (i + 1) ks)) (beside (get_or ks i z ∷ []) (sent conn bytes w (drop (i + 1) ks)))) other)
-      ∙ ap (λ (l : List Client). let a = sent conn bytes w (drop (i + 1) ks) in act a.text l a.world a.stops)
-      (sym (append_assoc (take i ks) (get_or ks i z ∷ []) (sent conn bytes w (drop (i + 1) ks)).clients)
-      ∙ ap (λ (l : List Client). l ++ (sent conn bytes w (drop (i + 1) ks)).clients) (sym (take_more ks i z h)));
+      ∙ ap (beside (take i ks)) (done_at conn deed w ks i z h
+      ∙ ap (λ (b : Bool). cond b (done_to w (get_or ks i z) deed (drop (i + 1) ks)) (beside (get_or ks i z ∷ []) (done_in conn deed w (drop (i + 1) ks)))) other)
+      ∙ ap (λ (l : List Client). let a = done_in conn deed w (drop (i + 1) ks) in act a.text l a.server a.stops)
+      (sym (append_assoc (take i ks) (get_or ks i z ∷ []) (done_in conn deed w (drop (i + 1) ks)).clients)
+      ∙ ap (λ (l : List Client). l ++ (done_in conn deed w (drop (i + 1) ks)).clients) (sym (take_more ks i z h)));
 }
 
 -- the one at it has the number
-past_here : (conn : ℕ) (bytes : List ℕ) (w : State) (ks : List Client) (i : ℕ) (z : Client) → i < length ks →
-    (get_or ks i z).conn == conn ≡ true → IsPast conn bytes w ks i →
-    sent conn bytes w ks ≡ beside (take i ks) (received w (get_or ks i z) bytes (drop (i + 1) ks))
-past_here conn bytes w ks i z h same past =
+past_here : (conn : ℕ) (deed : Deed) (w : Serving) (ks : List Client) (i : ℕ) (z : Client) → i < length ks →
+    (get_or ks i z).conn == conn ≡ true → IsPast conn deed w ks i →
+    done_in conn deed w ks ≡ beside (take i ks) (done_to w (get_or ks i z) deed (drop (i + 1) ks))
+past_here conn deed w ks i z h same past =
     past.left
-    ∙ ap (beside (take i ks)) (sent_at conn bytes w ks i z h
-    ∙ ap (λ (b : Bool). cond b (received w (get_or ks i z) bytes (drop (i + 1) ks)) (beside (get_or ks i z ∷ []) (sent conn bytes w (drop (i + 1) ks)))) same)
+    ∙ ap (beside (take i ks)) (done_at conn deed w ks i z h
+    ∙ ap (λ (b : Bool). cond b (done_to w (get_or ks i z) deed (drop (i + 1) ks)) (beside (get_or ks i z ∷ []) (done_in conn deed w (drop (i + 1) ks)))) same)
 
 -- no connection has it
-pub past_all : (conn : ℕ) (bytes : List ℕ) (w : State) (ks : List Client) (i : ℕ) (start : List ℕ) → length ks ≤ i →
-    IsPast conn bytes w ks i → IsAct (sent conn bytes w ks) start start ks w false
-unfolding sent
-past_all conn bytes w ks i start h past =
-    let none : sent conn bytes w ks ≡ beside (take i ks) (act [] [] w false) = past.left ∙ ap (λ (l : List Client). beside (take i ks) (sent conn bytes w l)) (drop_of_length-le ks h) in
+pub past_all : (conn : ℕ) (deed : Deed) (w : Serving) (ks : List Client) (i : ℕ) (start : List ℕ) → length ks ≤ i →
+    IsPast conn deed w ks i → IsAct (done_in conn deed w ks) start start ks w false
+unfolding done_in
+past_all conn deed w ks i start h past =
+    let none : done_in conn deed w ks ≡ beside (take i ks) (act [] [] w false) = past.left ∙ ap (λ (l : List Client). beside (take i ks) (done_in conn deed w l)) (drop_of_length-le ks h) in
     record {
       text = sym (append-nil start) ∙ ap (λ (a : Act). start ++ a.text) (sym none);
       clients_are = sym (take_all ks i h) ∙ sym (append-nil (take i ks)) ∙ ap (λ (a : Act). a.clients) (sym none);
-      world_is = ap (λ (a : Act). a.world) (sym none);
+      server_is = ap (λ (a : Act). a.server) (sym none);
       stops_is = ap (λ (a : Act). a.stops) (sym none);
     }
 
--- the connection with its reader after the bytes
-abbrev pub fed : Client → List ℕ → Client
-fed k bytes = record k { reader = reader_after k.reader bytes }
-
 -- the connection of the number goes on
-pub sent_goes : (conn : ℕ) (bytes : List ℕ) (w w' : State) (ks : List Client) (i : ℕ) (z : Client) (s : Stage) (start now : List ℕ) → i < length ks →
-    (get_or ks i z).conn == conn ≡ true → IsPast conn bytes w ks i → IsTurn (bytes_turn w (get_or ks i z) bytes) start now (Goes s) w' →
-    IsAct (sent conn bytes w ks) start now (set ks i (record (fed (get_or ks i z) bytes) { stage = s })) w' false
-sent_goes conn bytes w w' ks i z s start now h same past is =
+pub done_goes : (conn : ℕ) (deed : Deed) (w w' : Serving) (ks : List Client) (i : ℕ) (z : Client) (s : Stage) (start now : List ℕ) → i < length ks →
+    (get_or ks i z).conn == conn ≡ true → IsPast conn deed w ks i → IsTurn (deed_turn w (get_or ks i z) deed) start now (Goes s) w' →
+    IsAct (done_in conn deed w ks) start now (set ks i (record (after_deed (get_or ks i z) deed) { stage = s })) w' false
+done_goes conn deed w w' ks i z s start now h same past is =
     let k = get_or ks i z in
-    let t = bytes_turn w k bytes in
+    let t = deed_turn w k deed in
     let rest = drop (i + 1) ks in
-    let gone : sent conn bytes w ks ≡ beside (take i ks) (act (t.text ++ []) (record (fed k bytes) { stage = s } ∷ rest) t.world false) =
-    past_here conn bytes w ks i z h same past
-    ∙ ap (λ (n : Next). beside (take i ks) (reached (fed k bytes) t n (λ v. act [] rest v false) rest)) (sym is.next_is) in
+    let gone : done_in conn deed w ks ≡ beside (take i ks) (act (t.text ++ []) (record (after_deed k deed) { stage = s } ∷ rest) t.server false) =
+    past_here conn deed w ks i z h same past
+    ∙ ap (λ (n : Next). beside (take i ks) (reached (after_deed k deed) t n (λ v. act [] rest v false) rest)) (sym is.next_is) in
     record {
       text = is.text ∙ ap (λ (l : List ℕ). start ++ l) (sym (append-nil t.text)) ∙ ap (λ (a : Act). start ++ a.text) (sym gone);
-      clients_are = written_at ks i (record (fed k bytes) { stage = s }) h ∙ ap (λ (a : Act). a.clients) (sym gone);
-      world_is = is.world_is ∙ ap (λ (a : Act). a.world) (sym gone);
+      clients_are = written_at ks i (record (after_deed k deed) { stage = s }) h ∙ ap (λ (a : Act). a.clients) (sym gone);
+      server_is = is.server_is ∙ ap (λ (a : Act). a.server) (sym gone);
       stops_is = ap (λ (a : Act). a.stops) (sym gone);
     }
 
 -- the history is full
-pub sent_full : (conn : ℕ) (bytes : List ℕ) (w w' : State) (ks : List Client) (i : ℕ) (z : Client) (start now : List ℕ) → i < length ks →
-    (get_or ks i z).conn == conn ≡ true → IsPast conn bytes w ks i → IsTurn (bytes_turn w (get_or ks i z) bytes) start now HistoryFull w' →
-    IsAct (sent conn bytes w ks) start now (set ks i (fed (get_or ks i z) bytes)) w' true
-sent_full conn bytes w w' ks i z start now h same past is =
+pub done_full : (conn : ℕ) (deed : Deed) (w w' : Serving) (ks : List Client) (i : ℕ) (z : Client) (start now : List ℕ) → i < length ks →
+    (get_or ks i z).conn == conn ≡ true → IsPast conn deed w ks i → IsTurn (deed_turn w (get_or ks i z) deed) start now HistoryFull w' →
+    IsAct (done_in conn deed w ks) start now (set ks i (after_deed (get_or ks i z) deed)) w' true
+done_full conn deed w w' ks i z start now h same past is =
     let k = get_or ks i z in
-    let t = bytes_turn w k bytes in
+    let t = deed_turn w k deed in
     let rest = drop (i + 1) ks in
-    let gone : sent conn bytes w ks ≡ beside (take i ks) (act t.text (fed k bytes ∷ rest) t.world true) =
-    past_here conn bytes w ks i z h same past
-    ∙ ap (λ (n : Next). beside (take i ks) (reached (fed k bytes) t n (λ v. act [] rest v false) rest)) (sym is.next_is) in
+    let gone : done_in conn deed w ks ≡ beside (take i ks) (act t.text (after_deed k deed ∷ rest) t.server true) =
+    past_here conn deed w ks i z h same past
+    ∙ ap (λ (n : Next). beside (take i ks) (reached (after_deed k deed) t n (λ v. act [] rest v false) rest)) (sym is.next_is) in
     record {
       text = is.text ∙ ap (λ (a : Act). start ++ a.text) (sym gone);
-      clients_are = written_at ks i (fed k bytes) h ∙ ap (λ (a : Act). a.clients) (sym gone);
-      world_is = is.world_is ∙ ap (λ (a : Act). a.world) (sym gone);
+      clients_are = written_at ks i (after_deed k deed) h ∙ ap (λ (a : Act). a.clients) (sym gone);
+      server_is = is.server_is ∙ ap (λ (a : Act). a.server) (sym gone);
       stops_is = ap (λ (a : Act). a.stops) (sym gone);
     }
 
 -- nothing has changed so far
-pub sent-same : (conn : ℕ) (bytes : List ℕ) (w w0 after : State) (ks ks0 left : List Client) (out out0 now : List ℕ) (stops : Bool) →
-    w ≡ w0 → ks ≡ ks0 → out ≡ out0 → IsAct (sent conn bytes w ks) out now left after stops → IsAct (sent conn bytes w0 ks0) out0 now left after stops
-sent-same conn bytes w w0 after ks ks0 left out out0 now stops ew ek eo h =
-    let P : State → Type 0 = λ v. IsAct (sent conn bytes v ks) out now left after stops in
-    let Q : List Client → Type 0 = λ l. IsAct (sent conn bytes w0 l) out now left after stops in
-    let R : List ℕ → Type 0 = λ o. IsAct (sent conn bytes w0 ks0) o now left after stops in
+pub done-same : (conn : ℕ) (deed : Deed) (w w0 after : Serving) (ks ks0 left : List Client) (out out0 now : List ℕ) (stops : Bool) →
+    w ≡ w0 → ks ≡ ks0 → out ≡ out0 → IsAct (done_in conn deed w ks) out now left after stops → IsAct (done_in conn deed w0 ks0) out0 now left after stops
+done-same conn deed w w0 after ks ks0 left out out0 now stops ew ek eo h =
+    let P : Serving → Type 0 = λ v. IsAct (done_in conn deed v ks) out now left after stops in
+    let Q : List Client → Type 0 = λ l. IsAct (done_in conn deed w0 l) out now left after stops in
+    let R : List ℕ → Type 0 = λ o. IsAct (done_in conn deed w0 ks0) o now left after stops in
     subst R eo (subst Q ek (subst P ew h))
 
-pub past-same : (conn : ℕ) (bytes : List ℕ) (w : State) (ks ks' : List Client) (i : ℕ) → ks ≡ ks' → IsPast conn bytes w ks i → IsPast conn bytes w ks' i
-past-same conn bytes w ks ks' i e h = let P : List Client → Type 0 = λ l. IsPast conn bytes w l i in subst P e h
+pub past-same : (conn : ℕ) (deed : Deed) (w : Serving) (ks ks' : List Client) (i : ℕ) → ks ≡ ks' → IsPast conn deed w ks i → IsPast conn deed w ks' i
+past-same conn deed w ks ks' i e h = let P : List Client → Type 0 = λ l. IsPast conn deed w l i in subst P e h
 
 -- before the first index
-pub past_zero : (conn : ℕ) (bytes : List ℕ) (w : State) (ks : List Client) → IsPast conn bytes w ks 0
-past_zero conn bytes w ks = record { left = refl }
+pub past_zero : (conn : ℕ) (deed : Deed) (w : Serving) (ks : List Client) → IsPast conn deed w ks 0
+past_zero conn deed w ks = record { left = refl }

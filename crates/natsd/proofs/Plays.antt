@@ -4,14 +4,14 @@ use Rattle.std.proofs.lemmas.List.{append_assoc, append-nil, take-append-drop}
 use Rattle.std.proofs.lemmas.Grind.{common_steps}
 use Rattle.std.specs.Io.KnownBytes.{Appends}
 use Rattle.policy_doc.specs.Document.{builtin_doc}
-use Rattle.hub.specs.History.{State, opening_state}
+use Rattle.natsd.specs.Server.{Serving, opening}
 use Rattle.natsd.specs.Device.{AppendsFront}
 use Rattle.natsd.specs.declared.client.Client.{Client}
 use Rattle.natsd.specs.declared.script.Line.{Line}
 use Rattle.natsd.specs.declared.script.Part.{Part}
 use Rattle.natsd.specs.declared.script.Part.TheVariants.{Head}
 use Rattle.natsd.specs.Script.{line_of, part_after}
-use Rattle.natsd.specs.Play.{Act, Played, stops_or, line_and_drains, played, output_of, lines_of, play_capacity, play_history, IsAct}
+use Rattle.natsd.specs.Play.{Act, Played, stops_or, line_and_drains, played, output_of, lines_of, IsAct}
 
 -- what was written, and what is left to come behind it, is all there is to come
 pub record Plays (old now : Option (List ℕ)) (rest all : Played) : Type 0 where
@@ -55,12 +55,12 @@ pub plays_refused : (old now : Option (List ℕ)) (rest all : Played) → Plays 
 plays_refused old now rest all h = front old now h.told rest.text all.text h.written h.text
 
 -- the text of the next act is its own, and then the rest
-after_act : (a : Act) (stops : Bool) (more : State → List Client → Played) → (tail : List ℕ) × ((stops_or a stops more).text ≡ a.text ++ tail)
+after_act : (a : Act) (stops : Bool) (more : Serving → List Client → Played) → (tail : List ℕ) × ((stops_or a stops more).text ≡ a.text ++ tail)
 after_act a true more = ([], sym (append-nil a.text))
-after_act a false more = ((more a.world a.clients).text, refl)
+after_act a false more = ((more a.server a.clients).text, refl)
 
 -- a write that failed has written a front
-pub plays_failed : (old now new : Option (List ℕ)) (out : List ℕ) (ks : List Client) (w : State) (a : Act) (stops : Bool) (more : State → List Client → Played) (all : Played) →
+pub plays_failed : (old now new : Option (List ℕ)) (out : List ℕ) (ks : List Client) (w : Serving) (a : Act) (stops : Bool) (more : Serving → List Client → Played) (all : Played) →
     Plays old now (stops_or a a.stops more) all → IsAct a [] out ks w stops → AppendsFront now new out → AppendsFront old new all.text
 plays_failed old now new out ks w a stops more all h is wrote =
     let tail = after_act a a.stops more in
@@ -71,11 +71,11 @@ plays_failed old now new out ks w a stops more all h is wrote =
     ∙ h.text)
 
 -- a line was written, and the script goes on
-pub plays_more : (old now new : Option (List ℕ)) (out : List ℕ) (ks : List Client) (w : State) (a : Act) (stops : Bool) (more : State → List Client → Played) (all : Played) →
+pub plays_more : (old now new : Option (List ℕ)) (out : List ℕ) (ks : List Client) (w : Serving) (a : Act) (stops : Bool) (more : Serving → List Client → Played) (all : Played) →
     Plays old now (stops_or a a.stops more) all → IsAct a [] out ks w stops → stops ≡ false → Appends now new out → Plays old new (more w ks) all
 plays_more old now new out ks w a stops more all h is goes wrote =
     let same : stops_or a a.stops more ≡ stops_or a false more = ap (λ (b : Bool). stops_or a b more) (sym is.stops_is ∙ goes) in
-    let rest : more a.world a.clients ≡ more w ks = ap (λ (v : State). more v a.clients) (sym is.world_is) ∙ ap (λ (l : List Client). more w l) (sym is.clients_are) in
+    let rest : more a.server a.clients ≡ more w ks = ap (λ (v : Serving). more v a.clients) (sym is.server_is) ∙ ap (λ (l : List Client). more w l) (sym is.clients_are) in
     record {
       told = h.told ++ out;
       written = appends_both old now new h.told out h.written wrote;
@@ -89,7 +89,7 @@ plays_more old now new out ks w a stops more all h is goes wrote =
     }
 
 -- a line was written, and the script stops at it
-pub plays_stop : (old now new : Option (List ℕ)) (out : List ℕ) (ks : List Client) (w : State) (a : Act) (stops : Bool) (more : State → List Client → Played) (all : Played) →
+pub plays_stop : (old now new : Option (List ℕ)) (out : List ℕ) (ks : List Client) (w : Serving) (a : Act) (stops : Bool) (more : Serving → List Client → Played) (all : Played) →
     Plays old now (stops_or a a.stops more) all → IsAct a [] out ks w stops → stops ≡ true → Appends now new out → Appends old new all.text × (1 ≡ all.status)
 plays_stop old now new out ks w a stops more all h is stop wrote =
     let same : stops_or a a.stops more ≡ stops_or a true more = ap (λ (b : Bool). stops_or a b more) (sym is.stops_is ∙ stop) in (
@@ -107,18 +107,18 @@ plays_end old now rest all none nil h = (
 )
 
 -- the buffer of a line was empty
-pub IsAct-fresh : (a : Act) (before out : List ℕ) (ks : List Client) (w : State) (stops : Bool) → before ≡ [] → IsAct a before out ks w stops → IsAct a [] out ks w stops
+pub IsAct-fresh : (a : Act) (before out : List ℕ) (ks : List Client) (w : Serving) (stops : Bool) → before ≡ [] → IsAct a before out ks w stops → IsAct a [] out ks w stops
 IsAct-fresh a before out ks w stops e h = let P : List ℕ → Type 0 = λ l. IsAct a l out ks w stops in subst P e h
 
 -- the first of the lines that are left
-plays_line : (old now : Option (List ℕ)) (number : ℕ) (part : Part) (lines rest : List (List ℕ)) (text : List ℕ) (w : State) (ks : List Client) (all : Played) → lines ≡ text ∷ rest →
+plays_line : (old now : Option (List ℕ)) (number : ℕ) (part : Part) (lines rest : List (List ℕ)) (text : List ℕ) (w : Serving) (ks : List Client) (all : Played) → lines ≡ text ∷ rest →
     Plays old now (played number part lines w ks) all →
     Plays old now (stops_or (line_and_drains number part (line_of text) w ks) (line_and_drains number part (line_of text) w ks).stops (λ v l. played (number + 1) (part_after part (line_of text)) rest v l)) all
 unfolding played
 plays_line old now number part lines rest text w ks all e h = let P : List (List ℕ) → Type 0 = λ l. Plays old now (played number part l w ks) all in subst P e h
 
 -- the line that was read is the text's
-pub plays_read : (old now : Option (List ℕ)) (number : ℕ) (part : Part) (lines rest : List (List ℕ)) (text : List ℕ) (line : Line) (after : Part) (w : State) (ks : List Client) (all : Played) → lines ≡ text ∷ rest →
+pub plays_read : (old now : Option (List ℕ)) (number : ℕ) (part : Part) (lines rest : List (List ℕ)) (text : List ℕ) (line : Line) (after : Part) (w : Serving) (ks : List Client) (all : Played) → lines ≡ text ∷ rest →
     line ≡ line_of text → after ≡ part_after part line → Plays old now (played number part lines w ks) all →
     Plays old now (stops_or (line_and_drains number part line w ks) (line_and_drains number part line w ks).stops (λ v l. played (number + 1) after rest v l)) all
 plays_read old now number part lines rest text line after w ks all e read next h =
@@ -127,7 +127,7 @@ plays_read old now number part lines rest text line after w ks all e read next h
     subst P (sym next) (subst Q (sym read) (plays_line old now number part lines rest text w ks all e h))
 
 -- no line is left
-pub plays_last : (old now : Option (List ℕ)) (number : ℕ) (part : Part) (lines : List (List ℕ)) (w : State) (ks : List Client) (all : Played) → lines ≡ [] →
+pub plays_last : (old now : Option (List ℕ)) (number : ℕ) (part : Part) (lines : List (List ℕ)) (w : Serving) (ks : List Client) (all : Played) → lines ≡ [] →
     Plays old now (played number part lines w ks) all → Appends old now all.text × (0 ≡ all.status)
 unfolding played
 plays_last old now number part lines w ks all e h =
@@ -135,12 +135,12 @@ plays_last old now number part lines w ks all e h =
     plays_end old now (played number part [] w ks) all refl refl (subst P e h)
 
 -- the opening
-pub plays_open : (old : Option (List ℕ)) (script : List ℕ) (lines : List (List ℕ)) (w : State) (ks : List Client) → lines ≡ lines_of script → w ≡ opening_state builtin_doc play_capacity play_history → ks ≡ [] →
+pub plays_open : (old : Option (List ℕ)) (script : List ℕ) (lines : List (List ℕ)) (w : Serving) (ks : List Client) → lines ≡ lines_of script → w ≡ opening builtin_doc → ks ≡ [] →
     Plays old old (played 1 Head lines w ks) (output_of script)
 unfolding output_of
 plays_open old script lines w ks el ew ek =
     let same : played 1 Head lines w ks ≡ output_of script =
-    ap (λ (l : List (List ℕ)). played 1 Head l w ks) el ∙ ap (λ (v : State). played 1 Head (lines_of script) v ks) ew ∙ ap (λ (k : List Client). played 1 Head (lines_of script) (opening_state builtin_doc play_capacity play_history) k) ek in
+    ap (λ (l : List (List ℕ)). played 1 Head l w ks) el ∙ ap (λ (v : Serving). played 1 Head (lines_of script) v ks) ew ∙ ap (λ (k : List Client). played 1 Head (lines_of script) (opening builtin_doc) k) ek in
     let P : Played → Type 0 = λ p. Plays old old p (output_of script) in
     subst P (sym same) (plays_start old (output_of script))
 

@@ -2,6 +2,7 @@ pub mod Script
 pub mod Output
 pub mod Device
 pub mod Input
+pub mod Server
 pub mod Session
 pub mod Policies
 pub mod Play

@@ -4,9 +4,11 @@ use Rattle.std.specs.List.{starts_with}
 use Rattle.std.specs.Str.{all_ascii_digits}
 use Rattle.std.specs.Str.Parse.{digits_value}
 use Rattle.natsd.specs.declared.script.Line.{Line}
-use Rattle.natsd.specs.declared.script.Line.TheVariants.{Skip, Open, Send, Policy, Other}
+use Rattle.natsd.specs.declared.script.Line.TheVariants.{Skip, Caps, Policy, Open, Client, Now, Word, Other}
+use Rattle.natsd.specs.declared.script.Deed.{Deed}
+use Rattle.natsd.specs.declared.script.Deed.TheVariants.{Sends, Holds, Frees, Ends}
 use Rattle.natsd.specs.declared.script.Part.{Part}
-use Rattle.natsd.specs.declared.script.Part.TheVariants.{Head, Body}
+use Rattle.natsd.specs.declared.script.Part.TheVariants.{Head, Capped, Body}
 use Rattle.natsd.specs.declared.script.Escape.{Escape}
 use Rattle.natsd.specs.declared.script.Escape.TheVariants.{Plain, Backslash, HighDigit, LowDigit}
 use Rattle.natsd.specs.declared.script.Step.{Step}
@@ -83,15 +85,33 @@ abbrev pub IsHexStep : Step → Type 0
 IsHexStep (Within state) = IsHex state
 IsHexStep _ = Unit {0}
 
--- what a line says of the connection with this number
+-- what a line says by its number
 abbrev pub open_of : Option ℕ → Line
 open_of (Some conn) = Open conn
 open_of None = Other
 
+abbrev pub now_of : Option ℕ → Line
+now_of (Some moment) = Now moment
+now_of None = Other
+
+abbrev pub word_of : Option ℕ → Line
+word_of (Some word) = Word word
+word_of None = Other
+
+abbrev pub deed_of : Deed → Option ℕ → Line
+deed_of deed (Some conn) = Client conn deed
+deed_of deed None = Other
+
+-- or by its number and what stands behind it
 abbrev pub send_of : Option ℕ → Option (List ℕ) → Line
-send_of (Some conn) (Some bytes) = Send conn bytes
+send_of (Some conn) (Some bytes) = Client conn (Sends bytes)
 send_of _ None = Other
 send_of None _ = Other
+
+abbrev pub caps_of : Option ℕ → Option ℕ → Line
+caps_of (Some outbox) (Some history) = Caps outbox history
+caps_of _ None = Other
+caps_of None _ = Other
 
 -- after `send `: a number, a space, and a text that may be empty
 abbrev pub send_line : List ℕ → Line
@@ -101,22 +121,46 @@ send_line rest = around (position (λ b. b == 32) rest)
     around None = Other
     around (Some at) = send_of (number_of (take at rest)) (unescaped (drop (at + 1) rest))
 
--- after `policy `: the policy's text
-abbrev pub policy_line : List ℕ → Line
-policy_line line = if starts_with nat_eq line (codes "policy ") then Policy (drop 7 line) else Other
+-- after `caps `: two numbers, with a space between them
+abbrev pub caps_line : List ℕ → Line
+caps_line rest = about (position (λ b. b == 32) rest)
+  where
+    about : Option ℕ → Line
+    about None = Other
+    about (Some at) = caps_of (number_of (take at rest)) (number_of (drop (at + 1) rest))
 
--- what a line of a script says: nothing, that a connection opens, what its client sends, the policy, or something else
+-- a line that can only be of a connection
+unfoldable pub deed_line : List ℕ → Line
+deed_line line =
+    if starts_with nat_eq line (codes "hold ") then deed_of Holds (number_of (drop 5 line))
+    else if starts_with nat_eq line (codes "free ") then deed_of Frees (number_of (drop 5 line))
+    else if starts_with nat_eq line (codes "end ") then deed_of Ends (number_of (drop 4 line))
+    else Other
+
+-- a line that is no text to send and no policy
+unfoldable pub short_line : List ℕ → Line
+short_line line =
+    if starts_with nat_eq line (codes "open ") then open_of (number_of (drop 5 line))
+    else if starts_with nat_eq line (codes "caps ") then caps_line (drop 5 line)
+    else if starts_with nat_eq line (codes "now ") then now_of (number_of (drop 4 line))
+    else if starts_with nat_eq line (codes "word ") then word_of (number_of (drop 5 line))
+    else deed_line line
+
+-- what a line of a script says; after `policy ` stands the policy's text
 abbrev pub line_of : List ℕ → Line
 line_of line =
     if is_skipped line then Skip
-    else if starts_with nat_eq line (codes "open ") then open_of (number_of (drop 5 line))
     else if starts_with nat_eq line (codes "send ") then send_line (drop 5 line)
-    else policy_line line
+    else if starts_with nat_eq line (codes "policy ") then Policy (drop 7 line)
+    else short_line line
 
--- a script's head ends with the first line that is not skipped
+-- a script's head ends with the first line that is not skipped, or that is behind its caps
 abbrev pub part_after : Part → Line → Part
 part_after part Skip = part
-part_after part (Open conn) = Body
-part_after part (Send conn bytes) = Body
+part_after part (Caps outbox history) = Capped
 part_after part (Policy text) = Body
+part_after part (Open conn) = Body
+part_after part (Client conn deed) = Body
+part_after part (Now moment) = Body
+part_after part (Word word) = Body
 part_after part Other = Body

@@ -1,12 +1,14 @@
 // The open connections of a script (docs/SCRIPT.md).
 ghost use Rattle.std.specs.Prelude.{◌≡◌, ◌++◌, IfOk, OnOk};
 ghost use Rattle.natsd.specs.Session.{IsTurn};
-ghost use Rattle.natsd.specs.Play.{shown_if, is_full, ended, settled_by, take_turn, is_pending, enough_takes, pending_turn, takes, IsTurnIf};
+ghost use Rattle.natsd.specs.Play.{shown_if, is_full, ended, has_session, settled_by, take_turn, is_pending, enough_takes, pending_turn, takes, IsTurnIf};
 
-use crate::conn::{on_frames, reply_to_take, submit};
+use crate::conn::{on_frames, reply_to_take};
 use crate::output::{write_closed, write_full, write_shown};
-use crate::stage::{Next, Stage};
-use hub::{Command, Event, Hub, HubRefusal, Outcome};
+use crate::script::Deed;
+use crate::server::Server;
+use crate::stage::{Next, Stage, Style};
+use hub::{Command, HubRefusal, Outcome};
 use lists::{Items, NoMemory};
 use std::alloc::Global;
 use wire_read::{FeedError, Frame, FrameReader};
@@ -20,10 +22,9 @@ pub struct Client {
     pub reader: FrameReader,
     /// Where it is in its life.
     pub stage: Stage,
+    /// No drains are made for it.
+    pub held: bool,
 }
-
-/// The moment of every event.
-pub const MOMENT: u64 = 0;
 
 /// The line of what a connection was sent, if it was sent anything.
 fn write_shown_if(out: &mut Vec<u8>, conn: u64, text: &[u8]) -> Result<(), NoMemory>
@@ -50,14 +51,13 @@ fn is_full(answer: &Result<Outcome, HubRefusal>) -> bool
 }
 
 /// The Close of a connection that has closed, where its session may stand.
-fn end(hub: &mut Hub, conn: u64, session: bool, out: &mut Vec<u8>) -> Result<Next, NoMemory>
-    ensures { IfOk result (λ next. IsTurn (ended conn hub.old session) out.old.items out.new.items next hub.new) }
+fn end(server: &mut Server, conn: u64, session: bool, out: &mut Vec<u8>) -> Result<Next, NoMemory>
+    ensures { IfOk result (λ next. IsTurn (ended conn server.old session) out.old.items out.new.items next server.new) }
 {
     if !session {
         return Ok(Next::Goes(Stage::Closed { session: false }));
     }
-    let what = Command::Close { conn };
-    let answer = submit(hub, Event { now: MOMENT, what })?;
+    let answer = server.submit(Command::Close { conn })?;
     if is_full(&answer) {
         write_full(out)?;
         return Ok(Next::HistoryFull);
@@ -67,21 +67,21 @@ fn end(hub: &mut Hub, conn: u64, session: bool, out: &mut Vec<u8>) -> Result<Nex
 
 /// Prints what a call of a connection came to, and closes its session where the connection closed.
 fn settle(
-    hub: &mut Hub,
+    server: &mut Server,
     conn: u64,
     out: &mut Vec<u8>,
     text: &[u8],
     next: Next,
 ) -> Result<Next, NoMemory>
-    ensures { IfOk result (λ settled. IsTurn (settled_by conn next text.now hub.old) out.old.items out.new.items settled hub.new) }
+    ensures { IfOk result (λ settled. IsTurn (settled_by conn next text.now server.old) out.old.items out.new.items settled server.new) }
 {
     write_shown_if(out, conn, text)?;
     match next {
         Next::Goes(Stage::Fresh) => Ok(Next::Goes(Stage::Fresh)),
-        Next::Goes(Stage::Connected { verbose }) => Ok(Next::Goes(Stage::Connected { verbose })),
+        Next::Goes(Stage::Connected(style)) => Ok(Next::Goes(Stage::Connected(style))),
         Next::Goes(Stage::Closed { session }) => {
             write_closed(out, conn)?;
-            let ended = end(hub, conn, session, out)?;
+            let ended = end(server, conn, session, out)?;
             Ok(ended)
         }
         Next::HistoryFull => {
@@ -91,13 +91,23 @@ fn settle(
     }
 }
 
-/// A Take of 64.
-fn take(hub: &mut Hub, conn: u64, verbose: bool, text: &mut Vec<u8>) -> Result<Next, NoMemory>
-    ensures { IfOk result (λ next. IsTurn (take_turn conn hub.old verbose) text.old.items text.new.items next hub.new) }
+/// Whether a session may stand for a connection.
+fn has_session(stage: &Stage) -> bool
+    ensures { result ≡ has_session stage.now }
 {
-    let what = Command::Take { conn, most: 64 };
-    let answer = submit(hub, Event { now: MOMENT, what })?;
-    reply_to_take(text, verbose, &answer)
+    match stage {
+        Stage::Fresh => false,
+        Stage::Connected(_) => true,
+        Stage::Closed { session } => *session,
+    }
+}
+
+/// A Take of 64.
+fn take(server: &mut Server, conn: u64, style: Style, text: &mut Vec<u8>) -> Result<Next, NoMemory>
+    ensures { IfOk result (λ next. IsTurn (take_turn conn server.old style) text.old.items text.new.items next server.new) }
+{
+    let answer = server.submit(Command::Take { conn, most: 64 })?;
+    reply_to_take(text, style, &answer)
 }
 
 /// Whether a connection is to be drained: something waits or was missed, or its session is gone.
@@ -123,23 +133,23 @@ fn enough_takes(waiting: Option<(usize, bool)>) -> usize
 /// A Take, where one is to be made.
 fn take_if_pending(
     alloc: Global,
-    hub: &mut Hub,
+    server: &mut Server,
     conn: u64,
     stage: Stage,
     out: &mut Vec<u8>,
 ) -> Result<Option<Next>, NoMemory>
-    ensures { IfOk result (λ next. IsTurnIf (pending_turn conn hub.old stage) out.old.items out.new.items hub.old hub.new next) }
+    ensures { IfOk result (λ next. IsTurnIf (pending_turn conn server.old stage) out.old.items out.new.items server.old server.new next) }
 {
     match stage {
         Stage::Fresh => Ok(None),
         Stage::Closed { .. } => Ok(None),
-        Stage::Connected { verbose } => {
-            if !is_pending(hub.waiting(conn)) {
+        Stage::Connected(style) => {
+            if !is_pending(server.waiting(conn)) {
                 return Ok(None);
             }
             let mut text = Vec::new(alloc);
-            let next = take(hub, conn, verbose, &mut text)?;
-            let settled = settle(hub, conn, out, text.as_slice(), next)?;
+            let next = take(server, conn, style, &mut text)?;
+            let settled = settle(server, conn, out, text.as_slice(), next)?;
             Ok(Some(settled))
         }
     }
@@ -148,17 +158,17 @@ fn take_if_pending(
 /// Takes while something is pending, so many at most.
 fn take_all(
     alloc: Global,
-    hub: &mut Hub,
+    server: &mut Server,
     conn: u64,
     stage: Stage,
     most: usize,
     out: &mut Vec<u8>,
 ) -> Result<Next, NoMemory>
-    ensures { IfOk result (λ next. IsTurn (takes most conn hub.old stage) out.old.items out.new.items next hub.new) }
+    ensures { IfOk result (λ next. IsTurn (takes most conn server.old stage) out.old.items out.new.items next server.new) }
 {
     let mut stage = stage;
     'taking: for _ in 0..most {
-        match take_if_pending(alloc, hub, conn, stage, out)? {
+        match take_if_pending(alloc, server, conn, stage, out)? {
             None => return Ok(Next::Goes(stage)),
             Some(next) => match next {
                 Next::HistoryFull => return Ok(Next::HistoryFull),
@@ -170,7 +180,7 @@ fn take_all(
 }
 
 impl Client {
-    ghost use Rattle.natsd.specs.Play.{new_client, drain_turn, bytes_turn, reader_after};
+    ghost use Rattle.natsd.specs.Play.{new_client, drain_turn, bytes_turn, reader_after, deed_turn, after_deed};
 
     /// A connection whose client has sent nothing yet.
     pub fn new(alloc: Global, conn: u64) -> Client
@@ -180,34 +190,75 @@ impl Client {
             conn,
             reader: FrameReader::new(alloc),
             stage: Stage::Fresh,
+            held: false,
         }
     }
 
-    /// Drains the connection: Takes of 64 while something is pending.
-    pub fn drain(&self, alloc: Global, hub: &mut Hub, out: &mut Vec<u8>) -> Result<Next, NoMemory>
-        ensures { IfOk result (λ next. IsTurn (drain_turn hub.old self.now) out.old.items out.new.items next hub.new) }
+    /// Drains the connection, unless it is held: Takes of 64 while something is pending.
+    pub fn drain(
+        &self,
+        alloc: Global,
+        server: &mut Server,
+        out: &mut Vec<u8>,
+    ) -> Result<Next, NoMemory>
+        ensures { IfOk result (λ next. IsTurn (drain_turn server.old self.now) out.old.items out.new.items next server.new) }
     {
-        let most = enough_takes(hub.waiting(self.conn));
-        take_all(alloc, hub, self.conn, self.stage, most, out)
+        if self.held {
+            return Ok(Next::Goes(self.stage));
+        }
+        let most = enough_takes(server.waiting(self.conn));
+        take_all(alloc, server, self.conn, self.stage, most, out)
+    }
+
+    /// Does what a line says of the connection.
+    pub fn on_deed(
+        &mut self,
+        alloc: Global,
+        server: &mut Server,
+        deed: &Deed,
+        out: &mut Vec<u8>,
+    ) -> Result<Next, NoMemory>
+        ensures turn { IfOk result (λ next. IsTurn (deed_turn server.old self.old deed.now) out.old.items out.new.items next server.new) }
+        ensures after { OnOk result (self.new ≡ after_deed self.old deed.now) }
+    {
+        match deed {
+            Deed::Sends(bytes) => {
+                let next = self.on_bytes(alloc, server, bytes.as_slice(), out)?;
+                Ok(next)
+            }
+            Deed::Holds => {
+                self.held = true;
+                Ok(Next::Goes(self.stage))
+            }
+            Deed::Frees => {
+                self.held = false;
+                Ok(Next::Goes(self.stage))
+            }
+            Deed::Ends => {
+                let session = has_session(&self.stage);
+                let next = end(server, self.conn, session, out)?;
+                Ok(next)
+            }
+        }
     }
 
     /// The client's bytes: the frames that they complete, in order.
-    pub fn on_bytes(
+    fn on_bytes(
         &mut self,
         alloc: Global,
-        hub: &mut Hub,
+        server: &mut Server,
         bytes: &[u8],
         out: &mut Vec<u8>,
     ) -> Result<Next, NoMemory>
-        ensures turn { IfOk result (λ next. IsTurn (bytes_turn hub.old self.old bytes.now) out.old.items out.new.items next hub.new) }
+        ensures turn { IfOk result (λ next. IsTurn (bytes_turn server.old self.old bytes.now) out.old.items out.new.items next server.new) }
         ensures reader { OnOk result (self.new ≡ record self.old { reader = reader_after self.old.reader bytes.now }) }
     {
         match read_frames(&mut self.reader, bytes)? {
             None => Ok(Next::Goes(self.stage)),
             Some(frames) => {
                 let mut text = Vec::new(alloc);
-                let next = on_frames(alloc, hub, MOMENT, self.conn, self.stage, &mut text, frames)?;
-                let settled = settle(hub, self.conn, out, text.as_slice(), next)?;
+                let next = on_frames(alloc, server, self.conn, self.stage, &mut text, frames)?;
+                let settled = settle(server, self.conn, out, text.as_slice(), next)?;
                 Ok(settled)
             }
         }

@@ -12,6 +12,7 @@ mod output;
 mod play;
 mod policy;
 mod script;
+mod server;
 mod stage;
 mod words;
 

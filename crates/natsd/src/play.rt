@@ -5,9 +5,8 @@ ghost use Rattle.std.specs.Io.KnownBytes.{Appends, IsAtEnd};
 ghost use Rattle.natsd.specs.declared.client.Client.{Client};
 ghost use Rattle.natsd.specs.declared.script.Part.{Part};
 ghost use Rattle.natsd.specs.Policies.{policy_or_line};
-ghost use Rattle.natsd.specs.Play.{drained, sent, is_open, with_client, new_client, policy_act, policy_line_act, line_act, still_open, is_closed, line_and_drains, IsAct, play_capacity, play_history, output_of};
-ghost use Rattle.hub.specs.History.{State, opening_state};
-ghost use Rattle.policy_doc.specs.Document.{builtin_doc};
+ghost use Rattle.natsd.specs.Play.{drained, done_in, is_open, with_client, new_client, caps_act, caps_line_act, policy_act, policy_line_act, line_act, still_open, is_closed, line_and_drains, IsAct, output_of};
+ghost use Rattle.natsd.specs.Server.{Serving};
 ghost use Rattle.natsd.specs.Device.{AppendsFront};
 ghost use Rattle.natsd.specs.Input.{is_read_failed, is_write_failed};
 
@@ -17,32 +16,27 @@ use crate::fault::PlayFault;
 use crate::input::read_to_end;
 use crate::output::{write_refused, write_shown};
 use crate::policy::policy_or_line;
-use crate::script::{Line, Part, read_line};
+use crate::script::{Deed, Line, Part, read_line};
+use crate::server::Server;
 use crate::stage::{Next, Stage};
 use connect_opts::info_text;
-use hub::{Caps, Hub, Ready};
+use hub::Caps;
 use lists::{NoMemory, Pieces};
 use policy_doc::Policy;
 use std::alloc::Global;
 use wire_write::write_info;
 
-/// How many deliveries may wait for a session.
-const CAPACITY: usize = 1024;
-
-/// How many entries the history may hold.
-const HISTORY: usize = 100_000;
-
 /// Drains every connection, in ascending order.
 fn drain_all(
     alloc: Global,
-    hub: &mut Hub,
+    server: &mut Server,
     clients: &mut [Client],
     out: &mut Vec<u8>,
 ) -> Result<bool, NoMemory>
-    ensures { IfOk result (λ stops. IsAct (drained clients.old hub.old) out.old.items out.new.items clients.new hub.new stops) }
+    ensures { IfOk result (λ stops. IsAct (drained clients.old server.old) out.old.items out.new.items clients.new server.new stops) }
 {
     'draining: for client in clients.iter_mut() {
-        match client.drain(alloc, hub, out)? {
+        match client.drain(alloc, server, out)? {
             Next::Goes(stage) => client.stage = stage,
             Next::HistoryFull => return Ok(true),
         }
@@ -50,20 +44,20 @@ fn drain_all(
     Ok(false)
 }
 
-/// Hands bytes to the connection of that number, if it is open.
-fn send(
+/// Does what a line says to the connection of that number, if it is open.
+fn on_client(
     alloc: Global,
-    hub: &mut Hub,
+    server: &mut Server,
     clients: &mut [Client],
     conn: u64,
-    bytes: &[u8],
+    deed: &Deed,
     out: &mut Vec<u8>,
 ) -> Result<bool, NoMemory>
-    ensures { IfOk result (λ stops. IsAct (sent conn bytes.now hub.old clients.old) out.old.items out.new.items clients.new hub.new stops) }
+    ensures { IfOk result (λ stops. IsAct (done_in conn deed.now server.old clients.old) out.old.items out.new.items clients.new server.new stops) }
 {
     'looking: for client in clients.iter_mut() {
         if client.conn == conn {
-            match client.on_bytes(alloc, hub, bytes, out)? {
+            match client.on_deed(alloc, server, deed, out)? {
                 Next::Goes(stage) => {
                     client.stage = stage;
                     return Ok(false);
@@ -109,7 +103,7 @@ fn is_closed(stage: &Stage) -> bool
     match stage {
         Stage::Closed { .. } => true,
         Stage::Fresh => false,
-        Stage::Connected { .. } => false,
+        Stage::Connected(_) => false,
     }
 }
 
@@ -128,7 +122,7 @@ fn open(
     conn: u64,
     out: &mut Vec<u8>,
 ) -> Result<bool, NoMemory>
-    ensures { (part : Part) (w : State) → IfOk result (λ stops. IsAct (line_act number part (Line.Open conn) w clients.old.items) out.old.items out.new.items clients.new.items w stops) }
+    ensures { (part : Part) (w : Serving) → IfOk result (λ stops. IsAct (line_act number part (Line.Open conn) w clients.old.items) out.old.items out.new.items clients.new.items w stops) }
 {
     if is_open(clients.as_slice(), conn) {
         write_refused(out, number)?;
@@ -142,37 +136,63 @@ fn open(
     Ok(false)
 }
 
-/// A hub over a policy, with nobody connected.
-fn open_hub(alloc: Global, policy: Policy) -> Result<Hub, NoMemory>
-    ensures { IfOk result (λ hub. hub ≡ opening_state policy play_capacity play_history) }
+/// Caps in the place of the usual ones, or the line that refuses them.
+fn set_caps(
+    alloc: Global,
+    server: &mut Server,
+    number: u64,
+    caps: Caps,
+    out: &mut Vec<u8>,
+) -> Result<bool, NoMemory>
+    ensures { (clients : List Client) → IfOk result (λ stops. IsAct (caps_act number caps server.old clients) out.old.items out.new.items clients server.new stops) }
 {
-    match Ready::of(alloc, policy) {
-        Ok(ready) => {
-            let caps = Caps {
-                outbox: CAPACITY,
-                history: HISTORY,
-            };
-            match Hub::new(alloc, ready, caps) {
-                Ok(hub) => Ok(hub),
-                Err((_, refused)) => Err(refused),
-            }
+    if 1 <= caps.outbox && caps.outbox <= 65_536 {
+        server.set_caps(alloc, caps)?;
+        return Ok(false);
+    }
+    write_refused(out, number)?;
+    Ok(true)
+}
+
+/// Caps, which only the first of a script's lines may give.
+fn on_caps(
+    alloc: Global,
+    server: &mut Server,
+    number: u64,
+    part: Part,
+    caps: Caps,
+    out: &mut Vec<u8>,
+) -> Result<bool, NoMemory>
+    ensures { (clients : List Client) → IfOk result (λ stops. IsAct (caps_line_act number part caps server.old clients) out.old.items out.new.items clients server.new stops) }
+{
+    match part {
+        Part::Head => {
+            let stops = set_caps(alloc, server, number, caps, out)?;
+            Ok(stops)
         }
-        Err((_, refused)) => Err(refused),
+        Part::Capped => {
+            write_refused(out, number)?;
+            Ok(true)
+        }
+        Part::Body => {
+            write_refused(out, number)?;
+            Ok(true)
+        }
     }
 }
 
 /// A policy in the place of the built-in one, or the line of its fault.
 fn set_policy(
     alloc: Global,
-    hub: &mut Hub,
+    server: &mut Server,
     text: &[u8],
     out: &mut Vec<u8>,
 ) -> Result<bool, NoMemory>
-    ensures { (clients : List Client) → IfOk result (λ stops. IsAct (policy_act (policy_or_line text.now) hub.old clients) out.old.items out.new.items clients hub.new stops) }
+    ensures { (clients : List Client) → IfOk result (λ stops. IsAct (policy_act (policy_or_line text.now) server.old clients) out.old.items out.new.items clients server.new stops) }
 {
     match policy_or_line(alloc, text)? {
         Ok(policy) => {
-            *hub = open_hub(alloc, policy)?;
+            server.set_policy(alloc, policy)?;
             Ok(false)
         }
         Err(line) => {
@@ -182,20 +202,24 @@ fn set_policy(
     }
 }
 
-/// A policy, which only the head of a script may have.
+/// A policy, which comes before all lines but caps.
 fn on_policy(
     alloc: Global,
-    hub: &mut Hub,
+    server: &mut Server,
     number: u64,
     part: Part,
     text: &[u8],
     out: &mut Vec<u8>,
 ) -> Result<bool, NoMemory>
-    ensures { (clients : List Client) → IfOk result (λ stops. IsAct (policy_line_act number part text.now hub.old clients) out.old.items out.new.items clients hub.new stops) }
+    ensures { (clients : List Client) → IfOk result (λ stops. IsAct (policy_line_act number part text.now server.old clients) out.old.items out.new.items clients server.new stops) }
 {
     match part {
         Part::Head => {
-            let stops = set_policy(alloc, hub, text, out)?;
+            let stops = set_policy(alloc, server, text, out)?;
+            Ok(stops)
+        }
+        Part::Capped => {
+            let stops = set_policy(alloc, server, text, out)?;
             Ok(stops)
         }
         Part::Body => {
@@ -208,35 +232,44 @@ fn on_policy(
 /// What a line itself does.
 fn on_line(
     alloc: Global,
-    hub: &mut Hub,
+    server: &mut Server,
     clients: &mut Vec<Client>,
     number: u64,
     part: Part,
     line: Line,
     out: &mut Vec<u8>,
 ) -> Result<bool, NoMemory>
-    ensures { IfOk result (λ stops. IsAct (line_act number part line hub.old clients.old.items) out.old.items out.new.items clients.new.items hub.new stops) }
+    ensures { IfOk result (λ stops. IsAct (line_act number part line server.old clients.old.items) out.old.items out.new.items clients.new.items server.new stops) }
 {
     match line {
         Line::Skip => Ok(false),
+        Line::Caps { outbox, history } => {
+            let caps = Caps {
+                outbox: outbox as usize,
+                history: history as usize,
+            };
+            let stops = on_caps(alloc, server, number, part, caps, out)?;
+            Ok(stops)
+        }
+        Line::Policy(text) => {
+            let stops = on_policy(alloc, server, number, part, text.as_slice(), out)?;
+            Ok(stops)
+        }
         Line::Open(conn) => {
             let stops = open(alloc, clients, number, conn, out)?;
             Ok(stops)
         }
-        Line::Send(conn, bytes) => {
-            let stops = send(
-                alloc,
-                hub,
-                clients.as_mut_slice(),
-                conn,
-                bytes.as_slice(),
-                out,
-            )?;
+        Line::Client(conn, deed) => {
+            let stops = on_client(alloc, server, clients.as_mut_slice(), conn, &deed, out)?;
             Ok(stops)
         }
-        Line::Policy(text) => {
-            let stops = on_policy(alloc, hub, number, part, text.as_slice(), out)?;
-            Ok(stops)
+        Line::Now(moment) => {
+            server.set_moment(moment);
+            Ok(false)
+        }
+        Line::Word(word) => {
+            server.add_word(word)?;
+            Ok(false)
         }
         Line::Other => {
             write_refused(out, number)?;
@@ -249,19 +282,19 @@ fn on_line(
 #[tactic(auto, unfolding(crate::specs::Play::line_and_drains))]
 fn on_line_and_drain(
     alloc: Global,
-    hub: &mut Hub,
+    server: &mut Server,
     clients: &mut Vec<Client>,
     number: u64,
     part: Part,
     line: Line,
     out: &mut Vec<u8>,
 ) -> Result<bool, NoMemory>
-    ensures { IfOk result (λ stops. IsAct (line_and_drains number part line hub.old clients.old.items) out.old.items out.new.items clients.new.items hub.new stops) }
+    ensures { IfOk result (λ stops. IsAct (line_and_drains number part line server.old clients.old.items) out.old.items out.new.items clients.new.items server.new stops) }
 {
-    if on_line(alloc, hub, clients, number, part, line, out)? {
+    if on_line(alloc, server, clients, number, part, line, out)? {
         return Ok(true);
     }
-    let stops = drain_all(alloc, hub, clients.as_mut_slice(), out)?;
+    let stops = drain_all(alloc, server, clients.as_mut_slice(), out)?;
     remove_closed(clients);
     Ok(stops)
 }
@@ -277,7 +310,7 @@ fn play_lines<W: Sink>(alloc: Global, script: &[u8], sink: &mut W) -> Result<u8,
     ensures long { result ≢ Err PlayFault.ScriptTooLong }
 {
     let policy = Policy::builtin(alloc)?;
-    let mut hub = open_hub(alloc, policy)?;
+    let mut server = Server::new(alloc, policy)?;
     let mut clients = Vec::new(alloc);
     let mut lines = Pieces::of(script, b'\n');
     let mut number = 0u64;
@@ -287,7 +320,15 @@ fn play_lines<W: Sink>(alloc: Global, script: &[u8], sink: &mut W) -> Result<u8,
         let line = read_line(alloc, text)?;
         let next = part.after(&line);
         let mut out = Vec::new(alloc);
-        let stops = on_line_and_drain(alloc, &mut hub, &mut clients, number, part, line, &mut out)?;
+        let stops = on_line_and_drain(
+            alloc,
+            &mut server,
+            &mut clients,
+            number,
+            part,
+            line,
+            &mut out,
+        )?;
         part = next;
         match write_all(sink, out.as_slice()) {
             Err(_) => return Err(PlayFault::WriteFailed),

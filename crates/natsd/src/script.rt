@@ -1,6 +1,6 @@
 // The lines of a script of `natsd play` (docs/SCRIPT.md).
 ghost use Rattle.std.specs.Prelude.{◌≡◌, ◌∷◌, ◌<◌, ℕ, List, IfOk, IfSome, option_map, position, ◌==◌};
-ghost use Rattle.natsd.specs.Script.{is_skipped, number_of, hex_of, unescaped, after_part, after_step, IsHex, IsHexStep, open_of, send_line, policy_line, line_of, part_after};
+ghost use Rattle.natsd.specs.Script.{is_skipped, number_of, hex_of, unescaped, after_part, after_step, IsHex, IsHexStep, open_of, now_of, word_of, deed_of, caps_line, send_line, deed_line, short_line, line_of, part_after};
 
 use lists::{Items, NoMemory};
 use std::alloc::Global;
@@ -10,22 +10,43 @@ use std::alloc::Global;
 pub enum Line {
     /// Nothing: the line is empty or a comment.
     Skip,
-    /// A connection with this number opens.
-    Open(u64),
-    /// The connection's client sends these bytes.
-    Send(u64, Items<u8>),
+    /// So many deliveries may wait for a session, and so many entries may the history hold.
+    Caps { outbox: u64, history: u64 },
     /// The policy that this text writes takes the place of the built-in one.
     Policy(Items<u8>),
+    /// A connection with this number opens.
+    Open(u64),
+    /// This is done to the connection with that number, if it is open.
+    Client(u64, Deed),
+    /// Later events are at this moment.
+    Now(u64),
+    /// This word is behind those that messages take.
+    Word(u64),
     /// The line has another form.
     Other,
+}
+
+/// What a line does to a connection.
+#[derive(Debug, Drop)]
+pub enum Deed {
+    /// Its client sends these bytes.
+    Sends(Items<u8>),
+    /// No more drains are made for it.
+    Holds,
+    /// Drains are made for it again.
+    Frees,
+    /// Its client has gone.
+    Ends,
 }
 
 /// How far a script has come.
 #[derive(Clone, Copy, Debug, PartialEq, Eq)]
 pub enum Part {
-    /// Each line so far is skipped. A policy may follow.
+    /// Each line so far is skipped. Caps may follow, or a policy.
     Head,
-    /// A line that is not skipped has come.
+    /// The first of the lines that are not skipped has given caps, and it is the only one. A policy may follow.
+    Capped,
+    /// Another line that is not skipped has come.
     Body,
 }
 
@@ -36,9 +57,12 @@ impl Part {
     {
         match line {
             Line::Skip => self,
-            Line::Open(_) => Part::Body,
-            Line::Send(_, _) => Part::Body,
+            Line::Caps { .. } => Part::Capped,
             Line::Policy(_) => Part::Body,
+            Line::Open(_) => Part::Body,
+            Line::Client(_, _) => Part::Body,
+            Line::Now(_) => Part::Body,
+            Line::Word(_) => Part::Body,
             Line::Other => Part::Body,
         }
     }
@@ -51,22 +75,95 @@ pub fn read_line(alloc: Global, line: &[u8]) -> Result<Line, NoMemory>
     if is_skipped(line) {
         return Ok(Line::Skip);
     }
-    match line.strip_prefix(b"open ") {
-        Some(rest) => Ok(read_open(rest)),
-        None => match line.strip_prefix(b"send ") {
-            Some(rest) => Ok(read_send(alloc, rest)?),
-            None => Ok(read_policy_line(alloc, line)?),
+    match line.strip_prefix(b"send ") {
+        Some(rest) => Ok(read_send(alloc, rest)?),
+        None => match line.strip_prefix(b"policy ") {
+            Some(rest) => Ok(Line::Policy(Items::from_vec(Vec::from_slice(alloc, rest)?))),
+            None => Ok(read_short_line(line)),
         },
     }
 }
 
-/// What a line says that is no other of the forms.
-fn read_policy_line(alloc: Global, line: &[u8]) -> Result<Line, NoMemory>
-    ensures { IfOk result (λ read. read ≡ policy_line line.now) }
+/// What a line says that is no text to send and no policy.
+#[tactic(auto, unfolding(crate::specs::Script::short_line))]
+fn read_short_line(line: &[u8]) -> Line
+    ensures { result ≡ short_line line.now }
 {
-    match line.strip_prefix(b"policy ") {
-        Some(rest) => Ok(Line::Policy(Items::from_vec(Vec::from_slice(alloc, rest)?))),
-        None => Ok(Line::Other),
+    match line.strip_prefix(b"open ") {
+        Some(rest) => read_open(rest),
+        None => match line.strip_prefix(b"caps ") {
+            Some(rest) => read_caps(rest),
+            None => match line.strip_prefix(b"now ") {
+                Some(rest) => read_now(rest),
+                None => match line.strip_prefix(b"word ") {
+                    Some(rest) => read_word(rest),
+                    None => read_deed_line(line),
+                },
+            },
+        },
+    }
+}
+
+/// What a line says that can only be of a connection.
+#[tactic(auto, unfolding(crate::specs::Script::deed_line))]
+fn read_deed_line(line: &[u8]) -> Line
+    ensures { result ≡ deed_line line.now }
+{
+    match line.strip_prefix(b"hold ") {
+        Some(rest) => read_deed(rest, Deed::Holds),
+        None => match line.strip_prefix(b"free ") {
+            Some(rest) => read_deed(rest, Deed::Frees),
+            None => match line.strip_prefix(b"end ") {
+                Some(rest) => read_deed(rest, Deed::Ends),
+                None => Line::Other,
+            },
+        },
+    }
+}
+
+/// What the rest of a line after its word says, where it is the number of a connection.
+fn read_deed(rest: &[u8], deed: Deed) -> Line
+    ensures { result ≡ deed_of deed (number_of rest.now) }
+{
+    match read_number(rest) {
+        Some(conn) => Line::Client(conn, deed),
+        None => Line::Other,
+    }
+}
+
+/// What the rest of a line after `now ` says.
+fn read_now(rest: &[u8]) -> Line
+    ensures { result ≡ now_of (number_of rest.now) }
+{
+    match read_number(rest) {
+        Some(moment) => Line::Now(moment),
+        None => Line::Other,
+    }
+}
+
+/// What the rest of a line after `word ` says.
+fn read_word(rest: &[u8]) -> Line
+    ensures { result ≡ word_of (number_of rest.now) }
+{
+    match read_number(rest) {
+        Some(word) => Line::Word(word),
+        None => Line::Other,
+    }
+}
+
+/// What the rest of a line after `caps ` says.
+fn read_caps(rest: &[u8]) -> Line
+    ensures { result ≡ caps_line rest.now }
+{
+    match first_space(rest) {
+        None => Line::Other,
+        Some(at) => match read_number(&rest[..at]) {
+            None => Line::Other,
+            Some(outbox) => match read_number(&rest[at + 1..]) {
+                None => Line::Other,
+                Some(history) => Line::Caps { outbox, history },
+            },
+        },
     }
 }
 
@@ -100,7 +197,7 @@ fn read_send(alloc: Global, rest: &[u8]) -> Result<Line, NoMemory>
             None => Ok(Line::Other),
             Some(conn) => match unescape(alloc, &rest[at + 1..])? {
                 None => Ok(Line::Other),
-                Some(bytes) => Ok(Line::Send(conn, Items::from_vec(bytes))),
+                Some(bytes) => Ok(Line::Client(conn, Deed::Sends(Items::from_vec(bytes)))),
             },
         },
     }

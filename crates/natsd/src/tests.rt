@@ -1,4 +1,5 @@
 mod checks;
+mod lines;
 mod plays;
 mod words;
 
@@ -7,7 +8,7 @@ use crate::fail_at::FailAt;
 use crate::fault::PlayFault;
 use crate::input::{MOST_BYTES, read_to_end};
 use crate::output::{write_closed, write_refused, write_shown};
-use crate::script::{Line, read_line};
+use crate::script::{Deed, Line, read_line};
 use std::io;
 use std::io::Read;
 
@@ -42,10 +43,60 @@ fn lines_of_a_script(rt: HostRuntime) {
         b"send 1 \\x4g",
         b"policy",
         b"Policy {}",
-        b"now 5",
+        b"now",
+        b"now 5 ",
+        b"now -5",
+        b"word  1",
+        b"word x",
+        b"caps 1",
+        b"caps 1 ",
+        b"caps  1 1",
+        b"caps 1 1 ",
+        b"caps 1 1 1",
+        b"caps 1\t1",
+        b"hold",
+        b"hold 1 ",
+        b"free x",
+        b"end",
+        b"end 1\r",
+        b"end 18446744073709551616",
+        b"reload {}",
     ] {
         assert!(rt; matches!(read_line(rt.alloc(), line), Ok(Line::Other)));
     }
+}
+
+#[test]
+fn numbers_of_lines(rt: HostRuntime) {
+    assert!(rt;
+        matches!(
+            read_line(rt.alloc(), b"caps 01 18446744073709551615"),
+            Ok(Line::Caps {
+                outbox: 1,
+                history: u64::MAX
+            })
+        )
+    );
+    assert!(rt; matches!(read_line(rt.alloc(), b"now 0"), Ok(Line::Now(0))));
+    assert!(rt; matches!(read_line(rt.alloc(), b"word 255"), Ok(Line::Word(255))));
+    assert!(rt;
+        matches!(
+            read_line(rt.alloc(), b"hold 1"),
+            Ok(Line::Client(1, Deed::Holds))
+        )
+    );
+    assert!(rt;
+        matches!(
+            read_line(rt.alloc(), b"free 1"),
+            Ok(Line::Client(1, Deed::Frees))
+        )
+    );
+    assert!(rt;
+        matches!(
+            read_line(rt.alloc(), b"end 1"),
+            Ok(Line::Client(1, Deed::Ends))
+        )
+    );
 }
 
 #[test]
@@ -71,7 +122,7 @@ fn texts_to_send(rt: HostRuntime) {
         (b"send 1 \\\\\\x00\\xfF\\x4A", b"\\\x00\xff\x4a"),
     ] {
         match read_line(rt.alloc(), line) {
-            Ok(Line::Send(conn, read)) => {
+            Ok(Line::Client(conn, Deed::Sends(read))) => {
                 assert_eq!(rt; conn, 1);
                 assert_eq!(rt; read.as_slice(), bytes);
             }

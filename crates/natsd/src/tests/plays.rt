@@ -21,14 +21,14 @@ const FIRST_MESSAGE_PRINTS: &[u8] =
 "#;
 
 // What a script prints, and its status.
-fn played(alloc: Global, script: &[u8]) -> Result<(u8, Vec<u8>), PlayFault> {
+pub(crate) fn played(alloc: Global, script: &[u8]) -> Result<(u8, Vec<u8>), PlayFault> {
     let mut sink = WriteSink::new(Vec::new(alloc));
     let status = play(alloc, &mut ReadSource::new(script), &mut sink)?;
     Ok((status, sink.into_writer()))
 }
 
 // The same without the INFO lines.
-fn answered(alloc: Global, script: &[u8]) -> Result<(u8, Vec<u8>), PlayFault> {
+pub(crate) fn answered(alloc: Global, script: &[u8]) -> Result<(u8, Vec<u8>), PlayFault> {
     let (status, printed) = played(alloc, script)?;
     let mut answers = Vec::new(alloc);
     for line in printed.as_slice().split(|b| *b == b'\n') {
@@ -75,7 +75,7 @@ fn the_first_message(rt: HostRuntime) {
 
 #[test]
 fn answers_to_demo(rt: HostRuntime) {
-    let cases: [(&[u8], &[u8]); 14] = [
+    let cases: [(&[u8], &[u8]); 20] = [
         // An empty payload.
         (
             br"send 1 SUB foo 1\r\nPUB foo 0\r\n\r\n",
@@ -83,8 +83,8 @@ fn answers_to_demo(rt: HostRuntime) {
         ),
         // Bad subjects leave the connection open.
         (
-            br"send 1 SUB foo..bar 1\r\nSUB >.a 1\r\nPUB foo.* 0\r\n\r\nPING\r\n",
-            b"1< -ERR 'Invalid Subject'\\r\\n-ERR 'Invalid Subject'\\r\\n-ERR 'Invalid Subject'\\r\\nPONG\\r\\n\n",
+            br"send 1 SUB foo..bar 1\r\nSUB >.a 1\r\nPUB foo.* 0\r\n\r\nPUB foo r.> 0\r\n\r\nPING\r\n",
+            b"1< -ERR 'Invalid Subject'\\r\\n-ERR 'Invalid Subject'\\r\\n-ERR 'Invalid Subject'\\r\\n-ERR 'Invalid Subject'\\r\\nPONG\\r\\n\n",
         ),
         // A token with a star among other bytes is literal.
         (
@@ -97,7 +97,7 @@ fn answers_to_demo(rt: HostRuntime) {
             b"1< -ERR 'Maximum Payload Violation'\\r\\n\n1 closed\n",
         ),
         (
-            br"send 1 UNSUB 1\r\nPING\r\n",
+            br"send 1 NOSUB 1\r\nPING\r\n",
             b"1< -ERR 'Unknown Protocol Operation'\\r\\n\n1 closed\n",
         ),
         (
@@ -138,6 +138,33 @@ fn answers_to_demo(rt: HostRuntime) {
             br"send 1 SUB > 2\r\nSUB a 1\r\nPUB a 0\r\n\r\n",
             b"1< MSG a 2 0\\r\\n\\r\\nMSG a 1 0\\r\\n\\r\\n\n",
         ),
+        // A subject to answer on goes with its message.
+        (
+            br"send 1 SUB foo 1\r\nPUB foo re.1 2\r\nhi\r\n",
+            b"1< MSG foo 1 re.1 2\\r\\nhi\\r\\n\n",
+        ),
+        // An UNSUB of a sid that no subscription has is no mistake.
+        (
+            br"send 1 SUB foo 1\r\nUNSUB 9\r\nPUB foo 0\r\n\r\n",
+            b"1< MSG foo 1 0\\r\\n\\r\\n\n",
+        ),
+        // An UNSUB ends a subscription at once, or after so many messages.
+        (
+            br"send 1 SUB foo 1\r\nSUB foo 2\r\nUNSUB 2\r\nUNSUB 1 1\r\nPUB foo 1\r\na\r\nPUB foo 1\r\nb\r\n",
+            b"1< MSG foo 1 1\\r\\na\\r\\n\n",
+        ),
+        // Queues are not served. The connection stays open.
+        (
+            br"send 1 SUB foo q 1\r\nPUB foo 0\r\n\r\nPING\r\n",
+            b"1< -ERR 'Invalid Subject'\\r\\nPONG\\r\\n\n",
+        ),
+        // A PONG is not answered.
+        (br"send 1 PONG\r\nPING\r\n", b"1< PONG\\r\\n\n"),
+        // A header block of a client that has not declared headers, before its subject is judged.
+        (
+            br"send 1 HPUB foo..bar 2 2\r\nab\r\nPING\r\n",
+            b"1< -ERR 'Parser Error'\\r\\n\n1 closed\n",
+        ),
         // LF alone ends a control line.
         (br"send 1 ping \n", b"1< PONG\\r\\n\n"),
     ];
@@ -155,11 +182,24 @@ fn answers_to_demo(rt: HostRuntime) {
 
 #[test]
 fn answers_to_fresh_connections(rt: HostRuntime) {
-    let cases: [(&[u8], &[u8]); 7] = [
+    let cases: [(&[u8], &[u8]); 10] = [
         // Verbose, where the client doesn't say.
         (
             b"send 1 CONNECT {\"user\":\"demo\",\"pass\":\"demo\"}\\r\\n\nsend 1 SUB foo 1\\r\\nPUB foo 1\\r\\na\\r\\n",
             b"1< +OK\\r\\n\n1< +OK\\r\\n+OK\\r\\n\n1< MSG foo 1 1\\r\\na\\r\\n\n",
+        ),
+        // Without echo a client is not sent its own messages.
+        (
+            b"send 1 CONNECT {\"user\":\"demo\",\"pass\":\"demo\",\"echo\":false}\\r\\n\nsend 1 SUB foo 1\\r\\nPUB foo 1\\r\\na\\r\\nUNSUB 1\\r\\n",
+            b"1< +OK\\r\\n\n1< +OK\\r\\n+OK\\r\\n+OK\\r\\n\n",
+        ),
+        (
+            br"send 1 PONG\r\nUNSUB 1\r\nPING\r\n",
+            b"1< -ERR 'Authorization Violation'\\r\\n\n1 closed\n",
+        ),
+        (
+            br"send 1 HPUB foo..bar 2 2\r\nab\r\n",
+            b"1< -ERR 'Authorization Violation'\\r\\n\n1 closed\n",
         ),
         (
             br#"send 1 CONNECT {"user":"demo","pass":"wrong"}\r\nPING\r\n"#,
@@ -321,7 +361,7 @@ fn drains_in_order(rt: HostRuntime) {
 fn lines_that_stop(rt: HostRuntime) {
     let cases: [(&[u8], &[u8]); 4] = [
         (b"open 1\n\nopen 1\nsend 1 PING\\r\\n\n", b"script line 3\n"),
-        (b"# a moment\nnow 5\nopen 1\n", b"script line 2\n"),
+        (b"# a policy\nreload {}\nopen 1\n", b"script line 2\n"),
         (
             b"open 1\nsend 1 PING\\r\\n\nopen 01\r",
             b"1< PONG\\r\\n\nscript line 3\n",

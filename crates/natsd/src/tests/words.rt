@@ -47,7 +47,7 @@ fn wrong_lines(rt: HostRuntime) {
 
 #[test]
 fn tasks_that_are_done(rt: HostRuntime) -> Result<(), Fail> {
-    let script = b"open 1\nsend 1 PING\\r\\n\nend 1\n";
+    let script = b"open 1\nsend 1 PING\\r\\n\nclose 1\n";
     let printed =
         br#"1< INFO {"auth_required":true,"client_id":1,"headers":true,"max_payload":1048576,"proto":1,"server_id":"natsd","version":"0.1.0"}\r\n
 1< PONG\r\n

@@ -7,28 +7,28 @@ use Rattle.natsd.proofs.client.take_all.Goals as goal
 
 pub returns-in-None : goal.returns-in-None
 returns-in-None c =
-    taking_none (c.args.most - c.taking.counter) c.args.conn c.taking.hub c.take_if_pending.new.hub c.taking.stage
-    c.taking.out.items c.take_if_pending.new.out.items c.args.out.now.items (takes c.args.most c.args.conn c.args.hub.now c.args.stage)
-    (pending_turn c.args.conn c.taking.hub c.taking.stage) refl
+    taking_none (c.args.most - c.taking.counter) c.args.conn c.taking.server c.take_if_pending.new.server c.taking.stage
+    c.taking.out.items c.take_if_pending.new.out.items c.args.out.now.items (takes c.args.most c.args.conn c.args.server.now c.args.stage)
+    (pending_turn c.args.conn c.taking.server c.taking.stage) refl
     (IsTurnIf-same _ _ _ _ _ _ _ c.in-None.is c.in_ok-take_if_pending.ensures) c.taking.invariant
 
 pub returns-in-HistoryFull : goal.returns-in-HistoryFull
 returns-in-HistoryFull c =
     let left : c.args.most - c.taking.counter ≡ suc (c.args.most - (c.taking.counter + 1)) = omega arith in
-    taking_full (c.args.most - c.taking.counter) (c.args.most - (c.taking.counter + 1)) c.args.conn c.taking.hub c.take_if_pending.new.hub c.taking.stage
-    c.taking.out.items c.take_if_pending.new.out.items c.args.out.now.items (takes c.args.most c.args.conn c.args.hub.now c.args.stage)
-    (pending_turn c.args.conn c.taking.hub c.taking.stage) refl left
+    taking_full (c.args.most - c.taking.counter) (c.args.most - (c.taking.counter + 1)) c.args.conn c.taking.server c.take_if_pending.new.server c.taking.stage
+    c.taking.out.items c.take_if_pending.new.out.items c.args.out.now.items (takes c.args.most c.args.conn c.args.server.now c.args.stage)
+    (pending_turn c.args.conn c.taking.server c.taking.stage) refl left
     (IsTurnIf-same _ _ _ _ _ _ _ (c.in-Some.is ∙ ap (λ (n : Next). Some n) c.in-HistoryFull.is) c.in_ok-take_if_pending.ensures) c.taking.invariant
 
 pub taking-preserved : goal.taking-preserved
 taking-preserved c =
     let left : c.args.most - c.taking.counter ≡ suc (c.args.most - (c.taking.counter + 1)) = omega arith in
-    taking_some (c.args.most - c.taking.counter) (c.args.most - (c.taking.counter + 1)) c.args.conn c.taking.hub c.take_if_pending.new.hub c.taking.stage c.in-Goes.after
-    c.taking.out.items c.take_if_pending.new.out.items c.args.out.now.items (takes c.args.most c.args.conn c.args.hub.now c.args.stage)
-    (pending_turn c.args.conn c.taking.hub c.taking.stage) refl left
+    taking_some (c.args.most - c.taking.counter) (c.args.most - (c.taking.counter + 1)) c.args.conn c.taking.server c.take_if_pending.new.server c.taking.stage c.in-Goes.after
+    c.taking.out.items c.take_if_pending.new.out.items c.args.out.now.items (takes c.args.most c.args.conn c.args.server.now c.args.stage)
+    (pending_turn c.args.conn c.taking.server c.taking.stage) refl left
     (IsTurnIf-same _ _ _ _ _ _ _ (c.in-Some.is ∙ ap (λ (n : Next). Some n) c.in-Goes.is) c.in_ok-take_if_pending.ensures) c.taking.invariant
 
 pub returns : goal.returns
 returns c =
     let spent : c.args.most - c.taking.counter ≡ 0 = omega arith in
-    taking_zero (c.args.most - c.taking.counter) c.args.conn c.taking.hub c.taking.stage c.taking.out.items c.args.out.now.items (takes c.args.most c.args.conn c.args.hub.now c.args.stage) spent c.taking.invariant
+    taking_zero (c.args.most - c.taking.counter) c.args.conn c.taking.server c.taking.stage c.taking.out.items c.args.out.now.items (takes c.args.most c.args.conn c.args.server.now c.args.stage) spent c.taking.invariant

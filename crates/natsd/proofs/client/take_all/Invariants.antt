@@ -6,4 +6,4 @@ use Rattle.natsd.proofs.client.take_all.Given as goal
 
 abbrev pub invariant-taking : goal.invariant-taking
 invariant-taking l =
-    Completes l.out.items (takes (l.most - l.counter) l.conn l.hub l.stage) l.initial.out.items (takes l.most l.conn l.initial.hub l.initial.stage)
+    Completes l.out.items (takes (l.most - l.counter) l.conn l.server l.stage) l.initial.out.items (takes l.most l.conn l.initial.server l.initial.stage)

@@ -6,12 +6,12 @@ use Rattle.natsd.proofs.conn.on_frames.Given as goal
 
 abbrev pub invariant-loop-frame : goal.invariant-loop-frame
 invariant-loop-frame l =
-    let rest = frames_turn l.now l.conn l.hub l.stage l.left.items in
-    let all = frames_turn l.now l.conn l.initial.hub l.initial.stage l.initial.left.items in
+    let rest = frames_turn l.conn l.server l.stage l.left.items in
+    let all = frames_turn l.conn l.initial.server l.initial.stage l.initial.left.items in
     record {
       text : l.out.items ++ rest.text ≡ l.initial.out.items ++ all.text;
       next : rest.next ≡ all.next;
-      world : rest.world ≡ all.world;
+      server : rest.server ≡ all.server;
     }
 
 abbrev pub decreases-loop-frame : goal.decreases-loop-frame

@@ -9,7 +9,7 @@ use Rattle.natsd.proofs.play.drain_all.Goals as goal
 pub returns-in-HistoryFull : goal.returns-in-HistoryFull
 returns-in-HistoryFull c =
     let within : c.draining.client-index < length c.draining.clients = omega arith in
-    draining_full c.draining.clients c.draining.client-index c.client-item.result c.draining.hub c.drain.new.hub c.draining.out.items c.drain.new.out.items c.args.out.now.items (drained c.args.clients.now c.args.hub.now)
+    draining_full c.draining.clients c.draining.client-index c.client-item.result c.draining.server c.drain.new.server c.draining.out.items c.drain.new.out.items c.args.out.now.items (drained c.args.clients.now c.args.server.now)
     within (IsTurn-same _ _ _ _ _ _ c.in-HistoryFull.is c.in_ok-stage.ensures) c.draining.invariant.leads
 
 pub draining-preserved : goal.draining-preserved
@@ -17,7 +17,7 @@ draining-preserved c =
     let within : c.draining.client-index < length c.draining.clients = omega arith in
     record {
       leads =
-          draining_more c.draining.clients c.draining.client-index c.client-item.result c.in-Goes.stage c.draining.hub c.drain.new.hub c.draining.out.items c.drain.new.out.items c.args.out.now.items (drained c.args.clients.now c.args.hub.now)
+          draining_more c.draining.clients c.draining.client-index c.client-item.result c.in-Goes.stage c.draining.server c.drain.new.server c.draining.out.items c.drain.new.out.items c.args.out.now.items (drained c.args.clients.now c.args.server.now)
           within (IsTurn-same _ _ _ _ _ _ c.in-Goes.is c.in_ok-stage.ensures) c.draining.invariant.leads;
       len = length-set _ _ _ ∙ c.draining.invariant.len;
     }
@@ -25,4 +25,4 @@ draining-preserved c =
 pub returns : goal.returns
 returns c =
     let past : length c.draining.clients ≤ c.draining.client-index = omega arith in
-    draining_done c.draining.clients c.draining.client-index c.draining.hub c.draining.out.items c.args.out.now.items (drained c.args.clients.now c.args.hub.now) past c.draining.invariant.leads
+    draining_done c.draining.clients c.draining.client-index c.draining.server c.draining.out.items c.args.out.now.items (drained c.args.clients.now c.args.server.now) past c.draining.invariant.leads

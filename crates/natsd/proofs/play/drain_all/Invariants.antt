@@ -6,6 +6,6 @@ use Rattle.natsd.proofs.play.drain_all.Given as goal
 
 abbrev pub invariant-draining : goal.invariant-draining
 invariant-draining l = record {
-  leads : Leads l.out.items (take l.client-index l.clients) (drained (drop l.client-index l.clients) l.hub) l.initial.out.items (drained l.initial.clients l.initial.hub);
+  leads : Leads l.out.items (take l.client-index l.clients) (drained (drop l.client-index l.clients) l.server) l.initial.out.items (drained l.initial.clients l.initial.server);
   len : length l.clients ≡ length l.initial.clients;
 }

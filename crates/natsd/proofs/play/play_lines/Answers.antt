@@ -3,14 +3,14 @@ use Rattle.std.proofs.Common.{◌∙◌, ◌+◌, ◌==◌, length, arith, ap, r
 use Rattle.std.proofs.lemmas.List.Splits.{length-slice_split}
 use Rattle.std.proofs.lemmas.List.Sums.{count_by-le-length}
 use Rattle.policy_doc.specs.declared.document.PolicyDoc.{PolicyDoc}
-use Rattle.hub.specs.History.{opening_state}
-use Rattle.natsd.specs.Play.{play_capacity, play_history, output_of}
+use Rattle.natsd.specs.Server.{opening}
+use Rattle.natsd.specs.Play.{output_of}
 use Rattle.natsd.proofs.Plays.{plays_open, plays_read, plays_more, plays_stop, plays_failed, plays_refused, plays_last, IsAct-fresh, OnErr-always, Appends-same, AppendsFront-same, or_false}
 use Rattle.natsd.proofs.play.play_lines.Goals as goal
 
 pub playing-init : goal.playing-init
 playing-init g c = record {
-  plays = plays_open (g.W.Sink.contents c.args.sink.now) c.args.script.now c.of-lines.result c.in_ok-hub.hub c.new-clients.result.items c.of-lines.ensures (c.in_ok-hub.ensures ∙ ap (λ (doc : PolicyDoc). opening_state doc play_capacity play_history) c.in_ok-policy.ensures) c.new-clients.ensures.items;
+  plays = plays_open (g.W.Sink.contents c.args.sink.now) c.args.script.now c.of-lines.result c.in_ok-server.server c.new-clients.result.items c.of-lines.ensures (c.in_ok-server.ensures ∙ ap (λ (doc : PolicyDoc). opening doc) c.in_ok-policy.ensures) c.new-clients.ensures.items;
   count = omega (arith, ap length c.of-lines.ensures, length-slice_split (λ b. b == 10) c.args.script.now, count_by-le-length (λ b. b == 10) c.args.script.now);
   failed = refl;
 }
@@ -24,23 +24,23 @@ returns-in_err-stops-clause-prefix g c = OnErr-always _ _ (plays_refused _ _ _ _
 pub returns-in-Err-clause-prefix : goal.returns-in-Err-clause-prefix
 returns-in-Err-clause-prefix g c =
     plays_failed _ _ _ _ _ _ _ _ _ _
-    (plays_read _ _ (c.playing.number + 1) c.playing.part c.playing.lines c.next_piece.new.self c.in-Some.text.now c.in_ok-line.line c.after-next.result c.playing.hub c.playing.clients.items (output_of c.args.script.now) c.in-Some.ensures c.in_ok-line.ensures c.after-next.ensures c.playing.invariant.plays)
+    (plays_read _ _ (c.playing.number + 1) c.playing.part c.playing.lines c.next_piece.new.self c.in-Some.text.now c.in_ok-line.line c.after-next.result c.playing.server c.playing.clients.items (output_of c.args.script.now) c.in-Some.ensures c.in_ok-line.ensures c.after-next.ensures c.playing.invariant.plays)
     (IsAct-fresh _ _ _ _ _ _ c.new-out.ensures.items c.in_ok-stops.ensures) (AppendsFront-same _ _ _ _ c.as_slice.ensures.value c.in-Err.ensures.err)
 
 pub returns-then-stops-clause-meaning : goal.returns-then-stops-clause-meaning
 returns-then-stops-clause-meaning g c =
     plays_stop _ _ _ _ _ _ _ _ _ _
-    (plays_read _ _ (c.playing.number + 1) c.playing.part c.playing.lines c.next_piece.new.self c.in-Some.text.now c.in_ok-line.line c.after-next.result c.playing.hub c.playing.clients.items (output_of c.args.script.now) c.in-Some.ensures c.in_ok-line.ensures c.after-next.ensures c.playing.invariant.plays)
+    (plays_read _ _ (c.playing.number + 1) c.playing.part c.playing.lines c.next_piece.new.self c.in-Some.text.now c.in_ok-line.line c.after-next.result c.playing.server c.playing.clients.items (output_of c.args.script.now) c.in-Some.ensures c.in_ok-line.ensures c.after-next.ensures c.playing.invariant.plays)
     (IsAct-fresh _ _ _ _ _ _ c.new-out.ensures.items c.in_ok-stops.ensures) c.if-stops.true (Appends-same _ _ _ _ c.as_slice.ensures.value c.in-Ok.ensures.ok)
 
 pub playing-preserved : goal.playing-preserved
 playing-preserved g c = record {
   plays = plays_more _ _ _ _ _ _ _ _ _ _
-      (plays_read _ _ (c.playing.number + 1) c.playing.part c.playing.lines c.next_piece.new.self c.in-Some.text.now c.in_ok-line.line c.after-next.result c.playing.hub c.playing.clients.items (output_of c.args.script.now) c.in-Some.ensures c.in_ok-line.ensures c.after-next.ensures c.playing.invariant.plays)
+      (plays_read _ _ (c.playing.number + 1) c.playing.part c.playing.lines c.next_piece.new.self c.in-Some.text.now c.in_ok-line.line c.after-next.result c.playing.server c.playing.clients.items (output_of c.args.script.now) c.in-Some.ensures c.in_ok-line.ensures c.after-next.ensures c.playing.invariant.plays)
       (IsAct-fresh _ _ _ _ _ _ c.new-out.ensures.items c.in_ok-stops.ensures) c.if-stops.false (Appends-same _ _ _ _ c.as_slice.ensures.value c.in-Ok.ensures.ok);
   count = omega (arith, ap length c.in-Some.ensures, c.playing.invariant.count);
   failed = c.in-Ok.ensures.failed ∙ or_false _ ∙ c.playing.invariant.failed;
 }
 
 pub returns-clause-meaning : goal.returns-clause-meaning
-returns-clause-meaning g c = plays_last _ _ (c.playing.number + 1) c.playing.part c.playing.lines c.playing.hub c.playing.clients.items _ c.in_default.ensures.0 c.playing.invariant.plays
+returns-clause-meaning g c = plays_last _ _ (c.playing.number + 1) c.playing.part c.playing.lines c.playing.server c.playing.clients.items _ c.in_default.ensures.0 c.playing.invariant.plays

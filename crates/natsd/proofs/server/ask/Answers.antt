@@ -2,9 +2,9 @@
 use Rattle.std.proofs.Common.{◌∙◌, sym, ap, Err, Result}
 use Rattle.hub.specs.declared.answer.Outcome.{Outcome}
 use Rattle.hub.specs.declared.answer.HubRefusal.{HubRefusal}
-use Rattle.natsd.specs.Session.{is_memory_refusal}
+use Rattle.natsd.specs.Server.{is_memory_refusal}
 use Rattle.natsd.proofs.Answering.{answered_ok, answered_err}
-use Rattle.natsd.proofs.conn.submit.Goals as goal
+use Rattle.natsd.proofs.server.ask.Goals as goal
 
 pub returns-in-Ok : goal.returns-in-Ok
 returns-in-Ok c = record {

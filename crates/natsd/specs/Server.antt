@@ -1,0 +1,71 @@
+-- The server of a script: its hub, the moment of its events and the words that they take (docs/SCRIPT.md, "Lines").
+use Rattle.std.specs.Prelude.{◌∷◌, ℕ, Bool, true, false, List, [], Result, Ok, Err}
+use Rattle.policy_doc.specs.declared.document.PolicyDoc.{PolicyDoc}
+use Rattle.policy_doc.specs.Document.{builtin_doc}
+use Rattle.hub.specs.History.{State, opening_state, stepped}
+use Rattle.hub.specs.declared.hub.Caps.{Caps}
+use Rattle.hub.specs.declared.event.Event.{Event}
+use Rattle.hub.specs.declared.event.Command.{Command}
+use Rattle.hub.specs.declared.answer.Outcome.{Outcome}
+use Rattle.hub.specs.declared.answer.HubRefusal.{HubRefusal}
+use Rattle.hub.specs.declared.answer.HubRefusal.TheVariants as refusal
+
+-- the hub, what it was given at its opening, the moment of the next event, and the words that messages still take
+pub record Serving : Type 0 where
+  pub hub : State
+  pub caps : Caps
+  pub moment : ℕ
+  pub words : List ℕ
+
+-- how many deliveries may wait for a session, and how many entries the history may hold, where a script doesn't say
+abbrev pub usual_caps : Caps
+usual_caps = record { outbox = 1024; history = 100000 }
+
+abbrev pub opened : Caps → PolicyDoc → State
+opened caps policy = opening_state policy caps.outbox caps.history
+
+-- a server to which nothing has happened
+abbrev pub opening : PolicyDoc → Serving
+opening policy = record { hub = opened usual_caps policy; caps = usual_caps; moment = 0; words = [] }
+
+-- another policy, or other caps, over a hub with nobody connected
+abbrev pub with_policy : PolicyDoc → Serving → Serving
+with_policy policy w = record w { hub = opened w.caps policy }
+
+abbrev pub with_caps : Caps → Serving → Serving
+with_caps caps w = record w { hub = opened caps builtin_doc; caps = caps }
+
+-- what a hub answers to an event, and what it is after it; a refusal leaves it as it is
+abbrev pub by_step : State → Result (Outcome × State) HubRefusal → Result Outcome HubRefusal × State
+by_step s (Ok r) = (Ok r.0, r.1)
+by_step s (Err e) = (Err e, s)
+
+unfoldable pub heard : State → Event → Result Outcome HubRefusal × State
+heard s e = by_step s (stepped s e)
+
+-- a command at the moment
+abbrev pub event_of : Serving → Command → Event
+event_of w c = record { now = w.moment; what = c }
+
+unfoldable pub answered : Serving → Command → Result Outcome HubRefusal × Serving
+answered w c = let a = heard w.hub (event_of w c) in (a.0, record w { hub = a.1 })
+
+-- the first of the words, 0 where none is left, and the words behind it
+abbrev pub first_word : List ℕ → ℕ
+first_word [] = 0
+first_word (word ∷ words) = word
+
+abbrev pub later_words : List ℕ → List ℕ
+later_words [] = []
+later_words (word ∷ words) = words
+
+abbrev pub after_word : Serving → Serving
+after_word w = record w { words = later_words w.words }
+
+-- whether memory was lacking
+abbrev pub is_memory_refusal : HubRefusal → Bool
+is_memory_refusal refusal.NoMemory = true
+is_memory_refusal refusal.HistoryFull = false
+is_memory_refusal refusal.NoSession = false
+is_memory_refusal refusal.SessionTaken = false
+is_memory_refusal refusal.SessionLimit = false
