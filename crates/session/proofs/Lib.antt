@@ -1,0 +1,5 @@
+mod Parsing
+mod Reading
+mod Runs
+mod Short
+mod Written

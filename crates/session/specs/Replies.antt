@@ -1,0 +1,121 @@
+-- What a client is told (NATS documentation, "Client Protocol"; docs/PROTOCOL.md, "A connection's life").
+use Rattle.std.specs.Prelude.{ℕ, ◌+◌, Bool, true, false, List, [], length, None, Result, Ok, Err, if◌then◌else◌}
+use Rattle.wire_read.specs.declared.fault.WireFault.{WireFault}
+use Rattle.wire_read.specs.declared.fault.WireFault.TheVariants as fault
+use Rattle.wire_read.specs.declared.frame.Frame.{Frame}
+use Rattle.wire_read.specs.declared.frame.Frame.TheVariants as frame
+use Rattle.wire_write.specs.Texts.{ok_line, pong_line}
+use Rattle.wire_write.specs.Errors.{err_line, publish_denied_line, subscription_denied_line}
+use Rattle.wire_write.specs.declared.error.ServerError.{ServerError}
+use Rattle.wire_write.specs.declared.error.ServerError.TheVariants as error
+use Rattle.hub.specs.declared.answer.Outcome.{Outcome}
+use Rattle.hub.specs.declared.answer.Outcome.TheVariants as outcome
+use Rattle.hub.specs.declared.answer.HubRefusal.{HubRefusal}
+use Rattle.hub.specs.declared.answer.HubRefusal.TheVariants as refusal
+use Rattle.session.specs.declared.stage.Stage.{Stage}
+use Rattle.session.specs.declared.stage.Stage.TheVariants as stage
+use Rattle.session.specs.declared.text.Text.{Text}
+use Rattle.session.specs.declared.text.Text.TheVariants as text
+use Rattle.session.specs.declared.reply.Reply.{Reply}
+
+-- ---- stages
+
+-- nothing more is written
+abbrev pub is_closed : Stage → Bool
+is_closed stage.Fresh = false
+is_closed (stage.Connected _ _) = false
+is_closed (stage.Closed _) = true
+
+-- after a closing text a session that stood stands still
+abbrev pub closed_from : Stage → Stage
+closed_from stage.Fresh = stage.Closed false
+closed_from (stage.Connected _ _) = stage.Closed true
+closed_from (stage.Closed session) = stage.Closed session
+
+-- the client declared headers
+abbrev pub takes_headers : Stage → Bool
+takes_headers stage.Fresh = false
+takes_headers (stage.Connected _ headers) = headers
+takes_headers (stage.Closed _) = false
+
+-- ---- texts
+
+-- the line of a text
+abbrev pub text_line : Text → List ℕ
+text_line text.Nothing = []
+text_line text.Accepted = ok_line
+text_line text.Pong = pong_line
+text_line (text.Error e) = err_line e
+
+-- `+OK` to a client that asked for it
+abbrev pub ok_if : Stage → List ℕ
+ok_if (stage.Connected verbose _) = if verbose then ok_line else []
+ok_if stage.Fresh = []
+ok_if (stage.Closed _) = []
+
+-- the text of a fault of the stream
+abbrev pub fault_text : WireFault → Text
+fault_text fault.UnknownOperation = text.Error error.UnknownOperation
+fault_text fault.ParserError = text.Error error.ParserError
+fault_text fault.ControlLine = text.Error error.ControlLine
+fault_text fault.Payload = text.Error error.PayloadViolation
+
+-- that the user may not do what a frame asks. The last five are not denied.
+abbrev pub denied_line : Frame → List ℕ
+denied_line (frame.Pub subject _ _) = publish_denied_line subject
+denied_line (frame.Hpub subject _ _ _) = publish_denied_line subject
+denied_line (frame.Sub subject _ _) = subscription_denied_line subject None
+denied_line (frame.Connect _) = []
+denied_line (frame.Unsub _ _) = []
+denied_line frame.Ping = []
+denied_line frame.Pong = []
+denied_line (frame.Fault _) = []
+
+-- room enough for any text about a frame
+abbrev pub room_of : Frame → ℕ
+room_of (frame.Pub subject _ _) = length subject + 64
+room_of (frame.Hpub subject _ _ _) = length subject + 64
+room_of (frame.Sub subject _ _) = length subject + 64
+room_of (frame.Connect _) = 64
+room_of (frame.Unsub _ _) = 64
+room_of frame.Ping = 64
+room_of frame.Pong = 64
+room_of (frame.Fault _) = 64
+
+-- ---- replies
+
+-- what a client is told, and where its connection is then
+pub record Told : Type 0 where
+  pub text : List ℕ
+  pub stage : Stage
+
+abbrev pub tells : List ℕ → Stage → Told
+tells text s = record { text = text; stage = s }
+
+-- a reply, by its text
+abbrev pub told : Reply → Told
+told r = tells (text_line r.text) r.stage
+
+-- an error that closes the connection
+abbrev pub closes_with : ServerError → Stage → Told
+closes_with e s = tells (err_line e) (closed_from s)
+
+-- The reply to what was answered to a frame's event, where an accepted CONNECT leads to another stage. Memory and
+-- the history aside, the last three answers don't come to a frame.
+abbrev pub reply_to : Stage → Stage → Frame → Result Outcome HubRefusal → Told
+reply_to s accepted f (Ok outcome.Connected) = tells (ok_if accepted) accepted
+reply_to s accepted f (Ok outcome.Subscribed) = tells (ok_if s) s
+reply_to s accepted f (Ok outcome.SameSid) = tells (ok_if s) s
+reply_to s accepted f (Ok outcome.Unsubscribed) = tells (ok_if s) s
+reply_to s accepted f (Ok (outcome.Published _ _)) = tells (ok_if s) s
+reply_to s accepted f (Ok (outcome.Denied _)) = tells (denied_line f) s
+reply_to s accepted f (Ok outcome.SubLimit) = tells (err_line error.SubscriptionsExceeded) s
+reply_to s accepted f (Ok outcome.AuthViolation) = closes_with error.Authorization s
+reply_to s accepted f (Err refusal.SessionTaken) = closes_with error.InvalidProtocol s
+reply_to s accepted f (Err refusal.SessionLimit) = closes_with error.ConnectionsExceeded s
+reply_to s accepted f (Err refusal.NoSession) = tells (err_line error.Authorization) (stage.Closed false)
+reply_to s accepted f (Err refusal.HistoryFull) = tells [] s
+reply_to s accepted f (Err refusal.NoMemory) = tells [] s
+reply_to s accepted f (Ok (outcome.Taken _ _)) = tells [] s
+reply_to s accepted f (Ok outcome.Closed) = tells [] s
+reply_to s accepted f (Ok (outcome.Reloaded _ _)) = tells [] s

@@ -1,0 +1,31 @@
+ghost use Rattle.std.specs.Prelude.{◌≡◌};
+ghost use Rattle.hub.specs.History.{IsStep};
+
+use crate::port::Port;
+use hub::{Answer, Event, Hub, HubRefusal};
+
+/// A hub that is this thread's alone: each event is one step of it.
+#[derive(Drop)]
+pub struct Direct<'a> {
+    hub: &'a mut Hub,
+}
+
+impl<'a> Direct<'a> {
+    /// A port to a hub.
+    pub fn new(hub: &'a mut Hub) -> Direct<'a>
+        ensures same { result.hub.ghost_name ≡ hub.entry.ghost_name }
+        ensures hub { result.hub.now ≡ hub.old }
+    {
+        Direct { hub }
+    }
+}
+
+impl Port for Direct<'_> {
+    ghost place = { λ port. port.hub.ghost_name };
+
+    ghost steps = { λ old event result new. IsStep old.hub.now event result new.hub.now };
+
+    fn submit(&mut self, event: Event) -> Result<Answer, (Event, HubRefusal)> {
+        self.hub.step(event)
+    }
+}

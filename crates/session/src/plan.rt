@@ -1,0 +1,286 @@
+// What a frame comes to before the hub is asked.
+ghost use Rattle.std.specs.Prelude.{◌≡◌, ◌≤◌, length, IfOk, OnOk, option_copied};
+ghost use Rattle.connect_opts.specs.Opts.{opts_of};
+ghost use Rattle.session.specs.Replies.{text_line};
+ghost use Rattle.session.specs.Plans.{plan_of, fresh_plan, connected_plan, connect_plan, publish_plan, subscribe_plan, subject_if, pattern_if, reply_if, is_memory_fault};
+
+use crate::reply::{Reply, fault_text};
+use crate::stage::Stage;
+use crate::text::Text;
+use bytes::Bytes;
+use connect_opts::{ConnectError, ConnectOpts};
+use hub::Command;
+use lists::NoMemory;
+use std::alloc::Global;
+use subjects::{Pattern, Subject, SubjectError};
+use wire_read::Frame;
+use wire_write::ServerError;
+
+/// What a frame comes to before the hub is asked.
+#[derive(Drop)]
+pub enum Plan {
+    /// It is answered as it is.
+    Tells(Reply<'static>),
+    /// The hub is asked. Where a CONNECT is accepted the connection is then at this stage.
+    Asks(Command, Stage),
+    /// The hub is asked to publish a message, with a word.
+    Publishes {
+        subject: Subject,
+        reply: Option<Subject>,
+        head: Bytes,
+        body: Bytes,
+    },
+}
+
+/// Whether a parser lacked memory.
+fn is_memory_fault(error: SubjectError) -> bool
+    ensures { result ≡ is_memory_fault error }
+{
+    match error {
+        SubjectError::NoMemory => true,
+        SubjectError::Empty => false,
+        SubjectError::EmptyToken => false,
+        SubjectError::BadByte => false,
+        SubjectError::WildcardNotLast => false,
+        SubjectError::TooManyTokens => false,
+        SubjectError::Wildcard => false,
+    }
+}
+
+/// The subject of a text, if it is one.
+fn subject_of(alloc: Global, text: &[u8]) -> Result<Option<Subject>, NoMemory>
+    ensures { IfOk result (λ subject. subject ≡ subject_if text.now) }
+{
+    match Subject::parse(alloc, text) {
+        Ok(subject) => Ok(Some(subject)),
+        Err(error) => {
+            if is_memory_fault(error) {
+                Err(NoMemory)
+            } else {
+                Ok(None)
+            }
+        }
+    }
+}
+
+/// The pattern of a text, if it is one.
+fn pattern_of(alloc: Global, text: &[u8]) -> Result<Option<Pattern>, NoMemory>
+    ensures { IfOk result (λ pattern. pattern ≡ pattern_if text.now) }
+{
+    match Pattern::parse(alloc, text) {
+        Ok(pattern) => Ok(Some(pattern)),
+        Err(error) => {
+            if is_memory_fault(error) {
+                Err(NoMemory)
+            } else {
+                Ok(None)
+            }
+        }
+    }
+}
+
+/// The subject to answer on: none where a message names none, and where it names no subject there is no answer.
+fn reply_of(alloc: Global, text: &Option<Bytes>) -> Result<Option<Option<Subject>>, NoMemory>
+    ensures { IfOk result (λ reply. reply ≡ reply_if text.now) }
+{
+    match text {
+        None => Ok(Some(None)),
+        Some(text) => match subject_of(alloc, text.as_slice())? {
+            None => Ok(None),
+            Some(subject) => Ok(Some(Some(subject))),
+        },
+    }
+}
+
+/// A text alone.
+fn tells(text: Text<'static>, stage: Stage) -> Plan
+    ensures { result ≡ tells text.entry stage }
+{
+    Plan::Tells(Reply { text, stage })
+}
+
+ghost use Rattle.session.specs.Plans.{tells, fails, refuses};
+
+/// An error that closes the connection.
+fn fails(error: ServerError<'static>, stage: Stage) -> Plan
+    ensures { result ≡ fails error.entry stage }
+{
+    tells(Text::Error(error), stage.closed())
+}
+
+/// An error that leaves the connection open.
+fn refuses(error: ServerError<'static>, stage: Stage) -> Plan
+    ensures { result ≡ refuses error.entry stage }
+{
+    tells(Text::Error(error), stage)
+}
+
+/// A CONNECT of a client that has not shown who it is.
+fn plan_connect(alloc: Global, conn: u64, text: &[u8]) -> Result<Plan, NoMemory>
+    ensures { IfOk result (λ plan. plan ≡ connect_plan conn (opts_of text.now)) }
+{
+    match ConnectOpts::read(alloc, text) {
+        Ok(opts) => {
+            let ConnectOpts {
+                user,
+                pass,
+                verbose,
+                echo,
+                headers,
+            } = opts;
+            let command = Command::Connect {
+                conn,
+                user,
+                pass,
+                echo,
+            };
+            Ok(Plan::Asks(command, Stage::Connected { verbose, headers }))
+        }
+        Err(ConnectError::NoMemory) => Err(NoMemory),
+        Err(ConnectError::NotJson | ConnectError::NotObject | ConnectError::FieldType) => {
+            Ok(fails(ServerError::ParserError, Stage::Fresh))
+        }
+    }
+}
+
+/// A message of a client whose CONNECT was accepted. The block and the payload are shared, not copied.
+fn plan_publish(
+    alloc: Global,
+    stage: Stage,
+    subject: &[u8],
+    reply: &Option<Bytes>,
+    head: Bytes,
+    payload: &Bytes,
+) -> Result<Plan, NoMemory>
+    ensures { IfOk result (λ plan. plan ≡ publish_plan stage subject.now reply.now head payload.now) }
+{
+    match subject_of(alloc, subject)? {
+        None => Ok(refuses(ServerError::InvalidSubject, stage)),
+        Some(subject) => match reply_of(alloc, reply)? {
+            None => Ok(refuses(ServerError::InvalidSubject, stage)),
+            Some(reply) => Ok(Plan::Publishes {
+                subject,
+                reply,
+                head,
+                body: payload.clone()?,
+            }),
+        },
+    }
+}
+
+/// A SUB of a client whose CONNECT was accepted. The sid is copied, since it may stand for long, and would keep
+/// all that was read with it. There are no queues yet.
+fn plan_subscribe(
+    alloc: Global,
+    conn: u64,
+    stage: Stage,
+    subject: &[u8],
+    queue: &Option<Bytes>,
+    sid: &[u8],
+) -> Result<Plan, NoMemory>
+    ensures { IfOk result (λ plan. plan ≡ subscribe_plan conn stage subject.now queue.now sid.now) }
+{
+    if queue.is_some() {
+        return Ok(refuses(ServerError::InvalidSubject, stage));
+    }
+    match pattern_of(alloc, subject)? {
+        None => Ok(refuses(ServerError::InvalidSubject, stage)),
+        Some(subject) => {
+            let sid = Bytes::copy_from_slice(alloc, sid)?;
+            Ok(Plan::Asks(Command::Sub { conn, subject, sid }, stage))
+        }
+    }
+}
+
+/// A frame of a client that has not shown who it is.
+fn plan_fresh(alloc: Global, conn: u64, frame: &Frame) -> Result<Plan, NoMemory>
+    ensures { IfOk result (λ plan. plan ≡ fresh_plan conn frame.now) }
+{
+    match frame {
+        Frame::Connect(text) => plan_connect(alloc, conn, text.as_slice()),
+        Frame::Ping => Ok(tells(Text::Pong, Stage::Fresh)),
+        Frame::Pong => Ok(tells(Text::Nothing, Stage::Fresh)),
+        Frame::Fault(fault) => Ok(tells(fault_text(*fault), Stage::Closed { session: false })),
+        Frame::Pub { .. } => Ok(fails(ServerError::Authorization, Stage::Fresh)),
+        Frame::Hpub { .. } => Ok(fails(ServerError::Authorization, Stage::Fresh)),
+        Frame::Sub { .. } => Ok(fails(ServerError::Authorization, Stage::Fresh)),
+        Frame::Unsub { .. } => Ok(fails(ServerError::Authorization, Stage::Fresh)),
+    }
+}
+
+/// A frame of a client whose CONNECT was accepted, and which may have declared headers.
+fn plan_connected(
+    alloc: Global,
+    conn: u64,
+    stage: Stage,
+    headers: bool,
+    frame: &Frame,
+) -> Result<Plan, NoMemory>
+    ensures { IfOk result (λ plan. plan ≡ connected_plan conn stage headers frame.now) }
+{
+    match frame {
+        Frame::Connect(_) => Ok(fails(ServerError::InvalidProtocol, stage)),
+        Frame::Pub {
+            subject,
+            reply,
+            payload,
+        } => plan_publish(
+            alloc,
+            stage,
+            subject.as_slice(),
+            reply,
+            Bytes::new(),
+            payload,
+        ),
+        Frame::Hpub {
+            subject,
+            reply,
+            head,
+            payload,
+        } => {
+            if headers {
+                let head = head.clone()?;
+                plan_publish(alloc, stage, subject.as_slice(), reply, head, payload)
+            } else {
+                Ok(fails(ServerError::ParserError, stage))
+            }
+        }
+        Frame::Sub {
+            subject,
+            queue,
+            sid,
+        } => plan_subscribe(
+            alloc,
+            conn,
+            stage,
+            subject.as_slice(),
+            queue,
+            sid.as_slice(),
+        ),
+        Frame::Unsub { sid, most } => {
+            let sid = sid.clone()?;
+            let most = *most;
+            Ok(Plan::Asks(Command::Unsub { conn, sid, most }, stage))
+        }
+        Frame::Ping => Ok(tells(Text::Pong, stage)),
+        Frame::Pong => Ok(tells(Text::Nothing, stage)),
+        Frame::Fault(fault) => Ok(tells(fault_text(*fault), stage.closed())),
+    }
+}
+
+/// What a frame comes to before the hub is asked. After a closing text nothing is looked at.
+pub fn plan_of(alloc: Global, conn: u64, stage: Stage, frame: &Frame) -> Result<Plan, NoMemory>
+    ensures plan { IfOk result (λ plan. plan ≡ plan_of conn stage frame.now) }
+{
+    match stage {
+        Stage::Fresh => plan_fresh(alloc, conn, frame),
+        Stage::Connected { verbose, headers } => plan_connected(
+            alloc,
+            conn,
+            Stage::Connected { verbose, headers },
+            headers,
+            frame,
+        ),
+        Stage::Closed { session } => Ok(tells(Text::Nothing, Stage::Closed { session })),
+    }
+}

@@ -1,0 +1,138 @@
+// What a client is told of an answer.
+ghost use Rattle.std.specs.Prelude.{◌≡◌, ◌≤◌, length};
+ghost use Rattle.session.specs.Replies.{text_line, told, denied_line, fault_text, reply_to, ok_if, room_of, closed_from};
+ghost use Rattle.wire_write.specs.Errors.{err_line};
+
+use crate::stage::Stage;
+use crate::text::Text;
+use hub::{HubRefusal, Outcome};
+use wire_read::{Frame, WireFault};
+use wire_write::ServerError;
+
+/// What a client is told, and where its connection is then.
+#[derive(Clone, Copy, Debug)]
+pub struct Reply<'a> {
+    pub text: Text<'a>,
+    pub stage: Stage,
+}
+
+/// Room enough for any text about a frame.
+pub fn room_of(frame: &Frame) -> usize
+    ensures { result ≡ room_of frame.now }
+{
+    match frame {
+        Frame::Connect(_) => 64,
+        Frame::Pub { subject, .. } => subject.len() + 64,
+        Frame::Hpub { subject, .. } => subject.len() + 64,
+        Frame::Sub { subject, .. } => subject.len() + 64,
+        Frame::Unsub { .. } => 64,
+        Frame::Ping => 64,
+        Frame::Pong => 64,
+        Frame::Fault(_) => 64,
+    }
+}
+
+/// `+OK` to a client that asked for it.
+fn accepted(stage: Stage) -> Text<'static>
+    ensures line { text_line result ≡ ok_if stage }
+    ensures short { length (text_line result) ≤ 64 }
+{
+    match stage {
+        Stage::Connected { verbose, .. } => {
+            if verbose {
+                Text::Accepted
+            } else {
+                Text::Nothing
+            }
+        }
+        Stage::Fresh => Text::Nothing,
+        Stage::Closed { .. } => Text::Nothing,
+    }
+}
+
+/// That the user may not do what a frame asks.
+fn denied(frame: &Frame) -> Text<'_>
+    ensures line { text_line result ≡ denied_line frame.now }
+    ensures short { length (text_line result) ≤ room_of frame.now }
+{
+    match frame {
+        Frame::Pub { subject, .. } => Text::Error(ServerError::PublishDenied(subject.as_slice())),
+        Frame::Hpub { subject, .. } => Text::Error(ServerError::PublishDenied(subject.as_slice())),
+        Frame::Sub { subject, .. } => Text::Error(ServerError::SubscriptionDenied {
+            subject: subject.as_slice(),
+            queue: None,
+        }),
+        Frame::Connect(_) => Text::Nothing,
+        Frame::Unsub { .. } => Text::Nothing,
+        Frame::Ping => Text::Nothing,
+        Frame::Pong => Text::Nothing,
+        Frame::Fault(_) => Text::Nothing,
+    }
+}
+
+/// The text of a fault of the stream.
+pub fn fault_text(fault: WireFault) -> Text<'static>
+    ensures { result ≡ fault_text fault }
+{
+    match fault {
+        WireFault::UnknownOperation => Text::Error(ServerError::UnknownOperation),
+        WireFault::ParserError => Text::Error(ServerError::ParserError),
+        WireFault::ControlLine => Text::Error(ServerError::ControlLine),
+        WireFault::Payload => Text::Error(ServerError::PayloadViolation),
+    }
+}
+
+/// A reply of that text.
+fn says(text: Text<'static>, stage: Stage) -> Reply<'static>
+    ensures text { result.text ≡ text.entry }
+    ensures stage { result.stage ≡ stage }
+{
+    Reply { text, stage }
+}
+
+/// An error that closes the connection.
+fn closes(error: ServerError<'static>, stage: Stage) -> Reply<'static>
+    ensures text { text_line result.text ≡ err_line error.entry }
+    ensures stage { result.stage ≡ closed_from stage }
+{
+    Reply {
+        text: Text::Error(error),
+        stage: stage.closed(),
+    }
+}
+
+/// The reply to what the hub answered to a frame's event. `accepted_stage` is where an accepted CONNECT leads.
+pub fn reply_to<'a>(
+    stage: Stage,
+    accepted_stage: Stage,
+    frame: &'a Frame,
+    answer: &Result<Outcome, HubRefusal>,
+) -> Reply<'a>
+    ensures told { told result ≡ reply_to stage accepted_stage frame.now answer.now }
+    ensures short { length (text_line result.text) ≤ room_of frame.now }
+{
+    match answer {
+        Ok(Outcome::Connected) => says(accepted(accepted_stage), accepted_stage),
+        Ok(Outcome::Subscribed) => says(accepted(stage), stage),
+        Ok(Outcome::SameSid) => says(accepted(stage), stage),
+        Ok(Outcome::Unsubscribed) => says(accepted(stage), stage),
+        Ok(Outcome::Published(_, _)) => says(accepted(stage), stage),
+        Ok(Outcome::Denied(_)) => Reply {
+            text: denied(frame),
+            stage,
+        },
+        Ok(Outcome::SubLimit) => says(Text::Error(ServerError::SubscriptionsExceeded), stage),
+        Ok(Outcome::AuthViolation) => closes(ServerError::Authorization, stage),
+        Err(HubRefusal::SessionTaken) => closes(ServerError::InvalidProtocol, stage),
+        Err(HubRefusal::SessionLimit) => closes(ServerError::ConnectionsExceeded, stage),
+        Err(HubRefusal::NoSession) => says(
+            Text::Error(ServerError::Authorization),
+            Stage::Closed { session: false },
+        ),
+        Err(HubRefusal::HistoryFull)
+        | Err(HubRefusal::NoMemory)
+        | Ok(Outcome::Taken(_, _))
+        | Ok(Outcome::Closed)
+        | Ok(Outcome::Reloaded { .. }) => says(Text::Nothing, stage),
+    }
+}

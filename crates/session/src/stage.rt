@@ -1,0 +1,49 @@
+ghost use Rattle.std.specs.Prelude.{◌≡◌};
+ghost use Rattle.session.specs.Replies.{is_closed, closed_from, takes_headers};
+
+/// Where a connection is in its life (docs/PROTOCOL.md, "A connection's life").
+#[derive(Clone, Copy, Debug, PartialEq, Eq)]
+pub enum Stage {
+    /// The client has not shown who it is.
+    Fresh,
+    /// Its CONNECT was accepted. A verbose client has each accepted message answered by `+OK`; one that declared
+    /// headers may send header blocks, and is sent them.
+    Connected { verbose: bool, headers: bool },
+    /// Nothing more is written to it. Its session may still stand, and then goes with it.
+    Closed { session: bool },
+}
+
+impl Stage {
+    /// Whether nothing more is written.
+    pub fn is_closed(self) -> bool
+        ensures { result ≡ is_closed self }
+    {
+        match self {
+            Stage::Fresh => false,
+            Stage::Connected { .. } => false,
+            Stage::Closed { .. } => true,
+        }
+    }
+
+    /// The stage after a closing text: a session that stood stands still.
+    pub fn closed(self) -> Stage
+        ensures { result ≡ closed_from self }
+    {
+        match self {
+            Stage::Fresh => Stage::Closed { session: false },
+            Stage::Connected { .. } => Stage::Closed { session: true },
+            Stage::Closed { session } => Stage::Closed { session },
+        }
+    }
+
+    /// Whether the client declared headers.
+    pub fn takes_headers(self) -> bool
+        ensures { result ≡ takes_headers self }
+    {
+        match self {
+            Stage::Fresh => false,
+            Stage::Connected { headers, .. } => headers,
+            Stage::Closed { .. } => false,
+        }
+    }
+}
