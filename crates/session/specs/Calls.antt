@@ -119,18 +119,12 @@ IsDrained steps now most old p o new p' = IsDrainedAt steps now most old p o new
 abbrev pub stage_closed : Result Outcome HubRefusal → Stage
 stage_closed (Ok _) = stage.Closed false
 stage_closed (Err refusal.NoSession) = stage.Closed false
-stage_closed (Err refusal.HistoryFull) = stage.Closed true
-stage_closed (Err refusal.NoMemory) = stage.Closed true
-stage_closed (Err refusal.SessionTaken) = stage.Closed true
-stage_closed (Err refusal.SessionLimit) = stage.Closed true
+stage_closed _ = stage.Closed true
 
 abbrev pub stall_closed : Result Outcome HubRefusal → Option Stall
-stall_closed (Ok _) = None
-stall_closed (Err refusal.NoSession) = None
 stall_closed (Err refusal.HistoryFull) = Some stall.HistoryFull
 stall_closed (Err refusal.NoMemory) = Some stall.Memory
-stall_closed (Err refusal.SessionTaken) = None
-stall_closed (Err refusal.SessionLimit) = None
+stall_closed _ = None
 
 -- nothing is submitted
 pub record IsQuiet {P : Type 0} (s : Stage) (p : P) (s' : Stage) (stall : Option Stall) (p' : P) : Type 0 where
@@ -142,9 +136,7 @@ pub record IsQuiet {P : Type 0} (s : Stage) (p : P) (s' : Stage) (stall : Option
 abbrev pub IsClosing : {P : Type 0} → Steps P → ℕ → ℕ → Stage → P → Stage → Option Stall → P → Type 0
 IsClosing steps now conn (stage.Closed true) p s' stall p' =
     (r : Result Outcome HubRefusal) × IsAnswered steps p (event now (command.Close conn)) r p' × (s' ≡ stage_closed r) × (stall ≡ stall_closed r)
-IsClosing steps now conn (stage.Closed false) p s' stall p' = IsQuiet (stage.Closed false) p s' stall p'
-IsClosing steps now conn stage.Fresh p s' stall p' = IsQuiet stage.Fresh p s' stall p'
-IsClosing steps now conn (stage.Connected verbose headers) p s' stall p' = IsQuiet (stage.Connected verbose headers) p s' stall p'
+IsClosing steps now conn s p s' stall p' = IsQuiet s p s' stall p'
 
 -- the end: no bytes, frames that were kept are dropped, and a session that stands is closed
 pub record IsEnded {P : Type 0} (steps : Steps P) (now : ℕ) (old : Connection) (p : P) (o : Output) (new : Connection) (p' : P) : Type 0 where

@@ -90,24 +90,13 @@ IsSettled s before all missed d =
 abbrev pub ends : List ℕ → Stage → Option Stall → Bool → Drain
 ends text s stall missed = record { text = text; stage = s; stall = stall; owed = []; missed = missed }
 
--- What a Take's answer comes to. The last twelve answers don't come to a Take.
+-- What a Take's answer comes to. No others come to a Take.
 abbrev pub IsTakeTold : Stage → List ℕ → Bool → Result Outcome HubRefusal → Drain → Type 0
 IsTakeTold s before missed (Ok (outcome.Taken deliveries was_missed)) d = IsSettled s before deliveries was_missed d
 IsTakeTold s before missed (Err refusal.NoSession) d = d ≡ ends (before ++ err_line error.Authorization) (stage.Closed false) None missed
 IsTakeTold s before missed (Err refusal.HistoryFull) d = d ≡ ends before s (Some stall.HistoryFull) missed
 IsTakeTold s before missed (Err refusal.NoMemory) d = d ≡ ends before s (Some stall.Memory) missed
-IsTakeTold s before missed (Err refusal.SessionTaken) d = d ≡ ends before s None missed
-IsTakeTold s before missed (Err refusal.SessionLimit) d = d ≡ ends before s None missed
-IsTakeTold s before missed (Ok outcome.Connected) d = d ≡ ends before s None missed
-IsTakeTold s before missed (Ok outcome.AuthViolation) d = d ≡ ends before s None missed
-IsTakeTold s before missed (Ok outcome.Subscribed) d = d ≡ ends before s None missed
-IsTakeTold s before missed (Ok outcome.SameSid) d = d ≡ ends before s None missed
-IsTakeTold s before missed (Ok outcome.SubLimit) d = d ≡ ends before s None missed
-IsTakeTold s before missed (Ok (outcome.Denied _)) d = d ≡ ends before s None missed
-IsTakeTold s before missed (Ok outcome.Unsubscribed) d = d ≡ ends before s None missed
-IsTakeTold s before missed (Ok (outcome.Published _ _)) d = d ≡ ends before s None missed
-IsTakeTold s before missed (Ok outcome.Closed) d = d ≡ ends before s None missed
-IsTakeTold s before missed (Ok (outcome.Reloaded _ _)) d = d ≡ ends before s None missed
+IsTakeTold s before missed _ d = d ≡ ends before s None missed
 
 -- memory lacked before the Take was made
 pub record IsNotTaken {P : Type 0} (s : Stage) (before : List ℕ) (missed : Bool) (p : P) (d : Drain) (p' : P) : Type 0 where

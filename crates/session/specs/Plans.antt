@@ -26,12 +26,7 @@ use Rattle.session.specs.Replies.{closed_from, fault_text}
 -- a parser lacked memory
 abbrev pub is_memory_fault : SubjectError → Bool
 is_memory_fault subject_error.NoMemory = true
-is_memory_fault subject_error.Empty = false
-is_memory_fault subject_error.EmptyToken = false
-is_memory_fault subject_error.BadByte = false
-is_memory_fault subject_error.WildcardNotLast = false
-is_memory_fault subject_error.TooManyTokens = false
-is_memory_fault subject_error.Wildcard = false
+is_memory_fault _ = false
 
 -- the tokens of a text that is a subject, or a pattern
 abbrev pub subject_if : List ℕ → Option (List Token)
@@ -91,10 +86,7 @@ fresh_plan conn (frame.Connect t) = connect_plan conn (opts_of t)
 fresh_plan conn frame.Ping = tells text.Pong stage.Fresh
 fresh_plan conn frame.Pong = tells text.Nothing stage.Fresh
 fresh_plan conn (frame.Fault f) = tells (fault_text f) (stage.Closed false)
-fresh_plan conn (frame.Pub _ _ _) = fails error.Authorization stage.Fresh
-fresh_plan conn (frame.Hpub _ _ _ _) = fails error.Authorization stage.Fresh
-fresh_plan conn (frame.Sub _ _ _) = fails error.Authorization stage.Fresh
-fresh_plan conn (frame.Unsub _ _) = fails error.Authorization stage.Fresh
+fresh_plan conn _ = fails error.Authorization stage.Fresh
 
 -- after it: a second CONNECT is refused before its text is read, and an HPUB of a client that declared no headers
 -- before its subjects are judged

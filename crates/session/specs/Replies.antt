@@ -26,6 +26,12 @@ is_closed stage.Fresh = false
 is_closed (stage.Connected _ _) = false
 is_closed (stage.Closed _) = true
 
+-- the client's CONNECT was accepted, and nothing has closed the connection since
+abbrev pub is_connected : Stage → Bool
+is_connected stage.Fresh = false
+is_connected (stage.Connected _ _) = true
+is_connected (stage.Closed _) = false
+
 -- after a closing text a session that stood stands still
 abbrev pub closed_from : Stage → Stage
 closed_from stage.Fresh = stage.Closed false
@@ -60,27 +66,19 @@ fault_text fault.ParserError = text.Error error.ParserError
 fault_text fault.ControlLine = text.Error error.ControlLine
 fault_text fault.Payload = text.Error error.PayloadViolation
 
--- that the user may not do what a frame asks. The last five are not denied.
+-- that the user may not do what a frame asks; no others are denied
 abbrev pub denied_line : Frame → List ℕ
 denied_line (frame.Pub subject _ _) = publish_denied_line subject
 denied_line (frame.Hpub subject _ _ _) = publish_denied_line subject
 denied_line (frame.Sub subject _ _) = subscription_denied_line subject None
-denied_line (frame.Connect _) = []
-denied_line (frame.Unsub _ _) = []
-denied_line frame.Ping = []
-denied_line frame.Pong = []
-denied_line (frame.Fault _) = []
+denied_line _ = []
 
 -- room enough for any text about a frame
 abbrev pub room_of : Frame → ℕ
 room_of (frame.Pub subject _ _) = length subject + 64
 room_of (frame.Hpub subject _ _ _) = length subject + 64
 room_of (frame.Sub subject _ _) = length subject + 64
-room_of (frame.Connect _) = 64
-room_of (frame.Unsub _ _) = 64
-room_of frame.Ping = 64
-room_of frame.Pong = 64
-room_of (frame.Fault _) = 64
+room_of _ = 64
 
 -- ---- replies
 
@@ -101,7 +99,7 @@ abbrev pub closes_with : ServerError → Stage → Told
 closes_with e s = tells (err_line e) (closed_from s)
 
 -- The reply to what was answered to a frame's event, where an accepted CONNECT leads to another stage. Memory and
--- the history aside, the last three answers don't come to a frame.
+-- the history aside, no others come to a frame.
 abbrev pub reply_to : Stage → Stage → Frame → Result Outcome HubRefusal → Told
 reply_to s accepted f (Ok outcome.Connected) = tells (ok_if accepted) accepted
 reply_to s accepted f (Ok outcome.Subscribed) = tells (ok_if s) s
@@ -114,8 +112,4 @@ reply_to s accepted f (Ok outcome.AuthViolation) = closes_with error.Authorizati
 reply_to s accepted f (Err refusal.SessionTaken) = closes_with error.InvalidProtocol s
 reply_to s accepted f (Err refusal.SessionLimit) = closes_with error.ConnectionsExceeded s
 reply_to s accepted f (Err refusal.NoSession) = tells (err_line error.Authorization) (stage.Closed false)
-reply_to s accepted f (Err refusal.HistoryFull) = tells [] s
-reply_to s accepted f (Err refusal.NoMemory) = tells [] s
-reply_to s accepted f (Ok (outcome.Taken _ _)) = tells [] s
-reply_to s accepted f (Ok outcome.Closed) = tells [] s
-reply_to s accepted f (Ok (outcome.Reloaded _ _)) = tells [] s
+reply_to s accepted f _ = tells [] s

@@ -94,6 +94,20 @@ impl Conn {
         }
     }
 
+    /// Its number.
+    pub fn number(&self) -> u64
+        ensures { result ≡ self.now.conn }
+    {
+        self.conn
+    }
+
+    /// Where it is in its life.
+    pub fn stage(&self) -> Stage
+        ensures { result ≡ self.now.stage }
+    {
+        self.stage
+    }
+
     /// What the client is sent at the opening: INFO. Without memory nothing, and it can be asked again.
     pub fn opened(&self, alloc: Global) -> Output
         ensures { IsOpened self.now.conn result }

@@ -1,5 +1,5 @@
 ghost use Rattle.std.specs.Prelude.{◌≡◌};
-ghost use Rattle.session.specs.Replies.{is_closed, closed_from, takes_headers};
+ghost use Rattle.session.specs.Replies.{is_closed, is_connected, closed_from, takes_headers};
 
 /// Where a connection is in its life (docs/PROTOCOL.md, "A connection's life").
 #[derive(Clone, Copy, Debug, PartialEq, Eq)]
@@ -22,6 +22,17 @@ impl Stage {
             Stage::Fresh => false,
             Stage::Connected { .. } => false,
             Stage::Closed { .. } => true,
+        }
+    }
+
+    /// Whether the client's CONNECT was accepted, and nothing has closed the connection since.
+    pub fn is_connected(self) -> bool
+        ensures { result ≡ is_connected self }
+    {
+        match self {
+            Stage::Fresh => false,
+            Stage::Connected { .. } => true,
+            Stage::Closed { .. } => false,
         }
     }
 

@@ -1,5 +1,5 @@
 -- each turn goes on to the next, or ends them all
-use Rattle.std.proofs.Common.{◌∙◌, ◌++◌, None, Some, List, ℕ, drop, sym, subst, ap}
+use Rattle.std.proofs.Common.{◌≡◌, ◌∙◌, ◌++◌, None, Some, List, ℕ, drop, sym, subst, ap}
 use Rattle.wire_read.specs.declared.frame.Frame.{Frame}
 use Rattle.session.specs.Replies.{told, text_line}
 use Rattle.session.specs.Serving.{spot, served, Serves}
@@ -22,7 +22,7 @@ returns-in-Stalls-clause-served g c =
     let at = spot c.loop-frame.port c.loop-frame.words c.loop-frame.stage c.loop-frame.word in
     let after = spot c.take_turn.new.port c.take_turn.new.words c.loop-frame.stage c.in-Stalls.kept in
     subst (λ (x : List ℕ). Serves g.P.Port.steps g.W.Words.draws c.args.now c.args.conn c.args.frames.now start (served x c.loop-frame.frames (Some c.in-Stalls.stall) after))
-    (sym c.take_turn.ensures.out)
+    (sym {A = List ℕ} c.take_turn.ensures.out)
     (completes_stalls g.P.Port.steps g.W.Words.draws c.args.now c.args.conn c.args.frames.now start c.loop-frame.bytes.items at
     c.loop-frame.frames c.in-Some.frame.now (drop 1 c.loop-frame.frames) c.in-Stalls.stall c.in-Stalls.kept c.take_turn.new.port c.take_turn.new.words
     c.in-Some.ensures c.loop-frame.invariant.turns (sym c.is_closed.ensures ∙ c.if-is_closed.false) c.in-Stalls.ensures.turn)
@@ -35,7 +35,8 @@ loop-frame-preserved g c =
     let step = completes_goes g.P.Port.steps g.W.Words.draws c.args.now c.args.conn c.args.frames.now start c.loop-frame.bytes.items at
     c.loop-frame.frames c.in-Some.frame.now (drop 1 c.loop-frame.frames) (told c.in-Goes.reply) c.take_turn.new.port c.take_turn.new.words
     c.in-Some.ensures c.loop-frame.invariant.turns (sym c.is_closed.ensures ∙ c.if-is_closed.false) c.in-Goes.ensures.turn in
-    let bytes = sym (c.put_text.ensures ∙ ap (λ (x : List ℕ). x ++ text_line c.in-Goes.reply.text) c.take_turn.ensures.out) in
+    let bytes : c.loop-frame.bytes.items ++ text_line c.in-Goes.reply.text ≡ c.put_text.new.out.items =
+    sym {A = List ℕ} (◌∙◌ {A = List ℕ} c.put_text.ensures (ap (λ (x : List ℕ). x ++ text_line c.in-Goes.reply.text) c.take_turn.ensures.out)) in
     let written = subst (λ (x : List ℕ). Completes g.P.Port.steps g.W.Words.draws c.args.now c.args.conn c.args.frames.now start x (drop 1 c.loop-frame.frames) next) bytes step in
     record {
       place = c.take_turn.ensures.place ∙ c.loop-frame.invariant.place;
