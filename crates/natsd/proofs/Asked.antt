@@ -1,6 +1,6 @@
 -- What a line is read as, from what clap says of it.
-use Rattle.std.proofs.Common.{refl, sym, ap, subst, Bool, true, false, not, List, ℕ, codes, [], ◌∷◌, ◌≡◌, ◌∙◌, ◌⊎◌, inl, inr, Option, Some, None, Ok, Err, Result, ◌&&◌}
-use Rattle.std.specs.Prelude.{option_map, is_some, find, option_and_then, if◌then◌else◌}
+use Rattle.std.proofs.Common.{refl, sym, ap, subst, Bool, true, false, not, List, codes, [], ◌∷◌, ◌≡◌, ◌∙◌, ◌⊎◌, inl, inr, Option, Some, None, Ok, Err, Result, ◌&&◌}
+use Rattle.std.specs.Prelude.{option_map, is_some, find, if◌then◌else◌}
 use Rattle.clap.specs.Words.{App, HasKind, IsAmong, Kinds, Row, Shape, Text, HasMatchesOf, built, fault_of, is_simple, is_simple_and_free, kind_of, subcommand_name_of, subcommand_of, subcommand_rows_of}
 use Rattle.clap.specs.Simple.{entered, rows_at, label_of, argument_words, names_of, subcommand_rows}
 use Rattle.clap.specs.Walk.{Held, Names, answers_to, finished, nothing_held, settled, stop_after, walk, walk_from}

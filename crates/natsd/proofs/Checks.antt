@@ -4,7 +4,6 @@ use Rattle.std.proofs.lemmas.Bool.{lt-ltb}
 use Rattle.account_config.specs.Fault.{fault_line}
 use Rattle.account_config.specs.Policy.{policy_of}
 use Rattle.account_config.specs.declared.fault.ConfigFault.TheVariants.{TooLarge}
-use Rattle.natsd.specs.Play.{Played}
 use Rattle.natsd.specs.Policies.{judged}
 use Rattle.natsd.specs.Check.{report_of, reported}
 

@@ -1,16 +1,12 @@
 -- How the drains of a line go on, connection by connection.
 use Rattle.std.proofs.Common.{◌≡◌, ◌∙◌, ◌+◌, ◌<◌, ◌++◌, ◌∷◌, [], ℕ, Bool, true, false, List, length, take, drop, get_or, set, cond, suc, ◌==◌, ◌≤◌, arith, ap, sym, refl, subst}
-use Rattle.std.proofs.lemmas.List.{append_assoc, append-nil, take-append-drop, take-set, drop-set, drop-set-lt, set-get_or, take_more, take_more_set}
+use Rattle.std.proofs.lemmas.List.{append_assoc, append-nil, take-append-drop, take-set, drop-set, drop-set-lt, take_more, take_more_set}
 use Rattle.std.proofs.Math.Seq.{drop-cons}
 use Rattle.std.proofs.Math.ListN.{drop_of_length-le}
 use Rattle.natsd.specs.Server.{Serving}
 use Rattle.natsd.specs.declared.client.Client.{Client}
 use Rattle.natsd.specs.declared.script.Deed.{Deed}
-use Rattle.natsd.specs.declared.stage.Stage.{Stage}
-use Rattle.natsd.specs.declared.stage.Next.{Next}
-use Rattle.natsd.specs.declared.stage.Next.TheVariants.{Goes, HistoryFull}
-use Rattle.natsd.specs.Session.{Turn, IsTurn}
-use Rattle.natsd.specs.Play.{Act, act, reached, beside, done_to, after_deed, deed_turn, drain_turn, drained, done_in, IsAct}
+use Rattle.natsd.specs.Play.{Turn, Act, act, reached, beside, done_to, deed_turn, drain_turn, drained, done_in, IsTurn, IsAct}
 
 -- what is left to come, behind what is printed and the connections that are done, is what all comes to
 pub record Leads (written : List ℕ) (front : List Client) (rest : Act) (start : List ℕ) (all : Act) : Type 0 where
@@ -20,7 +16,7 @@ pub record Leads (written : List ℕ) (front : List Client) (rest : Act) (start 
   pub stops : rest.stops ≡ all.stops
 
 -- nothing is left to come
-pub leads_done : (written start : List ℕ) (front : List Client) (w : Serving) (all : Act) →
+leads_done : (written start : List ℕ) (front : List Client) (w : Serving) (all : Act) →
     Leads written front (act [] [] w false) start all → IsAct all start written front w false
 leads_done written start front w all h = record {
   text = sym (append-nil written) ∙ h.text;
@@ -30,26 +26,27 @@ leads_done written start front w all h = record {
 }
 
 -- a connection goes on, and then the rest
-pub leads_more : (written now start : List ℕ) (front : List Client) (k : Client) (t : Turn) (s : Stage) (w : Serving) (more : Serving → Act) (ks : List Client) (all : Act) →
-    IsTurn t written now (Goes s) w → Leads written front (reached k t t.next more ks) start all →
-    Leads now (front ++ record k { stage = s } ∷ []) (more w) start all
-leads_more written now start front k t s w more ks all is h =
-    let rest : Serving → Act = λ v. act (t.text ++ (more v).text) (record k { stage = s } ∷ (more v).clients) (more v).server (more v).stops in
-    let same : reached k t t.next more ks ≡ rest w =
-    ap (λ (n : Next). reached k t n more ks) (sym is.next_is) ∙ ap rest (sym is.server_is) in
+leads_more : (written now start : List ℕ) (front : List Client) (k : Client) (t : Turn) (w : Serving) (more : Serving → Act) (ks : List Client) (all : Act) →
+    IsTurn t written now k w false → Leads written front (reached t t.full more ks) start all →
+    Leads now (front ++ k ∷ []) (more w) start all
+leads_more written now start front k t w more ks all is h =
+    let rest : Client → Serving → Act = λ x v. act (t.text ++ (more v).text) (x ∷ (more v).clients) (more v).server (more v).stops in
+    let same : reached t t.full more ks ≡ rest k w =
+    ap (λ (b : Bool). reached t b more ks) (sym is.full_is) ∙ ap (λ (v : Serving). rest t.client v) (sym is.server_is) ∙ ap (λ (x : Client). rest x w) (sym is.client_is) in
     record {
       text = ap (λ (a : List ℕ). a ++ (more w).text) is.text ∙ append_assoc written t.text (more w).text ∙ ap (λ (a : Act). written ++ a.text) (sym same) ∙ h.text;
-      clients = append_assoc front (record k { stage = s } ∷ []) (more w).clients ∙ ap (λ (a : Act). front ++ a.clients) (sym same) ∙ h.clients;
+      clients = append_assoc front (k ∷ []) (more w).clients ∙ ap (λ (a : Act). front ++ a.clients) (sym same) ∙ h.clients;
       server = ap (λ (a : Act). a.server) (sym same) ∙ h.server;
       stops = ap (λ (a : Act). a.stops) (sym same) ∙ h.stops;
     }
 
 -- the history is full, and the others are not reached
-pub leads_full : (written now start : List ℕ) (front : List Client) (k : Client) (t : Turn) (w : Serving) (more : Serving → Act) (ks : List Client) (all : Act) →
-    IsTurn t written now HistoryFull w → Leads written front (reached k t t.next more ks) start all →
+leads_full : (written now start : List ℕ) (front : List Client) (k : Client) (t : Turn) (w : Serving) (more : Serving → Act) (ks : List Client) (all : Act) →
+    IsTurn t written now k w true → Leads written front (reached t t.full more ks) start all →
     IsAct all start now (front ++ k ∷ ks) w true
 leads_full written now start front k t w more ks all is h =
-    let same : reached k t t.next more ks ≡ act t.text (k ∷ ks) t.server true = ap (λ (n : Next). reached k t n more ks) (sym is.next_is) in
+    let same : reached t t.full more ks ≡ act t.text (k ∷ ks) t.server true =
+    ap (λ (b : Bool). reached t b more ks) (sym is.full_is) ∙ ap (λ (x : Client). act t.text (x ∷ ks) t.server true) (sym is.client_is) in
     record {
       text = is.text ∙ ap (λ (a : Act). written ++ a.text) (sym same) ∙ h.text;
       clients_are = ap (λ (a : Act). front ++ a.clients) (sym same) ∙ h.clients;
@@ -71,40 +68,34 @@ written_at ks i k h =
     ∙ ap (λ (l : List Client). l ++ drop i (set ks i k)) (take-set ks i k)
     ∙ ap (λ (l : List Client). take i ks ++ l) (drop-set ks i k h)
 
-whole_at : (ks : List Client) (i : ℕ) (z : Client) → i < length ks → ks ≡ take i ks ++ get_or ks i z ∷ drop (i + 1) ks
-whole_at ks i z h = sym (take-append-drop i ks) ∙ ap (λ (l : List Client). take i ks ++ l) (cut_at ks i z h)
-
 -- the drains from an index on, by the connection there
 drained_at : (ks : List Client) (i : ℕ) (z : Client) (w : Serving) → i < length ks →
-    drained (drop i ks) w ≡ reached (get_or ks i z) (drain_turn w (get_or ks i z)) (drain_turn w (get_or ks i z)).next (λ v. drained (drop (i + 1) ks) v) (drop (i + 1) ks)
+    drained (drop i ks) w ≡ reached (drain_turn w (get_or ks i z)) (drain_turn w (get_or ks i z)).full (λ v. drained (drop (i + 1) ks) v) (drop (i + 1) ks)
 unfolding drained
 drained_at ks i z w h = ap (λ (l : List Client). drained l w) (cut_at ks i z h)
 
 -- a connection is drained and goes on
-pub draining_more : (ks : List Client) (i : ℕ) (z : Client) (s : Stage) (w w' : Serving) (written now start : List ℕ) (all : Act) → i < length ks →
-    IsTurn (drain_turn w (get_or ks i z)) written now (Goes s) w' →
+pub draining_more : (ks : List Client) (i : ℕ) (z k : Client) (w w' : Serving) (written now start : List ℕ) (all : Act) → i < length ks →
+    IsTurn (drain_turn w (get_or ks i z)) written now k w' false →
     Leads written (take i ks) (drained (drop i ks) w) start all →
-    Leads now (take (i + 1) (set ks i (record (get_or ks i z) { stage = s }))) (drained (drop (i + 1) (set ks i (record (get_or ks i z) { stage = s }))) w') start all
-draining_more ks i z s w w' written now start all h is leads =
-    let k = get_or ks i z in
+    Leads now (take (i + 1) (set ks i k)) (drained (drop (i + 1) (set ks i k)) w') start all
+draining_more ks i z k w w' written now start all h is leads =
     let P : Act → Type 0 = λ a. Leads written (take i ks) a start all in
-    let next = leads_more written now start (take i ks) k (drain_turn w k) s w' (λ v. drained (drop (i + 1) ks) v) (drop (i + 1) ks) all is (subst P (drained_at ks i z w h) leads) in
+    let next = leads_more written now start (take i ks) k (drain_turn w (get_or ks i z)) w' (λ v. drained (drop (i + 1) ks) v) (drop (i + 1) ks) all is (subst P (drained_at ks i z w h) leads) in
     let Q : List Client → Type 0 = λ l. Leads now l (drained (drop (i + 1) ks) w') start all in
-    let R : List Client → Type 0 = λ l. Leads now (take (i + 1) (set ks i (record k { stage = s }))) (drained l w') start all in
-    subst R (sym (drop-set-lt (i + 1) ks i (record k { stage = s }) (omega arith)))
-    (subst Q (sym (take_more_set ks i (record k { stage = s }) h)) next)
+    let R : List Client → Type 0 = λ l. Leads now (take (i + 1) (set ks i k)) (drained l w') start all in
+    subst R (sym (drop-set-lt (i + 1) ks i k (omega arith))) (subst Q (sym (take_more_set ks i k h)) next)
 
 -- a connection at which the history is full
-pub draining_full : (ks : List Client) (i : ℕ) (z : Client) (w w' : Serving) (written now start : List ℕ) (all : Act) → i < length ks →
-    IsTurn (drain_turn w (get_or ks i z)) written now HistoryFull w' →
+pub draining_full : (ks : List Client) (i : ℕ) (z k : Client) (w w' : Serving) (written now start : List ℕ) (all : Act) → i < length ks →
+    IsTurn (drain_turn w (get_or ks i z)) written now k w' true →
     Leads written (take i ks) (drained (drop i ks) w) start all →
-    IsAct all start now (set ks i (get_or ks i z)) w' true
-draining_full ks i z w w' written now start all h is leads =
-    let k = get_or ks i z in
+    IsAct all start now (set ks i k) w' true
+draining_full ks i z k w w' written now start all h is leads =
     let P : Act → Type 0 = λ a. Leads written (take i ks) a start all in
     let Q : List Client → Type 0 = λ l. IsAct all start now l w' true in
-    subst Q (sym (whole_at ks i z h) ∙ sym (set-get_or ks i z))
-    (leads_full written now start (take i ks) k (drain_turn w k) w' (λ v. drained (drop (i + 1) ks) v) (drop (i + 1) ks) all is (subst P (drained_at ks i z w h) leads))
+    subst Q (sym (written_at ks i k h))
+    (leads_full written now start (take i ks) k (drain_turn w (get_or ks i z)) w' (λ v. drained (drop (i + 1) ks) v) (drop (i + 1) ks) all is (subst P (drained_at ks i z w h) leads))
 
 -- all connections are drained
 pub draining_done : (ks : List Client) (i : ℕ) (w : Serving) (written start : List ℕ) (all : Act) → length ks ≤ i →
@@ -117,7 +108,7 @@ draining_done ks i w written start all h leads =
 
 -- what is done from an index on, by the connection there
 done_at : (conn : ℕ) (deed : Deed) (w : Serving) (ks : List Client) (i : ℕ) (z : Client) → i < length ks →
-    done_in conn deed w (drop i ks) ≡ cond ((get_or ks i z).conn == conn) (done_to w (get_or ks i z) deed (drop (i + 1) ks)) (beside (get_or ks i z ∷ []) (done_in conn deed w (drop (i + 1) ks)))
+    done_in conn deed w (drop i ks) ≡ cond ((get_or ks i z).conn.conn == conn) (done_to w (get_or ks i z) deed (drop (i + 1) ks)) (beside (get_or ks i z ∷ []) (done_in conn deed w (drop (i + 1) ks)))
 unfolding done_in
 done_at conn deed w ks i z h = ap (λ (l : List Client). done_in conn deed w l) (cut_at ks i z h)
 
@@ -127,7 +118,7 @@ pub record IsPast (conn : ℕ) (deed : Deed) (w : Serving) (ks : List Client) (i
 
 -- nor the one at it
 pub past_more : (conn : ℕ) (deed : Deed) (w : Serving) (ks : List Client) (i : ℕ) (z : Client) → i < length ks →
-    (get_or ks i z).conn == conn ≡ false → IsPast conn deed w ks i → IsPast conn deed w ks (i + 1)
+    (get_or ks i z).conn.conn == conn ≡ false → IsPast conn deed w ks i → IsPast conn deed w ks (i + 1)
 past_more conn deed w ks i z h other past = record {
   left =
       past.left
@@ -140,7 +131,7 @@ past_more conn deed w ks i z h other past = record {
 
 -- the one at it has the number
 past_here : (conn : ℕ) (deed : Deed) (w : Serving) (ks : List Client) (i : ℕ) (z : Client) → i < length ks →
-    (get_or ks i z).conn == conn ≡ true → IsPast conn deed w ks i →
+    (get_or ks i z).conn.conn == conn ≡ true → IsPast conn deed w ks i →
     done_in conn deed w ks ≡ beside (take i ks) (done_to w (get_or ks i z) deed (drop (i + 1) ks))
 past_here conn deed w ks i z h same past =
     past.left
@@ -160,38 +151,24 @@ past_all conn deed w ks i start h past =
       stops_is = ap (λ (a : Act). a.stops) (sym none);
     }
 
--- the connection of the number goes on
-pub done_goes : (conn : ℕ) (deed : Deed) (w w' : Serving) (ks : List Client) (i : ℕ) (z : Client) (s : Stage) (start now : List ℕ) → i < length ks →
-    (get_or ks i z).conn == conn ≡ true → IsPast conn deed w ks i → IsTurn (deed_turn w (get_or ks i z) deed) start now (Goes s) w' →
-    IsAct (done_in conn deed w ks) start now (set ks i (record (after_deed (get_or ks i z) deed) { stage = s })) w' false
-done_goes conn deed w w' ks i z s start now h same past is =
-    let k = get_or ks i z in
-    let t = deed_turn w k deed in
-    let rest = drop (i + 1) ks in
-    let gone : done_in conn deed w ks ≡ beside (take i ks) (act (t.text ++ []) (record (after_deed k deed) { stage = s } ∷ rest) t.server false) =
-    past_here conn deed w ks i z h same past
-    ∙ ap (λ (n : Next). beside (take i ks) (reached (after_deed k deed) t n (λ v. act [] rest v false) rest)) (sym is.next_is) in
-    record {
-      text = is.text ∙ ap (λ (l : List ℕ). start ++ l) (sym (append-nil t.text)) ∙ ap (λ (a : Act). start ++ a.text) (sym gone);
-      clients_are = written_at ks i (record (after_deed k deed) { stage = s }) h ∙ ap (λ (a : Act). a.clients) (sym gone);
-      server_is = is.server_is ∙ ap (λ (a : Act). a.server) (sym gone);
-      stops_is = ap (λ (a : Act). a.stops) (sym gone);
-    }
+-- nothing becomes of the others
+reached_alone : (t : Turn) (full : Bool) (ks : List Client) → reached t full (λ v. act [] ks v false) ks ≡ act t.text (t.client ∷ ks) t.server full
+reached_alone t true ks = refl
+reached_alone t false ks = ap (λ (l : List ℕ). act l (t.client ∷ ks) t.server false) (append-nil t.text)
 
--- the history is full
-pub done_full : (conn : ℕ) (deed : Deed) (w w' : Serving) (ks : List Client) (i : ℕ) (z : Client) (start now : List ℕ) → i < length ks →
-    (get_or ks i z).conn == conn ≡ true → IsPast conn deed w ks i → IsTurn (deed_turn w (get_or ks i z) deed) start now HistoryFull w' →
-    IsAct (done_in conn deed w ks) start now (set ks i (after_deed (get_or ks i z) deed)) w' true
-done_full conn deed w w' ks i z start now h same past is =
-    let k = get_or ks i z in
-    let t = deed_turn w k deed in
+-- what was done to the connection of the number is all that was done
+pub done_here : (conn : ℕ) (deed : Deed) (w w' : Serving) (ks : List Client) (i : ℕ) (z k : Client) (full : Bool) (start now : List ℕ) → i < length ks →
+    (get_or ks i z).conn.conn == conn ≡ true → IsPast conn deed w ks i → IsTurn (deed_turn w (get_or ks i z) deed) start now k w' full →
+    IsAct (done_in conn deed w ks) start now (set ks i k) w' full
+done_here conn deed w w' ks i z k full start now h same past is =
+    let t = deed_turn w (get_or ks i z) deed in
     let rest = drop (i + 1) ks in
-    let gone : done_in conn deed w ks ≡ beside (take i ks) (act t.text (after_deed k deed ∷ rest) t.server true) =
+    let gone : done_in conn deed w ks ≡ beside (take i ks) (act t.text (k ∷ rest) t.server full) =
     past_here conn deed w ks i z h same past
-    ∙ ap (λ (n : Next). beside (take i ks) (reached (after_deed k deed) t n (λ v. act [] rest v false) rest)) (sym is.next_is) in
+    ∙ ap (beside (take i ks)) (reached_alone t t.full rest ∙ ap (λ (b : Bool). act t.text (t.client ∷ rest) t.server b) (sym is.full_is) ∙ ap (λ (x : Client). act t.text (x ∷ rest) t.server full) (sym is.client_is)) in
     record {
       text = is.text ∙ ap (λ (a : Act). start ++ a.text) (sym gone);
-      clients_are = written_at ks i (after_deed k deed) h ∙ ap (λ (a : Act). a.clients) (sym gone);
+      clients_are = written_at ks i k h ∙ ap (λ (a : Act). a.clients) (sym gone);
       server_is = is.server_is ∙ ap (λ (a : Act). a.server) (sym gone);
       stops_is = ap (λ (a : Act). a.stops) (sym gone);
     }

@@ -1,6 +1,8 @@
 pub mod Numbers
 pub mod Writes
 pub mod Answering
+pub mod Turning
+pub mod Calls
 pub mod Takes
 pub mod Drains
 pub mod Plays

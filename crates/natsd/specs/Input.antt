@@ -1,30 +1,23 @@
 -- How the reading of a script or a policy ends, and the writing of what it gives (docs/SCRIPT.md, "Statuses").
-use Rattle.std.specs.Prelude.{◌≡◌, ◌≤◌, ◌+◌, ℕ, List, length, min, codes, Bool, true, false, Option, Some, None, Result, Ok, Err}
+use Rattle.std.specs.Prelude.{◌≡◌, ◌≤◌, ◌+◌, ℕ, List, length, min, codes, Bool, true, false, Option, Some, None, Result, Err}
 use Rattle.natsd.specs.declared.fault.PlayFault.{PlayFault}
 use Rattle.natsd.specs.declared.fault.PlayFault.TheVariants.{ReadFailed, WriteFailed, NoMemory, ScriptTooLong}
 
 -- the source failed
 abbrev pub is_read_failed : {T : Type 0} → Result T PlayFault → Bool
-is_read_failed (Ok _) = false
 is_read_failed (Err ReadFailed) = true
-is_read_failed (Err WriteFailed) = false
-is_read_failed (Err NoMemory) = false
-is_read_failed (Err ScriptTooLong) = false
+is_read_failed _ = false
 
 -- the sink failed
 abbrev pub is_write_failed : {T : Type 0} → Result T PlayFault → Bool
-is_write_failed (Ok _) = false
-is_write_failed (Err ReadFailed) = false
 is_write_failed (Err WriteFailed) = true
-is_write_failed (Err NoMemory) = false
-is_write_failed (Err ScriptTooLong) = false
+is_write_failed _ = false
 
 -- the source failed, or memory could not be had
 abbrev pub is_read_or_memory : PlayFault → Bool
 is_read_or_memory ReadFailed = true
-is_read_or_memory WriteFailed = false
 is_read_or_memory NoMemory = true
-is_read_or_memory ScriptTooLong = false
+is_read_or_memory _ = false
 
 -- all that was left was read, or it is more than so many bytes and reads bring
 abbrev pub IsWithin : ℕ → ℕ → List ℕ → Option (List ℕ) → Type 0

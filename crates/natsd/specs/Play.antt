@@ -1,21 +1,18 @@
 -- The meaning of a script: what `natsd play` prints and its status, line by line (docs/SCRIPT.md).
-use Rattle.std.specs.Prelude.{◌≡◌, ◌==◌, ◌+◌, ◌/◌, ◌++◌, ◌∷◌, ◌||◌, ◌&&◌, ℕ, zero, suc, Bool, true, false, not, List, [], Option, Some, None, Result, Ok, Err, length, filter, insert, if◌then◌else◌, nat_lt, nat_le}
+use Rattle.std.specs.Prelude.{◌≡◌, ◌==◌, ◌+◌, ◌/◌, ◌++◌, ◌∷◌, ◌||◌, ◌&&◌, ℕ, zero, suc, Bool, true, false, not, List, [], Option, Some, None, Result, Ok, Err, length, filter, insert, if◌then◌else◌, is_some, nat_lt, nat_le}
 use Rattle.std.specs.List.{list_any, position_or_len}
 use Rattle.lists.specs.Pieces.{pieces_of}
 use Rattle.policy_doc.specs.Document.{builtin_doc}
 use Rattle.policy_doc.specs.declared.document.PolicyDoc.{PolicyDoc}
-use Rattle.wire_read.specs.Framing.{Reader, frames_of}
-use Rattle.wire_read.specs.declared.frame.Frame.{Frame}
 use Rattle.wire_write.specs.Texts.{info_line}
 use Rattle.connect_opts.specs.Info.{info_text}
 use Rattle.hub.specs.Shown.{waiting_of}
 use Rattle.hub.specs.declared.hub.Caps.{Caps}
-use Rattle.hub.specs.declared.event.Command.TheVariants as command
-use Rattle.hub.specs.declared.answer.Outcome.{Outcome}
-use Rattle.hub.specs.declared.answer.HubRefusal.{HubRefusal}
-use Rattle.hub.specs.declared.answer.HubRefusal.TheVariants as refusal
-use Rattle.natsd.specs.Server.{Serving, answered, opening, with_policy, with_caps}
-use Rattle.natsd.specs.Session.{Turn, unasked, asked, behind, followed_by, reply_to_take, frames_turn, IsTurn}
+use Rattle.session.specs.declared.output.Stall.{Stall}
+use Rattle.session.specs.Calls.{new_connection}
+use Rattle.session.specs.Replies.{is_closed, is_connected}
+use Rattle.natsd.specs.Server.{Serving, opening, with_policy, with_caps}
+use Rattle.natsd.specs.Session.{Call, bytes_call, drain_call, end_call}
 use Rattle.natsd.specs.Policies.{policy_or_line}
 use Rattle.natsd.specs.Script.{line_of, part_after}
 use Rattle.natsd.specs.Output.{shown_line, closed_line, refused_line, full_line}
@@ -26,79 +23,87 @@ use Rattle.natsd.specs.declared.script.Deed.{Deed}
 use Rattle.natsd.specs.declared.script.Deed.TheVariants.{Sends, Holds, Frees, Ends}
 use Rattle.natsd.specs.declared.script.Part.{Part}
 use Rattle.natsd.specs.declared.script.Part.TheVariants.{Head, Capped, Body}
-use Rattle.natsd.specs.declared.stage.Style.{Style}
-use Rattle.natsd.specs.declared.stage.Stage.{Stage}
-use Rattle.natsd.specs.declared.stage.Stage.TheVariants as stage
-use Rattle.natsd.specs.declared.stage.Next.{Next}
-use Rattle.natsd.specs.declared.stage.Next.TheVariants.{Goes, HistoryFull}
 
 -- the line of what a connection was sent, if it was sent anything
 abbrev pub shown_if : ℕ → List ℕ → List ℕ
 shown_if conn text = if length text == 0 then [] else shown_line conn text
 
--- a turn that prints this
-abbrev pub printing : List ℕ → Next → Serving → Turn
-printing text next w = record { text = text; next = next; server = w }
+-- what is done to a connection: what is printed, the connection and the server after, and whether the history is full
+pub record Turn : Type 0 where
+  pub text : List ℕ
+  pub client : Client
+  pub server : Serving
+  pub full : Bool
 
--- whether the hub takes no more events
-abbrev pub is_full : Result Outcome HubRefusal → Bool
-is_full (Ok _) = false
-is_full (Err refusal.HistoryFull) = true
-is_full (Err refusal.NoSession) = false
-is_full (Err refusal.SessionTaken) = false
-is_full (Err refusal.SessionLimit) = false
-is_full (Err refusal.NoMemory) = false
+abbrev pub turn : List ℕ → Client → Serving → Bool → Turn
+turn text k w full = record { text = text; client = k; server = w; full = full }
 
--- the caller's Close, where a session may stand
-abbrev pub ended_by : Result Outcome HubRefusal × Serving → Turn
-ended_by a = if is_full a.0 then printing full_line HistoryFull a.1 else printing [] (Goes (stage.Closed false)) a.1
+-- nothing is printed or asked
+abbrev pub quiet : Client → Serving → Turn
+quiet k w = turn [] k w false
 
-abbrev pub ended : ℕ → Serving → Bool → Turn
-ended conn w false = printing [] (Goes (stage.Closed false)) w
-ended conn w true = ended_by (answered w (command.Close conn))
+-- a turn behind a text
+abbrev pub behind : List ℕ → Turn → Turn
+behind text t = turn (text ++ t.text) t.client t.server t.full
 
--- what a call of a connection prints: what it was sent; whether it closed, and then its session goes; whether the history is full
-abbrev pub settled_by : ℕ → Next → List ℕ → Serving → Turn
-settled_by conn (Goes (stage.Closed session)) text w = behind (shown_if conn text ++ closed_line conn) (ended conn w session)
-settled_by conn (Goes stage.Fresh) text w = printing (shown_if conn text) (Goes stage.Fresh) w
-settled_by conn (Goes (stage.Connected style)) text w = printing (shown_if conn text) (Goes (stage.Connected style)) w
-settled_by conn HistoryFull text w = printing (shown_if conn text ++ full_line) HistoryFull w
+-- what a call printed behind what stood there, and what it left, is the turn's
+pub record IsTurn (t : Turn) (before after : List ℕ) (client : Client) (w : Serving) (full : Bool) : Type 0 where
+  pub text : after ≡ before ++ t.text
+  pub client_is : client ≡ t.client
+  pub server_is : w ≡ t.server
+  pub full_is : full ≡ t.full
 
-abbrev pub settled : ℕ → Turn → Turn
-settled conn t = settled_by conn t.next t.text t.server
+-- the history is full
+abbrev pub full_if : Option Stall → List ℕ
+full_if None = []
+full_if (Some s) = full_line
+
+-- the end of a connection prints nothing, unless the history is full
+abbrev pub ended_by : Client → Call → Turn
+ended_by k c = turn (full_if c.stall) (record k { conn = c.conn }) c.server (is_some c.stall)
+
+abbrev pub end_turn : Serving → Client → Turn
+end_turn w k = ended_by k (end_call w k.conn)
+
+-- what a call of a connection prints: what it was sent; whether the history is full; whether it closed, and then it ends
+abbrev pub settled_by : Client → Serving → List ℕ → Option Stall → Bool → Turn
+settled_by k w text (Some s) closed = turn (shown_if k.conn.conn text ++ full_line) k w true
+settled_by k w text None true = behind (shown_if k.conn.conn text ++ closed_line k.conn.conn) (end_turn w k)
+settled_by k w text None false = turn (shown_if k.conn.conn text) k w false
+
+abbrev pub settled : Client → Call → Turn
+settled k c = settled_by (record k { conn = c.conn }) c.server c.text c.stall (is_closed c.conn.stage)
 
 -- whether a connection is to be drained: something waits or was missed, or its session is gone
 abbrev pub is_pending : Option (ℕ × Bool) → Bool
 is_pending None = true
 is_pending (Some waiting) = waiting.1 || nat_lt 0 waiting.0
 
--- a Take of 64
-abbrev pub take_turn : ℕ → Serving → Style → Turn
-take_turn conn w style = asked (reply_to_take style) (answered w (command.Take conn 64))
+-- what one Take of 64 prints, if one is to be made
+abbrev pub pending_turn : Serving → Client → Option Turn
+pending_turn w k =
+    if is_connected k.conn.stage && is_pending (waiting_of w.hub.world k.conn.conn) then Some (settled k (drain_call w k.conn 64)) else None
 
--- what one Take prints, if one is to be made
-abbrev pub pending_turn : ℕ → Serving → Stage → Option Turn
-pending_turn conn w stage.Fresh = None
-pending_turn conn w (stage.Closed session) = None
-pending_turn conn w (stage.Connected style) =
-    if is_pending (waiting_of w.hub.world conn) then Some (settled conn (take_turn conn w style)) else None
+-- a turn and what follows it: nothing once the history is full
+abbrev pub goes_on : Turn → Bool → (Serving → Client → Turn) → Turn
+goes_on t true more = t
+goes_on t false more = behind t.text (more t.server t.client)
 
--- a turn and what follows it, or nothing
-abbrev pub if_any : Option Turn → (Serving → Stage → Turn) → Serving → Stage → Turn
-if_any None more w s = unasked w [] s
-if_any (Some t) more w s = followed_by t more
+abbrev pub if_any : Option Turn → (Serving → Client → Turn) → Serving → Client → Turn
+if_any None more w k = quiet k w
+if_any (Some t) more w k = goes_on t t.full more
 
 -- Takes while something is pending, so many at most
-unfoldable pub takes : ℕ → ℕ → Serving → Stage → Turn
-takes zero conn w s = unasked w [] s
-takes (suc most) conn w s = if_any (pending_turn conn w s) (λ w' s'. takes most conn w' s') w s
+unfoldable pub takes : ℕ → Serving → Client → Turn
+takes zero w k = quiet k w
+takes (suc most) w k = if_any (pending_turn w k) (λ w' k'. takes most w' k') w k
 
--- what a call wrote and left where there is a turn, and that it did nothing where there is none
-abbrev pub IsTurnIf : Option Turn → List ℕ → List ℕ → Serving → Serving → Option Next → Type 0
-IsTurnIf None before after old new None = (after ≡ before) × (new ≡ old)
-IsTurnIf (Some t) before after old new (Some next) = IsTurn t before after next new
-IsTurnIf None before after old new (Some next) = ⊥
-IsTurnIf (Some t) before after old new None = ⊥
+-- what a call printed and left where there is a turn, and that it did nothing where there is none
+abbrev pub IsTurnIf : Option Turn → List ℕ → List ℕ → Client → Client → Serving → Serving → Option Bool → Type 0
+IsTurnIf None before after k k' w w' None = (after ≡ before) × (k' ≡ k) × (w' ≡ w)
+IsTurnIf (Some t) before after k k' w w' (Some full) = IsTurn t before after k' w' full
+IsTurnIf None before after k k' w w' (Some full) = ⊥
+IsTurnIf (Some t) before after k k' w w' None = ⊥
 
 -- each Take but the last takes 64 deliveries, so these are enough
 abbrev pub enough_takes : Option (ℕ × Bool) → ℕ
@@ -107,7 +112,7 @@ enough_takes (Some waiting) = waiting.0 / 64 + 1
 
 -- no Takes are made for a connection that is held
 abbrev pub drain_turn : Serving → Client → Turn
-drain_turn w k = if k.held then unasked w [] k.stage else takes (enough_takes (waiting_of w.hub.world k.conn)) k.conn w k.stage
+drain_turn w k = if k.held then quiet k w else takes (enough_takes (waiting_of w.hub.world k.conn.conn)) w k
 
 -- what is printed, the connections and the server after, and whether the script stops there
 pub record Act : Type 0 where
@@ -124,10 +129,9 @@ abbrev pub beside : List Client → Act → Act
 beside ks a = record a { clients = ks ++ a.clients }
 
 -- a turn of one connection, and then what becomes of the others; they are not reached where the history is full
-abbrev pub reached : Client → Turn → Next → (Serving → Act) → List Client → Act
-reached k t (Goes s) more ks =
-    let rest = more t.server in act (t.text ++ rest.text) (record k { stage = s } ∷ rest.clients) rest.server rest.stops
-reached k t HistoryFull more ks = act t.text (k ∷ ks) t.server true
+abbrev pub reached : Turn → Bool → (Serving → Act) → List Client → Act
+reached t true more ks = act t.text (t.client ∷ ks) t.server true
+reached t false more ks = let rest = more t.server in act (t.text ++ rest.text) (t.client ∷ rest.clients) rest.server rest.stops
 
 -- what a call printed behind what stood there, and what it left, is the act's
 pub record IsAct (a : Act) (before after : List ℕ) (clients : List Client) (w : Serving) (stops : Bool) : Type 0 where
@@ -139,60 +143,33 @@ pub record IsAct (a : Act) (before after : List ℕ) (clients : List Client) (w 
 -- every connection is drained, in ascending order
 unfoldable pub drained : List Client → Serving → Act
 drained [] w = act [] [] w false
-drained (k ∷ ks) w = let t = drain_turn w k in reached k t t.next (drained ks) ks
-
--- the frames that bytes complete, of a stream that has not failed
-abbrev pub frames_if : Reader → List ℕ → Option (List Frame)
-frames_if r bytes = if r.failed then None else Some (frames_of (r.rest ++ bytes)).frames
-
--- what a client's bytes come to: the frames that they complete, in order. A stream that has failed gives none.
-abbrev pub bytes_turn : Serving → Client → List ℕ → Turn
-bytes_turn w k bytes =
-    if k.reader.failed then unasked w [] k.stage
-    else settled k.conn (frames_turn k.conn w k.stage (frames_of (k.reader.rest ++ bytes)).frames)
-
--- the reader after the bytes
-abbrev pub reader_after : Reader → List ℕ → Reader
-reader_after r bytes = if r.failed then r else (let f = frames_of (r.rest ++ bytes) in record { rest = f.rest; failed = f.failed })
-
--- whether a session may stand for a connection
-abbrev pub has_session : Stage → Bool
-has_session stage.Fresh = false
-has_session (stage.Connected style) = true
-has_session (stage.Closed session) = session
+drained (k ∷ ks) w = let t = drain_turn w k in reached t t.full (drained ks) ks
 
 -- what is done to a connection: its client sends bytes, it is held or freed, or its client has gone, and then its session goes
 abbrev pub deed_turn : Serving → Client → Deed → Turn
-deed_turn w k (Sends bytes) = bytes_turn w k bytes
-deed_turn w k Holds = unasked w [] k.stage
-deed_turn w k Frees = unasked w [] k.stage
-deed_turn w k Ends = ended k.conn w (has_session k.stage)
-
--- the connection after it, but for its stage
-abbrev pub after_deed : Client → Deed → Client
-after_deed k (Sends bytes) = record k { reader = reader_after k.reader bytes }
-after_deed k Holds = record k { held = true }
-after_deed k Frees = record k { held = false }
-after_deed k Ends = k
+deed_turn w k (Sends bytes) = settled k (bytes_call w k.conn bytes)
+deed_turn w k Holds = quiet (record k { held = true }) w
+deed_turn w k Frees = quiet (record k { held = false }) w
+deed_turn w k Ends = end_turn w k
 
 -- what is done to the connection of that number, if it is open
 abbrev pub done_to : Serving → Client → Deed → List Client → Act
-done_to w k deed ks = let t = deed_turn w k deed in reached (after_deed k deed) t t.next (λ w'. act [] ks w' false) ks
+done_to w k deed ks = let t = deed_turn w k deed in reached t t.full (λ w'. act [] ks w' false) ks
 
 unfoldable pub done_in : ℕ → Deed → Serving → List Client → Act
 done_in conn deed w [] = act [] [] w false
-done_in conn deed w (k ∷ ks) = if k.conn == conn then done_to w k deed ks else beside (k ∷ []) (done_in conn deed w ks)
+done_in conn deed w (k ∷ ks) = if k.conn.conn == conn then done_to w k deed ks else beside (k ∷ []) (done_in conn deed w ks)
 
 -- whether a connection of that number is open
 abbrev pub is_open : List Client → ℕ → Bool
-is_open ks conn = list_any (λ k. k.conn == conn) ks
+is_open ks conn = list_any (λ k. k.conn.conn == conn) ks
 
 -- a new connection, before the first of a greater number
 abbrev pub with_client : Client → List Client → List Client
-with_client k ks = insert ks (position_or_len (λ x. nat_lt k.conn x.conn) ks) k
+with_client k ks = insert ks (position_or_len (λ x. nat_lt k.conn.conn x.conn.conn) ks) k
 
 abbrev pub new_client : ℕ → Client
-new_client conn = record { conn = conn; reader = record { rest = []; failed = false }; stage = stage.Fresh; held = false }
+new_client conn = record { conn = new_connection conn; held = false }
 
 -- a line of another form stops the script
 abbrev pub refused_act : ℕ → Serving → List Client → Act
@@ -233,14 +210,9 @@ line_act number part (line.Now moment) w ks = act [] ks (record w { moment = mom
 line_act number part (line.Word word) w ks = act [] ks (record w { words = w.words ++ word ∷ [] }) false
 line_act number part line.Other w ks = refused_act number w ks
 
-abbrev pub is_closed : Stage → Bool
-is_closed (stage.Closed _) = true
-is_closed stage.Fresh = false
-is_closed (stage.Connected _) = false
-
 -- the connections that are still open
 abbrev pub still_open : List Client → List Client
-still_open ks = filter (λ k. not (is_closed k.stage)) ks
+still_open ks = filter (λ k. not (is_closed k.conn.stage)) ks
 
 -- a line, and then the drains
 abbrev pub and_drains : Act → Bool → Act

@@ -8,7 +8,7 @@ use Rattle.natsd.specs.declared.script.Line.TheVariants.{Skip, Caps, Policy, Ope
 use Rattle.natsd.specs.declared.script.Deed.{Deed}
 use Rattle.natsd.specs.declared.script.Deed.TheVariants.{Sends, Holds, Frees, Ends}
 use Rattle.natsd.specs.declared.script.Part.{Part}
-use Rattle.natsd.specs.declared.script.Part.TheVariants.{Head, Capped, Body}
+use Rattle.natsd.specs.declared.script.Part.TheVariants.{Capped, Body}
 use Rattle.natsd.specs.declared.script.Escape.{Escape}
 use Rattle.natsd.specs.declared.script.Escape.TheVariants.{Plain, Backslash, HighDigit, LowDigit}
 use Rattle.natsd.specs.declared.script.Step.{Step}

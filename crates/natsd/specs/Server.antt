@@ -1,14 +1,12 @@
 -- The server of a script: its hub, the moment of its events and the words that they take (docs/SCRIPT.md, "Lines").
-use Rattle.std.specs.Prelude.{◌∷◌, ℕ, Bool, true, false, List, [], Result, Ok, Err}
+use Rattle.std.specs.Prelude.{◌≡◌, ◌∷◌, ℕ, List, [], Result, Ok, Err}
 use Rattle.policy_doc.specs.declared.document.PolicyDoc.{PolicyDoc}
 use Rattle.policy_doc.specs.Document.{builtin_doc}
 use Rattle.hub.specs.History.{State, opening_state, stepped}
 use Rattle.hub.specs.declared.hub.Caps.{Caps}
 use Rattle.hub.specs.declared.event.Event.{Event}
-use Rattle.hub.specs.declared.event.Command.{Command}
 use Rattle.hub.specs.declared.answer.Outcome.{Outcome}
 use Rattle.hub.specs.declared.answer.HubRefusal.{HubRefusal}
-use Rattle.hub.specs.declared.answer.HubRefusal.TheVariants as refusal
 
 -- the hub, what it was given at its opening, the moment of the next event, and the words that messages still take
 pub record Serving : Type 0 where
@@ -43,13 +41,6 @@ by_step s (Err e) = (Err e, s)
 unfoldable pub heard : State → Event → Result Outcome HubRefusal × State
 heard s e = by_step s (stepped s e)
 
--- a command at the moment
-abbrev pub event_of : Serving → Command → Event
-event_of w c = record { now = w.moment; what = c }
-
-unfoldable pub answered : Serving → Command → Result Outcome HubRefusal × Serving
-answered w c = let a = heard w.hub (event_of w c) in (a.0, record w { hub = a.1 })
-
 -- the first of the words, 0 where none is left, and the words behind it
 abbrev pub first_word : List ℕ → ℕ
 first_word [] = 0
@@ -59,13 +50,6 @@ abbrev pub later_words : List ℕ → List ℕ
 later_words [] = []
 later_words (word ∷ words) = words
 
-abbrev pub after_word : Serving → Serving
-after_word w = record w { words = later_words w.words }
-
--- whether memory was lacking
-abbrev pub is_memory_refusal : HubRefusal → Bool
-is_memory_refusal refusal.NoMemory = true
-is_memory_refusal refusal.HistoryFull = false
-is_memory_refusal refusal.NoSession = false
-is_memory_refusal refusal.SessionTaken = false
-is_memory_refusal refusal.SessionLimit = false
+-- a word is drawn from the front
+abbrev pub IsDrawn : List ℕ → ℕ → List ℕ → Type 0
+IsDrawn words word after = (word ≡ first_word words) × (after ≡ later_words words)

@@ -1,297 +1,184 @@
--- The session protocol: what a connection is told and what it asks of the hub (NATS documentation, "Client
--- Protocol"; docs/PROTOCOL.md, "A connection's life").
-use Rattle.std.specs.Prelude.{◌≡◌, ◌==◌, ◌&&◌, ◌++◌, ◌∷◌, ℕ, Bool, true, false, not, List, [], length, Option, Some, None, option_map, option_and_then, Result, Ok, Err, if◌then◌else◌, is_some}
-use Rattle.std.specs.List.{flat_map}
-use Rattle.subjects.specs.Subject.{Token, tokens_of, text_of}
-use Rattle.subjects.specs.Fault.{subject_fault, pattern_fault}
-use Rattle.subjects.specs.declared.error.SubjectError.{SubjectError}
-use Rattle.subjects.specs.declared.error.SubjectError.TheVariants as subject_error
-use Rattle.wire_read.specs.declared.fault.WireFault.{WireFault}
-use Rattle.wire_read.specs.declared.fault.WireFault.TheVariants as fault
+-- What the calls of a connection come to over the server of a script, where memory is enough (docs/PROTOCOL.md, "A
+-- connection's life").
+use Rattle.std.specs.Prelude.{◌≡◌, ◌++◌, ◌∷◌, ℕ, Bool, true, false, List, [], Option, Some, None, Result, Ok, Err, if◌then◌else◌}
 use Rattle.wire_read.specs.declared.frame.Frame.{Frame}
-use Rattle.wire_read.specs.declared.frame.Frame.TheVariants as frame
-use Rattle.wire_write.specs.Texts.{msg_line, hmsg_line, ok_line, pong_line}
-use Rattle.wire_write.specs.Errors.{err_line, publish_denied_line, subscription_denied_line}
+use Rattle.wire_write.specs.Errors.{err_line}
 use Rattle.wire_write.specs.declared.error.ServerError.TheVariants as error
+use Rattle.hub.specs.History.{State}
 use Rattle.hub.specs.declared.event.Command.TheVariants as command
 use Rattle.hub.specs.declared.answer.Delivery.{Delivery}
 use Rattle.hub.specs.declared.answer.Outcome.{Outcome}
 use Rattle.hub.specs.declared.answer.Outcome.TheVariants as outcome
 use Rattle.hub.specs.declared.answer.HubRefusal.{HubRefusal}
 use Rattle.hub.specs.declared.answer.HubRefusal.TheVariants as refusal
-use Rattle.connect_opts.specs.Opts.{opts_of}
-use Rattle.connect_opts.specs.declared.error.ConnectError.{ConnectError}
-use Rattle.connect_opts.specs.declared.opts.ConnectOpts.{ConnectOpts}
-use Rattle.natsd.specs.declared.conn.Address.{Address}
-use Rattle.natsd.specs.declared.conn.Message.{Message}
-use Rattle.natsd.specs.Server.{Serving, answered, first_word, after_word}
-use Rattle.natsd.specs.declared.stage.Style.{Style}
-use Rattle.natsd.specs.declared.stage.Stage.{Stage}
-use Rattle.natsd.specs.declared.stage.Stage.TheVariants as stage
-use Rattle.natsd.specs.declared.stage.Next.{Next}
-use Rattle.natsd.specs.declared.stage.Next.TheVariants.{Goes, HistoryFull}
+use Rattle.session.specs.declared.output.Output.{Output}
+use Rattle.session.specs.declared.output.Stall.{Stall}
+use Rattle.session.specs.declared.output.Stall.TheVariants as stall
+use Rattle.session.specs.declared.plan.Plan.{Plan}
+use Rattle.session.specs.declared.plan.Plan.TheVariants.{Tells, Asks, Publishes}
+use Rattle.session.specs.declared.stage.Stage.{Stage}
+use Rattle.session.specs.declared.stage.Stage.TheVariants as stage
+use Rattle.session.specs.Calls.{Connection, stage_closed, stall_closed}
+use Rattle.session.specs.Drains.{Drain, ends, texts}
+use Rattle.session.specs.Plans.{plan_of}
+use Rattle.session.specs.Replies.{told, is_closed, closed_from, takes_headers}
+use Rattle.session.specs.Serving.{Spot, spot, Served, served, rests, behind, frames_after, reader_after}
+use Rattle.session.specs.Turns.{Turned, Goes, Stalls, turn_after, event}
+use Rattle.natsd.specs.Server.{Serving, heard, first_word, later_words}
 
--- what a client is told, and how its connection goes on
-pub record Reply : Type 0 where
+-- ---- frames
+
+-- where a connection is between two turns: the hub, the words that are left, its stage, and a word that is drawn already
+abbrev pub Here : Type 0
+Here = Spot State (List ℕ)
+
+-- what a frame's turn comes to, and the hub and the words after it
+pub record FrameTurn : Type 0 where
+  pub turned : Turned
+  pub hub : State
+  pub words : List ℕ
+
+abbrev pub frame_turn : Turned → State → List ℕ → FrameTurn
+frame_turn t hub words = record { turned = t; hub = hub; words = words }
+
+-- the word of a message: the one that is drawn already, or the next one, which is 0 where none is left
+abbrev pub word_of : Option ℕ → List ℕ → ℕ
+word_of (Some drawn) words = drawn
+word_of None words = first_word words
+
+abbrev pub words_after : Option ℕ → List ℕ → List ℕ
+words_after (Some drawn) words = words
+words_after None words = later_words words
+
+-- after the hub's answer
+abbrev pub answered_turn : Stage → Stage → Frame → Option ℕ → List ℕ → Result Outcome HubRefusal × State → FrameTurn
+answered_turn s accepted f word words a = frame_turn (turn_after s accepted f word a.0) a.1 words
+
+-- a frame's turn by its plan: nothing is asked, or the hub is, once
+abbrev pub planned : ℕ → ℕ → Here → Frame → Plan → FrameTurn
+planned now conn at f (Tells r) = frame_turn (Goes (told r)) at.port at.words
+planned now conn at f (Asks what accepted) = answered_turn at.stage accepted f at.word at.words (heard at.port (event now what))
+planned now conn at f (Publishes subject reply head body) =
+    let word = word_of at.word at.words in
+    answered_turn at.stage at.stage f (Some word) (words_after at.word at.words)
+    (heard at.port (event now (command.Pub conn subject reply head body word)))
+
+-- a turn, and then the others; where the history is full the frame is left with all behind it
+abbrev pub goes_on : (Here → Served State (List ℕ)) → List Frame → Stage → FrameTurn → Turned → Served State (List ℕ)
+goes_on more all s t (Goes r) = behind r.text (more (spot t.hub t.words r.stage None))
+goes_on more all s t (Stalls stall word) = served [] all (Some stall) (spot t.hub t.words s word)
+
+-- frames in order, until one closes the connection; the rest is dropped then
+unfoldable pub turns : ℕ → ℕ → List Frame → Here → Served State (List ℕ)
+turns now conn [] at = rests at
+turns now conn (f ∷ fs) at =
+    if is_closed at.stage then rests at
+    else (let t = planned now conn at f (plan_of conn at.stage f) in goes_on (turns now conn fs) (f ∷ fs) at.stage t t.turned)
+
+-- ---- calls
+
+-- what a call comes to: what it gives, and the connection and the server after it
+pub record Call : Type 0 where
   pub text : List ℕ
-  pub next : Next
-
-abbrev pub told : List ℕ → Stage → Reply
-told text s = record { text = text; next = Goes s }
-
--- the hub takes no more events
-abbrev pub full : Reply
-full = record { text = []; next = HistoryFull }
-
--- `+OK` to a client that asked for it
-abbrev pub ok_if : Style → List ℕ
-ok_if style = if style.verbose then ok_line else []
-
--- the reply to a CONNECT, by the hub's answer. The last eleven don't come to a Connect.
-abbrev pub reply_to_connect : Style → Result Outcome HubRefusal → Reply
-reply_to_connect style (Ok outcome.Connected) = told (ok_if style) (stage.Connected style)
-reply_to_connect style (Ok outcome.AuthViolation) = told (err_line error.Authorization) (stage.Closed false)
-reply_to_connect style (Err refusal.SessionTaken) = told (err_line error.InvalidProtocol) (stage.Closed false)
-reply_to_connect style (Err refusal.SessionLimit) = told (err_line error.ConnectionsExceeded) (stage.Closed false)
-reply_to_connect style (Err refusal.HistoryFull) = full
-reply_to_connect style (Err refusal.NoSession) = told [] stage.Fresh
-reply_to_connect style (Err refusal.NoMemory) = told [] stage.Fresh
-reply_to_connect style (Ok outcome.Subscribed) = told [] stage.Fresh
-reply_to_connect style (Ok outcome.SameSid) = told [] stage.Fresh
-reply_to_connect style (Ok outcome.SubLimit) = told [] stage.Fresh
-reply_to_connect style (Ok (outcome.Denied _)) = told [] stage.Fresh
-reply_to_connect style (Ok outcome.Unsubscribed) = told [] stage.Fresh
-reply_to_connect style (Ok (outcome.Published _ _)) = told [] stage.Fresh
-reply_to_connect style (Ok (outcome.Taken _ _)) = told [] stage.Fresh
-reply_to_connect style (Ok outcome.Closed) = told [] stage.Fresh
-reply_to_connect style (Ok (outcome.Reloaded _ _)) = told [] stage.Fresh
-
--- the reply to a PUB or HPUB on a subject. The last twelve answers don't come to a Pub.
-abbrev pub reply_to_publish : Style → List ℕ → Result Outcome HubRefusal → Reply
-reply_to_publish style subject (Ok (outcome.Published _ _)) = told (ok_if style) (stage.Connected style)
-reply_to_publish style subject (Ok (outcome.Denied _)) = told (publish_denied_line subject) (stage.Connected style)
-reply_to_publish style subject (Err refusal.NoSession) = told (err_line error.Authorization) (stage.Closed false)
-reply_to_publish style subject (Err refusal.HistoryFull) = full
-reply_to_publish style subject (Err refusal.SessionTaken) = told [] (stage.Connected style)
-reply_to_publish style subject (Err refusal.SessionLimit) = told [] (stage.Connected style)
-reply_to_publish style subject (Err refusal.NoMemory) = told [] (stage.Connected style)
-reply_to_publish style subject (Ok outcome.Connected) = told [] (stage.Connected style)
-reply_to_publish style subject (Ok outcome.AuthViolation) = told [] (stage.Connected style)
-reply_to_publish style subject (Ok outcome.Subscribed) = told [] (stage.Connected style)
-reply_to_publish style subject (Ok outcome.SameSid) = told [] (stage.Connected style)
-reply_to_publish style subject (Ok outcome.SubLimit) = told [] (stage.Connected style)
-reply_to_publish style subject (Ok outcome.Unsubscribed) = told [] (stage.Connected style)
-reply_to_publish style subject (Ok (outcome.Taken _ _)) = told [] (stage.Connected style)
-reply_to_publish style subject (Ok outcome.Closed) = told [] (stage.Connected style)
-reply_to_publish style subject (Ok (outcome.Reloaded _ _)) = told [] (stage.Connected style)
-
--- the reply to a SUB to a pattern. The last ten answers don't come to a Sub.
-abbrev pub reply_to_subscribe : Style → List ℕ → Result Outcome HubRefusal → Reply
-reply_to_subscribe style subject (Ok outcome.Subscribed) = told (ok_if style) (stage.Connected style)
-reply_to_subscribe style subject (Ok outcome.SameSid) = told (ok_if style) (stage.Connected style)
-reply_to_subscribe style subject (Ok outcome.SubLimit) = told (err_line error.SubscriptionsExceeded) (stage.Connected style)
-reply_to_subscribe style subject (Ok (outcome.Denied _)) = told (subscription_denied_line subject None) (stage.Connected style)
-reply_to_subscribe style subject (Err refusal.NoSession) = told (err_line error.Authorization) (stage.Closed false)
-reply_to_subscribe style subject (Err refusal.HistoryFull) = full
-reply_to_subscribe style subject (Err refusal.SessionTaken) = told [] (stage.Connected style)
-reply_to_subscribe style subject (Err refusal.SessionLimit) = told [] (stage.Connected style)
-reply_to_subscribe style subject (Err refusal.NoMemory) = told [] (stage.Connected style)
-reply_to_subscribe style subject (Ok outcome.Connected) = told [] (stage.Connected style)
-reply_to_subscribe style subject (Ok outcome.AuthViolation) = told [] (stage.Connected style)
-reply_to_subscribe style subject (Ok outcome.Unsubscribed) = told [] (stage.Connected style)
-reply_to_subscribe style subject (Ok (outcome.Published _ _)) = told [] (stage.Connected style)
-reply_to_subscribe style subject (Ok (outcome.Taken _ _)) = told [] (stage.Connected style)
-reply_to_subscribe style subject (Ok outcome.Closed) = told [] (stage.Connected style)
-reply_to_subscribe style subject (Ok (outcome.Reloaded _ _)) = told [] (stage.Connected style)
-
--- the reply to an UNSUB. The last thirteen answers don't come to an Unsub.
-abbrev pub reply_to_unsubscribe : Style → Result Outcome HubRefusal → Reply
-reply_to_unsubscribe style (Ok outcome.Unsubscribed) = told (ok_if style) (stage.Connected style)
-reply_to_unsubscribe style (Err refusal.NoSession) = told (err_line error.Authorization) (stage.Closed false)
-reply_to_unsubscribe style (Err refusal.HistoryFull) = full
-reply_to_unsubscribe style (Err refusal.SessionTaken) = told [] (stage.Connected style)
-reply_to_unsubscribe style (Err refusal.SessionLimit) = told [] (stage.Connected style)
-reply_to_unsubscribe style (Err refusal.NoMemory) = told [] (stage.Connected style)
-reply_to_unsubscribe style (Ok outcome.Connected) = told [] (stage.Connected style)
-reply_to_unsubscribe style (Ok outcome.AuthViolation) = told [] (stage.Connected style)
-reply_to_unsubscribe style (Ok outcome.Subscribed) = told [] (stage.Connected style)
-reply_to_unsubscribe style (Ok outcome.SameSid) = told [] (stage.Connected style)
-reply_to_unsubscribe style (Ok outcome.SubLimit) = told [] (stage.Connected style)
-reply_to_unsubscribe style (Ok (outcome.Denied _)) = told [] (stage.Connected style)
-reply_to_unsubscribe style (Ok (outcome.Published _ _)) = told [] (stage.Connected style)
-reply_to_unsubscribe style (Ok (outcome.Taken _ _)) = told [] (stage.Connected style)
-reply_to_unsubscribe style (Ok outcome.Closed) = told [] (stage.Connected style)
-reply_to_unsubscribe style (Ok (outcome.Reloaded _ _)) = told [] (stage.Connected style)
-
--- the text of a subject for answers, if there is one
-abbrev pub reply_text : Option (List Token) → Option (List ℕ)
-reply_text reply = option_map text_of reply
-
--- the text of a delivery; a client that doesn't take header blocks is sent none
-abbrev pub delivery_text : Style → Delivery → List ℕ
-delivery_text style d =
-    if style.headers && not (length d.head == 0) then hmsg_line (text_of d.subject) d.sid (reply_text d.reply) d.head d.body
-    else msg_line (text_of d.subject) d.sid (reply_text d.reply) d.body
-
--- where a delivery was missed the connection closes
-abbrev pub after_taken : Style → Bool → Reply
-after_taken style missed = if missed then told (err_line error.SlowConsumer) (stage.Closed true) else told [] (stage.Connected style)
-
--- what a Take gave is written, and then whether one was missed is told. The last thirteen answers don't come to a Take.
-abbrev pub reply_to_take : Style → Result Outcome HubRefusal → Reply
-reply_to_take style (Ok (outcome.Taken deliveries missed)) =
-    let r = after_taken style missed in record { text = flat_map (delivery_text style) deliveries ++ r.text; next = r.next }
-reply_to_take style (Err refusal.NoSession) = told (err_line error.Authorization) (stage.Closed false)
-reply_to_take style (Err refusal.HistoryFull) = full
-reply_to_take style (Err refusal.SessionTaken) = told [] (stage.Connected style)
-reply_to_take style (Err refusal.SessionLimit) = told [] (stage.Connected style)
-reply_to_take style (Err refusal.NoMemory) = told [] (stage.Connected style)
-reply_to_take style (Ok outcome.Connected) = told [] (stage.Connected style)
-reply_to_take style (Ok outcome.AuthViolation) = told [] (stage.Connected style)
-reply_to_take style (Ok outcome.Subscribed) = told [] (stage.Connected style)
-reply_to_take style (Ok outcome.SameSid) = told [] (stage.Connected style)
-reply_to_take style (Ok outcome.SubLimit) = told [] (stage.Connected style)
-reply_to_take style (Ok (outcome.Denied _)) = told [] (stage.Connected style)
-reply_to_take style (Ok outcome.Unsubscribed) = told [] (stage.Connected style)
-reply_to_take style (Ok (outcome.Published _ _)) = told [] (stage.Connected style)
-reply_to_take style (Ok outcome.Closed) = told [] (stage.Connected style)
-reply_to_take style (Ok (outcome.Reloaded _ _)) = told [] (stage.Connected style)
-
--- the text of a fault of the stream
-abbrev pub fault_line : WireFault → List ℕ
-fault_line fault.UnknownOperation = err_line error.UnknownOperation
-fault_line fault.ParserError = err_line error.ParserError
-fault_line fault.ControlLine = err_line error.ControlLine
-fault_line fault.Payload = err_line error.PayloadViolation
-
--- what a frame or a call comes to: what is told, how the connection goes on, and the server after
-pub record Turn : Type 0 where
-  pub text : List ℕ
-  pub next : Next
+  pub stall : Option Stall
+  pub conn : Connection
   pub server : Serving
 
--- nothing is asked of the hub
-abbrev pub unasked : Serving → List ℕ → Stage → Turn
-unasked w text s = record { text = text; next = Goes s; server = w }
+-- the client's bytes: the frames that were kept, and those that the bytes complete
+abbrev pub after_turns : Serving → Connection → List ℕ → Served State (List ℕ) → Call
+after_turns w c bytes r =
+    record {
+      text = r.text;
+      stall = r.stall;
+      conn = record c { reader = reader_after c.reader bytes; stage = r.at.stage; frames = r.frames; word = r.at.word; stall = r.stall };
+      server = record w { hub = r.at.port; words = r.at.words };
+    }
 
--- the reply to the hub's answer
-abbrev pub asked : (Result Outcome HubRefusal → Reply) → Result Outcome HubRefusal × Serving → Turn
-asked reply a = record { text = (reply a.0).text; next = (reply a.0).next; server = a.1 }
+-- nothing
+abbrev pub unchanged : Serving → Connection → Option Stall → Call
+unchanged w c stall = record { text = []; stall = stall; conn = c; server = w }
 
-abbrev pub style_of : ConnectOpts → Style
-style_of o = record { verbose = o.verbose; headers = o.headers }
+unfoldable pub bytes_call : Serving → Connection → List ℕ → Call
+bytes_call w c bytes =
+    if is_closed c.stage then unchanged w c None
+    else after_turns w c bytes (turns w.moment c.conn (c.frames ++ frames_after c.reader bytes) (spot w.hub w.words c.stage c.word))
 
-abbrev pub connect_turn : ℕ → Serving → Result ConnectOpts ConnectError → Turn
-connect_turn conn w (Ok o) = asked (reply_to_connect (style_of o)) (answered w (command.Connect conn o.user o.pass o.echo))
-connect_turn conn w (Err _) = unasked w (err_line error.ParserError) (stage.Closed false)
+-- what a Take gave, behind what stood there; where a delivery was missed that is told, and closes the connection
+abbrev pub delivered : Stage → List ℕ → List Delivery → Bool → Drain
+delivered s before deliveries missed =
+    let text = before ++ texts (takes_headers s) deliveries in
+    if missed then ends (text ++ err_line error.SlowConsumer) (closed_from s) None false else ends text s None false
 
--- the tokens of a text that is a subject, or a pattern
-abbrev pub subject_if : List ℕ → Option (List Token)
-subject_if text = if is_some (subject_fault text) then None else Some (tokens_of text)
+-- what a Take's answer comes to. No others come to a Take.
+abbrev pub take_answered : Stage → List ℕ → Result Outcome HubRefusal → Drain
+take_answered s before (Ok (outcome.Taken deliveries missed)) = delivered s before deliveries missed
+take_answered s before (Err refusal.NoSession) = ends (before ++ err_line error.Authorization) (stage.Closed false) None false
+take_answered s before (Err refusal.HistoryFull) = ends before s (Some stall.HistoryFull) false
+take_answered s before (Err refusal.NoMemory) = ends before s (Some stall.Memory) false
+take_answered s before _ = ends before s None false
 
-abbrev pub pattern_if : List ℕ → Option (List Token)
-pattern_if text = if is_some (pattern_fault text) then None else Some (tokens_of text)
+-- what is owed is written first; where a delivery was missed with it that is the end, else one Take is made
+abbrev pub drain_of : Serving → Connection → ℕ → Drain × State
+drain_of w c most =
+    if c.missed then (delivered c.stage [] c.owed true, w.hub)
+    else (let a = heard w.hub (event w.moment (command.Take c.conn most)) in (take_answered c.stage (texts (takes_headers c.stage) c.owed) a.0, a.1))
 
--- where a message goes, and where answers to it go if it says: nowhere, if a text for it is no subject
-abbrev pub answered_at : List Token → Option (List Token) → Option Address
-answered_at subject None = None
-answered_at subject (Some reply) = Some (record { subject = subject; reply = Some reply })
+abbrev pub after_drain : Serving → Connection → Drain × State → Call
+after_drain w c d =
+    record {
+      text = d.0.text;
+      stall = d.0.stall;
+      conn = record c { stage = d.0.stage; owed = d.0.owed; missed = d.0.missed };
+      server = record w { hub = d.1 };
+    }
 
-abbrev pub with_reply : List Token → Option (List ℕ) → Option Address
-with_reply subject None = Some (record { subject = subject; reply = None })
-with_reply subject (Some text) = answered_at subject (subject_if text)
+-- a drain of at most so many deliveries; what stopped the frames that are kept stops it too
+abbrev pub drain_if : Serving → Connection → ℕ → Option Stall → Call
+drain_if w c most (Some s) = unchanged w c (Some s)
+drain_if w c most None = after_drain w c (drain_of w c most)
 
-abbrev pub address_if : List ℕ → Option (List ℕ) → Option Address
-address_if subject reply = option_and_then (λ s. with_reply s reply) (subject_if subject)
+unfoldable pub drain_call : Serving → Connection → ℕ → Call
+drain_call w c most = if is_closed c.stage then unchanged w c None else drain_if w c most c.stall
 
--- a message to an address, which takes a word, or to none, which takes none
-abbrev pub addressed_turn : ℕ → Serving → Style → Message → Option Address → Turn
-addressed_turn conn w style m None = unasked w (err_line error.InvalidSubject) (stage.Connected style)
-addressed_turn conn w style m (Some a) =
-    asked (reply_to_publish style m.subject) (answered (after_word w) (command.Pub conn a.subject a.reply m.head m.payload (first_word w.words)))
+-- whether a session stands after the Close of one that stood, what stopped it, and the hub after it
+pub record Closing : Type 0 where
+  pub stage : Stage
+  pub stall : Option Stall
+  pub hub : State
 
-abbrev pub publish_turn : ℕ → Serving → Style → Message → Turn
-publish_turn conn w style m = addressed_turn conn w style m (address_if m.subject m.reply)
+abbrev pub closed_by : Result Outcome HubRefusal × State → Closing
+closed_by a = record { stage = stage_closed a.0; stall = stall_closed a.0; hub = a.1 }
 
--- a message with a header block; the block is a fault of a client that has not said that it sends them
-abbrev pub headed_turn : ℕ → Serving → Style → Message → Turn
-headed_turn conn w style m = if style.headers then publish_turn conn w style m else unasked w (err_line error.ParserError) (stage.Closed true)
+-- a Close is submitted exactly where a session stands
+abbrev pub closing : Serving → ℕ → Stage → Closing
+closing w conn (stage.Closed true) = closed_by (heard w.hub (event w.moment (command.Close conn)))
+closing w conn s = record { stage = s; stall = None; hub = w.hub }
 
-abbrev pub patterned_turn : ℕ → Serving → Style → List ℕ → List ℕ → Option (List Token) → Turn
-patterned_turn conn w style subject sid None = unasked w (err_line error.InvalidSubject) (stage.Connected style)
-patterned_turn conn w style subject sid (Some pattern) =
-    asked (reply_to_subscribe style subject) (answered w (command.Sub conn pattern sid))
+abbrev pub after_closing : Serving → Connection → Closing → Call
+after_closing w c e =
+    record {
+      text = [];
+      stall = e.stall;
+      conn = record c { stage = e.stage; frames = []; word = None; stall = None };
+      server = record w { hub = e.hub };
+    }
 
--- queues are not served
-abbrev pub subscribe_turn : ℕ → Serving → Style → List ℕ → Option (List ℕ) → List ℕ → Turn
-subscribe_turn conn w style subject None sid = patterned_turn conn w style subject sid (pattern_if subject)
-subscribe_turn conn w style subject (Some queue) sid = unasked w (err_line error.InvalidSubject) (stage.Connected style)
+-- the end: frames that were kept are dropped, and the session goes
+unfoldable pub end_call : Serving → Connection → Call
+end_call w c = after_closing w c (closing w c.conn (closed_from c.stage))
 
-abbrev pub unsubscribe_turn : ℕ → Serving → Style → List ℕ → Option ℕ → Turn
-unsubscribe_turn conn w style sid most = asked (reply_to_unsubscribe style) (answered w (command.Unsub conn sid most))
+-- ---- what the code gives
 
--- before CONNECT: nothing but CONNECT, PING, PONG and a fault is looked at
-abbrev pub fresh_turn : ℕ → Serving → Frame → Turn
-fresh_turn conn w (frame.Connect text) = connect_turn conn w (opts_of text)
-fresh_turn conn w frame.Ping = unasked w pong_line stage.Fresh
-fresh_turn conn w frame.Pong = unasked w [] stage.Fresh
-fresh_turn conn w (frame.Fault f) = unasked w (fault_line f) (stage.Closed false)
-fresh_turn conn w (frame.Pub _ _ _) = unasked w (err_line error.Authorization) (stage.Closed false)
-fresh_turn conn w (frame.Hpub _ _ _ _) = unasked w (err_line error.Authorization) (stage.Closed false)
-fresh_turn conn w (frame.Sub _ _ _) = unasked w (err_line error.Authorization) (stage.Closed false)
-fresh_turn conn w (frame.Unsub _ _) = unasked w (err_line error.Authorization) (stage.Closed false)
+-- memory lacked
+abbrev pub is_memory_stall : Option Stall → Bool
+is_memory_stall None = false
+is_memory_stall (Some stall.PieceNotTaken) = true
+is_memory_stall (Some stall.Memory) = true
+is_memory_stall (Some stall.HistoryFull) = false
 
--- after it: a second CONNECT is refused before its text is read
-abbrev pub connected_turn : ℕ → Serving → Style → Frame → Turn
-connected_turn conn w style (frame.Pub subject reply payload) = publish_turn conn w style (record { subject = subject; reply = reply; head = []; payload = payload })
-connected_turn conn w style (frame.Hpub subject reply head payload) = headed_turn conn w style (record { subject = subject; reply = reply; head = head; payload = payload })
-connected_turn conn w style (frame.Sub subject queue sid) = subscribe_turn conn w style subject queue sid
-connected_turn conn w style (frame.Unsub sid most) = unsubscribe_turn conn w style sid most
-connected_turn conn w style frame.Ping = unasked w pong_line (stage.Connected style)
-connected_turn conn w style frame.Pong = unasked w [] (stage.Connected style)
-connected_turn conn w style (frame.Connect _) = unasked w (err_line error.InvalidProtocol) (stage.Closed true)
-connected_turn conn w style (frame.Fault f) = unasked w (fault_line f) (stage.Closed true)
-
--- after a closing text nothing is looked at
-unfoldable pub frame_turn : ℕ → Serving → Stage → Frame → Turn
-frame_turn conn w stage.Fresh f = fresh_turn conn w f
-frame_turn conn w (stage.Connected style) f = connected_turn conn w style f
-frame_turn conn w (stage.Closed session) f = unasked w [] (stage.Closed session)
-
--- whether memory was lacking, for a parser
-abbrev pub is_memory_fault : SubjectError → Bool
-is_memory_fault subject_error.NoMemory = true
-is_memory_fault subject_error.Empty = false
-is_memory_fault subject_error.EmptyToken = false
-is_memory_fault subject_error.BadByte = false
-is_memory_fault subject_error.WildcardNotLast = false
-is_memory_fault subject_error.TooManyTokens = false
-is_memory_fault subject_error.Wildcard = false
-
--- a turn behind a text
-abbrev pub behind : List ℕ → Turn → Turn
-behind text t = record { text = text ++ t.text; next = t.next; server = t.server }
-
--- a turn, and then what it leads to: nothing once the history is full
-abbrev pub goes_on : Turn → Next → (Serving → Stage → Turn) → Turn
-goes_on t (Goes s) more = behind t.text (more t.server s)
-goes_on t HistoryFull more = t
-
-abbrev pub followed_by : Turn → (Serving → Stage → Turn) → Turn
-followed_by t more = goes_on t t.next more
-
--- frames in order
-unfoldable pub frames_turn : ℕ → Serving → Stage → List Frame → Turn
-frames_turn conn w s [] = unasked w [] s
-frames_turn conn w s (f ∷ fs) = followed_by (frame_turn conn w s f) (λ w' s'. frames_turn conn w' s' fs)
-
--- what a call wrote behind what stood there, and what it left, is the turn's
-pub record IsTurn (t : Turn) (before after : List ℕ) (next : Next) (server : Serving) : Type 0 where
-  pub text : after ≡ before ++ t.text
-  pub next_is : next ≡ t.next
-  pub server_is : server ≡ t.server
-
--- the same of a reply
-pub record IsReply (r : Reply) (before after : List ℕ) (next : Next) : Type 0 where
-  pub text : after ≡ before ++ r.text
-  pub next_is : next ≡ r.next
+-- what a call gave and left is this
+pub record IsCall (k : Call) (o : Output) (conn : Connection) (w : Serving) : Type 0 where
+  pub text : o.bytes.items ≡ k.text
+  pub stall : o.stall ≡ k.stall
+  pub conn_is : conn ≡ k.conn
+  pub server_is : w ≡ k.server

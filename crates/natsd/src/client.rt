@@ -1,27 +1,19 @@
 // The open connections of a script (docs/SCRIPT.md).
 ghost use Rattle.std.specs.Prelude.{◌≡◌, ◌++◌, IfOk, OnOk};
-ghost use Rattle.natsd.specs.Session.{IsTurn};
-ghost use Rattle.natsd.specs.Play.{shown_if, is_full, ended, has_session, settled_by, take_turn, is_pending, enough_takes, pending_turn, takes, IsTurnIf};
+ghost use Rattle.natsd.specs.Play.{shown_if, settled_by, end_turn, is_pending, enough_takes, pending_turn, takes, IsTurn, IsTurnIf};
 
-use crate::conn::{on_frames, reply_to_take};
 use crate::output::{write_closed, write_full, write_shown};
 use crate::script::Deed;
 use crate::server::Server;
-use crate::stage::{Next, Stage, Style};
-use hub::{Command, HubRefusal, Outcome};
-use lists::{Items, NoMemory};
+use lists::NoMemory;
+use session::{Conn, Output};
 use std::alloc::Global;
-use wire_read::{FeedError, Frame, FrameReader};
 
 /// An open connection.
 #[derive(Drop)]
 pub struct Client {
-    /// Its number in the script.
-    pub conn: u64,
-    /// What its client's bytes are read by.
-    pub reader: FrameReader,
-    /// Where it is in its life.
-    pub stage: Stage,
+    /// What it is to the hub, and its client to it.
+    pub conn: Conn,
     /// No drains are made for it.
     pub held: bool,
 }
@@ -34,80 +26,6 @@ fn write_shown_if(out: &mut Vec<u8>, conn: u64, text: &[u8]) -> Result<(), NoMem
         return Ok(());
     }
     write_shown(out, conn, text)
-}
-
-/// Whether the hub takes no more events.
-fn is_full(answer: &Result<Outcome, HubRefusal>) -> bool
-    ensures { result ≡ is_full answer.now }
-{
-    match answer {
-        Ok(_) => false,
-        Err(HubRefusal::HistoryFull) => true,
-        Err(HubRefusal::NoSession) => false,
-        Err(HubRefusal::SessionTaken) => false,
-        Err(HubRefusal::SessionLimit) => false,
-        Err(HubRefusal::NoMemory) => false,
-    }
-}
-
-/// The Close of a connection that has closed, where its session may stand.
-fn end(server: &mut Server, conn: u64, session: bool, out: &mut Vec<u8>) -> Result<Next, NoMemory>
-    ensures { IfOk result (λ next. IsTurn (ended conn server.old session) out.old.items out.new.items next server.new) }
-{
-    if !session {
-        return Ok(Next::Goes(Stage::Closed { session: false }));
-    }
-    let answer = server.submit(Command::Close { conn })?;
-    if is_full(&answer) {
-        write_full(out)?;
-        return Ok(Next::HistoryFull);
-    }
-    Ok(Next::Goes(Stage::Closed { session: false }))
-}
-
-/// Prints what a call of a connection came to, and closes its session where the connection closed.
-fn settle(
-    server: &mut Server,
-    conn: u64,
-    out: &mut Vec<u8>,
-    text: &[u8],
-    next: Next,
-) -> Result<Next, NoMemory>
-    ensures { IfOk result (λ settled. IsTurn (settled_by conn next text.now server.old) out.old.items out.new.items settled server.new) }
-{
-    write_shown_if(out, conn, text)?;
-    match next {
-        Next::Goes(Stage::Fresh) => Ok(Next::Goes(Stage::Fresh)),
-        Next::Goes(Stage::Connected(style)) => Ok(Next::Goes(Stage::Connected(style))),
-        Next::Goes(Stage::Closed { session }) => {
-            write_closed(out, conn)?;
-            let ended = end(server, conn, session, out)?;
-            Ok(ended)
-        }
-        Next::HistoryFull => {
-            write_full(out)?;
-            Ok(Next::HistoryFull)
-        }
-    }
-}
-
-/// Whether a session may stand for a connection.
-fn has_session(stage: &Stage) -> bool
-    ensures { result ≡ has_session stage.now }
-{
-    match stage {
-        Stage::Fresh => false,
-        Stage::Connected(_) => true,
-        Stage::Closed { session } => *session,
-    }
-}
-
-/// A Take of 64.
-fn take(server: &mut Server, conn: u64, style: Style, text: &mut Vec<u8>) -> Result<Next, NoMemory>
-    ensures { IfOk result (λ next. IsTurn (take_turn conn server.old style) text.old.items text.new.items next server.new) }
-{
-    let answer = server.submit(Command::Take { conn, most: 64 })?;
-    reply_to_take(text, style, &answer)
 }
 
 /// Whether a connection is to be drained: something waits or was missed, or its session is gone.
@@ -130,151 +48,142 @@ fn enough_takes(waiting: Option<(usize, bool)>) -> usize
     }
 }
 
-/// A Take, where one is to be made.
-fn take_if_pending(
-    alloc: Global,
-    server: &mut Server,
-    conn: u64,
-    stage: Stage,
-    out: &mut Vec<u8>,
-) -> Result<Option<Next>, NoMemory>
-    ensures { IfOk result (λ next. IsTurnIf (pending_turn conn server.old stage) out.old.items out.new.items server.old server.new next) }
-{
-    match stage {
-        Stage::Fresh => Ok(None),
-        Stage::Closed { .. } => Ok(None),
-        Stage::Connected(style) => {
-            if !is_pending(server.waiting(conn)) {
-                return Ok(None);
-            }
-            let mut text = Vec::new(alloc);
-            let next = take(server, conn, style, &mut text)?;
-            let settled = settle(server, conn, out, text.as_slice(), next)?;
-            Ok(Some(settled))
-        }
-    }
-}
-
-/// Takes while something is pending, so many at most.
-fn take_all(
-    alloc: Global,
-    server: &mut Server,
-    conn: u64,
-    stage: Stage,
-    most: usize,
-    out: &mut Vec<u8>,
-) -> Result<Next, NoMemory>
-    ensures { IfOk result (λ next. IsTurn (takes most conn server.old stage) out.old.items out.new.items next server.new) }
-{
-    let mut stage = stage;
-    'taking: for _ in 0..most {
-        match take_if_pending(alloc, server, conn, stage, out)? {
-            None => return Ok(Next::Goes(stage)),
-            Some(next) => match next {
-                Next::HistoryFull => return Ok(Next::HistoryFull),
-                Next::Goes(after) => stage = after,
-            },
-        }
-    }
-    Ok(Next::Goes(stage))
-}
-
 impl Client {
-    ghost use Rattle.natsd.specs.Play.{new_client, drain_turn, bytes_turn, reader_after, deed_turn, after_deed};
+    ghost use Rattle.natsd.specs.Play.{new_client, drain_turn, deed_turn};
 
     /// A connection whose client has sent nothing yet.
     pub fn new(alloc: Global, conn: u64) -> Client
         ensures { result ≡ new_client conn }
     {
         Client {
-            conn,
-            reader: FrameReader::new(alloc),
-            stage: Stage::Fresh,
+            conn: Conn::new(alloc, conn),
             held: false,
         }
     }
 
-    /// Drains the connection, unless it is held: Takes of 64 while something is pending.
+    /// Drains the connection, unless it is held: Takes of 64 while something is pending. Answers whether the history
+    /// is full.
     pub fn drain(
-        &self,
+        &mut self,
         alloc: Global,
         server: &mut Server,
         out: &mut Vec<u8>,
-    ) -> Result<Next, NoMemory>
-        ensures { IfOk result (λ next. IsTurn (drain_turn server.old self.now) out.old.items out.new.items next server.new) }
+    ) -> Result<bool, NoMemory>
+        ensures { IfOk result (λ full. IsTurn (drain_turn server.old self.old) out.old.items out.new.items self.new server.new full) }
     {
         if self.held {
-            return Ok(Next::Goes(self.stage));
+            return Ok(false);
         }
-        let most = enough_takes(server.waiting(self.conn));
-        take_all(alloc, server, self.conn, self.stage, most, out)
+        let most = enough_takes(server.waiting(self.conn.number()));
+        self.take_all(alloc, server, most, out)
     }
 
-    /// Does what a line says of the connection.
+    /// Does what a line says of the connection. Answers whether the history is full.
     pub fn on_deed(
         &mut self,
         alloc: Global,
         server: &mut Server,
         deed: &Deed,
         out: &mut Vec<u8>,
-    ) -> Result<Next, NoMemory>
-        ensures turn { IfOk result (λ next. IsTurn (deed_turn server.old self.old deed.now) out.old.items out.new.items next server.new) }
-        ensures after { OnOk result (self.new ≡ after_deed self.old deed.now) }
+    ) -> Result<bool, NoMemory>
+        ensures { IfOk result (λ full. IsTurn (deed_turn server.old self.old deed.now) out.old.items out.new.items self.new server.new full) }
     {
         match deed {
             Deed::Sends(bytes) => {
-                let next = self.on_bytes(alloc, server, bytes.as_slice(), out)?;
-                Ok(next)
+                let output = server.on_bytes(alloc, &mut self.conn, bytes.as_slice())?;
+                let full = self.settle(server, &output, out)?;
+                Ok(full)
             }
             Deed::Holds => {
                 self.held = true;
-                Ok(Next::Goes(self.stage))
+                Ok(false)
             }
             Deed::Frees => {
                 self.held = false;
-                Ok(Next::Goes(self.stage))
+                Ok(false)
             }
             Deed::Ends => {
-                let session = has_session(&self.stage);
-                let next = end(server, self.conn, session, out)?;
-                Ok(next)
+                let full = self.end(server, out)?;
+                Ok(full)
             }
         }
     }
 
-    /// The client's bytes: the frames that they complete, in order.
-    fn on_bytes(
+    /// Prints what a call of the connection gave, and ends it where it closed. Answers whether the history is full.
+    fn settle(
+        &mut self,
+        server: &mut Server,
+        output: &Output,
+        out: &mut Vec<u8>,
+    ) -> Result<bool, NoMemory>
+        ensures { IfOk result (λ full. IsTurn (settled_by self.old server.old output.now.bytes.items output.now.stall output.now.close) out.old.items out.new.items self.new server.new full) }
+    {
+        let number = self.conn.number();
+        write_shown_if(out, number, output.bytes.as_slice())?;
+        if output.stall.is_some() {
+            write_full(out)?;
+            return Ok(true);
+        }
+        if !output.close {
+            return Ok(false);
+        }
+        write_closed(out, number)?;
+        self.end(server, out)
+    }
+
+    /// The end of the connection. Answers whether the history is full.
+    fn end(&mut self, server: &mut Server, out: &mut Vec<u8>) -> Result<bool, NoMemory>
+        ensures { IfOk result (λ full. IsTurn (end_turn server.old self.old) out.old.items out.new.items self.new server.new full) }
+    {
+        let output = server.end(&mut self.conn)?;
+        if output.stall.is_some() {
+            write_full(out)?;
+            return Ok(true);
+        }
+        Ok(false)
+    }
+
+    /// A Take of 64, where one is to be made. Answers whether the history is full, and nothing where none is to be
+    /// made.
+    fn take_if_pending(
         &mut self,
         alloc: Global,
         server: &mut Server,
-        bytes: &[u8],
         out: &mut Vec<u8>,
-    ) -> Result<Next, NoMemory>
-        ensures turn { IfOk result (λ next. IsTurn (bytes_turn server.old self.old bytes.now) out.old.items out.new.items next server.new) }
-        ensures reader { OnOk result (self.new ≡ record self.old { reader = reader_after self.old.reader bytes.now }) }
+    ) -> Result<Option<bool>, NoMemory>
+        ensures { IfOk result (λ full. IsTurnIf (pending_turn server.old self.old) out.old.items out.new.items self.old self.new server.old server.new full) }
     {
-        match read_frames(&mut self.reader, bytes)? {
-            None => Ok(Next::Goes(self.stage)),
-            Some(frames) => {
-                let mut text = Vec::new(alloc);
-                let next = on_frames(alloc, server, self.conn, self.stage, &mut text, frames)?;
-                let settled = settle(server, self.conn, out, text.as_slice(), next)?;
-                Ok(settled)
+        if !self.conn.stage().is_connected() {
+            return Ok(None);
+        }
+        if !is_pending(server.waiting(self.conn.number())) {
+            return Ok(None);
+        }
+        let output = server.drain(alloc, &mut self.conn, 64)?;
+        let full = self.settle(server, &output, out)?;
+        Ok(Some(full))
+    }
+
+    /// Takes while something is pending, so many at most. Answers whether the history is full.
+    fn take_all(
+        &mut self,
+        alloc: Global,
+        server: &mut Server,
+        most: usize,
+        out: &mut Vec<u8>,
+    ) -> Result<bool, NoMemory>
+        ensures { IfOk result (λ full. IsTurn (takes most server.old self.old) out.old.items out.new.items self.new server.new full) }
+    {
+        'taking: for _ in 0..most {
+            match self.take_if_pending(alloc, server, out)? {
+                None => return Ok(false),
+                Some(full) => {
+                    if full {
+                        return Ok(true);
+                    }
+                }
             }
         }
-    }
-}
-
-ghost use Rattle.natsd.specs.Play.{reader_after, frames_if};
-
-/// The frames that bytes complete. A stream that has failed gives none.
-fn read_frames(reader: &mut FrameReader, bytes: &[u8]) -> Result<Option<Items<Frame>>, NoMemory>
-    ensures frames { IfOk result (λ frames. frames ≡ frames_if reader.old bytes.now) }
-    ensures reader { OnOk result (reader.new ≡ reader_after reader.old bytes.now) }
-{
-    match reader.feed(bytes) {
-        Ok(frames) => Ok(Some(frames)),
-        Err(FeedError::NoMemory) => Err(NoMemory),
-        Err(FeedError::Failed) => Ok(None),
+        Ok(false)
     }
 }

@@ -3,7 +3,6 @@
 
 mod check;
 mod client;
-mod conn;
 mod device;
 mod fail_at;
 mod fault;
@@ -13,7 +12,6 @@ mod play;
 mod policy;
 mod script;
 mod server;
-mod stage;
 mod words;
 
 ghost use Rattle.std.specs.Prelude.{◌≡◌};

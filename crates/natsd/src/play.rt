@@ -5,7 +5,7 @@ ghost use Rattle.std.specs.Io.KnownBytes.{Appends, IsAtEnd};
 ghost use Rattle.natsd.specs.declared.client.Client.{Client};
 ghost use Rattle.natsd.specs.declared.script.Part.{Part};
 ghost use Rattle.natsd.specs.Policies.{policy_or_line};
-ghost use Rattle.natsd.specs.Play.{drained, done_in, is_open, with_client, new_client, caps_act, caps_line_act, policy_act, policy_line_act, line_act, still_open, is_closed, line_and_drains, IsAct, output_of};
+ghost use Rattle.natsd.specs.Play.{drained, done_in, is_open, with_client, new_client, caps_act, caps_line_act, policy_act, policy_line_act, line_act, still_open, line_and_drains, IsAct, output_of};
 ghost use Rattle.natsd.specs.Server.{Serving};
 ghost use Rattle.natsd.specs.Device.{AppendsFront};
 ghost use Rattle.natsd.specs.Input.{is_read_failed, is_write_failed};
@@ -18,13 +18,10 @@ use crate::output::{write_refused, write_shown};
 use crate::policy::policy_or_line;
 use crate::script::{Deed, Line, Part, read_line};
 use crate::server::Server;
-use crate::stage::{Next, Stage};
-use connect_opts::info_text;
 use hub::Caps;
 use lists::{NoMemory, Pieces};
 use policy_doc::Policy;
 use std::alloc::Global;
-use wire_write::write_info;
 
 /// Drains every connection, in ascending order.
 fn drain_all(
@@ -36,9 +33,8 @@ fn drain_all(
     ensures { IfOk result (λ stops. IsAct (drained clients.old server.old) out.old.items out.new.items clients.new server.new stops) }
 {
     'draining: for client in clients.iter_mut() {
-        match client.drain(alloc, server, out)? {
-            Next::Goes(stage) => client.stage = stage,
-            Next::HistoryFull => return Ok(true),
+        if client.drain(alloc, server, out)? {
+            return Ok(true);
         }
     }
     Ok(false)
@@ -56,14 +52,9 @@ fn on_client(
     ensures { IfOk result (λ stops. IsAct (done_in conn deed.now server.old clients.old) out.old.items out.new.items clients.new server.new stops) }
 {
     'looking: for client in clients.iter_mut() {
-        if client.conn == conn {
-            match client.on_deed(alloc, server, deed, out)? {
-                Next::Goes(stage) => {
-                    client.stage = stage;
-                    return Ok(false);
-                }
-                Next::HistoryFull => return Ok(true),
-            }
+        if client.conn.number() == conn {
+            let full = client.on_deed(alloc, server, deed, out)?;
+            return Ok(full);
         }
     }
     Ok(false)
@@ -71,12 +62,12 @@ fn on_client(
 
 /// How many connections have no greater number.
 fn place_for(clients: &[Client], conn: u64) -> usize
-    ensures place { result ≡ position_or_len (λ x. nat_lt conn x.conn) clients.now }
+    ensures place { result ≡ position_or_len (λ x. nat_lt conn x.conn.conn) clients.now }
     ensures within { result ≤ length clients.now }
 {
     clients
         .iter()
-        .take_while(|client| client.conn <= conn)
+        .take_while(|client| client.conn.number() <= conn)
         .count()
 }
 
@@ -84,7 +75,7 @@ fn place_for(clients: &[Client], conn: u64) -> usize
 fn add_client(clients: &mut Vec<Client>, client: Client) -> Result<(), NoMemory>
     ensures { OnOk result (clients.new.items ≡ with_client client clients.old.items) }
 {
-    let place = place_for(clients.as_slice(), client.conn);
+    let place = place_for(clients.as_slice(), client.conn.number());
     clients.insert(place, client)?;
     Ok(())
 }
@@ -93,25 +84,14 @@ fn add_client(clients: &mut Vec<Client>, client: Client) -> Result<(), NoMemory>
 fn is_open(clients: &[Client], conn: u64) -> bool
     ensures { result ≡ is_open clients.now conn }
 {
-    clients.iter().any(|client| client.conn == conn)
-}
-
-/// Whether nothing more is written to a connection.
-fn is_closed(stage: &Stage) -> bool
-    ensures { result ≡ is_closed stage.now }
-{
-    match stage {
-        Stage::Closed { .. } => true,
-        Stage::Fresh => false,
-        Stage::Connected(_) => false,
-    }
+    clients.iter().any(|client| client.conn.number() == conn)
 }
 
 /// Forgets the connections that have closed.
 fn remove_closed(clients: &mut Vec<Client>)
     ensures { clients.new.items ≡ still_open clients.old.items }
 {
-    clients.retain(|client| !is_closed(&client.stage));
+    clients.retain(|client| !client.conn.stage().is_closed());
 }
 
 /// A new connection, unless one of that number is open.
@@ -128,11 +108,13 @@ fn open(
         write_refused(out, number)?;
         return Ok(true);
     }
-    let info = info_text(alloc, conn)?;
-    let mut line = Vec::new(alloc);
-    write_info(&mut line, &info)?;
-    write_shown(out, conn, line.as_slice())?;
-    add_client(clients, Client::new(alloc, conn))?;
+    let client = Client::new(alloc, conn);
+    let opened = client.conn.opened(alloc);
+    if opened.stall.is_some() {
+        return Err(NoMemory);
+    }
+    write_shown(out, conn, opened.bytes.as_slice())?;
+    add_client(clients, client)?;
     Ok(false)
 }
 

@@ -1,14 +1,42 @@
 // The server of a script: its hub, the moment of its events and the words that they take (docs/SCRIPT.md, "Lines").
-ghost use Rattle.std.specs.Prelude.{◌≡◌, ◌≤◌, ◌++◌, ◌∷◌, [], false, IfOk, OnOk, OnErr};
+ghost use Rattle.std.specs.Prelude.{◌≡◌, ◌≤◌, ◌++◌, ◌∷◌, [], false, IfOk, OnOk};
 ghost use Rattle.hub.specs.Shown.{waiting_of};
-ghost use Rattle.natsd.specs.Server.{heard, answered, first_word, after_word, opened, opening, with_policy, with_caps, is_memory_refusal};
+ghost use Rattle.session.specs.Replies.{is_closed};
+ghost use Rattle.natsd.specs.Server.{opened, opening, with_policy, with_caps, IsDrawn};
+ghost use Rattle.natsd.specs.Session.{bytes_call, drain_call, end_call, is_memory_stall, IsCall};
 
-use hub::{Caps, Command, Event, Hub, HubRefusal, Outcome, Ready};
+use hub::{Caps, Hub, Ready};
 use lists::NoMemory;
 use policy_doc::Policy;
+use session::{Conn, Direct, Output, Stall, Words};
 use std::alloc::Global;
 use std::collections::VecDeque;
 use std::marker::Model;
+
+/// The words of a script, first to last. Where none is left the word is 0.
+#[derive(Drop)]
+struct ScriptWords {
+    left: VecDeque<u64>,
+}
+
+impl Model for ScriptWords {
+    ghost use Rattle.std.specs.Prelude.{ℕ, List};
+
+    ghost Value = { List ℕ };
+
+    ghost view = { λ w. w.left.items };
+}
+
+impl Words for ScriptWords {
+    ghost draws = { λ old word new. IsDrawn old word new };
+
+    fn next(&mut self) -> u64 {
+        match self.left.pop_front() {
+            Some(word) => word,
+            None => 0,
+        }
+    }
+}
 
 /// What a hub is given where a script doesn't say.
 const USUAL: Caps = Caps {
@@ -23,7 +51,7 @@ pub struct Server {
     hub: Hub,
     caps: Caps,
     moment: u64,
-    words: VecDeque<u64>,
+    words: ScriptWords,
 }
 
 impl Model for Server {
@@ -32,7 +60,7 @@ impl Model for Server {
 
     ghost Value = { Serving };
 
-    ghost view = { λ s. record { hub = s.hub; caps = s.caps; moment = s.moment; words = s.words.items } };
+    ghost view = { λ s. record { hub = s.hub; caps = s.caps; moment = s.moment; words = s.words } };
 
     ghost invariant = { λ s. (1 ≤ s.caps.outbox) × (s.caps.outbox ≤ 65536) };
 }
@@ -46,7 +74,9 @@ impl Server {
             hub: open_hub(alloc, policy, USUAL)?,
             caps: USUAL,
             moment: 0,
-            words: VecDeque::new(alloc),
+            words: ScriptWords {
+                left: VecDeque::new(alloc),
+            },
         })
     }
 
@@ -81,30 +111,45 @@ impl Server {
     pub fn add_word(&mut self, word: u64) -> Result<(), NoMemory>
         ensures { OnOk result (self.new ≡ record self.old { words = self.old.words ++ word ∷ [] }) }
     {
-        self.words.push_back(word)?;
+        self.words.left.push_back(word)?;
         Ok(())
     }
 
-    /// Takes the next word, or 0 where none is left.
-    pub fn take_word(&mut self) -> u64
-        ensures word { result ≡ first_word self.old.words }
-        ensures left { self.new ≡ after_word self.old }
+    /// A client's bytes to its connection.
+    pub fn on_bytes(
+        &mut self,
+        alloc: Global,
+        conn: &mut Conn,
+        bytes: &[u8],
+    ) -> Result<Output, NoMemory>
+        ensures call { IfOk result (λ output. IsCall (bytes_call self.old conn.old bytes.now) output conn.new self.new) }
+        ensures close { IfOk result (λ output. output.close ≡ is_closed conn.new.stage) }
     {
-        match self.words.pop_front() {
-            Some(word) => word,
-            None => 0,
-        }
+        let mut port = Direct::new(&mut self.hub);
+        let output = conn.on_bytes(alloc, &mut port, bytes, self.moment, &mut self.words);
+        let output = with_memory(output)?;
+        Ok(output)
     }
 
-    /// One command to the hub, at the moment. Its answer is that of the step; want of memory changes nothing.
-    #[tactic(auto, unfolding(crate::specs::Server::answered))]
-    pub fn submit(&mut self, what: Command) -> Result<Result<Outcome, HubRefusal>, NoMemory>
-        ensures ok { IfOk result (λ answer. (answer, self.new) ≡ answered self.old what) }
-        ensures err { OnErr result (self.new ≡ self.old) }
+    /// A Take of at most so many deliveries for a connection.
+    pub fn drain(&mut self, alloc: Global, conn: &mut Conn, most: usize) -> Result<Output, NoMemory>
+        ensures call { IfOk result (λ output. IsCall (drain_call self.old conn.old most) output conn.new self.new) }
+        ensures close { IfOk result (λ output. output.close ≡ is_closed conn.new.stage) }
     {
-        let now = self.moment;
-        let answer = ask(&mut self.hub, Event { now, what })?;
-        Ok(answer)
+        let mut port = Direct::new(&mut self.hub);
+        let output = conn.drain(alloc, &mut port, most, self.moment);
+        let output = with_memory(output)?;
+        Ok(output)
+    }
+
+    /// The end of a connection: its session goes.
+    pub fn end(&mut self, conn: &mut Conn) -> Result<Output, NoMemory>
+        ensures { IfOk result (λ output. IsCall (end_call self.old conn.old) output conn.new self.new) }
+    {
+        let mut port = Direct::new(&mut self.hub);
+        let output = conn.ended(&mut port, self.moment);
+        let output = with_memory(output)?;
+        Ok(output)
     }
 
     /// How many deliveries wait for the connection's session, and whether one was missed; `None` where it has none.
@@ -130,41 +175,27 @@ fn open_hub(alloc: Global, policy: Policy, caps: Caps) -> Result<Hub, NoMemory>
     }
 }
 
-/// One event to the hub. Its answer is that of the step; want of memory changes nothing.
-fn ask(hub: &mut Hub, event: Event) -> Result<Result<Outcome, HubRefusal>, NoMemory>
-    ensures ok { IfOk result (λ answer. (answer, hub.new) ≡ heard hub.old event) }
-    ensures err { OnErr result (hub.new ≡ hub.old) }
+/// A call that did not lack memory.
+fn with_memory(output: Output) -> Result<Output, NoMemory>
+    ensures { IfOk result (λ same. (same ≡ output) × (is_memory_stall same.stall ≡ false)) }
 {
-    match hub.step(event) {
-        Ok(answer) => Ok(Ok(answer.outcome)),
-        Err((event, refusal)) => {
-            drop(event);
-            let other = other_than_memory(refusal)?;
-            Ok(Err(other))
-        }
-    }
-}
-
-/// A refusal for another cause than memory.
-fn other_than_memory(refusal: HubRefusal) -> Result<HubRefusal, NoMemory>
-    ensures { IfOk result (λ other. (other ≡ refusal) × (is_memory_refusal other ≡ false)) }
-{
-    if is_memory_refusal(refusal) {
+    if is_memory_stall(output.stall) {
         Err(NoMemory)
     } else {
-        Ok(refusal)
+        Ok(output)
     }
 }
 
-/// Whether the hub lacked memory.
-fn is_memory_refusal(refusal: HubRefusal) -> bool
-    ensures { result ≡ is_memory_refusal refusal }
+/// Whether memory lacked.
+fn is_memory_stall(stall: Option<Stall>) -> bool
+    ensures { result ≡ is_memory_stall stall }
 {
-    match refusal {
-        HubRefusal::NoMemory => true,
-        HubRefusal::HistoryFull => false,
-        HubRefusal::NoSession => false,
-        HubRefusal::SessionTaken => false,
-        HubRefusal::SessionLimit => false,
+    match stall {
+        None => false,
+        Some(stall) => match stall {
+            Stall::PieceNotTaken => true,
+            Stall::Memory => true,
+            Stall::HistoryFull => false,
+        },
     }
 }

@@ -1,4 +1,4 @@
-use Rattle.std.proofs.Common.{◌∙◌, sym, ap, refl}
+use Rattle.std.proofs.Common.{◌∙◌, sym, ap}
 use Rattle.natsd.specs.Play.{Played}
 use Rattle.natsd.proofs.Checks.{report_is}
 use Rattle.natsd.proofs.check.report_too_large.Goals as goal

@@ -6,19 +6,19 @@ use Rattle.natsd.proofs.Drains.{draining_more, draining_full, draining_done}
 use Rattle.natsd.proofs.Takes.{IsTurn-same}
 use Rattle.natsd.proofs.play.drain_all.Goals as goal
 
-pub returns-in-HistoryFull : goal.returns-in-HistoryFull
-returns-in-HistoryFull c =
+pub returns-then-branch : goal.returns-then-branch
+returns-then-branch c =
     let within : c.draining.client-index < length c.draining.clients = omega arith in
-    draining_full c.draining.clients c.draining.client-index c.client-item.result c.draining.server c.drain.new.server c.draining.out.items c.drain.new.out.items c.args.out.now.items (drained c.args.clients.now c.args.server.now)
-    within (IsTurn-same _ _ _ _ _ _ c.in-HistoryFull.is c.in_ok-stage.ensures) c.draining.invariant.leads
+    draining_full c.draining.clients c.draining.client-index c.client-item.result c.drain.new.self c.draining.server c.drain.new.server c.draining.out.items c.drain.new.out.items c.args.out.now.items (drained c.args.clients.now c.args.server.now)
+    within (IsTurn-same _ _ _ _ _ _ _ c.if-branch.true c.in_ok-drain.ensures) c.draining.invariant.leads
 
 pub draining-preserved : goal.draining-preserved
 draining-preserved c =
     let within : c.draining.client-index < length c.draining.clients = omega arith in
     record {
       leads =
-          draining_more c.draining.clients c.draining.client-index c.client-item.result c.in-Goes.stage c.draining.server c.drain.new.server c.draining.out.items c.drain.new.out.items c.args.out.now.items (drained c.args.clients.now c.args.server.now)
-          within (IsTurn-same _ _ _ _ _ _ c.in-Goes.is c.in_ok-stage.ensures) c.draining.invariant.leads;
+          draining_more c.draining.clients c.draining.client-index c.client-item.result c.drain.new.self c.draining.server c.drain.new.server c.draining.out.items c.drain.new.out.items c.args.out.now.items (drained c.args.clients.now c.args.server.now)
+          within (IsTurn-same _ _ _ _ _ _ _ c.if-branch.false c.in_ok-drain.ensures) c.draining.invariant.leads;
       len = length-set _ _ _ ∙ c.draining.invariant.len;
     }
 
