@@ -1,6 +1,7 @@
 mod checks;
 mod lines;
 mod plays;
+mod scripts;
 mod words;
 
 use crate::device::{ReadSource, Source, WriteSink, write_all};

@@ -1,4 +1,4 @@
-use crate::tests::plays::{answered, played};
+use crate::tests::scripts::{assert_answers, assert_prints};
 use std::test::Fail;
 
 #[test]
@@ -19,10 +19,7 @@ send 2 HPUB foo 12 14\r\nNATS/1.0\r\n\r\nhi\r\n
 2< -ERR 'Parser Error'\r\n
 2 closed
 "#;
-    let (status, printed) = answered(rt.alloc(), script)?;
-    assert_eq!(rt; printed.as_slice(), answers.as_slice());
-    assert_eq!(rt; status, 0);
-    Ok(())
+    assert_answers(&rt, script, answers, 0)
 }
 
 #[test]
@@ -50,10 +47,7 @@ send 1 PUB q 1\r\nc\r\n
 2 closed
 2< MSG q 1 1\r\nc\r\n
 "#;
-    let (status, printed) = answered(rt.alloc(), script)?;
-    assert_eq!(rt; printed.as_slice(), answers.as_slice());
-    assert_eq!(rt; status, 0);
-    Ok(())
+    assert_answers(&rt, script, answers, 0)
 }
 
 #[test]
@@ -69,10 +63,7 @@ send 1 PING\r\n
 open 1
 send 1 CONNECT {"user":"demo","pass":"demo","verbose":false}\r\nPUB foo 0\r\n\r\nPING\r\n
 "#;
-    let (status, printed) = answered(rt.alloc(), script)?;
-    assert_eq!(rt; printed.as_slice(), b"1< PONG\\r\\n\n".as_slice());
-    assert_eq!(rt; status, 0);
-    Ok(())
+    assert_answers(&rt, script, b"1< PONG\\r\\n\n", 0)
 }
 
 #[test]
@@ -88,9 +79,7 @@ fn caps_of_a_script(rt: HostRuntime) -> Result<(), Fail> {
             "script line 3\n",
         ),
     ] {
-        let (status, printed) = played(rt.alloc(), script.as_bytes())?;
-        assert_eq!(rt; printed.as_slice(), prints.as_bytes(), "{script}");
-        assert_eq!(rt; status, 1, "{script}");
+        assert_prints(&rt, script.as_bytes(), prints.as_bytes(), 1)?;
     }
     Ok(())
 }
@@ -105,9 +94,7 @@ send 1 CONNECT {"user":"demo","pass":"demo","verbose":false}\r\nSUB foo 1\r\nPUB
         br#"1< INFO {"auth_required":true,"client_id":1,"headers":true,"max_payload":1048576,"proto":1,"server_id":"natsd","version":"0.1.0"}\r\n
 history full
 "#;
-    let (status, printed) = played(rt.alloc(), script)?;
-    assert_eq!(rt; printed.as_slice(), prints.as_slice());
-    assert_eq!(rt; status, 1);
+    assert_prints(&rt, script, prints, 1)?;
     // The end of a client is an event too, where it has a session.
     for (end, status) in [(&b"end 1\nopen 1\n"[..], 1), (b"open 2\nend 2\n", 0)] {
         let mut script = Vec::from_slice(
@@ -119,9 +106,7 @@ send 1 CONNECT {"user":"demo","pass":"demo","verbose":false}\r\n
         )?;
         script.extend_from_slice(end)?;
         let answers: &[u8] = if status == 1 { b"history full\n" } else { b"" };
-        let (ended, printed) = answered(rt.alloc(), script.as_slice())?;
-        assert_eq!(rt; printed.as_slice(), answers);
-        assert_eq!(rt; ended, status);
+        assert_answers(&rt, script.as_slice(), answers, status)?;
     }
     Ok(())
 }
