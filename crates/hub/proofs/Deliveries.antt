@@ -3,6 +3,8 @@ use Rattle.std.proofs.Common.{◌≡◌, ◌∙◌, ◌==◌, ◌||◌, ◌⊎�
 use Rattle.std.specs.Prelude.{All, AllPairs, ◌≢◌}
 use Rattle.std.specs.Option.{option_map}
 use Rattle.std.proofs.lemmas.List.{append_assoc, append-nil, length-append}
+use Rattle.std.proofs.Math.Bool.{or-true, or-false}
+use Rattle.std.proofs.lemmas.List.Folds.{map_fixed}
 use Rattle.std.proofs.lemmas.Bool.{eqb-true, eq-eqb, ne_eqb, ltb-true, ltb-false, lt-ltb, le-ltb, cases_eq}
 use Rattle.std.proofs.lemmas.List.Elements.{All-head, All-tail}
 use Rattle.hub.specs.World.{session_of, with_session}
@@ -15,6 +17,7 @@ use Rattle.hub.specs.declared.answer.Delivery.{Delivery}
 use Rattle.hub.specs.declared.answer.Item.{Item}
 use Rattle.hub.specs.declared.answer.Item.TheVariants.{Entered, Full}
 use Rattle.hub.proofs.Finds.{AllPairs-head, AllPairs-tail, AllPairs-map}
+use Rattle.hub.proofs.Soundness.{IsApart, either}
 
 -- ---- one session among all
 
@@ -29,13 +32,13 @@ only-none f conn (z ∷ zs) none =
     ∙ ap (λ rest. z ∷ rest) (only-none f conn zs (All-tail (λ (y : Session). (y.conn == conn) ≡ false) z zs none))
 
 -- where each connection has one session, a change of the first is a change of all
-pub with_session-map : (f : Session → Session) (conn : ℕ) (zs : List Session) → AllPairs (λ (y z : Session). y.conn ≢ z.conn) zs → with_session f conn zs ≡ map (only f conn) zs
+pub with_session-map : (f : Session → Session) (conn : ℕ) (zs : List Session) → AllPairs IsApart zs → with_session f conn zs ≡ map (only f conn) zs
 with_session-map f conn [] apart = refl
 with_session-map f conn (z ∷ zs) apart =
-    here (z.conn == conn) refl (with_session-map f conn zs (AllPairs-tail (λ (y z : Session). y.conn ≢ z.conn) z zs apart))
+    here (z.conn == conn) refl (with_session-map f conn zs (AllPairs-tail IsApart z zs apart))
   where
     others : (z.conn == conn) ≡ true → All (λ (y : Session). (y.conn == conn) ≡ false) zs
-    others is k d h = ne_eqb _ _ (λ same. AllPairs-head (λ (y z : Session). y.conn ≢ z.conn) z zs apart k d h (eqb-true z.conn conn is ∙ sym same))
+    others is k d h = ne_eqb _ _ (λ same. AllPairs-head IsApart z zs apart k d h (eqb-true z.conn conn is ∙ sym same))
 
     here : (b : Bool) → (z.conn == conn) ≡ b → with_session f conn zs ≡ map (only f conn) zs → cond b (f z ∷ zs) (z ∷ with_session f conn zs) ≡ cond b (f z) z ∷ map (only f conn) zs
     here true is later = ap (λ rest. f z ∷ rest) (sym (only-none f conn zs (others is)))
@@ -87,11 +90,6 @@ less-suc m n = here (nat_lt m n) refl
     here true is = sym (lt-ltb (suc m) (suc n) (let h = ltb-true m n is in omega arith))
     here false is = sym (le-ltb (suc m) (suc n) (let h = ltb-false m n is in omega arith))
 
--- what is missed once, stays missed
-or-true : (b : Bool) → (b || true) ≡ true
-or-true true = refl
-or-true false = refl
-
 -- a delivery for which there is room, then the others
 waiting-more : (ws ds : List Delivery) (d : Delivery) (capacity : ℕ) → length ws < capacity →
     (ws ++ d ∷ []) ++ take (capacity - length (ws ++ d ∷ [])) ds ≡ ws ++ take (capacity - length ws) (d ∷ ds)
@@ -138,10 +136,6 @@ receives-more d ds z = here (nat_lt (length z.outbox.waiting) z.outbox.capacity)
         let h = ltb-false (length z.outbox.waiting) z.outbox.capacity is in
         same_holding z _ _ _ _ (waiting-full z.outbox.waiting ds d z.outbox.capacity h) (missed-full z.missed z.outbox.waiting ds d z.outbox.capacity h)
 
-or-false : (b : Bool) → (b || false) ≡ b
-or-false true = refl
-or-false false = refl
-
 take-none : (n : ℕ) → take n (let none : List Delivery = [] in none) ≡ []
 take-none zero = refl
 take-none (suc n) = refl
@@ -150,10 +144,6 @@ receives-none : (z : Session) → receives [] z ≡ z
 receives-none z =
     same_holding z _ _ _ _ (ap (λ ds. z.outbox.waiting ++ ds) (take-none (z.outbox.capacity - length z.outbox.waiting)) ∙ append-nil z.outbox.waiting)
     (ap (λ b. z.missed || b) (le-ltb (z.outbox.capacity - length z.outbox.waiting) 0 (omega arith)) ∙ or-false z.missed)
-
-map-itself : {X : Type 0} (f : X → X) (xs : List X) → ((x : X) → f x ≡ x) → map f xs ≡ xs
-map-itself f [] same = refl
-map-itself f (x ∷ xs) same = ap (λ y. y ∷ map f xs) (same x) ∙ ap (λ ys. x ∷ ys) (map-itself f xs same)
 
 map-twice : {X Y Z : Type 0} (f : X → Y) (g : Y → Z) (h : X → Z) (xs : List X) → ((x : X) → g (f x) ≡ h x) → map g (map f xs) ≡ map h xs
 map-twice f g h [] same = refl
@@ -164,11 +154,7 @@ abbrev pub gets : Message → List Subscription → Session → Session
 gets m subs z = receives (map (delivery_to m) (of_connection z.conn subs)) z
 
 only-conn : (d : Delivery) (conn : ℕ) (z : Session) → (only (offered d) conn z).conn ≡ z.conn
-only-conn d conn z = here (z.conn == conn)
-  where
-    here : (b : Bool) → (cond b (offered d z) z).conn ≡ z.conn
-    here true = offered-conn d z
-    here false = refl
+only-conn d conn z = either (λ (y : Session). y.conn) (z.conn == conn) (offered d z) z (offered-conn d z)
 
 gets-more : (m : Message) (sub : Subscription) (subs : List Subscription) (z : Session) →
     gets m subs (only (offered (delivery_to m sub)) sub.conn z) ≡ gets m (sub ∷ subs) z
@@ -188,18 +174,15 @@ gets-more m sub subs z = here (cases_eq z.conn sub.conn)
         ap (λ b. gets m subs (cond b (offered (delivery_to m sub) z) z)) (ne_eqb z.conn sub.conn ne)
         ∙ sym (ap (λ b. receives (map (delivery_to m) (cond b (sub ∷ of_connection z.conn subs) (of_connection z.conn subs))) z) (ne_eqb sub.conn z.conn (λ e. ne (sym e))))
 
-abbrev AreApart : List Session → Type 0
-AreApart zs = AllPairs (λ (y z : Session). y.conn ≢ z.conn) zs
-
-pub outboxes : (m : Message) (subs : List Subscription) (zs : List Session) → AreApart zs →
+pub outboxes : (m : Message) (subs : List Subscription) (zs : List Session) → AllPairs IsApart zs →
     (delivered (map (addressed_to m) subs) zs).0 ≡ map (gets m subs) zs
-outboxes m [] zs apart = sym (map-itself (gets m []) zs receives-none)
+outboxes m [] zs apart = sym (map_fixed (gets m []) zs (λ k d h. receives-none _))
 outboxes m (sub ∷ subs) zs apart =
     let d : Delivery = delivery_to m sub in
     let changed = with_session-map (offered d) sub.conn zs apart in
-    let still : AreApart (map (only (offered d) sub.conn) zs) =
-    AllPairs-map (λ (y z : Session). y.conn ≢ z.conn) (only (offered d) sub.conn) zs (λ y z ne e. ne (sym (only-conn d sub.conn y) ∙ e ∙ only-conn d sub.conn z)) apart in
-    outboxes m subs (after_offer (addressed_to m sub) zs) (subst AreApart (sym changed) still)
+    let still : AllPairs IsApart (map (only (offered d) sub.conn) zs) =
+    AllPairs-map IsApart (only (offered d) sub.conn) zs (λ y z ne e. ne (sym (only-conn d sub.conn y) ∙ e ∙ only-conn d sub.conn z)) apart in
+    outboxes m subs (after_offer (addressed_to m sub) zs) (subst (AllPairs IsApart) (sym changed) still)
     ∙ ap (map (gets m subs)) changed
     ∙ map-twice (only (offered d) sub.conn) (gets m subs) (gets m (sub ∷ subs)) zs (gets-more m sub subs)
 

@@ -1,5 +1,5 @@
--- The first element that passes a test, in a longer list, a filtered one or a mapped one.
-use Rattle.std.proofs.Common.{◌≡◌, ◌∙◌, suc, ◌<◌, ◌||◌, Bool, true, false, cond, List, [], ◌∷◌, ◌++◌, map, filter, length, Some, None, ap, refl, subst, arith}
+-- The first element that passes a test, in a filtered list or a mapped one.
+use Rattle.std.proofs.Common.{◌≡◌, ◌∙◌, suc, ◌<◌, ◌||◌, Bool, true, false, cond, List, [], ◌∷◌, map, filter, length, Some, None, ap, refl, subst, arith}
 use Rattle.std.specs.Prelude.{find, All, AllPairs}
 use Rattle.std.specs.List.{list_any}
 use Rattle.std.specs.Option.{option_map}
@@ -38,14 +38,6 @@ any-none t (x ∷ xs) e = here (t x) refl e (any-none t xs)
     here : (b : Bool) → t x ≡ b → (b || list_any t xs) ≡ false → (list_any t xs ≡ false → All (λ x. t x ≡ false) xs) → All (λ x. t x ≡ false) (x ∷ xs)
     here true h e' later = absurd (cc)
     here false h e' later = All-cons (λ x. t x ≡ false) x xs h (later e')
-
-pub find-append : {X : Type 0} (t : X → Bool) (xs ys : List X) (y : X) → find t xs ≡ Some y → find t (xs ++ ys) ≡ Some y
-find-append t [] ys y e = absurd (cc)
-find-append t (x ∷ xs) ys y e = here (t x) e (find-append t xs ys y)
-  where
-    here : (b : Bool) → cond b (Some x) (find t xs) ≡ Some y → (find t xs ≡ Some y → find t (xs ++ ys) ≡ Some y) → cond b (Some x) (find t (xs ++ ys)) ≡ Some y
-    here true e' later = e'
-    here false e' later = later e'
 
 -- a filter that lets through all that the test finds
 pub find-filter : {X : Type 0} (t p : X → Bool) (xs : List X) → ((x : X) → t x ≡ true → p x ≡ true) → find t (filter p xs) ≡ find t xs

@@ -33,7 +33,7 @@ use Rattle.hub.specs.declared.answer.HubRefusal.TheVariants.{HistoryFull, NoSess
 use Rattle.std.proofs.lemmas.Bool.{eqb-true}
 use Rattle.hub.proofs.Finds.{find-passes}
 use Rattle.hub.proofs.Naming.{user_named-again}
-use Rattle.hub.proofs.Soundness.{next, KeepsSession, KeepsSubscription, user_at-session, sound-same, sound-map, sound-limits, sound-open, sound-add, sound-close}
+use Rattle.hub.proofs.Soundness.{next, KeepsSession, KeepsSubscription, either, keeps-where, user_at-session, sound-same, sound-map, sound-limits, sound-open, sound-add, sound-close}
 use Rattle.hub.proofs.Reloads.{in_force, sound-reload}
 use Rattle.hub.proofs.Deliveries.{only, with_session-map, gets, items_after, outboxes, one_each, with_room}
 
@@ -82,8 +82,8 @@ untouched w now = record { sessions = refl; subscriptions = refl }
 
 -- ---- when a refusal is due
 
-taken-due : (o : Option Session) (z : Session) → o ≡ Some z → is_some o ≡ true
-taken-due o z e = ap is_some e
+is_there : (o : Option Session) (z : Session) → o ≡ Some z → is_some o ≡ true
+is_there o z e = ap is_some e
 
 none-due : (o : Option Session) → o ≡ None → not (is_some o) ≡ true
 none-due o e = ap (λ x. not (is_some x)) e
@@ -93,9 +93,6 @@ limit-due l o e limit = ap (λ x. not (is_some x) && l) e ∙ limit
 
 connect-fit : (l : Bool) (o : Option Session) → o ≡ None → l ≡ false → (not (is_some o) && not l) ≡ true
 connect-fit l o e limit = ap (λ x. not (is_some x) && not l) e ∙ ap not limit
-
-session-fit : (o : Option Session) (z : Session) → o ≡ Some z → is_some o ≡ true
-session-fit o z e = ap is_some e
 
 -- ---- Connect
 
@@ -119,7 +116,7 @@ connect-keeps w now conn name password echo sound = by_session (session_of w.ses
 
     by_session : (o : Option Session) → session_of w.sessions conn ≡ o →
         Keeps w (event now (Connect conn name password echo)) (numbered (w.number + 1) (in_new_session (advanced w now) o (connected (advanced w now) conn echo (user_with_password w.policy name password))))
-    by_session (Some z) e = taken-due (session_of w.sessions conn) z e
+    by_session (Some z) e = is_there (session_of w.sessions conn) z e
     by_session None e = by_limit (nat_le 4096 (length w.sessions)) refl e
 
 -- ---- Sub
@@ -157,7 +154,7 @@ sub-keeps w now conn p sid sound = by_session (session_of w.sessions conn) refl
     by_session : (o : Option Session) → session_of w.sessions conn ≡ o →
         Keeps w (event now (Sub conn p sid)) (numbered (w.number + 1) (in_session o (λ z. subscribed (advanced w now) conn p sid (subscribe_verdict z.user.rules p))))
     by_session None e = none-due (session_of w.sessions conn) e
-    by_session (Some z) e = by_verdict (subscribe_verdict z.user.rules p) z refl e (user_at-session w sound conn z e) (session-fit (session_of w.sessions conn) z e)
+    by_session (Some z) e = by_verdict (subscribe_verdict z.user.rules p) z refl e (user_at-session w sound conn z e) (is_there (session_of w.sessions conn) z e)
 
 -- ---- Pub
 
@@ -193,28 +190,9 @@ gets-keeps capacity m subs = record {
 
 -- counting changes nothing but the count
 counted-keeps : (items : List Item) → KeepsSubscription (counted items)
-counted-keeps items = record {
-  id = λ s. id_is s (has_entered items s && nat_lt s.received 18446744073709551615);
-  conn = λ s. conn_is s (has_entered items s && nat_lt s.received 18446744073709551615);
-  subject = λ s. subject_is s (has_entered items s && nat_lt s.received 18446744073709551615);
-  sid = λ s. sid_is s (has_entered items s && nat_lt s.received 18446744073709551615);
-}
-  where
-    id_is : (s : Subscription) (b : Bool) → (cond b (record s { received = s.received + 1 }) s).id ≡ s.id
-    id_is s true = refl
-    id_is s false = refl
-
-    conn_is : (s : Subscription) (b : Bool) → (cond b (record s { received = s.received + 1 }) s).conn ≡ s.conn
-    conn_is s true = refl
-    conn_is s false = refl
-
-    subject_is : (s : Subscription) (b : Bool) → (cond b (record s { received = s.received + 1 }) s).subject ≡ s.subject
-    subject_is s true = refl
-    subject_is s false = refl
-
-    sid_is : (s : Subscription) (b : Bool) → (cond b (record s { received = s.received + 1 }) s).sid ≡ s.sid
-    sid_is s true = refl
-    sid_is s false = refl
+counted-keeps items =
+    keeps-where (λ s. has_entered items s && nat_lt s.received 18446744073709551615) (λ (s : Subscription). record s { received = s.received + 1 })
+    (record { id = λ s. refl; conn = λ s. refl; subject = λ s. refl; sid = λ s. refl })
 
 pub-keeps : (w : World) (now conn : ℕ) (s : List Token) (reply : Option (List Token)) (head body : List ℕ) (word : ℕ) → IsSound w →
     Keeps w (event now (Pub conn s reply head body word)) (numbered (w.number + 1) (moved (advanced w now) (Pub conn s reply head body word)))
@@ -262,34 +240,15 @@ pub-keeps w now conn s reply head body word sound = by_session (session_of w.ses
     by_session : (o : Option Session) → session_of w.sessions conn ≡ o →
         Keeps w (event now command) (numbered (w.number + 1) (in_session o (λ z. published (advanced w now) z m (publish_verdict z.user.rules s))))
     by_session None e = none-due (session_of w.sessions conn) e
-    by_session (Some z) e = by_verdict (publish_verdict z.user.rules s) z refl e (user_at-session w sound conn z e) (session-fit (session_of w.sessions conn) z e)
+    by_session (Some z) e = by_verdict (publish_verdict z.user.rules s) z refl e (user_at-session w sound conn z e) (is_there (session_of w.sessions conn) z e)
 
 -- ---- Unsub
 
 -- so does a limit
 limited-keeps : (conn : ℕ) (sid : List ℕ) (most : Option ℕ) → KeepsSubscription (limited conn sid most)
-limited-keeps conn sid most = record {
-  id = λ s. id_is s (is_under conn sid s);
-  conn = λ s. conn_is s (is_under conn sid s);
-  subject = λ s. subject_is s (is_under conn sid s);
-  sid = λ s. sid_is s (is_under conn sid s);
-}
-  where
-    id_is : (s : Subscription) (b : Bool) → (cond b (record s { most = Some (limit_of most) }) s).id ≡ s.id
-    id_is s true = refl
-    id_is s false = refl
-
-    conn_is : (s : Subscription) (b : Bool) → (cond b (record s { most = Some (limit_of most) }) s).conn ≡ s.conn
-    conn_is s true = refl
-    conn_is s false = refl
-
-    subject_is : (s : Subscription) (b : Bool) → (cond b (record s { most = Some (limit_of most) }) s).subject ≡ s.subject
-    subject_is s true = refl
-    subject_is s false = refl
-
-    sid_is : (s : Subscription) (b : Bool) → (cond b (record s { most = Some (limit_of most) }) s).sid ≡ s.sid
-    sid_is s true = refl
-    sid_is s false = refl
+limited-keeps conn sid most =
+    keeps-where (is_under conn sid) (λ (s : Subscription). record s { most = Some (limit_of most) })
+    (record { id = λ s. refl; conn = λ s. refl; subject = λ s. refl; sid = λ s. refl })
 
 unsub-keeps : (w : World) (now conn : ℕ) (sid : List ℕ) (most : Option ℕ) → IsSound w →
     Keeps w (event now (Unsub conn sid most)) (numbered (w.number + 1) (moved (advanced w now) (Unsub conn sid most)))
@@ -300,7 +259,7 @@ unsub-keeps w now conn sid most sound = by_session (session_of w.sessions conn) 
     by_session None e = none-due (session_of w.sessions conn) e
     by_session (Some z) e =
         routed w now (Unsub conn sid most) Unsubscribed w.sessions (unended (map (limited conn sid most) w.subscriptions)) (refl, refl)
-        (session-fit (session_of w.sessions conn) z e) refl (λ _. tt) (refl, refl)
+        (is_there (session_of w.sessions conn) z e) refl (λ _. tt) (refl, refl)
         (sound-limits (next w now w.sessions w.subscriptions) (limited conn sid most) (limited-keeps conn sid most) (sound-same w now sound))
 
 -- ---- Take and Close
@@ -310,19 +269,11 @@ bounded-drop ws most bound h = omega (arith, length-drop most ws)
 
 drained-keeps : (capacity most conn : ℕ) → KeepsSession capacity (only (drained most) conn)
 drained-keeps capacity most conn = record {
-  conn = λ z. conn_is z (z.conn == conn);
-  user = λ z. user_is z (z.conn == conn);
+  conn = λ z. either (λ (y : Session). y.conn) (z.conn == conn) (drained most z) z refl;
+  user = λ z. either (λ (y : Session). y.user) (z.conn == conn) (drained most z) z refl;
   outbox = λ z is. outbox_is z is (z.conn == conn);
 }
   where
-    conn_is : (z : Session) (b : Bool) → (cond b (drained most z) z).conn ≡ z.conn
-    conn_is z true = refl
-    conn_is z false = refl
-
-    user_is : (z : Session) (b : Bool) → (cond b (drained most z) z).user ≡ z.user
-    user_is z true = refl
-    user_is z false = refl
-
     outbox_is : (z : Session) → (z.outbox.capacity ≡ capacity) × (length z.outbox.waiting ≤ capacity) → (b : Bool) → ((cond b (drained most z) z).outbox.capacity ≡ capacity) × (length (cond b (drained most z) z).outbox.waiting ≤ capacity)
     outbox_is z is true = (is.0, bounded-drop z.outbox.waiting most capacity is.1)
     outbox_is z is false = is
@@ -338,7 +289,7 @@ take-keeps w now conn most sound = by_session (session_of w.sessions conn) refl
         let ds : List Delivery = take most z.outbox.waiting in
         let changed = with_session-map (drained most) conn w.sessions sound.connections in
         routed w now (Take conn most) (Taken ds z.missed) (with_session (drained most) conn w.sessions) w.subscriptions (refl, refl)
-        (session-fit (session_of w.sessions conn) z e) refl (λ _. tt)
+        (is_there (session_of w.sessions conn) z e) refl (λ _. tt)
         (subst (λ o. IsSomeAnd o (λ (y : Session). (ds ≡ take most y.outbox.waiting) × (z.missed ≡ y.missed))) (sym e) (refl, refl), changed, refl)
         (subst (λ zs. IsSound (next w now zs w.subscriptions)) (sym changed) (sound-map w now (only (drained most) conn) (drained-keeps w.capacity most conn) sound))
 
@@ -351,7 +302,7 @@ close-keeps w now conn sound = by_session (session_of w.sessions conn) refl
     by_session None e = none-due (session_of w.sessions conn) e
     by_session (Some z) e =
         routed w now (Close conn) Closed (filter (λ (y : Session). not (y.conn == conn)) w.sessions) (filter (λ (sub : Subscription). not (sub.conn == conn)) w.subscriptions) (refl, refl)
-        (session-fit (session_of w.sessions conn) z e) refl (λ _. tt) (refl, refl) (sound-close w now conn sound)
+        (is_there (session_of w.sessions conn) z e) refl (λ _. tt) (refl, refl) (sound-close w now conn sound)
 
 -- ---- Reload
 

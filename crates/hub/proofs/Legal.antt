@@ -1,18 +1,19 @@
 -- How a legal run goes on, and what a step leaves of what every hub keeps.
-use Rattle.std.proofs.Common.{◌≡◌, ◌∙◌, ◌≤◌, ◌||◌, ℕ, Bool, true, false, cond, List, [], ◌∷◌, ◌++◌, length, Ok, Err, ap, sym, refl, subst, arith}
+use Rattle.std.proofs.Common.{◌≡◌, ◌∙◌, ◌≤◌, ◌||◌, ℕ, Bool, true, false, cond, List, [], ◌∷◌, ◌++◌, length, Result, Ok, Err, ap, sym, refl, subst, arith}
 use Rattle.std.specs.Prelude.{nat_le}
 use Rattle.std.proofs.lemmas.Bool.{leb-false}
 use Rattle.std.proofs.lemmas.List.{length-append}
 use Rattle.policy_doc.specs.declared.document.PolicyDoc.{PolicyDoc}
 use Rattle.hub.specs.World.{World, opening_world}
 use Rattle.hub.specs.Sound.{IsSound}
-use Rattle.hub.specs.Transition.{transition, IsReasoned}
+use Rattle.hub.specs.Transition.{transition, IsReasoned, IsRefusal}
 use Rattle.hub.specs.History.{State, is_history_full, entry_of, answer_of, remembered, IsStep, IsEntry, IsLegalRun}
 use Rattle.hub.specs.Guarantee.{KeepsGuarantee}
 use Rattle.hub.specs.declared.event.Event.{Event}
 use Rattle.hub.specs.declared.history.Entry.{Entry}
 use Rattle.hub.specs.declared.answer.Answer.{Answer}
 use Rattle.hub.specs.declared.answer.Outcome.{Outcome}
+use Rattle.hub.specs.declared.answer.HubRefusal.{HubRefusal}
 use Rattle.hub.specs.declared.answer.HubRefusal.TheVariants.{HistoryFull}
 use Rattle.hub.proofs.Guaranteed.{IsMoved, moved-by, guaranteed}
 
@@ -93,3 +94,24 @@ entered-guaranteed policy w most es e o a after entries is =
     guaranteed (state_of policy w most es) e (Ok a) (state_of policy after most entries) is.sound
     (entered-step policy w most es e o a after entries is)
     (subst (λ (b : Answer). IsReasoned w e.what b.outcome) (sym is.answer) is.reason)
+
+-- ---- a refused step
+
+-- what the tables refuse, the state refuses
+remembered-refusal : (s : State) (e : Event) (t : Result (Outcome × World) HubRefusal) (refusal : HubRefusal) → IsRefusal t refusal → IsRefusal (remembered s e t) refusal
+remembered-refusal s e (Ok done) refusal is = is
+remembered-refusal s e (Err cause) refusal is = is
+
+-- it keeps the guarantee, where there was room
+pub refused-guaranteed : (policy : PolicyDoc) (w : World) (most : ℕ) (es : List Entry) (e : Event) (refusal : HubRefusal) (after : World) (entries : List Entry) → IsSound w →
+    is_history_full (state_of policy w most es) ≡ false → IsRefusal (transition w e) refusal → after ≡ w → entries ≡ es →
+    KeepsGuarantee (state_of policy w most es) e (Err (e, refusal)) (state_of policy after most entries)
+refused-guaranteed policy w most es e refusal after entries sound room is same_world same_entries =
+    let s = state_of policy w most es in
+    guaranteed s e (Err (e, refusal)) (state_of policy after most entries) sound (
+      refl,
+      ap (λ (v : World). state_of policy v most entries) same_world ∙ ap (λ (l : List Entry). state_of policy w most l) same_entries,
+      subst (λ (b : Bool). IsRefusal (cond b (Err HistoryFull) (remembered s e (transition w e))) refusal) (sym room)
+          (remembered-refusal s e (transition w e) refusal is),
+    )
+    tt

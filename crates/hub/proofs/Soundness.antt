@@ -1,10 +1,12 @@
 -- What every hub keeps is kept by each kind of change.
-use Rattle.std.proofs.Common.{◌≡◌, ◌∙◌, ◌==◌, ◌&&◌, ℕ, ◌+◌, ◌<◌, ◌≤◌, Bool, true, false, not, List, [], ◌∷◌, ◌++◌, map, filter, length, get_or, Option, Some, None, ap, sym, refl, arith, max}
+use Rattle.std.proofs.Common.{◌≡◌, ◌∙◌, ◌==◌, ◌&&◌, ℕ, ◌+◌, ◌<◌, ◌≤◌, Bool, true, false, not, cond, List, [], ◌∷◌, ◌++◌, map, filter, length, get_or, Option, Some, None, ap, sym, refl, arith, max}
 use Rattle.std.specs.Prelude.{All, ◌≢◌, nat_le, nat_eq}
-use Rattle.std.specs.Option.{option_map}
+use Rattle.std.specs.Option.{option_map, option_or}
 use Rattle.std.specs.Cmp.Lexicographic.{pointwise}
-use Rattle.std.proofs.lemmas.Bool.{eqb-true, eqb-false, leb-false}
+use Rattle.std.proofs.Math.Bool.{not-not}
+use Rattle.std.proofs.lemmas.Bool.{eqb-true, eqb-false, leb-false, not-true}
 use Rattle.std.proofs.lemmas.List.{length-map, length-append}
+use Rattle.std.proofs.lemmas.List.Folds.{find-append}
 use Rattle.std.proofs.lemmas.List.Filters.{length-filter_both}
 use Rattle.std.proofs.lemmas.List.Elements.{All-push, All-map, All-filter, filter_passes}
 use Rattle.std.proofs.lemmas.List.Kept.{AllPairs-filter}
@@ -18,7 +20,7 @@ use Rattle.hub.specs.Transition.{new_session, subscription_of, stands}
 use Rattle.hub.specs.declared.ready.User.{User}
 use Rattle.hub.specs.declared.tables.Session.{Session}
 use Rattle.hub.specs.declared.tables.Subscription.{Subscription}
-use Rattle.hub.proofs.Finds.{find-All, find-none, find-append, find-filter, find-map, any-none, AllPairs-map}
+use Rattle.hub.proofs.Finds.{find-All, find-none, find-filter, find-map, any-none, AllPairs-map}
 
 -- the world after an answered step that left these sessions and subscriptions
 abbrev pub next : World → ℕ → List Session → List Subscription → World
@@ -106,7 +108,7 @@ allowed-open doc zs y s is = by_session (session_of zs s.conn) refl is
   where
     by_session : (o : Option Session) → session_of zs s.conn ≡ o → may_subscribe (user_behind doc o) s.subject ≡ true → IsAllowed doc (zs ++ y ∷ []) s
     by_session None e h = absurd (cc)
-    by_session (Some z) e h = ap (λ o. may_subscribe (user_behind doc o) s.subject) (find-append (λ (z : Session). z.conn == s.conn) zs (y ∷ []) z e) ∙ h
+    by_session (Some z) e h = ap (λ o. may_subscribe (user_behind doc o) s.subject) (find-append (λ (z : Session). z.conn == s.conn) zs (y ∷ []) ∙ ap (λ o. option_or o (session_of (y ∷ []) s.conn)) e) ∙ h
 
 pub sound-open : (w : World) (now conn : ℕ) (u : User) (echo : Bool) → session_of w.sessions conn ≡ None → nat_le 4096 (length w.sessions) ≡ false → user_named w.policy u.user ≡ Some u → IsSound w → IsSound (next w now (w.sessions ++ new_session conn u echo w.capacity ∷ []) w.subscriptions)
 sound-open w now conn u echo free room is sound = record {
@@ -149,15 +151,11 @@ allowed-close doc zs conn s other is =
     ap (λ o. may_subscribe (user_behind doc o) s.subject) (find-filter (λ (z : Session). z.conn == s.conn) (λ (z : Session). not (z.conn == conn)) zs (λ z. not_of s.conn conn other z.conn))
     ∙ is
 
-not_not : (b : Bool) → b ≡ not (not b)
-not_not true = refl
-not_not false = refl
-
 pub sound-close : (w : World) (now conn : ℕ) → IsSound w →
     IsSound (next w now (filter (λ (z : Session). not (z.conn == conn)) w.sessions) (filter (λ (s : Subscription). not (s.conn == conn)) w.subscriptions))
 sound-close w now conn sound = record {
   policy = sound.policy;
-  limit = omega (arith, length-filter_both (λ (z : Session). not (z.conn == conn)) (λ (z : Session). z.conn == conn) (λ z. not_not (z.conn == conn)) w.sessions, sound.limit);
+  limit = omega (arith, length-filter_both (λ (z : Session). not (z.conn == conn)) (λ (z : Session). z.conn == conn) (λ z. sym (not-not (z.conn == conn))) w.sessions, sound.limit);
   connections = AllPairs-filter IsApart (λ (z : Session). not (z.conn == conn)) w.sessions sound.connections;
   users = All-filter (λ (z : Session). not (z.conn == conn)) (IsOfPolicy w.policy) w.sessions sound.users;
   outboxes = All-filter (λ (z : Session). not (z.conn == conn)) (HasBound w.capacity) w.sessions sound.outboxes;
@@ -175,6 +173,20 @@ pub record KeepsSubscription (f : Subscription → Subscription) : Type 0 where
   pub conn : (s : Subscription) → (f s).conn ≡ s.conn
   pub subject : (s : Subscription) → (f s).subject ≡ s.subject
   pub sid : (s : Subscription) → (f s).sid ≡ s.sid
+
+-- what is the same of both is the same of whichever is taken
+pub either : {X Y : Type 0} (part : X → Y) (b : Bool) (x y : X) → part x ≡ part y → part (cond b x y) ≡ part y
+either part true x y same = same
+either part false x y same = refl
+
+-- what keeps each subscription keeps each where it is done to some alone
+pub keeps-where : (test : Subscription → Bool) (f : Subscription → Subscription) → KeepsSubscription f → KeepsSubscription (λ s. cond (test s) (f s) s)
+keeps-where test f keeps = record {
+  id = λ s. either (λ (t : Subscription). t.id) (test s) (f s) s (keeps.id s);
+  conn = λ s. either (λ (t : Subscription). t.conn) (test s) (f s) s (keeps.conn s);
+  subject = λ s. either (λ (t : Subscription). t.subject) (test s) (f s) s (keeps.subject s);
+  sid = λ s. either (λ (t : Subscription). t.sid) (test s) (f s) s (keeps.sid s);
+}
 
 allowed-again : (doc : PolicyDoc) (zs : List Session) (f : Subscription → Subscription) → KeepsSubscription f → (s : Subscription) → IsAllowed doc zs s → IsAllowed doc zs (f s)
 allowed-again doc zs f keeps s is =
@@ -196,10 +208,6 @@ rising-again f keeps s t is = let e = keeps.id s in let g = keeps.id t in omega 
 below-again : (n : ℕ) (f : Subscription → Subscription) → KeepsSubscription f → (s : Subscription) → s.id ≤ n → (f s).id ≤ n
 below-again n f keeps s is = let e = keeps.id s in omega arith
 
-still-open : (b : Bool) → not b ≡ true → b ≡ false
-still-open true is = absurd (cc)
-still-open false is = refl
-
 pub sound-limits : (w : World) (f : Subscription → Subscription) → KeepsSubscription f → IsSound w → IsSound (record w { subscriptions = unended (map f w.subscriptions) })
 sound-limits w f keeps sound = record {
   policy = sound.policy;
@@ -208,7 +216,7 @@ sound-limits w f keeps sound = record {
   users = sound.users;
   outboxes = sound.outboxes;
   subscriptions = All-filter IsOpen (IsAllowed w.policy w.sessions) subs (All-map (IsAllowed w.policy w.sessions) f w.subscriptions (λ k d h. allowed-again w.policy w.sessions f keeps (get_or w.subscriptions k d) (sound.subscriptions k d h)));
-  limits = λ k d h. still-open (has_ended (get_or (unended subs) k d)) (filter_passes IsOpen subs k d h);
+  limits = λ k d h. not-true (has_ended (get_or (unended subs) k d)) (filter_passes IsOpen subs k d h);
   sids = AllPairs-filter (λ (s t : Subscription). has_same_sid s t ≡ false) IsOpen subs (AllPairs-map (λ (s t : Subscription). has_same_sid s t ≡ false) f w.subscriptions (apart-again f keeps) sound.sids);
   ids = AllPairs-filter (λ (s t : Subscription). s.id < t.id) IsOpen subs (AllPairs-map (λ (s t : Subscription). s.id < t.id) f w.subscriptions (rising-again f keeps) sound.ids);
   numbers = All-filter IsOpen (λ (s : Subscription). s.id ≤ w.number) subs (All-map (λ (s : Subscription). s.id ≤ w.number) f w.subscriptions (λ k d h. below-again w.number f keeps (get_or w.subscriptions k d) (sound.numbers k d h)));

@@ -15,7 +15,7 @@ use Rattle.hub.specs.InForce.{IsInForce, policy_after, epoch_after}
 use Rattle.hub.specs.Run.{EachStep}
 use Rattle.hub.specs.Routing.{Message, message, delivery_to}
 use Rattle.hub.specs.Limit.{unended, counted, limited}
-use Rattle.hub.specs.Transition.{new_session, of_connection, subscription_of, stands, drained}
+use Rattle.hub.specs.Transition.{new_session, of_connection, has_all, subscription_of, stands, drained}
 use Rattle.hub.specs.declared.ready.User.{User}
 use Rattle.hub.specs.declared.tables.Session.{Session}
 use Rattle.hub.specs.declared.tables.Subscription.{Subscription}
@@ -161,10 +161,6 @@ pub record IsUntouched (w after : World) : Type 0 where
   pub sessions : after.sessions ≡ w.sessions
   pub subscriptions : after.subscriptions ≡ w.subscriptions
 
--- 4,096 subscriptions of the connection stand
-abbrev pub has_all : World → ℕ → Bool
-has_all w conn = nat_le 4096 (length (of_connection conn w.subscriptions))
-
 -- What an answered command does to the sessions and subscriptions, by what it was answered.
 abbrev pub IsEffect : World → Command → Outcome → World → Type 0
 -- a session of the user stands, the last, with nothing in its outbox
@@ -175,11 +171,11 @@ IsEffect w (Connect conn name password echo) AuthViolation after = IsUntouched w
 -- the subscription stands, the youngest, where none of that id stood and fewer than 4,096 of the connection's; else
 -- nothing changes
 IsEffect w (Sub conn p sid) Subscribed after =
-    (stands w.subscriptions conn sid ≡ false) × (has_all w conn ≡ false) × (after.sessions ≡ w.sessions)
+    (stands w.subscriptions conn sid ≡ false) × (has_all w.subscriptions conn ≡ false) × (after.sessions ≡ w.sessions)
     × (after.subscriptions ≡ w.subscriptions ++ subscription_of after.number conn p sid ∷ [])
 IsEffect w (Sub conn p sid) SameSid after = (stands w.subscriptions conn sid ≡ true) × IsUntouched w after
 IsEffect w (Sub conn p sid) SubLimit after =
-    (stands w.subscriptions conn sid ≡ false) × (has_all w conn ≡ true) × IsUntouched w after
+    (stands w.subscriptions conn sid ≡ false) × (has_all w.subscriptions conn ≡ true) × IsUntouched w after
 IsEffect w (Sub conn p sid) (Denied v) after = IsUntouched w after
 -- the connection's subscription of that id, if one stands, takes the limit, in place of an earlier one, and ends where
 -- it has received as many; no other changes

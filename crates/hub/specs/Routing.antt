@@ -37,7 +37,7 @@ has_room (Some z) = nat_lt (length z.outbox.waiting) z.outbox.capacity
 
 -- the session after a delivery was offered to its outbox: it waits there, or was missed
 abbrev pub offered : Delivery → Session → Session
-offered d z = if nat_lt (length z.outbox.waiting) z.outbox.capacity
+offered d z = if has_room (Some z)
     then record z { outbox = record z.outbox { waiting = z.outbox.waiting ++ d ∷ [] } }
     else record z { missed = true }
 

@@ -1,5 +1,5 @@
 -- What holds of the world of every hub (docs/GUARANTEE.md, "What always holds").
-use Rattle.std.specs.Prelude.{◌≡◌, ◌≢◌, ◌==◌, ◌&&◌, ◌+◌, ◌<◌, ◌≤◌, ℕ, List, Bool, true, false, Option, Some, None, find, length, All, AllPairs}
+use Rattle.std.specs.Prelude.{◌≡◌, ◌≢◌, ◌+◌, ◌<◌, ◌≤◌, ℕ, List, Bool, true, false, Option, Some, None, find, length, All, AllPairs}
 use Rattle.std.specs.Cmp.Lexicographic.{pointwise}
 use Rattle.std.specs.Prelude.{nat_eq}
 use Rattle.subjects.specs.Subject.{Token}
@@ -8,7 +8,7 @@ use Rattle.policy_doc.specs.declared.document.PolicyDoc.{PolicyDoc}
 use Rattle.permissions.specs.Verdicts.{subscribe_verdict, is_allowed}
 use Rattle.hub.specs.Users.{users_of}
 use Rattle.hub.specs.World.{World, session_of}
-use Rattle.hub.specs.Limit.{has_ended}
+use Rattle.hub.specs.Limit.{has_ended, is_under}
 use Rattle.hub.specs.declared.ready.User.{User}
 use Rattle.hub.specs.declared.tables.Session.{Session}
 use Rattle.hub.specs.declared.tables.Subscription.{Subscription}
@@ -33,7 +33,7 @@ may_subscribe (Some u) p = is_allowed (subscribe_verdict u.rules p)
 
 -- whether two subscriptions have the same connection and sid
 abbrev pub has_same_sid : Subscription → Subscription → Bool
-has_same_sid s t = (s.conn == t.conn) && pointwise nat_eq s.sid t.sid
+has_same_sid s t = is_under t.conn t.sid s
 
 -- What every hub keeps: from its opening, through each step.
 pub record IsSound (w : World) : Type 0 where

@@ -1,7 +1,6 @@
 -- The transition: what one event makes of the world (docs/GUARANTEE.md, "The step").
-use Rattle.std.specs.Prelude.{◌==◌, ◌+◌, ◌&&◌, ◌∷◌, ◌++◌, ◌≡◌, ℕ, List, [], Bool, true, false, Option, Some, None, Result, Ok, Err, if◌then◌else◌, filter, map, not, length, nat_le, nat_eq, take, drop, IsSomeAnd}
+use Rattle.std.specs.Prelude.{◌==◌, ◌+◌, ◌∷◌, ◌++◌, ◌≡◌, ℕ, List, [], Bool, true, false, Option, Some, None, Result, Ok, Err, if◌then◌else◌, filter, map, not, length, nat_le, take, drop, IsSomeAnd}
 use Rattle.std.specs.List.{list_any}
-use Rattle.std.specs.Cmp.Lexicographic.{pointwise}
 use Rattle.subjects.specs.Subject.{Token}
 use Rattle.permissions.specs.Verdicts.{publish_verdict, subscribe_verdict, IsJustifiedPublish, IsJustifiedSubscribe}
 use Rattle.permissions.specs.declared.verdict.Verdict.{Verdict}
@@ -9,7 +8,7 @@ use Rattle.permissions.specs.declared.verdict.Verdict.TheVariants.{Allowed, Deni
 use Rattle.hub.specs.Users.{user_with_password}
 use Rattle.hub.specs.World.{World, session_of, with_session, advanced}
 use Rattle.hub.specs.Routing.{Message, message, admitted, addressed_to, delivered}
-use Rattle.hub.specs.Limit.{unended, counted, limited}
+use Rattle.hub.specs.Limit.{is_under, unended, counted, limited}
 use Rattle.hub.specs.Reload.{reloaded, IsReasonedReload}
 use Rattle.hub.specs.declared.ready.User.{User}
 use Rattle.hub.specs.declared.tables.Session.{Session}
@@ -34,7 +33,7 @@ connected w conn echo (Some u) =
 
 -- whether a subscription of the connection stands under that id
 abbrev pub stands : List Subscription → ℕ → List ℕ → Bool
-stands subs conn sid = list_any (λ s. (s.conn == conn) && pointwise nat_eq s.sid sid) subs
+stands subs conn sid = list_any (is_under conn sid) subs
 
 -- the standing subscriptions of a connection
 abbrev pub of_connection : ℕ → List Subscription → List Subscription

@@ -3,6 +3,7 @@ ghost use Rattle.std.specs.Prelude.{◌≡◌, IfOk};
 
 use crate::answer::{Answer, Delivery, Item, Outcome, Removed};
 use crate::event::Command;
+use bytes::Bytes;
 use lists::{Copying, Items, NoMemory};
 use std::alloc::Global;
 use subjects::Subject;
@@ -106,15 +107,7 @@ impl Copying for Command {
                 user,
                 pass,
                 echo,
-            } => Ok(Command::Connect {
-                conn: *conn,
-                user: match user {
-                    Some(name) => Some(name.clone()?),
-                    None => None,
-                },
-                pass: pass.clone()?,
-                echo: *echo,
-            }),
+            } => copy_connect(*conn, user, pass, *echo),
             Command::Sub { conn, subject, sid } => Ok(Command::Sub {
                 conn: *conn,
                 subject: subject.copy(alloc)?,
@@ -136,14 +129,7 @@ impl Copying for Command {
                 head,
                 body,
                 word,
-            } => Ok(Command::Pub {
-                conn: *conn,
-                subject: subject.copy(alloc)?,
-                reply: copy_reply(alloc, reply)?,
-                head: head.clone()?,
-                body: body.clone()?,
-                word: *word,
-            }),
+            } => copy_publish(alloc, *conn, subject, reply, head, body, *word),
             Command::Take { conn, most } => Ok(Command::Take {
                 conn: *conn,
                 most: *most,
@@ -152,4 +138,47 @@ impl Copying for Command {
             Command::Reload(ready) => Ok(Command::Reload(ready.copy(alloc)?)),
         }
     }
+}
+
+ghost use Rattle.hub.specs.declared.event.Command.TheVariants as command;
+
+fn copy_connect(
+    conn: u64,
+    user: &Option<Bytes>,
+    pass: &Bytes,
+    echo: bool,
+) -> Result<Command, NoMemory>
+    ensures { IfOk result (λ same. same ≡ command.Connect conn user.now pass.now echo) }
+{
+    let user = match user {
+        Some(name) => Some(name.clone()?),
+        None => None,
+    };
+    Ok(Command::Connect {
+        conn,
+        user,
+        pass: pass.clone()?,
+        echo,
+    })
+}
+
+fn copy_publish(
+    alloc: Global,
+    conn: u64,
+    subject: &Subject,
+    reply: &Option<Subject>,
+    head: &Bytes,
+    body: &Bytes,
+    word: u64,
+) -> Result<Command, NoMemory>
+    ensures { IfOk result (λ same. same ≡ command.Pub conn subject.now reply.now head.now body.now word) }
+{
+    Ok(Command::Pub {
+        conn,
+        subject: subject.copy(alloc)?,
+        reply: copy_reply(alloc, reply)?,
+        head: head.clone()?,
+        body: body.clone()?,
+        word,
+    })
 }

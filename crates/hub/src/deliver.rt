@@ -1,7 +1,6 @@
 //! A message to the subscriptions that it is for.
 ghost use Rattle.std.specs.Prelude.{◌≡◌, [], ◌∷◌, ◌++◌, ◌+◌, ◌≤◌, IfOk, OnOk, map, filter, length, vec_len, vec_capacity};
 ghost use Rattle.hub.specs.Routing.{lets_through, may_hear, is_admitted, addressed_to, after_offer, item_of, delivered};
-ghost use Rattle.hub.specs.World.{session_of};
 ghost use Rattle.std.specs.Option.{option_copied};
 ghost use Rattle.hub.specs.declared.answer.Item.TheVariants as item;
 

@@ -1,8 +1,9 @@
 //! What subscriptions have received, and the limits that their clients have set.
 ghost use Rattle.std.specs.Prelude.{◌≡◌, map};
-ghost use Rattle.hub.specs.Limit.{has_ended, unended, is_entry_for, has_entered, counted, is_under, limit_of, limited};
+ghost use Rattle.hub.specs.Limit.{has_ended, unended, is_entry_for, has_entered, counted, limited};
 
 use crate::answer::Item;
+use crate::subscribe::is_under;
 use crate::tables::Subscription;
 use bytes::Bytes;
 
@@ -28,7 +29,7 @@ fn is_entry_for(item: &Item, subscription: &Subscription) -> bool
     ensures { result ≡ is_entry_for subscription.now item.now }
 {
     match item {
-        Item::Entered { conn, sid } => subscription.conn == *conn && subscription.sid == *sid,
+        Item::Entered { conn, sid } => is_under(subscription, *conn, sid),
         Item::Full { .. } => false,
     }
 }
@@ -69,7 +70,7 @@ pub(crate) fn count_entered(subscriptions: &mut Vec<Subscription>, items: &[Item
 fn limit(subscription: &mut Subscription, conn: u64, sid: &Bytes, most: Option<u64>)
     ensures { subscription.new ≡ limited conn sid.now most subscription.old }
 {
-    if subscription.conn == conn && subscription.sid == *sid {
+    if is_under(subscription, conn, sid) {
         subscription.most = Some(most.unwrap_or(0));
     }
 }

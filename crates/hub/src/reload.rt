@@ -1,10 +1,8 @@
 //! Another policy comes into force: who stays, who goes, and what may stand on.
-ghost use Rattle.std.specs.Prelude.{◌≡◌, ◌∷◌, ◌++◌, [], IfOk, OnOk, IfSome, filter, map, All};
+ghost use Rattle.std.specs.Prelude.{◌≡◌, ◌∷◌, ◌++◌, [], IfOk, OnOk, filter, map, All};
 ghost use Rattle.std.specs.List.{filter_map};
 ghost use Rattle.std.specs.Option.{option_copied};
-ghost use Rattle.permissions.specs.Verdicts.{subscribe_verdict, IsJustifiedSubscribe};
-ghost use Rattle.hub.specs.World.{session_of};
-ghost use Rattle.hub.specs.Reload.{user_again_of, stays, goes, remaining, connection_of, closed_conns, ascending, user_after, verdict_after, stands_on, removal_after, with_user, with_users, IsReasonedVerdict, IsReasonedReload};
+ghost use Rattle.hub.specs.Reload.{user_again_of, stays, goes, connection_of, closed_conns, ascending, user_after, verdict_after, stands_on, removal_after, with_user, with_users, IsReasonedVerdict, IsReasonedReload};
 
 use crate::answer::Removed;
 use crate::ready::{Ready, User};

@@ -86,7 +86,7 @@ pub(crate) fn remove_session(sessions: &mut Vec<Session>, conn: u64)
 }
 
 impl Session {
-    ghost use Rattle.std.specs.Prelude.{◌≡◌, IfOk, OnErr, IsTrue, take, Some};
+    ghost use Rattle.std.specs.Prelude.{◌≡◌, IfOk, OnErr, take, Some};
     ghost use Rattle.hub.specs.Routing.{offered, has_room};
     ghost use Rattle.hub.specs.Transition.{drained};
 

@@ -1,5 +1,6 @@
 //! A subscription of a session.
 ghost use Rattle.std.specs.Prelude.{◌≡◌, ◌++◌, ◌∷◌, ◌==◌, [], OnOk, OnErr, filter, length, not};
+ghost use Rattle.hub.specs.Limit.{is_under};
 ghost use Rattle.hub.specs.Transition.{stands, has_all, of_connection, subscription_of};
 
 use crate::tables::Subscription;
@@ -11,11 +12,20 @@ use subjects::Pattern;
 /// How many subscriptions of a connection may stand.
 const SUBSCRIPTIONS: usize = 4096;
 
+/// Whether a subscription is the connection's of that id.
+pub(crate) fn is_under(subscription: &Subscription, conn: u64, sid: &Bytes) -> bool
+    ensures { result ≡ is_under conn sid.now subscription.now }
+{
+    subscription.conn == conn && subscription.sid == *sid
+}
+
 /// Whether a subscription of the connection stands under that id.
 pub(crate) fn is_sid_taken(subscriptions: &[Subscription], conn: u64, sid: &Bytes) -> bool
     ensures { result ≡ stands subscriptions.now conn sid.now }
 {
-    subscriptions.iter().any(|subscription| subscription.conn == conn && subscription.sid == *sid)
+    subscriptions
+        .iter()
+        .any(|subscription| is_under(subscription, conn, sid))
 }
 
 /// How many subscriptions of the connection stand.

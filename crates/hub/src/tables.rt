@@ -1,6 +1,3 @@
-ghost use Rattle.std.specs.Prelude.{◌≡◌, position, ◌==◌};
-ghost use Rattle.std.specs.Option.{option_copied};
-
 use crate::answer::Delivery;
 use crate::ready::User;
 use bytes::Bytes;

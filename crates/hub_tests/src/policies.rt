@@ -24,8 +24,8 @@ impl Given {
     pub(crate) fn ready(&self, alloc: Global) -> Result<Ready, Fail> {
         match self {
             Given::Builtin => ready_of(alloc, Policy::builtin(alloc)?),
-            Given::SubscribeToBoth => of_u(alloc, &["a", "b"]),
-            Given::SubscribeToOne => of_u(alloc, &["a"]),
+            Given::SubscribeToBoth => one_user(alloc, &["a", "b"]),
+            Given::SubscribeToOne => one_user(alloc, &["a"]),
             Given::FourUsers => four_users(alloc),
             Given::OneStays => one_stays(alloc),
         }
@@ -87,7 +87,7 @@ fn ready(alloc: Global, a: Vec<UserDoc>, b: Vec<UserDoc>) -> Result<Ready, Fail>
     ready_of(alloc, policy)
 }
 
-fn of_u(alloc: Global, allow: &[&str]) -> Result<Ready, Fail> {
+fn one_user(alloc: Global, allow: &[&str]) -> Result<Ready, Fail> {
     let mut users = Vec::new(alloc);
     users.push(user(alloc, "u", "u", Some(allow))?)?;
     ready(alloc, users, Vec::new(alloc))

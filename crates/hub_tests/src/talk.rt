@@ -5,6 +5,7 @@ use bytes::Bytes;
 use hub::{Answer, Caps, Command, Delivery, Event, Hub, HubRefusal, Item, Outcome, Ready, Removed};
 use lists::{Copying, Items};
 use std::alloc::Global;
+use std::process::Abort;
 use std::str;
 use std::test::Fail;
 use subjects::{Pattern, Subject};
@@ -44,8 +45,25 @@ pub enum Ask {
     History,
 }
 
+/// Asserts what a hub over the policy tells when it is asked so.
+pub(crate) fn tells(
+    rt: &impl Abort,
+    alloc: Global,
+    given: Given,
+    caps: Caps,
+    asks: &[Ask],
+    want: &str,
+) -> Result<(), Fail>
+    requires low { 1 ≤ caps.outbox }
+    requires high { caps.outbox ≤ 65536 }
+{
+    let told = told(alloc, given, caps, asks)?;
+    assert_eq!(rt; told.as_str(), want);
+    Ok(())
+}
+
 /// What is told: the epoch, number and outcome of each answer, or the refusal; and what was looked at.
-pub(crate) fn told(alloc: Global, given: Given, caps: Caps, asks: &[Ask]) -> Result<String, Fail>
+fn told(alloc: Global, given: Given, caps: Caps, asks: &[Ask]) -> Result<String, Fail>
     requires low { 1 ≤ caps.outbox }
     requires high { caps.outbox ≤ 65536 }
 {
@@ -141,14 +159,8 @@ impl Talk {
 
     fn connect_all(&mut self, from: u64, to: u64) -> Result<(), Fail> {
         for conn in from..to {
-            let event = Event {
-                now: self.now,
-                what: command(self.alloc, Ask::Connect(conn, "demo", "demo"))?,
-            };
-            match step(&mut self.hub, event) {
-                Ok(_) => {}
-                Err(_) => return Err("refused".into()),
-            }
+            let what = command(self.alloc, Ask::Connect(conn, "demo", "demo"))?;
+            self.step_untold(what)?;
         }
         Ok(())
     }
@@ -156,16 +168,22 @@ impl Talk {
     fn sub_all(&mut self, conn: u64, from: u64, to: u64) -> Result<(), Fail> {
         for number in from..to {
             let sid = format!(in self.alloc; "{number}")?;
-            let event = Event {
-                now: self.now,
-                what: subscribe(self.alloc, conn, "foo", sid.as_str())?,
-            };
-            match step(&mut self.hub, event) {
-                Ok(_) => {}
-                Err(_) => return Err("refused".into()),
-            }
+            let what = subscribe(self.alloc, conn, "foo", sid.as_str())?;
+            self.step_untold(what)?;
         }
         Ok(())
+    }
+
+    // A step that is answered, of which nothing is told.
+    fn step_untold(&mut self, what: Command) -> Result<(), Fail> {
+        let event = Event {
+            now: self.now,
+            what,
+        };
+        match step(&mut self.hub, event) {
+            Ok(_) => Ok(()),
+            Err(_) => Err("refused".into()),
+        }
     }
 
     fn tell_waiting(&mut self, conn: u64) -> Result<(), Fail> {

@@ -1,7 +1,7 @@
 ghost use Rattle.std.specs.Prelude.{◌≤◌};
 
 use crate::policies::Given;
-use crate::talk::{Ask, command, standing_in_words, told, waiting_in_words};
+use crate::talk::{Ask, command, standing_in_words, tells, waiting_in_words};
 use bytes::Bytes;
 use hub::{Answer, Caps, Command, Event, Hub, HubRefusal, User};
 use lists::{Copying, NoMemory};
@@ -37,10 +37,7 @@ fn a_message_reaches_its_subscription(rt: HostRuntime) -> Result<(), Fail> {
         Ask::Pub(1, "foo", ""),
         Ask::Take(1, 5),
     ];
-    let told = told(rt.alloc(), Given::Builtin, ROOM, &asks)?;
-    assert_eq!(rt;
-        told.as_str(),
-        "1.1 connected
+    let want = "1.1 connected
 1.2 subscribed
 1.3 same sid
 standing [2 1 foo 1]
@@ -52,9 +49,8 @@ standing [2 1 foo 1]
 1 has 0, missed false
 1.7 published All, entered 1 1
 1.8 taken foo 1 [], missed false
-"
-    );
-    Ok(())
+";
+    tells(&rt, rt.alloc(), Given::Builtin, ROOM, &asks, want)
 }
 
 #[test]
@@ -73,10 +69,7 @@ fn permissions_bound_a_session(rt: HostRuntime) -> Result<(), Fail> {
         Ask::Standing,
         Ask::Waiting(1),
     ];
-    let told = told(rt.alloc(), Given::Builtin, ROOM, &asks)?;
-    assert_eq!(rt;
-        told.as_str(),
-        "1.1 connected
+    let want = "1.1 connected
 1.2 connected
 1.3 subscribed
 1.4 published All
@@ -88,9 +81,8 @@ fn permissions_bound_a_session(rt: HostRuntime) -> Result<(), Fail> {
 1.10 denied DeniedBy(0)
 standing [3 1 foo.* 1]
 1 has 2, missed false
-"
-    );
-    Ok(())
+";
+    tells(&rt, rt.alloc(), Given::Builtin, ROOM, &asks, want)
 }
 
 #[test]
@@ -106,10 +98,7 @@ fn a_full_outbox_is_told_once(rt: HostRuntime) -> Result<(), Fail> {
         Ask::Take(1, 5),
         Ask::Take(1, 5),
     ];
-    let told = told(rt.alloc(), Given::Builtin, ROOM_FOR_ONE, &asks)?;
-    assert_eq!(rt;
-        told.as_str(),
-        "1.1 connected
+    let want = "1.1 connected
 1.2 connected
 1.3 subscribed
 1.4 published All, entered 1 7
@@ -118,9 +107,8 @@ fn a_full_outbox_is_told_once(rt: HostRuntime) -> Result<(), Fail> {
 2 has 0, missed false
 1.6 taken q 7 [a], missed true
 1.7 taken, missed false
-"
-    );
-    Ok(())
+";
+    tells(&rt, rt.alloc(), Given::Builtin, ROOM_FOR_ONE, &asks, want)
 }
 
 #[test]
@@ -139,10 +127,7 @@ fn a_close_takes_all_with_it(rt: HostRuntime) -> Result<(), Fail> {
         Ask::Waiting(1),
         Ask::Waiting(2),
     ];
-    let told = told(rt.alloc(), Given::Builtin, ROOM, &asks)?;
-    assert_eq!(rt;
-        told.as_str(),
-        "1.1 connected
+    let want = "1.1 connected
 1.2 connected
 1.3 subscribed
 1.4 subscribed
@@ -154,9 +139,8 @@ NoSession
 1.7 connected
 1 has 0, missed false
 2 has 1, missed false
-"
-    );
-    Ok(())
+";
+    tells(&rt, rt.alloc(), Given::Builtin, ROOM, &asks, want)
 }
 
 #[test]
@@ -172,10 +156,7 @@ fn a_stranger_has_no_session(rt: HostRuntime) -> Result<(), Fail> {
         Ask::Take(1, 1),
         Ask::Close(1),
     ];
-    let told = told(rt.alloc(), Given::Builtin, ROOM, &asks)?;
-    assert_eq!(rt;
-        told.as_str(),
-        "1.1 authorization violation
+    let want = "1.1 authorization violation
 1.2 authorization violation
 1.3 authorization violation
 1.4 authorization violation
@@ -184,9 +165,8 @@ NoSession
 NoSession
 NoSession
 NoSession
-"
-    );
-    Ok(())
+";
+    tells(&rt, rt.alloc(), Given::Builtin, ROOM, &asks, want)
 }
 
 #[test]
@@ -199,17 +179,13 @@ fn a_refused_event_takes_no_number(rt: HostRuntime) -> Result<(), Fail> {
         Ask::Take(1, 0),
         Ask::History,
     ];
-    let told = told(rt.alloc(), Given::Builtin, ROOM, &asks)?;
-    assert_eq!(rt;
-        told.as_str(),
-        "1.1 connected
+    let want = "1.1 connected
 NoSession
 SessionTaken
 1.2 taken, missed false
 history of 2, same true
-"
-    );
-    Ok(())
+";
+    tells(&rt, rt.alloc(), Given::Builtin, ROOM, &asks, want)
 }
 
 #[test]
@@ -223,18 +199,14 @@ fn sessions_have_a_limit(rt: HostRuntime) -> Result<(), Fail> {
         Ask::Close(5),
         Ask::Connect(4097, "demo", "demo"),
     ];
-    let told = told(rt.alloc(), Given::Builtin, ROOM_FOR_ONE, &asks)?;
-    assert_eq!(rt;
-        told.as_str(),
-        "4096 has 0, missed false
+    let want = "4096 has 0, missed false
 SessionLimit
 SessionLimit
 SessionTaken
 1.4097 closed
 1.4098 connected
-"
-    );
-    Ok(())
+";
+    tells(&rt, rt.alloc(), Given::Builtin, ROOM_FOR_ONE, &asks, want)
 }
 
 #[test]
@@ -247,17 +219,13 @@ fn subscriptions_have_a_limit(rt: HostRuntime) -> Result<(), Fail> {
         Ask::Sub(1, "foo", "4096"),
         Ask::Sub(2, "foo", "1"),
     ];
-    let told = told(rt.alloc(), Given::Builtin, ROOM_FOR_ONE, &asks)?;
-    assert_eq!(rt;
-        told.as_str(),
-        "1.1 connected
+    let want = "1.1 connected
 1.2 connected
 1.4099 same sid
 1.4100 subscription limit
 1.4101 subscribed
-"
-    );
-    Ok(())
+";
+    tells(&rt, rt.alloc(), Given::Builtin, ROOM_FOR_ONE, &asks, want)
 }
 
 #[test]
@@ -278,10 +246,7 @@ fn a_subscription_ends_at_its_limit(rt: HostRuntime) -> Result<(), Fail> {
         Ask::Unsub(1, "1", Some(2)),
         Ask::Standing,
     ];
-    let told = told(rt.alloc(), Given::Builtin, ROOM, &asks)?;
-    assert_eq!(rt;
-        told.as_str(),
-        "1.1 connected
+    let want = "1.1 connected
 1.2 subscribed
 1.3 published All, entered 1 1
 1.4 unsubscribed
@@ -295,9 +260,8 @@ standing
 1.10 subscribed
 1.11 unsubscribed
 standing [10 1 foo 1 0 of 2]
-"
-    );
-    Ok(())
+";
+    tells(&rt, rt.alloc(), Given::Builtin, ROOM, &asks, want)
 }
 
 #[test]
@@ -318,10 +282,7 @@ fn a_limit_that_is_reached_ends_at_once(rt: HostRuntime) -> Result<(), Fail> {
         Ask::Unsub(1, "1", Some(1)),
         Ask::Standing,
     ];
-    let told = told(rt.alloc(), Given::Builtin, ROOM_FOR_ONE, &asks)?;
-    assert_eq!(rt;
-        told.as_str(),
-        "1.1 connected
+    let want = "1.1 connected
 1.2 subscribed
 1.3 subscribed
 1.4 subscribed
@@ -335,9 +296,8 @@ standing [2 1 foo 1 1 of 2]
 1.10 taken foo 1 [a], missed true
 1.11 unsubscribed
 standing
-"
-    );
-    Ok(())
+";
+    tells(&rt, rt.alloc(), Given::Builtin, ROOM_FOR_ONE, &asks, want)
 }
 
 #[test]
@@ -349,17 +309,13 @@ fn reply_and_head_come_along(rt: HostRuntime) -> Result<(), Fail> {
         Ask::Take(1, 5),
         Ask::History,
     ];
-    let told = told(rt.alloc(), Given::Builtin, ROOM, &asks)?;
-    assert_eq!(rt;
-        told.as_str(),
-        "1.1 connected
+    let want = "1.1 connected
 1.2 subscribed
 1.3 published All, entered 1 1
 1.4 taken foo 1 to r.1 [NATS/1.0|hi], missed false
 history of 4, same true
-"
-    );
-    Ok(())
+";
+    tells(&rt, rt.alloc(), Given::Builtin, ROOM, &asks, want)
 }
 
 #[test]
@@ -372,18 +328,14 @@ fn without_echo_nothing_comes_back(rt: HostRuntime) -> Result<(), Fail> {
         Ask::Pub(1, "foo", "a"),
         Ask::Pub(2, "foo", "b"),
     ];
-    let told = told(rt.alloc(), Given::Builtin, ROOM, &asks)?;
-    assert_eq!(rt;
-        told.as_str(),
-        "1.1 connected
+    let want = "1.1 connected
 1.2 connected
 1.3 subscribed
 1.4 subscribed
 1.5 published All, entered 2 1
 1.6 published All, entered 1 1, entered 2 1
-"
-    );
-    Ok(())
+";
+    tells(&rt, rt.alloc(), Given::Builtin, ROOM, &asks, want)
 }
 
 #[test]
@@ -402,10 +354,7 @@ fn every_answer_is_remembered(rt: HostRuntime) -> Result<(), Fail> {
         Ask::Reload(Given::FourUsers),
         Ask::History,
     ];
-    let told = told(rt.alloc(), Given::Builtin, ROOM_FOR_ONE, &asks)?;
-    assert_eq!(rt;
-        told.as_str(),
-        "history of 0, same true
+    let want = "history of 0, same true
 1.1 connected
 1.2 subscribed
 1.3 denied NoAllow
@@ -414,9 +363,8 @@ fn every_answer_is_remembered(rt: HostRuntime) -> Result<(), Fail> {
 NoSession
 2.6 gone 1, removed
 history of 6, same true
-"
-    );
-    Ok(())
+";
+    tells(&rt, rt.alloc(), Given::Builtin, ROOM_FOR_ONE, &asks, want)
 }
 
 #[test]
@@ -430,15 +378,11 @@ fn a_history_without_room_takes_nothing(rt: HostRuntime) -> Result<(), Fail> {
         Ask::Waiting(1),
         Ask::History,
     ];
-    let told = told(rt.alloc(), Given::Builtin, caps, &asks)?;
-    assert_eq!(rt;
-        told.as_str(),
-        "HistoryFull
+    let want = "HistoryFull
 1 has no session
 history of 0, same true
-"
-    );
-    Ok(())
+";
+    tells(&rt, rt.alloc(), Given::Builtin, caps, &asks, want)
 }
 
 #[test]
@@ -457,10 +401,7 @@ fn a_full_history_takes_no_event(rt: HostRuntime) -> Result<(), Fail> {
         Ask::Standing,
         Ask::History,
     ];
-    let told = told(rt.alloc(), Given::Builtin, caps, &asks)?;
-    assert_eq!(rt;
-        told.as_str(),
-        "1.1 connected
+    let want = "1.1 connected
 1.2 subscribed
 HistoryFull
 HistoryFull
@@ -468,9 +409,8 @@ HistoryFull
 1 has 0, missed false
 standing [2 1 foo 1]
 history of 2, same true
-"
-    );
-    Ok(())
+";
+    tells(&rt, rt.alloc(), Given::Builtin, caps, &asks, want)
 }
 
 #[test]
@@ -487,10 +427,7 @@ fn a_reload_removes_what_it_refuses(rt: HostRuntime) -> Result<(), Fail> {
         Ask::Standing,
         Ask::History,
     ];
-    let told = told(rt.alloc(), Given::SubscribeToBoth, ROOM, &asks)?;
-    assert_eq!(rt;
-        told.as_str(),
-        "1.1 connected
+    let want = "1.1 connected
 1.2 subscribed
 1.3 subscribed
 2.4 gone, removed 3 1 8 NoAllow
@@ -500,9 +437,8 @@ standing [2 1 a 7]
 3.7 taken, missed false
 standing [2 1 a 7]
 history of 7, same true
-"
-    );
-    Ok(())
+";
+    tells(&rt, rt.alloc(), Given::SubscribeToBoth, ROOM, &asks, want)
 }
 
 #[test]
@@ -528,10 +464,7 @@ fn a_reload_closes_whom_it_has_no_more(rt: HostRuntime) -> Result<(), Fail> {
         Ask::Waiting(4),
         Ask::Take(3, 5),
     ];
-    let told = told(rt.alloc(), Given::FourUsers, ROOM_FOR_ONE, &asks)?;
-    assert_eq!(rt;
-        told.as_str(),
-        "1.1 connected
+    let want = "1.1 connected
 1.2 connected
 1.3 connected
 1.4 connected
@@ -550,9 +483,8 @@ standing [6 3 s 1]
 2.12 connected
 4 has 0, missed false
 2.13 taken s 1 [a], missed true
-"
-    );
-    Ok(())
+";
+    tells(&rt, rt.alloc(), Given::FourUsers, ROOM_FOR_ONE, &asks, want)
 }
 
 // What a run answers, and the tables behind it: Connect 1, Sub, Pub, Take of 9 and Close of 9.

@@ -1,9 +1,9 @@
 -- an answered step is entered: it is the transition's, keeps the guarantee and what every hub keeps
-use Rattle.std.proofs.Common.{◌≡◌, ◌∙◌, ◌++◌, ◌∷◌, [], List, Ok, false, ap, sym, subst}
+use Rattle.std.proofs.Common.{◌≡◌, ◌∙◌, ◌++◌, ◌∷◌, [], List, Ok, Err, false, ap, sym, refl, subst}
 use Rattle.hub.specs.History.{State, IsStep, entry_of, is_history_full}
 use Rattle.hub.specs.Guarantee.{KeepsGuarantee}
 use Rattle.hub.specs.declared.history.Entry.{Entry}
-use Rattle.hub.proofs.Legal.{state_of, IsEntered, kept-step, entered-step, entered-guaranteed}
+use Rattle.hub.proofs.Legal.{state_of, IsEntered, kept-step, entered-step, entered-guaranteed, refused-guaranteed}
 use Rattle.hub.proofs.hub.Hub.step.Goals as goal
 
 -- what the calls ensure
@@ -33,3 +33,18 @@ pub returns-in-Ok-clause-guarantee : goal.returns-in-Ok-clause-guarantee
 returns-in-Ok-clause-guarantee c =
     let P : State → Type 0 = λ s. KeepsGuarantee s c.args.event (Ok c.enter.result) (state_of c.self.inside.opening c.step.new.self c.self.inside.most c.enter.new.entries.items) in
     subst P c.self.view_is (entered-guaranteed _ _ _ _ _ _ _ _ _ (is_entered c))
+
+-- a refused one keeps the guarantee, whether the tables refuse it or memory
+pub returns-then-is_err-clause-guarantee : goal.returns-then-is_err-clause-guarantee
+returns-then-is_err-clause-guarantee c =
+    let room : is_history_full c.args.self.now ≡ false = sym c.is_full.ensures ∙ c.if-is_full.false in
+    let P : State → Type 0 = λ s. is_history_full s ≡ false in
+    let Q : State → Type 0 = λ s. KeepsGuarantee s c.args.event (Err (c.args.event, c.refusal_of-refusal.result)) (state_of c.self.inside.opening c.self.inside.router c.self.inside.most c.reserve.new.self.items) in
+    subst Q c.self.view_is (refused-guaranteed _ _ _ _ _ _ _ _ c.self.invariant.0 (subst P (sym c.self.view_is) room) c.refusal_of-refusal.ensures refl c.reserve.ensures.items)
+
+pub returns-in-Err-clause-guarantee : goal.returns-in-Err-clause-guarantee
+returns-in-Err-clause-guarantee c =
+    let room : is_history_full c.args.self.now ≡ false = sym c.is_full.ensures ∙ c.if-is_full.false in
+    let P : State → Type 0 = λ s. is_history_full s ≡ false in
+    let Q : State → Type 0 = λ s. KeepsGuarantee s c.args.event (Err (c.args.event, c.in-Err.refusal)) (state_of c.self.inside.opening c.step.new.self c.self.inside.most c.reserve.new.self.items) in
+    subst Q c.self.view_is (refused-guaranteed _ _ _ _ _ _ _ _ c.self.invariant.0 (subst P (sym c.self.view_is) room) c.in-Err.ensures.step.1 c.in-Err.ensures.step.0 c.reserve.ensures.items)
