@@ -9,8 +9,6 @@ use Rattle.serde_json.specs.Find.{get, as_str, as_array, as_object, as_number, a
 use Rattle.serde_json.specs.Read.{read}
 use Rattle.subjects.specs.Subject.{tokens_of}
 use Rattle.subjects.specs.Fault.{pattern_fault}
-use Rattle.subjects.specs.declared.error.SubjectError.{SubjectError}
-use Rattle.subjects.specs.declared.error.SubjectError.TheVariants as subjects
 use Rattle.policy_doc.specs.Accounts.{with_account}
 use Rattle.policy_doc.specs.Document.{entry_of}
 use Rattle.policy_doc.specs.declared.document.PolicyDoc.{PolicyDoc}
@@ -63,16 +61,6 @@ each reader path i (item d ds) = do
 -- an entry is a pattern; one with a space, as a queue's part would need, is none
 abbrev pub entry_from : Path → List ℕ → Read PermEntry
 entry_from path text = if is_some (pattern_fault text) then Err (BadSubject path) else Ok (entry_of (tokens_of text))
-
--- a refusal for want of memory says nothing of the text
-abbrev pub is_memory_fault : SubjectError → Bool
-is_memory_fault subjects.NoMemory = true
-is_memory_fault subjects.Empty = false
-is_memory_fault subjects.EmptyToken = false
-is_memory_fault subjects.BadByte = false
-is_memory_fault subjects.WildcardNotLast = false
-is_memory_fault subjects.TooManyTokens = false
-is_memory_fault subjects.Wildcard = false
 
 unfoldable pub entry_at : Path → Data → Read PermEntry
 entry_at path d = do

@@ -1,8 +1,8 @@
 //! What a user may publish or subscribe to.
-ghost use Rattle.std.specs.Prelude.{◌≡◌, codes, option_map};
+ghost use Rattle.std.specs.Prelude.{◌≡◌, option_map};
 ghost use Rattle.serde_json.specs.View.{view, items_view};
 ghost use Rattle.account_config.specs.Fault.{Gives};
-ghost use Rattle.account_config.specs.Policy.{allow_at, direction_at, each, entries_at, entries_under, entry_at, entry_from, is_memory_fault, lists_at, permissions_at, permissions_under, spelled_at, spelled_from};
+ghost use Rattle.account_config.specs.Policy.{allow_at, direction_at, each, entries_at, entries_under, entry_at, entry_from, lists_at, permissions_at, permissions_under, spelled_at, spelled_from};
 
 use crate::ConfigFault;
 use crate::object::judge;
@@ -12,7 +12,7 @@ use lists::Items;
 use policy_doc::{Direction, PermDoc, PermEntry};
 use serde_json::Value;
 use std::alloc::Global;
-use subjects::{Pattern, SubjectError};
+use subjects::Pattern;
 
 /// A user's permissions, if it has any.
 pub(crate) fn permissions_under(
@@ -191,21 +191,11 @@ fn entry_from(alloc: Global, path: &[u8], text: &[u8]) -> Result<PermEntry, Conf
     match Pattern::parse(alloc, text) {
         Ok(subject) => Ok(PermEntry { subject }),
         Err(error) => {
-            if is_memory_fault(error) {
+            if error.is_no_memory() {
                 Err(ConfigFault::NoMemory)
             } else {
                 Err(ConfigFault::BadSubject(Items::from_vec(Vec::from_slice(alloc, path)?)))
             }
         }
-    }
-}
-
-/// Whether a pattern was refused for want of memory alone.
-fn is_memory_fault(error: SubjectError) -> bool
-    ensures { result ≡ is_memory_fault error }
-{
-    match error {
-        SubjectError::NoMemory => true,
-        _ => false,
     }
 }

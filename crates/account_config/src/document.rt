@@ -1,5 +1,5 @@
 //! A policy document from its text.
-ghost use Rattle.std.specs.Prelude.{◌≡◌, [], codes, option_map};
+ghost use Rattle.std.specs.Prelude.{◌≡◌, option_map};
 ghost use Rattle.serde_json.specs.View.{view};
 ghost use Rattle.account_config.specs.Fault.{Gives};
 ghost use Rattle.account_config.specs.Policy.{document_at, is_version, json_at, json_from, policy_of, version_under};

@@ -1,5 +1,4 @@
 //! Texts and lists of a policy.
-ghost use Rattle.std.specs.Prelude.{◌≡◌};
 ghost use Rattle.serde_json.specs.View.{view, items_view};
 ghost use Rattle.account_config.specs.Fault.{Gives};
 ghost use Rattle.account_config.specs.Object.{required_at};

@@ -1,5 +1,5 @@
 //! A user of a policy.
-ghost use Rattle.std.specs.Prelude.{◌≡◌, codes, option_map};
+ghost use Rattle.std.specs.Prelude.{◌≡◌};
 ghost use Rattle.serde_json.specs.View.{view};
 ghost use Rattle.account_config.specs.Fault.{Gives};
 ghost use Rattle.account_config.specs.Policy.{has_name_length, is_hashed, password_at, password_from, user_at, user_name_at, user_name_from, user_permissions_at};

@@ -1,5 +1,5 @@
 -- How a script goes on, line by line.
-use Rattle.std.proofs.Common.{◌≡◌, ◌∙◌, ◌++◌, ◌∷◌, ◌+◌, ℕ, Result, Ok, Err, OnErr, Bool, true, false, ◌||◌, List, [], Option, Some, None, length, take, drop, arith, ap, sym, refl, subst}
+use Rattle.std.proofs.Common.{◌≡◌, ◌∙◌, ◌++◌, ◌∷◌, ◌+◌, ℕ, Result, Ok, Err, OnErr, Bool, true, false, List, [], Option, Some, None, length, take, drop, arith, ap, sym, refl, subst}
 use Rattle.std.proofs.lemmas.List.{append_assoc, append-nil, take-append-drop}
 use Rattle.std.proofs.lemmas.Grind.{common_steps}
 use Rattle.std.specs.Io.KnownBytes.{Appends}
@@ -148,7 +148,3 @@ plays_open old script lines w ks el ew ek =
 pub OnErr-always : {T E : Type 0} (r : Result T E) (P : Type 0) → P → OnErr r P
 OnErr-always (Ok _) P h = tt
 OnErr-always (Err _) P h = h
-
-pub or_false : (b : Bool) → (b || false) ≡ b
-or_false true = refl
-or_false false = refl

@@ -171,10 +171,9 @@ end_call w c = after_closing w c (closing w c.conn (closed_from c.stage))
 
 -- memory lacked
 abbrev pub is_memory_stall : Option Stall → Bool
-is_memory_stall None = false
 is_memory_stall (Some stall.PieceNotTaken) = true
 is_memory_stall (Some stall.Memory) = true
-is_memory_stall (Some stall.HistoryFull) = false
+is_memory_stall _ = false
 
 -- what a call gave and left is this
 pub record IsCall (k : Call) (o : Output) (conn : Connection) (w : Serving) : Type 0 where

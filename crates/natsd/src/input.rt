@@ -1,5 +1,5 @@
 // Reading a script or a policy to its end.
-ghost use Rattle.std.specs.Prelude.{◌≡◌, ◌<◌, ◌≤◌, ◌^◌, ◌||◌, length, true, OnOk, IfOk, IfErr, IfSome, IsSome, option_map, ◌≢◌};
+ghost use Rattle.std.specs.Prelude.{◌≡◌, ◌≤◌, ◌||◌, length, true, OnOk, IfOk, IfErr, IfSome, IsSome, option_map, ◌≢◌};
 ghost use Rattle.std.specs.Io.KnownBytes.{IsAtEnd};
 ghost use Rattle.natsd.specs.Input.{is_read_failed, is_read_or_memory, IsWithin};
 

@@ -1,11 +1,11 @@
 // `natsd play`: a script over one hub (docs/SCRIPT.md).
-ghost use Rattle.std.specs.Prelude.{◌≡◌, ◌≤◌, ◌++◌, List, IfOk, OnOk, nat_lt, length, ◌||◌, OnErr, ◌≢◌, false, IfSome};
+ghost use Rattle.std.specs.Prelude.{◌≡◌, ◌≤◌, List, IfOk, OnOk, nat_lt, length, ◌||◌, OnErr, ◌≢◌, false, IfSome};
 ghost use Rattle.std.specs.List.{position_or_len};
 ghost use Rattle.std.specs.Io.KnownBytes.{Appends, IsAtEnd};
 ghost use Rattle.natsd.specs.declared.client.Client.{Client};
 ghost use Rattle.natsd.specs.declared.script.Part.{Part};
 ghost use Rattle.natsd.specs.Policies.{policy_or_line};
-ghost use Rattle.natsd.specs.Play.{drained, done_in, is_open, with_client, new_client, caps_act, caps_line_act, policy_act, policy_line_act, line_act, still_open, line_and_drains, IsAct, output_of};
+ghost use Rattle.natsd.specs.Play.{drained, done_in, is_open, with_client, caps_act, caps_line_act, policy_act, policy_line_act, line_act, still_open, line_and_drains, IsAct, output_of};
 ghost use Rattle.natsd.specs.Server.{Serving};
 ghost use Rattle.natsd.specs.Device.{AppendsFront};
 ghost use Rattle.natsd.specs.Input.{is_read_failed, is_write_failed};

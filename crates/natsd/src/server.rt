@@ -190,12 +190,5 @@ fn with_memory(output: Output) -> Result<Output, NoMemory>
 fn is_memory_stall(stall: Option<Stall>) -> bool
     ensures { result ≡ is_memory_stall stall }
 {
-    match stall {
-        None => false,
-        Some(stall) => match stall {
-            Stall::PieceNotTaken => true,
-            Stall::Memory => true,
-            Stall::HistoryFull => false,
-        },
-    }
+    matches!(stall, Some(Stall::PieceNotTaken | Stall::Memory))
 }

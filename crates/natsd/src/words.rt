@@ -1,7 +1,7 @@
 // The command line of `natsd` (docs/SCRIPT.md, "Statuses").
-ghost use Rattle.std.specs.Prelude.{◌≡◌, ◌≢◌, Err, false, ◌||◌, ◌≤◌, ◌∷◌, [], ℕ, List, IfOk, OnOk, OnErr, IfSome, codes, length, map};
+ghost use Rattle.std.specs.Prelude.{◌≡◌, ◌≢◌, Err, false, ◌||◌, ◌∷◌, [], ℕ, List, IfOk, OnOk, OnErr, IfSome, codes, map};
 ghost use Rattle.std.specs.Io.KnownBytes.{Appends};
-ghost use Rattle.clap.specs.Words.{IsAmong, app_of, kind_of};
+ghost use Rattle.clap.specs.Words.{app_of, kind_of};
 ghost use Rattle.clap.specs.declared.error.kind.ErrorKind.TheVariants.{OutOfMemory};
 ghost use Rattle.natsd.specs.Device.{AppendsFront};
 ghost use Rattle.natsd.specs.Input.{is_read_failed, is_write_failed};
@@ -118,7 +118,6 @@ pub fn read_words<S: AsStr>(alloc: Global, words: &[S]) -> Result<Task, WordsFau
 }
 
 ghost use Rattle.natsd.specs.Words.{done_by, input_of, IsLongScript, IsShortScript};
-ghost use Rattle.std.specs.String.{string_bytes};
 
 /// Writes a text.
 fn show<W: Sink>(text: &str, sink: &mut W) -> Result<u8, PlayFault>

@@ -1,5 +1,6 @@
 -- A text has no fault exactly where its tokens are a pattern, or a subject.
 use Rattle.std.proofs.Common.{◌≡◌, ◌==◌, ◌<◌, ℕ, if◌then◌else◌, ltb, leb, Bool, true, false, not, ◌&&◌, ◌||◌, cond, List, [], ◌∷◌, length, Option, Some, None, arith, refl, sym, ap, ◌∙◌}
+use Rattle.std.proofs.lemmas.Bool.{or_parts}
 use Rattle.std.specs.List.{list_all, list_any, onto_first}
 use Rattle.std.proofs.lemmas.Bool.Decides.{nat_tests}
 use Rattle.std.proofs.lemmas.List.Splits.{length-slice_split}
@@ -132,17 +133,13 @@ pub concrete-tests : (ts : List Token) → 0 < length ts → is_concrete ts ≡ 
 concrete-tests [] h = absurd (omega arith)
 concrete-tests (t ∷ ts) h = refl
 
-or_true : (a b : Bool) → (a || b) ≡ false → (a ≡ false) × (b ≡ false)
-or_true true b e = cc
-or_true false b e = (refl, e)
-
 -- without a wildcard, `>` stands nowhere
 last_without_wildcard : (ts : List Token) → list_any is_wildcard ts ≡ false → tail_is_last ts ≡ true
 last_without_wildcard [] e = refl
 last_without_wildcard (t ∷ []) e = refl
 last_without_wildcard (t ∷ u ∷ ts) e =
-    let here = or_true (is_wildcard t) (list_any is_wildcard (u ∷ ts)) e in
-    let tail = or_true (is_star t) (is_tail t) here.0 in
+    let here = or_parts (is_wildcard t) (list_any is_wildcard (u ∷ ts)) e in
+    let tail = or_parts (is_star t) (is_tail t) here.0 in
     let behind = last_without_wildcard (u ∷ ts) here.1 in
     rw (tail.1, behind) refl
 

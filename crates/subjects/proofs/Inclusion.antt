@@ -5,7 +5,9 @@ use Rattle.std.specs.Bool.{OnFalse}
 use Rattle.std.specs.List.{list_all}
 use Rattle.subjects.specs.Subject.{Token, is_star, is_tail, is_literal, is_token, same_token, in_set, covers, Covers, Lacks, IsConcreteSubject, IsPattern, tail_is_last}
 use Rattle.subjects.specs.Outside.{stand_in, one_stand_in, two_stand_ins, sample}
-use Rattle.subjects.proofs.Same.{equal_from_same, and_false}
+use Rattle.std.proofs.Math.Bool.{and-false}
+use Rattle.std.proofs.lemmas.Bool.{or_parts}
+use Rattle.subjects.proofs.Same.{equal_from_same}
 use Rattle.subjects.proofs.Grammar.{concrete-tests, all_tests}
 use Rattle.subjects.proofs.Samples.{literals-one, literals-two, literals-sample, member-sample, sample-some, one-some, two-some}
 
@@ -47,14 +49,10 @@ avoids : (q : Token) (qs : List Token) → same_token q (stand_in (q ∷ qs)) �
 avoids q qs = avoids-step q (same_token q (97 ∷ [])) refl
 
 refuses : (q : Token) (qs : List Token) (s : Token) (ss : List Token) → is_tail q ≡ false → in_set qs ss ≡ false → in_set (q ∷ qs) (s ∷ ss) ≡ false
-refuses q qs s ss t i = rw (t, i) (and_false (is_star q || same_token q s))
+refuses q qs s ss t i = rw (t, i) (and-false (is_star q || same_token q s))
 
 refuses_first : (q : Token) (qs : List Token) (s : Token) (ss : List Token) → is_tail q ≡ false → is_star q ≡ false → same_token q s ≡ false → in_set (q ∷ qs) (s ∷ ss) ≡ false
 refuses_first q qs s ss t star same = rw (t, star, same) refl
-
-neither : (a b : Bool) → (a || b) ≡ false → (a ≡ false) × (b ≡ false)
-neither true b e = cc
-neither false b e = (refl, e)
 
 -- `>` is no one token and no two tokens under a pattern that ends
 tail-found : (q : Token) (qs : List Token) → is_tail q ≡ false → (in_set (q ∷ qs) (one_stand_in (q ∷ qs)) ≡ false) ⊎ (in_set (q ∷ qs) (two_stand_ins (q ∷ qs)) ≡ false)
@@ -67,16 +65,16 @@ standing-differs q p qs false h = h
 
 found-step : (q : Token) (qs : List Token) (p s : Token) (one two : List Token) (fits all : Bool) → is_tail q ≡ false → (is_star q || same_token q p) ≡ fits → (fits && all) ≡ false → (same_token q p ≡ false → same_token q s ≡ false) → (all ≡ false → (in_set qs one ≡ false) ⊎ (in_set qs two ≡ false)) → (in_set (q ∷ qs) (s ∷ one) ≡ false) ⊎ (in_set (q ∷ qs) (s ∷ two) ≡ false)
 found-step q qs p s one two false all t f c differs h =
-    let n = neither (is_star q) (same_token q p) f in
+    let n = or_parts (is_star q) (same_token q p) f in
     inl (refuses_first q qs s one t n.0 (differs n.1))
 found-step q qs p s one two true all t f c differs h =
     elim (h c) [ inl e ↦ inl (refuses q qs s one t e) | inr e ↦ inr (refuses q qs s two t e) ]
 
 found-cases : (q : Token) (qs : List Token) (p : Token) (one two : List Token) (tail star all : Bool) → (is_tail q || (not tail && (is_star q || same_token q p) && all)) ≡ false → (all ≡ false → (in_set qs one ≡ false) ⊎ (in_set qs two ≡ false)) → (in_set (q ∷ qs) (if tail then one_stand_in (q ∷ qs) else ((if star then stand_in (q ∷ qs) else p) ∷ one)) ≡ false) ⊎ (in_set (q ∷ qs) (if tail then two_stand_ins (q ∷ qs) else ((if star then stand_in (q ∷ qs) else p) ∷ two)) ≡ false)
 found-cases q qs p one two true star all c h =
-    tail-found q qs (neither (is_tail q) false c).0
+    tail-found q qs (or_parts (is_tail q) false c).0
 found-cases q qs p one two false star all c h =
-    let n = neither (is_tail q) ((is_star q || same_token q p) && all) c in
+    let n = or_parts (is_tail q) ((is_star q || same_token q p) && all) c in
     found-step q qs p (if star then stand_in (q ∷ qs) else p) one two (is_star q || same_token q p) all n.0 refl n.1 (standing-differs q p qs star) h
 
 none-takes : (last rest : List Token) (t : Token) (tail : Bool) → 0 < length last → in_set [] (if tail then last else (t ∷ rest)) ≡ false

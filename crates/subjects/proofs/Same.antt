@@ -1,5 +1,5 @@
 -- Tokens that are equal, and tests that are joined.
-use Rattle.std.proofs.Common.{◌≡◌, Bool, true, false, ◌&&◌, ◌||◌, Decides, refl}
+use Rattle.std.proofs.Common.{◌≡◌, true, Decides, refl}
 use Rattle.std.proofs.lemmas.Slice.Eq.{bytes_eq-Decides}
 use Rattle.subjects.specs.Subject.{Token, same_token}
 
@@ -11,11 +11,3 @@ same_token-itself t = (same_token-Decides t t).1 refl
 
 pub equal_from_same : (t u : Token) → same_token t u ≡ true → t ≡ u
 equal_from_same t u = (same_token-Decides t u).0
-
-pub and_false : (a : Bool) → (a && false) ≡ false
-and_false true = refl
-and_false false = refl
-
-pub or_true : (a : Bool) → (a || true) ≡ true
-or_true true = refl
-or_true false = refl

@@ -1,8 +1,9 @@
 -- A pattern's samples are concrete subjects of it.
-use Rattle.std.proofs.Common.{◌≡◌, ◌<◌, Bool, true, false, ◌&&◌, if◌then◌else◌, List, [], ◌∷◌, length, arith, refl}
+use Rattle.std.proofs.Common.{◌≡◌, ◌<◌, Bool, true, false, if◌then◌else◌, List, [], ◌∷◌, length, arith, refl}
 use Rattle.std.specs.List.{list_all}
 use Rattle.subjects.specs.Subject.{Token, is_star, is_tail, is_literal, is_token, same_token, in_set}
 use Rattle.subjects.specs.Outside.{behind, stand_in, one_stand_in, two_stand_ins, sample}
+use Rattle.std.proofs.lemmas.Bool.{and_parts}
 use Rattle.subjects.proofs.Same.{same_token-itself}
 
 literal-chosen : (b : Bool) → is_literal (if b then 98 ∷ [] else 97 ∷ []) ≡ true
@@ -19,10 +20,6 @@ literals-one qs = rw (literal-stand_in qs) refl
 pub literals-two : (qs : List Token) → list_all is_literal (two_stand_ins qs) ≡ true
 literals-two qs = rw (literal-stand_in qs, literal-stand_in (behind qs)) refl
 
-both : (a b : Bool) → (a && b) ≡ true → (a ≡ true) × (b ≡ true)
-both true b e = (refl, e)
-both false b e = cc
-
 literals-step : (last rest : List Token) (standing p : Token) (tail star : Bool) → is_tail p ≡ tail → is_star p ≡ star → list_all is_literal last ≡ true → list_all is_literal rest ≡ true → is_literal standing ≡ true → is_token p ≡ true → list_all is_literal (if tail then last else ((if star then standing else p) ∷ rest)) ≡ true
 literals-step last rest standing p true star t s l r st k = l
 literals-step last rest standing p false true t s l r st k = rw (st, r) refl
@@ -31,7 +28,7 @@ literals-step last rest standing p false false t s l r st k = rw (k, s, t, r) re
 pub literals-sample : (last : List Token → List Token) → ((qs : List Token) → list_all is_literal (last qs) ≡ true) → (qs ps : List Token) → list_all is_token ps ≡ true → list_all is_literal (sample last qs ps) ≡ true
 literals-sample last l qs [] h = refl
 literals-sample last l qs (p ∷ ps) h =
-    let k = both (is_token p) (list_all is_token ps) h in
+    let k = and_parts (is_token p) (list_all is_token ps) h in
     literals-step (last qs) (sample last (behind qs) ps) (stand_in qs) p (is_tail p) (is_star p) refl refl (l qs) (literals-sample last l (behind qs) ps k.1) (literal-stand_in qs) k.0
 
 pub tail_takes : (p : Token) (ps s : List Token) → is_tail p ≡ true → 0 < length s → in_set (p ∷ ps) s ≡ true

@@ -3,7 +3,9 @@ use Rattle.std.proofs.Common.{◌≡◌, ◌↔◌, ◌<◌, Bool, true, false, 
 use Rattle.std.specs.List.{list_all}
 use Rattle.subjects.specs.Subject.{Token, is_star, is_tail, is_literal, is_token, same_token, in_set, overlaps, Overlaps, IsPattern, tail_is_last}
 use Rattle.subjects.specs.Outside.{stand_in, one_stand_in, sample}
-use Rattle.subjects.proofs.Same.{same_token-itself, equal_from_same, or_true}
+use Rattle.std.proofs.Math.Bool.{or-true}
+use Rattle.std.proofs.lemmas.Bool.{and_parts}
+use Rattle.subjects.proofs.Same.{same_token-itself, equal_from_same}
 use Rattle.subjects.proofs.Grammar.{concrete-tests, all_tests}
 use Rattle.subjects.proofs.Samples.{literal-stand_in, literals-one, literals-sample, member-sample, sample-some, one-some, tail_takes}
 
@@ -26,10 +28,6 @@ record IsShared (q p s : List Token) : Type 0 where
   literals : list_all is_literal s ≡ true
   some : 0 < length q → 0 < length s
 
-both : (a b : Bool) → (a && b) ≡ true → (a ≡ true) × (b ≡ true)
-both true b e = (refl, e)
-both false b e = cc
-
 takes : (q : Token) (qs : List Token) (s : Token) (ss : List Token) → is_tail q ≡ false → (is_star q || same_token q s) ≡ true → in_set qs ss ≡ true → in_set (q ∷ qs) (s ∷ ss) ≡ true
 takes q qs s ss t f i = rw (t, f, i) refl
 
@@ -47,7 +45,7 @@ common-step q p s qs ps ss tq tp fq fp l h =
     record { first = takes q qs s ss tq fq h.first; second = takes p ps s ss tp fp h.second; literals = rw (l, h.literals) refl; some = λ _. omega arith }
 
 itself : (q : Token) → (is_star q || same_token q q) ≡ true
-itself q = rw (same_token-itself q) (or_true (is_star q))
+itself q = rw (same_token-itself q) (or-true (is_star q))
 
 head-step : (q p : Token) (qs ps ss : List Token) (sq sp : Bool) → is_star q ≡ sq → is_star p ≡ sp → is_tail q ≡ false → is_tail p ≡ false → is_token q ≡ true → is_token p ≡ true → (sq || sp || same_token q p) ≡ true → IsShared qs ps ss → IsShared (q ∷ qs) (p ∷ ps) ((if sq then (if sp then stand_in [] else p) else q) ∷ ss)
 head-step q p qs ps ss true true eq ep tq tp kq kp c h =
@@ -67,9 +65,9 @@ shared-step q p qs ps false true all eq ep kq kp c h =
     let some = sample-some one_stand_in one-some [] q qs in
     record { first = member-sample one_stand_in one-some [] (q ∷ qs); second = tail_takes p ps (sample_of (q ∷ qs)) ep some; literals = literals-sample one_stand_in literals-one [] (q ∷ qs) kq; some = λ _. some }
 shared-step q p qs ps false false all eq ep kq kp c h =
-    let fits = both (is_star q || is_star p || same_token q p) all c in
-    let token_q = both (is_token q) (list_all is_token qs) kq in
-    let token_p = both (is_token p) (list_all is_token ps) kp in
+    let fits = and_parts (is_star q || is_star p || same_token q p) all c in
+    let token_q = and_parts (is_token q) (list_all is_token qs) kq in
+    let token_p = and_parts (is_token p) (list_all is_token ps) kp in
     head-step q p qs ps (shared qs ps) (is_star q) (is_star p) refl refl eq ep token_q.0 token_p.0 fits.0 (h fits.1)
 
 -- where the test holds, the subject so made is one of both
@@ -78,8 +76,8 @@ overlaps-shared [] [] kq kp c = record { first = refl; second = refl; literals =
 overlaps-shared [] (p ∷ ps) kq kp c = cc
 overlaps-shared (q ∷ qs) [] kq kp c = cc
 overlaps-shared (q ∷ qs) (p ∷ ps) kq kp c =
-    let rest_q = both (is_token q) (list_all is_token qs) kq in
-    let rest_p = both (is_token p) (list_all is_token ps) kp in
+    let rest_q = and_parts (is_token q) (list_all is_token qs) kq in
+    let rest_p = and_parts (is_token p) (list_all is_token ps) kp in
     shared-step q p qs ps (is_tail q) (is_tail p) (overlaps qs ps) refl refl kq kp c (overlaps-shared qs ps rest_q.1 rest_p.1)
 
 common-tests : (tq tp sq sp qs ps qp ins_q ins_p all : Bool) → (tq || ((sq || qs) && ins_q)) ≡ true → (tp || ((sp || ps) && ins_p)) ≡ true → (ins_q ≡ true → ins_p ≡ true → all ≡ true) → (qs ≡ true → ps ≡ true → qp ≡ true) → (tq || tp || ((sq || sp || qp) && all)) ≡ true

@@ -1,5 +1,5 @@
 -- What is wrong with a text as a pattern or as a subject (docs/GUARANTEE.md, "Subjects").
-use Rattle.std.specs.Prelude.{◌≡◌, ◌==◌, ℕ, Bool, not, List, length, Option, Some, None, Result, Ok, Err, if◌then◌else◌, nat_lt, codes}
+use Rattle.std.specs.Prelude.{◌≡◌, ◌==◌, ℕ, Bool, true, false, not, List, length, Option, Some, None, Result, Ok, Err, if◌then◌else◌, nat_lt, codes}
 use Rattle.std.specs.List.{list_any, list_all}
 use Rattle.subjects.specs.Subject.{Token, tokens_of, is_text_byte, is_wildcard, tail_is_last}
 use Rattle.subjects.specs.declared.error.SubjectError.{SubjectError}
@@ -31,16 +31,16 @@ IsParse text None (Err e) = e ≡ NoMemory
 IsParse text (Some fault) (Ok ts) = ⊥
 IsParse text (Some fault) (Err e) = e ≡ fault
 
+-- memory could not be had, so that nothing is known of the text
+abbrev pub is_no_memory : SubjectError → Bool
+is_no_memory NoMemory = true
+is_no_memory _ = false
+
 -- Exactly what is within a grammar is accepted: a refusal for any cause but want of memory is of what is not.
 abbrev pub AcceptsExactly : Type 0 → Result (List Token) SubjectError → Type 0
 AcceptsExactly inside (Ok ts) = inside
 AcceptsExactly inside (Err NoMemory) = inside
-AcceptsExactly inside (Err Empty) = ¬ inside
-AcceptsExactly inside (Err EmptyToken) = ¬ inside
-AcceptsExactly inside (Err BadByte) = ¬ inside
-AcceptsExactly inside (Err WildcardNotLast) = ¬ inside
-AcceptsExactly inside (Err TooManyTokens) = ¬ inside
-AcceptsExactly inside (Err Wildcard) = ¬ inside
+AcceptsExactly inside (Err _) = ¬ inside
 
 -- what is said of an error
 abbrev pub error_text : SubjectError → List ℕ

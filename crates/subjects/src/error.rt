@@ -24,6 +24,17 @@ pub enum SubjectError {
     Wildcard,
 }
 
+impl SubjectError {
+    ghost use Rattle.subjects.specs.Fault.{is_no_memory};
+
+    /// Whether memory could not be had, so that nothing is known of the text.
+    pub fn is_no_memory(self) -> bool
+        ensures { result ≡ is_no_memory self }
+    {
+        matches!(self, SubjectError::NoMemory)
+    }
+}
+
 impl fmt::Display for SubjectError {
     ghost use Rattle.std.specs.Prelude.{Some};
     ghost use Rattle.subjects.specs.Fault.{error_text};

@@ -1,4 +1,4 @@
-ghost use Rattle.std.specs.Prelude.{◌≡◌, ◌<◌, ◌≤◌, ◌+◌, length, take, drop, IfOk};
+ghost use Rattle.std.specs.Prelude.{◌≡◌, ◌<◌, ◌≤◌, ◌+◌, length, drop, IfOk};
 ghost use Rattle.wire_read.specs.Line.{line_of};
 ghost use Rattle.wire_read.specs.declared.line.Line.TheVariants as line_is;
 ghost use Rattle.wire_read.specs.Awaited.{IsFound, AwaitsBlock, front_of};

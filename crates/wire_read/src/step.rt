@@ -1,4 +1,3 @@
-ghost use Rattle.std.specs.Prelude.{◌≡◌, ◌≤◌, ◌<◌, length};
 ghost use Rattle.wire_read.specs.Awaited.{IsAwaiting, IsStep};
 
 use crate::awaited::Awaited;

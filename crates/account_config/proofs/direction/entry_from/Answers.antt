@@ -7,5 +7,5 @@ pub returns-in-Ok : goal.returns-in-Ok
 returns-in-Ok c = parsed c.args.path.now c.args.text.now c.in-Ok.subject c.in-Ok.ensures.tokens
 
 pub returns-in_ok-from_slice-in-Err : goal.returns-in_ok-from_slice-in-Err
-returns-in_ok-from_slice-in-Err c = λ _. refused c.args.path.now c.args.text.now c.in-Err.error c.in-Err.ensures.tokens (sym c.is_memory_fault.ensures ∙ c.if-is_memory_fault.false)
+returns-in_ok-from_slice-in-Err c = λ _. refused c.args.path.now c.args.text.now c.in-Err.error c.in-Err.ensures.tokens (sym c.is_no_memory.ensures ∙ c.if-is_no_memory.false)
     ∙ ap (λ p. Err (BadSubject p)) (search rules)

@@ -1,11 +1,12 @@
 -- each line's text is written before the next line is read
 use Rattle.std.proofs.Common.{◌∙◌, ◌+◌, ◌==◌, length, arith, ap, refl}
+use Rattle.std.proofs.Math.Bool.{or-false}
 use Rattle.std.proofs.lemmas.List.Splits.{length-slice_split}
 use Rattle.std.proofs.lemmas.List.Sums.{count_by-le-length}
 use Rattle.policy_doc.specs.declared.document.PolicyDoc.{PolicyDoc}
 use Rattle.natsd.specs.Server.{opening}
 use Rattle.natsd.specs.Play.{output_of}
-use Rattle.natsd.proofs.Plays.{plays_open, plays_read, plays_more, plays_stop, plays_failed, plays_refused, plays_last, IsAct-fresh, OnErr-always, Appends-same, AppendsFront-same, or_false}
+use Rattle.natsd.proofs.Plays.{plays_open, plays_read, plays_more, plays_stop, plays_failed, plays_refused, plays_last, IsAct-fresh, OnErr-always, Appends-same, AppendsFront-same}
 use Rattle.natsd.proofs.play.play_lines.Goals as goal
 
 pub playing-init : goal.playing-init
@@ -39,7 +40,7 @@ playing-preserved g c = record {
       (plays_read _ _ (c.playing.number + 1) c.playing.part c.playing.lines c.next_piece.new.self c.in-Some.text.now c.in_ok-line.line c.after-next.result c.playing.server c.playing.clients.items (output_of c.args.script.now) c.in-Some.ensures c.in_ok-line.ensures c.after-next.ensures c.playing.invariant.plays)
       (IsAct-fresh _ _ _ _ _ _ c.new-out.ensures.items c.in_ok-stops.ensures) c.if-stops.false (Appends-same _ _ _ _ c.as_slice.ensures.value c.in-Ok.ensures.ok);
   count = omega (arith, ap length c.in-Some.ensures, c.playing.invariant.count);
-  failed = c.in-Ok.ensures.failed ∙ or_false _ ∙ c.playing.invariant.failed;
+  failed = c.in-Ok.ensures.failed ∙ or-false _ ∙ c.playing.invariant.failed;
 }
 
 pub returns-clause-meaning : goal.returns-clause-meaning
