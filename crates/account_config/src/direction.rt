@@ -1,5 +1,5 @@
 //! What a user may publish or subscribe to.
-ghost use Rattle.std.specs.Prelude.{◌≡◌, option_map};
+ghost use Rattle.std.specs.Prelude.{option_map};
 ghost use Rattle.serde_json.specs.View.{view, items_view};
 ghost use Rattle.account_config.specs.Fault.{Gives};
 ghost use Rattle.account_config.specs.Policy.{allow_at, direction_at, each, entries_at, entries_under, entry_at, entry_from, lists_at, permissions_at, permissions_under, spelled_at, spelled_from};

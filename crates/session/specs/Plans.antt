@@ -1,10 +1,8 @@
 -- What a frame asks of the hub, and what is told without it (NATS documentation, "Client Protocol";
 -- docs/PROTOCOL.md, "A connection's life").
-use Rattle.std.specs.Prelude.{ℕ, Bool, true, false, List, [], Option, Some, None, Ok, Err, if◌then◌else◌, is_some}
+use Rattle.std.specs.Prelude.{ℕ, Bool, false, List, [], Option, Some, None, Ok, Err, if◌then◌else◌, is_some}
 use Rattle.subjects.specs.Subject.{Token, tokens_of}
 use Rattle.subjects.specs.Fault.{subject_fault, pattern_fault}
-use Rattle.subjects.specs.declared.error.SubjectError.{SubjectError}
-use Rattle.subjects.specs.declared.error.SubjectError.TheVariants as subject_error
 use Rattle.wire_read.specs.declared.frame.Frame.{Frame}
 use Rattle.wire_read.specs.declared.frame.Frame.TheVariants as frame
 use Rattle.wire_write.specs.declared.error.ServerError.{ServerError}
@@ -22,11 +20,6 @@ use Rattle.session.specs.declared.plan.Plan.TheVariants.{Tells, Asks, Publishes}
 use Rattle.session.specs.Replies.{closed_from, fault_text}
 
 -- ---- texts that are parsed
-
--- a parser lacked memory
-abbrev pub is_memory_fault : SubjectError → Bool
-is_memory_fault subject_error.NoMemory = true
-is_memory_fault _ = false
 
 -- the tokens of a text that is a subject, or a pattern
 abbrev pub subject_if : List ℕ → Option (List Token)
@@ -71,6 +64,10 @@ message_plan s (Some subject) (Some reply) head body = Publishes subject reply h
 abbrev pub publish_plan : Stage → List ℕ → Option (List ℕ) → List ℕ → List ℕ → Plan
 publish_plan s subject reply head body = message_plan s (subject_if subject) (reply_if reply) head body
 
+-- a message with a header block, which only a client that declared headers may send
+abbrev pub headed_plan : Stage → Bool → List ℕ → Option (List ℕ) → List ℕ → List ℕ → Plan
+headed_plan s headers subject reply head body = if headers then publish_plan s subject reply head body else fails error.ParserError s
+
 -- a subscription, by its pattern. There are no queues yet.
 abbrev pub pattern_plan : ℕ → Stage → Option (List Token) → List ℕ → Plan
 pattern_plan conn s None sid = refuses error.InvalidSubject s
@@ -79,6 +76,10 @@ pattern_plan conn s (Some subject) sid = Asks (command.Sub conn subject sid) s
 abbrev pub subscribe_plan : ℕ → Stage → List ℕ → Option (List ℕ) → List ℕ → Plan
 subscribe_plan conn s subject queue sid =
     if is_some queue then refuses error.InvalidSubject s else pattern_plan conn s (pattern_if subject) sid
+
+-- the end of a subscription, at once or after so many messages
+abbrev pub unsubscribe_plan : ℕ → Stage → List ℕ → Option ℕ → Plan
+unsubscribe_plan conn s sid most = Asks (command.Unsub conn sid most) s
 
 -- before CONNECT: nothing but CONNECT, PING, PONG and a fault is looked at
 abbrev pub fresh_plan : ℕ → Frame → Plan
@@ -93,10 +94,9 @@ fresh_plan conn _ = fails error.Authorization stage.Fresh
 abbrev pub connected_plan : ℕ → Stage → Bool → Frame → Plan
 connected_plan conn s headers (frame.Connect _) = fails error.InvalidProtocol s
 connected_plan conn s headers (frame.Pub subject reply payload) = publish_plan s subject reply [] payload
-connected_plan conn s headers (frame.Hpub subject reply head payload) =
-    if headers then publish_plan s subject reply head payload else fails error.ParserError s
+connected_plan conn s headers (frame.Hpub subject reply head payload) = headed_plan s headers subject reply head payload
 connected_plan conn s headers (frame.Sub subject queue sid) = subscribe_plan conn s subject queue sid
-connected_plan conn s headers (frame.Unsub sid most) = Asks (command.Unsub conn sid most) s
+connected_plan conn s headers (frame.Unsub sid most) = unsubscribe_plan conn s sid most
 connected_plan conn s headers frame.Ping = tells text.Pong s
 connected_plan conn s headers frame.Pong = tells text.Nothing s
 connected_plan conn s headers (frame.Fault f) = tells (fault_text f) (closed_from s)

@@ -6,7 +6,7 @@ use crate::stage::Stage;
 use crate::submit::submit;
 use crate::turn::serve;
 use connect_opts::info_text;
-use hub::{Command, Event, HubRefusal, Outcome};
+use hub::{Command, Event, HubRefusal};
 use lists::NoMemory;
 use std::alloc::Global;
 use std::collections::VecDeque;

@@ -1,10 +1,9 @@
 // What a Take gave, and its texts.
 ghost use Rattle.std.specs.Prelude.{◌≡◌, ◌∷◌, [], drop, OnOk, MatchOption};
-ghost use Rattle.session.specs.Turns.{event, IsAnswered};
 ghost use Rattle.session.specs.Drains.{IsWritten, IsTold, IsTaken, drain_of};
 
 use crate::message::write_delivery;
-use crate::output::{Output, Stall};
+use crate::output::Stall;
 use crate::port::Port;
 use crate::stage::Stage;
 use crate::submit::submit;
@@ -88,6 +87,19 @@ pub struct Drained {
     pub stall: Option<Stall>,
 }
 
+/// The end of a drain: this is written, and the connection is at this stage.
+fn ends(bytes: Vec<u8>, stage: Stage, stall: Option<Stall>) -> Drained
+    ensures bytes { result.bytes ≡ bytes }
+    ensures stage { result.stage ≡ stage }
+    ensures stall { result.stall ≡ stall }
+{
+    Drained {
+        bytes,
+        stage,
+        stall,
+    }
+}
+
 /// The end of a drain, once all that was taken is written, or memory lacked.
 fn settle(bytes: Vec<u8>, stage: Stage, written: Written) -> Drained
     ensures bytes { result.bytes ≡ bytes }
@@ -95,25 +107,54 @@ fn settle(bytes: Vec<u8>, stage: Stage, written: Written) -> Drained
     ensures stall { result.stall ≡ stall_after written }
 {
     match written {
-        Written::All => Drained {
-            bytes,
-            stage,
-            stall: None,
-        },
-        Written::Closes => Drained {
-            bytes,
-            stage: stage.closed(),
-            stall: None,
-        },
-        Written::Short => Drained {
-            bytes,
-            stage,
-            stall: Some(Stall::Memory),
-        },
+        Written::All => ends(bytes, stage, None),
+        Written::Closes => ends(bytes, stage.closed(), None),
+        Written::Short => ends(bytes, stage, Some(Stall::Memory)),
     }
 }
 
-ghost use Rattle.session.specs.Drains.{stage_after, stall_after};
+ghost use Rattle.std.specs.Prelude.{◌+◌, ◌≤◌};
+ghost use Rattle.std.specs.Vec.{vec_len, vec_capacity};
+ghost use Rattle.session.specs.Drains.{stage_after, stall_after, IsTakeTold};
+
+/// What a Take's answer comes to. There is room for the text of a session that is gone.
+fn conclude(
+    answer: Result<Outcome, HubRefusal>,
+    stage: Stage,
+    mut bytes: Vec<u8>,
+    owed: &mut Owed,
+) -> Drained
+    requires none_owed { owed.old.deliveries.items ≡ [] }
+    requires room { vec_len bytes + 64 ≤ vec_capacity bytes }
+    ensures { IsTakeTold stage bytes.items owed.old.missed answer (drain_of result owed.new) }
+{
+    match answer {
+        Ok(Outcome::Taken(deliveries, missed)) => {
+            owed.deliveries = VecDeque::from(deliveries.into_vec());
+            owed.missed = missed;
+            let written = write_owed(&mut bytes, stage.takes_headers(), owed);
+            settle(bytes, stage, written)
+        }
+        Err(HubRefusal::NoSession) => {
+            put_text(&mut bytes, Text::Error(ServerError::Authorization));
+            ends(bytes, Stage::Closed { session: false }, None)
+        }
+        Err(HubRefusal::HistoryFull) => ends(bytes, stage, Some(Stall::HistoryFull)),
+        Err(HubRefusal::NoMemory) => ends(bytes, stage, Some(Stall::Memory)),
+        Err(HubRefusal::SessionTaken)
+        | Err(HubRefusal::SessionLimit)
+        | Ok(Outcome::Connected)
+        | Ok(Outcome::AuthViolation)
+        | Ok(Outcome::Subscribed)
+        | Ok(Outcome::SameSid)
+        | Ok(Outcome::SubLimit)
+        | Ok(Outcome::Denied(_))
+        | Ok(Outcome::Unsubscribed)
+        | Ok(Outcome::Published(_, _))
+        | Ok(Outcome::Closed)
+        | Ok(Outcome::Reloaded { .. }) => ends(bytes, stage, None),
+    }
+}
 
 /// One Take, and the texts of what it gives. Room for the text of a session that is gone is made before.
 fn take<P: Port>(
@@ -130,60 +171,16 @@ fn take<P: Port>(
     ensures taken { IsTaken P.steps now conn most stage bytes.items owed.old.missed port.old (drain_of result owed.new) port.new }
 {
     if bytes.reserve(64).is_err() {
-        return Drained {
-            bytes,
-            stage,
-            stall: Some(Stall::Memory),
-        };
+        return ends(bytes, stage, Some(Stall::Memory));
     }
-    match submit(
+    let answer = submit(
         port,
         Event {
             now,
             what: Command::Take { conn, most },
         },
-    ) {
-        Ok(Outcome::Taken(deliveries, missed)) => {
-            owed.deliveries = VecDeque::from(deliveries.into_vec());
-            owed.missed = missed;
-            let written = write_owed(&mut bytes, stage.takes_headers(), owed);
-            settle(bytes, stage, written)
-        }
-        Err(HubRefusal::NoSession) => {
-            put_text(&mut bytes, Text::Error(ServerError::Authorization));
-            Drained {
-                bytes,
-                stage: Stage::Closed { session: false },
-                stall: None,
-            }
-        }
-        Err(HubRefusal::HistoryFull) => Drained {
-            bytes,
-            stage,
-            stall: Some(Stall::HistoryFull),
-        },
-        Err(HubRefusal::NoMemory) => Drained {
-            bytes,
-            stage,
-            stall: Some(Stall::Memory),
-        },
-        Err(HubRefusal::SessionTaken)
-        | Err(HubRefusal::SessionLimit)
-        | Ok(Outcome::Connected)
-        | Ok(Outcome::AuthViolation)
-        | Ok(Outcome::Subscribed)
-        | Ok(Outcome::SameSid)
-        | Ok(Outcome::SubLimit)
-        | Ok(Outcome::Denied(_))
-        | Ok(Outcome::Unsubscribed)
-        | Ok(Outcome::Published(_, _))
-        | Ok(Outcome::Closed)
-        | Ok(Outcome::Reloaded { .. }) => Drained {
-            bytes,
-            stage,
-            stall: None,
-        },
-    }
+    );
+    conclude(answer, stage, bytes, owed)
 }
 
 ghost use Rattle.session.specs.Drains.{Drains};

@@ -1,8 +1,7 @@
 // What a frame comes to before the hub is asked.
-ghost use Rattle.std.specs.Prelude.{◌≡◌, ◌≤◌, length, IfOk, OnOk, option_copied};
+ghost use Rattle.std.specs.Prelude.{◌≡◌, IfOk};
 ghost use Rattle.connect_opts.specs.Opts.{opts_of};
-ghost use Rattle.session.specs.Replies.{text_line};
-ghost use Rattle.session.specs.Plans.{plan_of, fresh_plan, connected_plan, connect_plan, publish_plan, subscribe_plan, subject_if, pattern_if, reply_if, is_memory_fault};
+ghost use Rattle.session.specs.Plans.{plan_of, fresh_plan, connected_plan, connect_plan, publish_plan, headed_plan, subscribe_plan, unsubscribe_plan, subject_if, pattern_if, reply_if};
 
 use crate::reply::{Reply, fault_text};
 use crate::stage::Stage;
@@ -12,7 +11,7 @@ use connect_opts::{ConnectError, ConnectOpts};
 use hub::Command;
 use lists::NoMemory;
 use std::alloc::Global;
-use subjects::{Pattern, Subject, SubjectError};
+use subjects::{Pattern, Subject};
 use wire_read::Frame;
 use wire_write::ServerError;
 
@@ -32,21 +31,6 @@ pub enum Plan {
     },
 }
 
-/// Whether a parser lacked memory.
-fn is_memory_fault(error: SubjectError) -> bool
-    ensures { result ≡ is_memory_fault error }
-{
-    match error {
-        SubjectError::NoMemory => true,
-        SubjectError::Empty => false,
-        SubjectError::EmptyToken => false,
-        SubjectError::BadByte => false,
-        SubjectError::WildcardNotLast => false,
-        SubjectError::TooManyTokens => false,
-        SubjectError::Wildcard => false,
-    }
-}
-
 /// The subject of a text, if it is one.
 fn subject_of(alloc: Global, text: &[u8]) -> Result<Option<Subject>, NoMemory>
     ensures { IfOk result (λ subject. subject ≡ subject_if text.now) }
@@ -54,7 +38,7 @@ fn subject_of(alloc: Global, text: &[u8]) -> Result<Option<Subject>, NoMemory>
     match Subject::parse(alloc, text) {
         Ok(subject) => Ok(Some(subject)),
         Err(error) => {
-            if is_memory_fault(error) {
+            if error.is_no_memory() {
                 Err(NoMemory)
             } else {
                 Ok(None)
@@ -70,7 +54,7 @@ fn pattern_of(alloc: Global, text: &[u8]) -> Result<Option<Pattern>, NoMemory>
     match Pattern::parse(alloc, text) {
         Ok(pattern) => Ok(Some(pattern)),
         Err(error) => {
-            if is_memory_fault(error) {
+            if error.is_no_memory() {
                 Err(NoMemory)
             } else {
                 Ok(None)
@@ -147,14 +131,14 @@ fn plan_connect(alloc: Global, conn: u64, text: &[u8]) -> Result<Plan, NoMemory>
 fn plan_publish(
     alloc: Global,
     stage: Stage,
-    subject: &[u8],
+    subject: &Bytes,
     reply: &Option<Bytes>,
     head: Bytes,
     payload: &Bytes,
 ) -> Result<Plan, NoMemory>
     ensures { IfOk result (λ plan. plan ≡ publish_plan stage subject.now reply.now head payload.now) }
 {
-    match subject_of(alloc, subject)? {
+    match subject_of(alloc, subject.as_slice())? {
         None => Ok(refuses(ServerError::InvalidSubject, stage)),
         Some(subject) => match reply_of(alloc, reply)? {
             None => Ok(refuses(ServerError::InvalidSubject, stage)),
@@ -168,28 +152,68 @@ fn plan_publish(
     }
 }
 
-/// A SUB of a client whose CONNECT was accepted. The sid is copied, since it may stand for long, and would keep
-/// all that was read with it. There are no queues yet.
+/// A message with a header block. A client that has not declared headers may send none.
+fn plan_headed(
+    alloc: Global,
+    stage: Stage,
+    headers: bool,
+    subject: &Bytes,
+    reply: &Option<Bytes>,
+    head: &Bytes,
+    payload: &Bytes,
+) -> Result<Plan, NoMemory>
+    ensures { IfOk result (λ plan. plan ≡ headed_plan stage headers subject.now reply.now head.now payload.now) }
+{
+    if headers {
+        let head = head.clone()?;
+        plan_publish(alloc, stage, subject, reply, head, payload)
+    } else {
+        Ok(fails(ServerError::ParserError, stage))
+    }
+}
+
+/// A sid of its own bytes. It may stand for long, and would keep all that was read with it.
+fn own_sid(alloc: Global, sid: &Bytes) -> Result<Bytes, NoMemory>
+    ensures { IfOk result (λ own. own ≡ sid.now) }
+{
+    Ok(Bytes::copy_from_slice(alloc, sid.as_slice())?)
+}
+
+/// A SUB of a client whose CONNECT was accepted. There are no queues yet.
 fn plan_subscribe(
     alloc: Global,
     conn: u64,
     stage: Stage,
-    subject: &[u8],
+    subject: &Bytes,
     queue: &Option<Bytes>,
-    sid: &[u8],
+    sid: &Bytes,
 ) -> Result<Plan, NoMemory>
     ensures { IfOk result (λ plan. plan ≡ subscribe_plan conn stage subject.now queue.now sid.now) }
 {
     if queue.is_some() {
         return Ok(refuses(ServerError::InvalidSubject, stage));
     }
-    match pattern_of(alloc, subject)? {
+    match pattern_of(alloc, subject.as_slice())? {
         None => Ok(refuses(ServerError::InvalidSubject, stage)),
         Some(subject) => {
-            let sid = Bytes::copy_from_slice(alloc, sid)?;
+            let sid = own_sid(alloc, sid)?;
             Ok(Plan::Asks(Command::Sub { conn, subject, sid }, stage))
         }
     }
+}
+
+/// An UNSUB of a client whose CONNECT was accepted.
+fn plan_unsubscribe(
+    alloc: Global,
+    conn: u64,
+    stage: Stage,
+    sid: &Bytes,
+    most: Option<u64>,
+) -> Result<Plan, NoMemory>
+    ensures { IfOk result (λ plan. plan ≡ unsubscribe_plan conn stage sid.now most) }
+{
+    let sid = own_sid(alloc, sid)?;
+    Ok(Plan::Asks(Command::Unsub { conn, sid, most }, stage))
 }
 
 /// A frame of a client that has not shown who it is.
@@ -224,44 +248,19 @@ fn plan_connected(
             subject,
             reply,
             payload,
-        } => plan_publish(
-            alloc,
-            stage,
-            subject.as_slice(),
-            reply,
-            Bytes::new(),
-            payload,
-        ),
+        } => plan_publish(alloc, stage, subject, reply, Bytes::new(), payload),
         Frame::Hpub {
             subject,
             reply,
             head,
             payload,
-        } => {
-            if headers {
-                let head = head.clone()?;
-                plan_publish(alloc, stage, subject.as_slice(), reply, head, payload)
-            } else {
-                Ok(fails(ServerError::ParserError, stage))
-            }
-        }
+        } => plan_headed(alloc, stage, headers, subject, reply, head, payload),
         Frame::Sub {
             subject,
             queue,
             sid,
-        } => plan_subscribe(
-            alloc,
-            conn,
-            stage,
-            subject.as_slice(),
-            queue,
-            sid.as_slice(),
-        ),
-        Frame::Unsub { sid, most } => {
-            let sid = sid.clone()?;
-            let most = *most;
-            Ok(Plan::Asks(Command::Unsub { conn, sid, most }, stage))
-        }
+        } => plan_subscribe(alloc, conn, stage, subject, queue, sid),
+        Frame::Unsub { sid, most } => plan_unsubscribe(alloc, conn, stage, sid, *most),
         Frame::Ping => Ok(tells(Text::Pong, stage)),
         Frame::Pong => Ok(tells(Text::Nothing, stage)),
         Frame::Fault(fault) => Ok(tells(fault_text(*fault), stage.closed())),

@@ -18,22 +18,14 @@ impl Stage {
     pub fn is_closed(self) -> bool
         ensures { result ≡ is_closed self }
     {
-        match self {
-            Stage::Fresh => false,
-            Stage::Connected { .. } => false,
-            Stage::Closed { .. } => true,
-        }
+        matches!(self, Stage::Closed { .. })
     }
 
     /// Whether the client's CONNECT was accepted, and nothing has closed the connection since.
     pub fn is_connected(self) -> bool
         ensures { result ≡ is_connected self }
     {
-        match self {
-            Stage::Fresh => false,
-            Stage::Connected { .. } => true,
-            Stage::Closed { .. } => false,
-        }
+        matches!(self, Stage::Connected { .. })
     }
 
     /// The stage after a closing text: a session that stood stands still.

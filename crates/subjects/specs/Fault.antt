@@ -31,7 +31,7 @@ IsParse text None (Err e) = e ≡ NoMemory
 IsParse text (Some fault) (Ok ts) = ⊥
 IsParse text (Some fault) (Err e) = e ≡ fault
 
--- memory could not be had, so that nothing is known of the text
+-- memory could not be had, for a text that has no fault
 abbrev pub is_no_memory : SubjectError → Bool
 is_no_memory NoMemory = true
 is_no_memory _ = false

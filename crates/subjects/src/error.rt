@@ -27,7 +27,7 @@ pub enum SubjectError {
 impl SubjectError {
     ghost use Rattle.subjects.specs.Fault.{is_no_memory};
 
-    /// Whether memory could not be had, so that nothing is known of the text.
+    /// Whether memory could not be had, for a text that has no fault.
     pub fn is_no_memory(self) -> bool
         ensures { result ≡ is_no_memory self }
     {

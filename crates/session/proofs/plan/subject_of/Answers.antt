@@ -7,5 +7,5 @@ use Rattle.session.proofs.plan.subject_of.Goals as goal
 pub returns-in-Ok : goal.returns-in-Ok
 returns-in-Ok c = parsed c.args.text.now (subject_fault c.args.text.now) c.in-Ok.subject c.in-Ok.ensures.tokens
 
-pub returns-else-is_memory_fault : goal.returns-else-is_memory_fault
-returns-else-is_memory_fault c = refused c.args.text.now (subject_fault c.args.text.now) c.in-Err.error c.in-Err.ensures.tokens (sym c.is_memory_fault.ensures ∙ c.if-is_memory_fault.false)
+pub returns-else-is_no_memory : goal.returns-else-is_no_memory
+returns-else-is_no_memory c = refused c.args.text.now (subject_fault c.args.text.now) c.in-Err.error c.in-Err.ensures.tokens (sym c.is_no_memory.ensures ∙ c.if-is_no_memory.false)

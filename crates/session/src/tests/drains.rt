@@ -1,0 +1,125 @@
+use crate::tests::talk::{Ask, CAPS, DEMO, told};
+use hub::Caps;
+use std::test::Fail;
+
+const ONE_DELIVERY: Caps = Caps {
+    outbox: 1,
+    history: 64,
+};
+
+#[test]
+fn who_misses_a_delivery_is_closed(rt: HostRuntime) -> Result<(), Fail> {
+    let told = told(
+        rt.alloc(),
+        ONE_DELIVERY,
+        &[
+            Ask::Bytes(DEMO),
+            Ask::Bytes(b"SUB foo 1\r\nPUB foo 1\r\na\r\nPUB foo 1\r\nb\r\n"),
+            Ask::Drain,
+            Ask::Bytes(b"PING\r\nPUB foo 1\r\nc\r\n"),
+            Ask::Drain,
+            Ask::End,
+            Ask::Drain,
+        ],
+    )?;
+    assert_eq!(rt;
+        told.as_slice(),
+        b"MSG foo 1 1\r\na\r\n-ERR 'Slow Consumer'\r\n[closed]".as_slice()
+    );
+    Ok(())
+}
+
+#[test]
+fn the_session_of_a_slow_consumer_stands_till_the_end(rt: HostRuntime) -> Result<(), Fail> {
+    let told = told(
+        rt.alloc(),
+        ONE_DELIVERY,
+        &[
+            Ask::Bytes(DEMO),
+            Ask::Bytes(b"SUB foo 1\r\nPUB foo 1\r\na\r\nPUB foo 1\r\nb\r\n"),
+            Ask::Drain,
+        ],
+    )?;
+    assert_eq!(rt;
+        told.as_slice(),
+        b"MSG foo 1 1\r\na\r\n-ERR 'Slow Consumer'\r\n[closed][session]".as_slice()
+    );
+    Ok(())
+}
+
+#[test]
+fn a_drain_after_the_session_has_gone_closes(rt: HostRuntime) -> Result<(), Fail> {
+    let told = told(
+        rt.alloc(),
+        CAPS,
+        &[Ask::Bytes(DEMO), Ask::Gone, Ask::Drain, Ask::End],
+    )?;
+    assert_eq!(rt;
+        told.as_slice(),
+        b"-ERR 'Authorization Violation'\r\n[closed]".as_slice()
+    );
+    Ok(())
+}
+
+#[test]
+fn a_drain_that_stalls_goes_on(rt: HostRuntime) -> Result<(), Fail> {
+    let told = told(
+        rt.alloc(),
+        CAPS,
+        &[
+            Ask::Bytes(DEMO),
+            Ask::Bytes(
+                b"SUB foo 1\r\nPUB foo re.1 1\r\na\r\n\
+                    PUB foo 60\r\nthe quick brown fox jumps over the lazy dog, again and again\r\n\
+                    PUB foo 60\r\nthe quick brown fox jumps over the lazy dog, again and again\r\n",
+            ),
+            Ask::DrainOnce,
+            Ask::Bytes(b"PUB foo 1\r\nd\r\n"),
+            Ask::Drain,
+        ],
+    )?;
+    assert_eq!(rt;
+        told.as_slice(),
+        b"MSG foo 1 re.1 1\r\na\r\n\
+            MSG foo 1 60\r\nthe quick brown fox jumps over the lazy dog, again and again\r\n\
+            MSG foo 1 60\r\nthe quick brown fox jumps over the lazy dog, again and again\r\n\
+            MSG foo 1 1\r\nd\r\n[session]"
+            .as_slice()
+    );
+    Ok(())
+}
+
+const FOUR_DELIVERIES: Caps = Caps {
+    outbox: 4,
+    history: 64,
+};
+
+#[test]
+fn a_drain_that_stalls_tells_last_what_was_missed(rt: HostRuntime) -> Result<(), Fail> {
+    let told = told(
+        rt.alloc(),
+        FOUR_DELIVERIES,
+        &[
+            Ask::Bytes(DEMO),
+            Ask::Bytes(
+                b"SUB foo 1\r\nPUB foo re.1 1\r\na\r\n\
+                    PUB foo 60\r\nthe quick brown fox jumps over the lazy dog, again and again\r\n\
+                    PUB foo 60\r\nthe quick brown fox jumps over the lazy dog, again and again\r\n\
+                    PUB foo 60\r\nthe quick brown fox jumps over the lazy dog, again and again\r\nPUB foo 1\r\ne\r\n",
+            ),
+            Ask::DrainOnce,
+            Ask::Bytes(b"PUB foo 1\r\nf\r\n"),
+            Ask::Drain,
+            Ask::End,
+        ],
+    )?;
+    assert_eq!(rt;
+        told.as_slice(),
+        b"MSG foo 1 re.1 1\r\na\r\n\
+            MSG foo 1 60\r\nthe quick brown fox jumps over the lazy dog, again and again\r\n\
+            MSG foo 1 60\r\nthe quick brown fox jumps over the lazy dog, again and again\r\n\
+            MSG foo 1 60\r\nthe quick brown fox jumps over the lazy dog, again and again\r\n-ERR 'Slow Consumer'\r\n[closed]"
+            .as_slice()
+    );
+    Ok(())
+}

@@ -1,0 +1,115 @@
+use crate::tests::talk::{Ask, CAPS, DEMO, HEADERS, VERBOSE, told};
+use hub::Caps;
+use std::test::Fail;
+
+#[test]
+fn the_opening_writes_info(rt: HostRuntime) -> Result<(), Fail> {
+    let told = told(rt.alloc(), CAPS, &[Ask::Open])?;
+    assert_eq!(rt;
+        told.as_slice(),
+        b"INFO {\"auth_required\":true,\"client_id\":1,\"headers\":true,\"max_payload\":1048576,\"proto\":1,\"server_id\":\"natsd\",\"version\":\"0.1.0\"}\r\n".as_slice()
+    );
+    Ok(())
+}
+
+#[test]
+fn before_connect_nothing_else_is_looked_at(rt: HostRuntime) -> Result<(), Fail> {
+    let told = told(
+        rt.alloc(),
+        CAPS,
+        &[Ask::Bytes(b"PONG\r\nPING\r\nUNSUB 1\r\n"), Ask::End],
+    )?;
+    assert_eq!(rt;
+        told.as_slice(),
+        b"PONG\r\n-ERR 'Authorization Violation'\r\n[closed]".as_slice()
+    );
+    Ok(())
+}
+
+#[test]
+fn a_message_comes_in_a_drain(rt: HostRuntime) -> Result<(), Fail> {
+    let told = told(
+        rt.alloc(),
+        CAPS,
+        &[
+            Ask::Bytes(VERBOSE),
+            Ask::Bytes(b"SUB foo 1\r\nPUB foo re"),
+            Ask::Bytes(b"ply 2\r\nhi\r\nPING\r\n"),
+            Ask::Drain,
+            Ask::End,
+        ],
+    )?;
+    assert_eq!(rt;
+        told.as_slice(),
+        b"+OK\r\n+OK\r\n+OK\r\nPONG\r\nMSG foo 1 reply 2\r\nhi\r\n".as_slice()
+    );
+    Ok(())
+}
+
+#[test]
+fn a_stream_may_be_cut_anywhere(rt: HostRuntime) -> Result<(), Fail> {
+    let rest = b"SUB foo 1\r\nPUB foo re.1 2\r\nhi\r\n\
+        HPUB foo 12 14\r\nNATS/1.0\r\n\r\nho\r\nPING\r\n"
+        .as_slice();
+    let whole = [Ask::Bytes(HEADERS), Ask::Bytes(rest), Ask::Drain];
+    let cut = [Ask::EachByte(HEADERS), Ask::EachByte(rest), Ask::Drain];
+    let answers = b"+OK\r\n+OK\r\n+OK\r\n+OK\r\nPONG\r\n\
+        MSG foo 1 re.1 2\r\nhi\r\nHMSG foo 1 12 14\r\nNATS/1.0\r\n\r\nho\r\n[session]"
+        .as_slice();
+    for asks in [whole, cut] {
+        assert_eq!(rt;
+            told(rt.alloc(), CAPS, asks.as_slice())?.as_slice(),
+            answers
+        );
+    }
+    Ok(())
+}
+
+const TWO_ENTRIES: Caps = Caps {
+    outbox: 16,
+    history: 2,
+};
+
+#[test]
+fn a_full_history_keeps_the_frames(rt: HostRuntime) -> Result<(), Fail> {
+    let told = told(
+        rt.alloc(),
+        TWO_ENTRIES,
+        &[
+            Ask::Bytes(DEMO),
+            Ask::Bytes(b"PING\r\nSUB foo 1\r\nPUB foo 0\r\n\r\nPING\r\n"),
+            Ask::Drawn,
+            Ask::Bytes(b""),
+            Ask::Bytes(b"PING\r\n"),
+            Ask::Drain,
+            Ask::Drawn,
+            Ask::End,
+        ],
+    )?;
+    assert_eq!(rt;
+        told.as_slice(),
+        b"PONG\r\n[history full][drawn 1]\
+            [history full][history full][history full][drawn 1][history full][session]"
+            .as_slice()
+    );
+    Ok(())
+}
+
+#[test]
+fn a_frame_after_the_session_has_gone_closes(rt: HostRuntime) -> Result<(), Fail> {
+    let told = told(
+        rt.alloc(),
+        CAPS,
+        &[
+            Ask::Bytes(DEMO),
+            Ask::Gone,
+            Ask::Bytes(b"SUB foo 1\r\nPING\r\n"),
+            Ask::End,
+        ],
+    )?;
+    assert_eq!(rt;
+        told.as_slice(),
+        b"-ERR 'Authorization Violation'\r\n[closed]".as_slice()
+    );
+    Ok(())
+}

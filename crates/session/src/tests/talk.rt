@@ -1,0 +1,356 @@
+ghost use Rattle.std.specs.Prelude.{◌≡◌, ◌≤◌};
+
+use crate::{Conn, Direct, Output, Stall, Words};
+use bytes::Bytes;
+use hub::{Answer, Caps, Command, Event, Hub, HubRefusal, Ready};
+use lists::Items;
+use policy_doc::{AccountDoc, Accounts, Direction, PermDoc, Policy, PolicyDoc, UserDoc};
+use std::alloc::Global;
+use std::test::Fail;
+
+/// Room for more than most tests use.
+pub(crate) const CAPS: Caps = Caps {
+    outbox: 16,
+    history: 64,
+};
+
+/// A CONNECT of user demo, who wants no `+OK`.
+pub(crate) const DEMO: &[u8] =
+    b"CONNECT {\"user\":\"demo\",\"pass\":\"demo\",\"verbose\":false}\r\n";
+
+/// A CONNECT of user demo, who wants `+OK`.
+pub(crate) const VERBOSE: &[u8] = b"CONNECT {\"user\":\"demo\",\"pass\":\"demo\"}\r\n";
+
+/// The same, with header blocks.
+pub(crate) const HEADERS: &[u8] =
+    b"CONNECT {\"user\":\"demo\",\"pass\":\"demo\",\"headers\":true}\r\n";
+
+/// What a test does with connection 1 and connection 2 of a hub, one after the other.
+#[derive(Clone, Copy)]
+pub enum Ask<'a> {
+    /// What follows is for connection 1, as it is at the start, or for connection 2.
+    First,
+    Second,
+    Open,
+    /// A piece of the stream.
+    Bytes(&'a [u8]),
+    /// The same, a byte at a time.
+    EachByte(&'a [u8]),
+    /// A piece. Where memory lacks nothing goes on, and `[stalled]` is told.
+    BytesOnce(&'a [u8]),
+    /// Goes on after `BytesOnce` of this piece, if it stalled.
+    GoOn(&'a [u8]),
+    Drain,
+    /// A drain. Where memory lacks nothing goes on.
+    DrainOnce,
+    End,
+    /// A reload by others: user demo may publish nothing from here on.
+    Mute,
+    /// Others close the session of connection 1.
+    Gone,
+    /// Tells how many words were drawn, at most nine.
+    Drawn,
+}
+
+/// What is told: what the calls write, with a mark where a connection closes, and one where the history is full. A
+/// mark says at the end whether a session stands for connection 1. A call that memory lacked for is made again, so
+/// one growth that is refused changes nothing of what is told.
+pub(crate) fn told(alloc: Global, caps: Caps, asks: &[Ask<'_>]) -> Result<Vec<u8>, Fail>
+    requires low { 1 ≤ caps.outbox }
+    requires high { caps.outbox ≤ 65536 }
+{
+    let mut talk = match Talk::over(alloc, caps) {
+        Some(talk) => talk,
+        None => Talk::over(alloc, caps).ok_or("no hub is open")?,
+    };
+    for ask in asks {
+        talk.ask(*ask)?;
+    }
+    if talk.hub.waiting(1).is_some() {
+        talk.tell(b"[session]")?;
+    }
+    let Talk { told, .. } = talk;
+    Ok(told)
+}
+
+/// Words that rise by one.
+#[derive(Drop)]
+struct Rising {
+    last: u64,
+}
+
+impl Words for Rising {
+    ghost draws = { λ old word new. word ≡ new.last };
+
+    fn next(&mut self) -> u64 {
+        self.last = self.last.wrapping_add(1);
+        self.last
+    }
+}
+
+/// A call of a connection.
+#[derive(Clone, Copy)]
+enum Call<'a> {
+    Open,
+    Bytes(&'a [u8]),
+    Drain,
+    End,
+}
+
+/// What a call gave, with a mark of what else is to be told.
+#[derive(Drop)]
+struct Given {
+    bytes: Vec<u8>,
+    mark: &'static [u8],
+    stall: Option<Stall>,
+}
+
+/// A connection, and whether it has said that it is closed.
+#[derive(Drop)]
+struct Client {
+    conn: Conn,
+    closed: bool,
+}
+
+impl Client {
+    fn new(alloc: Global, conn: u64) -> Client {
+        Client {
+            conn: Conn::new(alloc, conn),
+            closed: false,
+        }
+    }
+
+    fn call(&mut self, alloc: Global, hub: &mut Hub, words: &mut Rising, call: Call<'_>) -> Given {
+        let output = make_call(alloc, hub, &mut self.conn, words, call);
+        let was_closed = self.closed;
+        self.closed = was_closed || output.close;
+        Given {
+            mark: mark_of(was_closed, call, &output),
+            stall: output.stall,
+            bytes: output.bytes,
+        }
+    }
+}
+
+/// A hub with two connections, and what was told.
+#[derive(Drop)]
+struct Talk {
+    alloc: Global,
+    hub: Hub,
+    words: Rising,
+    first: Client,
+    second: Client,
+    is_second: bool,
+    // What stopped the last call that was made once.
+    stall: Option<Stall>,
+    told: Vec<u8>,
+}
+
+impl Talk {
+    fn over(alloc: Global, caps: Caps) -> Option<Talk>
+        requires low { 1 ≤ caps.outbox }
+        requires high { caps.outbox ≤ 65536 }
+    {
+        let policy = Policy::builtin(alloc).ok()?;
+        let ready = Ready::of(alloc, policy).ok()?;
+        let hub = Hub::new(alloc, ready, caps).ok()?;
+        let told = Vec::with_capacity(alloc, 2048).ok()?;
+        Some(Talk {
+            alloc,
+            hub,
+            words: Rising { last: 0 },
+            first: Client::new(alloc, 1),
+            second: Client::new(alloc, 2),
+            is_second: false,
+            stall: None,
+            told,
+        })
+    }
+
+    fn ask(&mut self, ask: Ask<'_>) -> Result<(), Fail> {
+        match ask {
+            Ask::First => self.turn_to(false),
+            Ask::Second => self.turn_to(true),
+            Ask::Open => self.finish(Call::Open),
+            Ask::Bytes(piece) => self.finish(Call::Bytes(piece)),
+            Ask::EachByte(text) => self.each_byte(text),
+            Ask::BytesOnce(piece) => self.try_bytes(piece),
+            Ask::GoOn(piece) => self.go_on(piece),
+            Ask::Drain => self.finish(Call::Drain),
+            Ask::DrainOnce => self.try_drain(),
+            Ask::End => self.finish(Call::End),
+            Ask::Mute => self.mute(),
+            Ask::Gone => self.submit(Command::Close { conn: 1 }),
+            Ask::Drawn => self.tell_drawn(),
+        }
+    }
+
+    fn turn_to(&mut self, second: bool) -> Result<(), Fail> {
+        self.is_second = second;
+        Ok(())
+    }
+
+    fn tell(&mut self, text: &[u8]) -> Result<(), Fail> {
+        self.told.extend_from_slice(text)?;
+        Ok(())
+    }
+
+    // One call, and what it gives is told.
+    fn call(&mut self, call: Call<'_>) -> Result<Option<Stall>, Fail> {
+        let alloc = self.alloc;
+        let output = if self.is_second {
+            self.second
+                .call(alloc, &mut self.hub, &mut self.words, call)
+        } else {
+            self.first.call(alloc, &mut self.hub, &mut self.words, call)
+        };
+        self.tell(output.bytes.as_slice())?;
+        self.tell(output.mark)?;
+        Ok(output.stall)
+    }
+
+    // A call, and those that go on with it while memory lacks.
+    fn finish(&mut self, call: Call<'_>) -> Result<(), Fail> {
+        let mut call = call;
+        for _ in 0..8 {
+            let stall = self.call(call)?;
+            match call_again(call, stall) {
+                None => return Ok(()),
+                Some(again) => call = again,
+            }
+        }
+        Err("memory lacked again and again".into())
+    }
+
+    fn each_byte(&mut self, text: &[u8]) -> Result<(), Fail> {
+        for piece in text.chunks(1) {
+            self.finish(Call::Bytes(piece))?;
+        }
+        Ok(())
+    }
+
+    fn try_bytes(&mut self, piece: &[u8]) -> Result<(), Fail> {
+        self.stall = self.call(Call::Bytes(piece))?;
+        if self.stall.is_some() {
+            self.tell(b"[stalled]")?;
+        }
+        Ok(())
+    }
+
+    fn go_on(&mut self, piece: &[u8]) -> Result<(), Fail> {
+        match call_again(Call::Bytes(piece), self.stall) {
+            None => Ok(()),
+            Some(again) => self.finish(again),
+        }
+    }
+
+    fn try_drain(&mut self) -> Result<(), Fail> {
+        self.stall = self.call(Call::Drain)?;
+        Ok(())
+    }
+
+    fn mute(&mut self) -> Result<(), Fail> {
+        let ready = match mute_policy(self.alloc) {
+            Some(ready) => ready,
+            None => mute_policy(self.alloc).ok_or("no policy is ready")?,
+        };
+        self.submit(Command::Reload(ready))
+    }
+
+    // An event of others, once more where memory lacks.
+    fn submit(&mut self, what: Command) -> Result<(), Fail> {
+        match step(&mut self.hub, Event { now: 0, what }) {
+            Ok(_) => Ok(()),
+            Err((event, _)) => match step(&mut self.hub, event) {
+                Ok(_) => Ok(()),
+                Err(_) => Err("the hub refuses".into()),
+            },
+        }
+    }
+
+    fn tell_drawn(&mut self) -> Result<(), Fail> {
+        let digit = b'0' + (self.words.last % 10) as u8;
+        self.tell(b"[drawn ")?;
+        self.tell(&[digit])?;
+        self.tell(b"]")
+    }
+}
+
+// A step without its clauses: what a test asserts, it computes.
+fn step(hub: &mut Hub, event: Event) -> Result<Answer, (Event, HubRefusal)> {
+    hub.step(event)
+}
+
+fn make_call(
+    alloc: Global,
+    hub: &mut Hub,
+    conn: &mut Conn,
+    words: &mut Rising,
+    call: Call<'_>,
+) -> Output {
+    let mut port = Direct::new(hub);
+    match call {
+        Call::Open => conn.opened(alloc),
+        Call::Bytes(piece) => conn.on_bytes(alloc, &mut port, piece, 0, words),
+        Call::Drain => conn.drain(alloc, &mut port, 64, 0),
+        Call::End => conn.ended(&mut port, 0),
+    }
+}
+
+/// The call that goes on where memory lacked, if it did.
+fn call_again(call: Call<'_>, stall: Option<Stall>) -> Option<Call<'_>> {
+    match stall {
+        None => None,
+        Some(Stall::PieceNotTaken) => Some(call),
+        Some(Stall::HistoryFull) => None,
+        Some(Stall::Memory) => match call {
+            Call::Open => Some(Call::Open),
+            Call::Bytes(_) => Some(Call::Bytes(b"")),
+            Call::Drain => Some(Call::Drain),
+            Call::End => Some(Call::End),
+        },
+    }
+}
+
+/// A mark where the history is full, where a connection closes, and where a closed one answers as if it were open.
+fn mark_of(was_closed: bool, call: Call<'_>, output: &Output) -> &'static [u8] {
+    if output.stall == Some(Stall::HistoryFull) {
+        return b"[history full]";
+    }
+    match call {
+        Call::Open | Call::End => b"",
+        Call::Bytes(_) | Call::Drain => match (was_closed, output.close) {
+            (false, true) => b"[closed]",
+            (true, false) => b"[open]",
+            (false, false) | (true, true) => b"",
+        },
+    }
+}
+
+/// The account and the user demo of the built-in policy, but an empty list of what it may publish.
+fn mute_policy(alloc: Global) -> Option<Ready> {
+    let permissions = PermDoc {
+        publish: Direction {
+            allow: Some(Items::new(alloc)),
+            deny: Items::new(alloc),
+        },
+        subscribe: Direction {
+            allow: None,
+            deny: Items::new(alloc),
+        },
+    };
+    let user = UserDoc {
+        user: Bytes::from_static(b"demo"),
+        password: Bytes::from_static(b"demo"),
+        permissions: Some(permissions),
+    };
+    let mut users = Vec::with_capacity(alloc, 1).ok()?;
+    users.push(user).ok()?;
+    let users = Items::from_vec(users);
+    let mut accounts = Accounts::new(alloc);
+    accounts
+        .insert(Bytes::from_static(b"DEMO"), AccountDoc { users })
+        .ok()?;
+    let policy = Policy::check(PolicyDoc { accounts }).ok()?;
+    Ready::of(alloc, policy).ok()
+}
