@@ -1,5 +1,14 @@
+mod Accounting
+mod Calling
+mod Concluding
+mod Draining
+mod Ending
+mod Feeding
+mod Leading
 mod Parsing
 mod Reading
 mod Runs
+mod Serving
 mod Short
+mod Turning
 mod Written

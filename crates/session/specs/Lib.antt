@@ -4,3 +4,5 @@ pub mod Turns
 pub mod Serving
 pub mod Drains
 pub mod Calls
+pub mod Heard
+pub mod Accounts

@@ -6,6 +6,7 @@ mod conn;
 mod direct;
 mod drain;
 mod frames;
+mod laws;
 mod message;
 mod output;
 mod plan;
@@ -18,6 +19,7 @@ mod turn;
 
 pub use conn::Conn;
 pub use direct::Direct;
+pub use laws::{any_calls, any_calls_direct};
 pub use output::{Output, Stall};
 pub use port::{Port, Words};
 pub use stage::Stage;

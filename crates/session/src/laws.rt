@@ -1,0 +1,24 @@
+ghost use Rattle.session.specs.Accounts.{AccountsForCalls, AccountsOver};
+
+use crate::direct::Direct;
+use crate::port::{Port, Words};
+use wire_read::cut_anywhere;
+
+/// Any calls of one connection, in any order, each over a port of its own to one hub, with whatever others do to the
+/// hub between them, and with stalls anywhere. There is one list of what happened, and it accounts for all of them:
+/// what each call writes is the session protocol's of the frames, answers and deliveries in it; the hub goes by the
+/// events in it, each submitted once and in order; a message has one word, however often it stalls; each frame of
+/// the bytes that were taken has one turn, unless the connection closed before; each delivery that was taken is
+/// written once, or owed; and after a closing text nothing is written but INFO, where the caller asks for it again.
+pub fn any_calls<P: Port, W: Words>()
+    ensures { AccountsForCalls P.steps W.draws }
+{
+    cut_anywhere();
+}
+
+/// The same over a hub that is this thread's alone.
+pub fn any_calls_direct<W: Words>()
+    ensures { AccountsOver ⟦<Direct<'static> as Port>⟧.steps W.draws (λ port. port.hub.now) }
+{
+    any_calls::<Direct, W>();
+}
