@@ -16,7 +16,7 @@ use Rattle.session.specs.declared.stage.Stage.{Stage}
 use Rattle.session.specs.declared.stage.Stage.TheVariants as stage
 use Rattle.session.specs.declared.plan.Plan.{Plan}
 use Rattle.session.specs.declared.plan.Plan.TheVariants.{Tells, Asks, Publishes}
-use Rattle.session.specs.Replies.{Told, tells, told, is_closed, closed_from, takes_headers, reply_to, closes_with}
+use Rattle.session.specs.Replies.{Told, tells, told, is_closed, closed_from, takes_headers, reply_to, fails_with}
 use Rattle.session.specs.Plans.{plan_of}
 use Rattle.session.specs.Turns.{event}
 use Rattle.session.specs.Drains.{delivery_text}
@@ -108,7 +108,7 @@ come_of conn s Opened = came (tells (info_line (info_text conn)) s) [] []
 come_of conn s (Framed now f word r) = come_of_plan conn now s f word r (plan_of conn s f)
 come_of conn s (Took now most r) = came (take_told s r) ((event now (command.Take conn most), r) ∷ []) []
 come_of conn s (Sent d) = came (tells (delivery_text (takes_headers s) d) s) [] []
-come_of conn s Slow = came (closes_with error.SlowConsumer s) [] []
+come_of conn s Slow = came (fails_with error.SlowConsumer s) [] []
 come_of conn s (Ended now r) = come_of_end conn now r (closed_from s)
 come_of conn s (Other e r) = came (tells [] s) ((e, r) ∷ []) []
 

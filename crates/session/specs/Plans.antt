@@ -17,7 +17,7 @@ use Rattle.session.specs.declared.text.Text.{Text}
 use Rattle.session.specs.declared.text.Text.TheVariants as text
 use Rattle.session.specs.declared.plan.Plan.{Plan}
 use Rattle.session.specs.declared.plan.Plan.TheVariants.{Tells, Asks, Publishes}
-use Rattle.session.specs.Replies.{closed_from, fault_text}
+use Rattle.session.specs.Replies.{closed_from, after_error, fault_text}
 
 -- ---- texts that are parsed
 
@@ -43,12 +43,9 @@ reply_if (Some text) = reply_from (subject_if text)
 abbrev pub tells : Text → Stage → Plan
 tells t s = Tells (record { text = t; stage = s })
 
--- an error that closes the connection, and one that leaves it open
+-- an error, which closes the connection or leaves it open
 abbrev pub fails : ServerError → Stage → Plan
-fails e s = tells (text.Error e) (closed_from s)
-
-abbrev pub refuses : ServerError → Stage → Plan
-refuses e s = tells (text.Error e) s
+fails e s = tells (text.Error e) (after_error e s)
 
 -- a CONNECT, by its options
 abbrev pub connect_plan : ℕ → Read ConnectOpts → Plan
@@ -57,8 +54,8 @@ connect_plan conn (Err _) = fails error.ParserError stage.Fresh
 
 -- a message, by its subject and the one to answer on
 abbrev pub message_plan : Stage → Option (List Token) → Option (Option (List Token)) → List ℕ → List ℕ → Plan
-message_plan s None reply head body = refuses error.InvalidSubject s
-message_plan s (Some subject) None head body = refuses error.InvalidSubject s
+message_plan s None reply head body = fails error.InvalidSubject s
+message_plan s (Some subject) None head body = fails error.InvalidSubject s
 message_plan s (Some subject) (Some reply) head body = Publishes subject reply head body
 
 abbrev pub publish_plan : Stage → List ℕ → Option (List ℕ) → List ℕ → List ℕ → Plan
@@ -70,12 +67,12 @@ headed_plan s headers subject reply head body = if headers then publish_plan s s
 
 -- a subscription, by its pattern. There are no queues yet.
 abbrev pub pattern_plan : ℕ → Stage → Option (List Token) → List ℕ → Plan
-pattern_plan conn s None sid = refuses error.InvalidSubject s
+pattern_plan conn s None sid = fails error.InvalidSubject s
 pattern_plan conn s (Some subject) sid = Asks (command.Sub conn subject sid) s
 
 abbrev pub subscribe_plan : ℕ → Stage → List ℕ → Option (List ℕ) → List ℕ → Plan
 subscribe_plan conn s subject queue sid =
-    if is_some queue then refuses error.InvalidSubject s else pattern_plan conn s (pattern_if subject) sid
+    if is_some queue then fails error.InvalidSubject s else pattern_plan conn s (pattern_if subject) sid
 
 -- the end of a subscription, at once or after so many messages
 abbrev pub unsubscribe_plan : ℕ → Stage → List ℕ → Option ℕ → Plan

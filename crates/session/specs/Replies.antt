@@ -5,7 +5,7 @@ use Rattle.wire_read.specs.declared.fault.WireFault.TheVariants as fault
 use Rattle.wire_read.specs.declared.frame.Frame.{Frame}
 use Rattle.wire_read.specs.declared.frame.Frame.TheVariants as frame
 use Rattle.wire_write.specs.Texts.{ok_line, pong_line}
-use Rattle.wire_write.specs.Errors.{err_line, publish_denied_line, subscription_denied_line}
+use Rattle.wire_write.specs.Errors.{err_line, closes_after, publish_denied_line, subscription_denied_line}
 use Rattle.wire_write.specs.declared.error.ServerError.{ServerError}
 use Rattle.wire_write.specs.declared.error.ServerError.TheVariants as error
 use Rattle.hub.specs.declared.answer.Outcome.{Outcome}
@@ -37,6 +37,10 @@ abbrev pub closed_from : Stage → Stage
 closed_from stage.Fresh = stage.Closed false
 closed_from (stage.Connected _ _) = stage.Closed true
 closed_from (stage.Closed session) = stage.Closed session
+
+-- after an error's text
+abbrev pub after_error : ServerError → Stage → Stage
+after_error e s = if closes_after e then closed_from s else s
 
 -- the client declared headers
 abbrev pub takes_headers : Stage → Bool
@@ -94,9 +98,9 @@ tells text s = record { text = text; stage = s }
 abbrev pub told : Reply → Told
 told r = tells (text_line r.text) r.stage
 
--- an error that closes the connection
-abbrev pub closes_with : ServerError → Stage → Told
-closes_with e s = tells (err_line e) (closed_from s)
+-- an error, which closes the connection or leaves it open
+abbrev pub fails_with : ServerError → Stage → Told
+fails_with e s = tells (err_line e) (after_error e s)
 
 -- The reply to what was answered to a frame's event, where an accepted CONNECT leads to another stage. Memory and
 -- the history aside, no others come to a frame.
@@ -107,9 +111,9 @@ reply_to s accepted f (Ok outcome.SameSid) = tells (ok_if s) s
 reply_to s accepted f (Ok outcome.Unsubscribed) = tells (ok_if s) s
 reply_to s accepted f (Ok (outcome.Published _ _)) = tells (ok_if s) s
 reply_to s accepted f (Ok (outcome.Denied _)) = tells (denied_line f) s
-reply_to s accepted f (Ok outcome.SubLimit) = tells (err_line error.SubscriptionsExceeded) s
-reply_to s accepted f (Ok outcome.AuthViolation) = closes_with error.Authorization s
-reply_to s accepted f (Err refusal.SessionTaken) = closes_with error.InvalidProtocol s
-reply_to s accepted f (Err refusal.SessionLimit) = closes_with error.ConnectionsExceeded s
+reply_to s accepted f (Ok outcome.SubLimit) = fails_with error.SubscriptionsExceeded s
+reply_to s accepted f (Ok outcome.AuthViolation) = fails_with error.Authorization s
+reply_to s accepted f (Err refusal.SessionTaken) = fails_with error.InvalidProtocol s
+reply_to s accepted f (Err refusal.SessionLimit) = fails_with error.ConnectionsExceeded s
 reply_to s accepted f (Err refusal.NoSession) = tells (err_line error.Authorization) (stage.Closed false)
 reply_to s accepted f _ = tells [] s

@@ -83,20 +83,14 @@ fn tells(text: Text<'static>, stage: Stage) -> Plan
     Plan::Tells(Reply { text, stage })
 }
 
-ghost use Rattle.session.specs.Plans.{tells, fails, refuses};
+ghost use Rattle.session.specs.Plans.{tells, fails};
 
-/// An error that closes the connection.
+/// An error, which closes the connection or leaves it open.
 fn fails(error: ServerError<'static>, stage: Stage) -> Plan
     ensures { result ≡ fails error.entry stage }
 {
-    tells(Text::Error(error), stage.closed())
-}
-
-/// An error that leaves the connection open.
-fn refuses(error: ServerError<'static>, stage: Stage) -> Plan
-    ensures { result ≡ refuses error.entry stage }
-{
-    tells(Text::Error(error), stage)
+    let after = stage.after_error(&error);
+    tells(Text::Error(error), after)
 }
 
 /// A CONNECT of a client that has not shown who it is.
@@ -139,9 +133,9 @@ fn plan_publish(
     ensures { IfOk result (λ plan. plan ≡ publish_plan stage subject.now reply.now head payload.now) }
 {
     match subject_of(alloc, subject.as_slice())? {
-        None => Ok(refuses(ServerError::InvalidSubject, stage)),
+        None => Ok(fails(ServerError::InvalidSubject, stage)),
         Some(subject) => match reply_of(alloc, reply)? {
-            None => Ok(refuses(ServerError::InvalidSubject, stage)),
+            None => Ok(fails(ServerError::InvalidSubject, stage)),
             Some(reply) => Ok(Plan::Publishes {
                 subject,
                 reply,
@@ -191,10 +185,10 @@ fn plan_subscribe(
     ensures { IfOk result (λ plan. plan ≡ subscribe_plan conn stage subject.now queue.now sid.now) }
 {
     if queue.is_some() {
-        return Ok(refuses(ServerError::InvalidSubject, stage));
+        return Ok(fails(ServerError::InvalidSubject, stage));
     }
     match pattern_of(alloc, subject.as_slice())? {
-        None => Ok(refuses(ServerError::InvalidSubject, stage)),
+        None => Ok(fails(ServerError::InvalidSubject, stage)),
         Some(subject) => {
             let sid = own_sid(alloc, sid)?;
             Ok(Plan::Asks(Command::Sub { conn, subject, sid }, stage))

@@ -1,6 +1,6 @@
 // What a client is told of an answer.
 ghost use Rattle.std.specs.Prelude.{◌≡◌, ◌≤◌, length};
-ghost use Rattle.session.specs.Replies.{text_line, told, denied_line, fault_text, reply_to, ok_if, room_of, closed_from};
+ghost use Rattle.session.specs.Replies.{text_line, told, denied_line, fault_text, reply_to, ok_if, room_of, after_error};
 ghost use Rattle.wire_write.specs.Errors.{err_line};
 
 use crate::stage::Stage;
@@ -90,14 +90,15 @@ fn says(text: Text<'static>, stage: Stage) -> Reply<'static>
     Reply { text, stage }
 }
 
-/// An error that closes the connection.
-fn closes(error: ServerError<'static>, stage: Stage) -> Reply<'static>
+/// An error, which closes the connection or leaves it open.
+fn fails_with(error: ServerError<'static>, stage: Stage) -> Reply<'static>
     ensures text { text_line result.text ≡ err_line error.entry }
-    ensures stage { result.stage ≡ closed_from stage }
+    ensures stage { result.stage ≡ after_error error.entry stage }
 {
+    let after = stage.after_error(&error);
     Reply {
         text: Text::Error(error),
-        stage: stage.closed(),
+        stage: after,
     }
 }
 
@@ -121,10 +122,10 @@ pub fn reply_to<'a>(
             text: denied(frame),
             stage,
         },
-        Ok(Outcome::SubLimit) => says(Text::Error(ServerError::SubscriptionsExceeded), stage),
-        Ok(Outcome::AuthViolation) => closes(ServerError::Authorization, stage),
-        Err(HubRefusal::SessionTaken) => closes(ServerError::InvalidProtocol, stage),
-        Err(HubRefusal::SessionLimit) => closes(ServerError::ConnectionsExceeded, stage),
+        Ok(Outcome::SubLimit) => fails_with(ServerError::SubscriptionsExceeded, stage),
+        Ok(Outcome::AuthViolation) => fails_with(ServerError::Authorization, stage),
+        Err(HubRefusal::SessionTaken) => fails_with(ServerError::InvalidProtocol, stage),
+        Err(HubRefusal::SessionLimit) => fails_with(ServerError::ConnectionsExceeded, stage),
         Err(HubRefusal::NoSession) => says(
             Text::Error(ServerError::Authorization),
             Stage::Closed { session: false },

@@ -1,5 +1,7 @@
 ghost use Rattle.std.specs.Prelude.{◌≡◌};
-ghost use Rattle.session.specs.Replies.{is_closed, is_connected, closed_from, takes_headers};
+ghost use Rattle.session.specs.Replies.{is_closed, is_connected, closed_from, after_error, takes_headers};
+
+use wire_write::ServerError;
 
 /// Where a connection is in its life (docs/PROTOCOL.md, "A connection's life").
 #[derive(Clone, Copy, Debug, PartialEq, Eq)]
@@ -37,6 +39,13 @@ impl Stage {
             Stage::Connected { .. } => Stage::Closed { session: true },
             Stage::Closed { session } => Stage::Closed { session },
         }
+    }
+
+    /// The stage after an error's text.
+    pub fn after_error(self, error: &ServerError<'_>) -> Stage
+        ensures { result ≡ after_error error.now self }
+    {
+        if error.closes() { self.closed() } else { self }
     }
 
     /// Whether the client declared headers.
