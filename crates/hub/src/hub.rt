@@ -163,7 +163,7 @@ impl Hub {
     ///
     /// The routing guarantee (docs/GUARANTEE.md, "The guarantee"): for every list of events, a command is
     /// accepted exactly when the policy in force at its step allows it; a message enters a subscription's
-    /// outbox exactly when account and permissions admit it there with room left, and Full is reported
+    /// outbox exactly when account, echo and permissions admit it there with room left, and Full is reported
     /// otherwise; each denial names its deciding rule or the missing allow; no standing subscription is
     /// refused by the policy in force.
     pub fn run(

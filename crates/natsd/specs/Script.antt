@@ -154,13 +154,8 @@ line_of line =
     else if starts_with nat_eq line (codes "policy ") then Policy (drop 7 line)
     else short_line line
 
--- a script's head ends with the first line that is not skipped, or that is behind its caps
+-- a skipped line leaves the part as it is; caps may be followed by a policy, and any other line begins the body
 abbrev pub part_after : Part → Line → Part
 part_after part Skip = part
 part_after part (Caps outbox history) = Capped
-part_after part (Policy text) = Body
-part_after part (Open conn) = Body
-part_after part (Client conn deed) = Body
-part_after part (Now moment) = Body
-part_after part (Word word) = Body
-part_after part Other = Body
+part_after part _ = Body

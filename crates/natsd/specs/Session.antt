@@ -1,5 +1,5 @@
--- What the calls of a connection come to over the server of a script, where memory is enough (docs/PROTOCOL.md, "A
--- connection's life").
+-- What the calls of a connection come to over the server of a script, where memory is enough (docs/GUARANTEE.md,
+-- "Scripts").
 use Rattle.std.specs.Prelude.{◌≡◌, ◌++◌, ◌∷◌, ℕ, Bool, true, false, List, [], Option, Some, None, Result, Ok, Err, if◌then◌else◌}
 use Rattle.wire_read.specs.declared.frame.Frame.{Frame}
 use Rattle.wire_write.specs.Errors.{err_line}

@@ -12,7 +12,7 @@ use std::alloc::Global;
 /// An open connection.
 #[derive(Drop)]
 pub struct Client {
-    /// What it is to the hub, and its client to it.
+    /// Where it is by the protocol, and what it keeps of its client's bytes.
     pub conn: Conn,
     /// No drains are made for it.
     pub held: bool,

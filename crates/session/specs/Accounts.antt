@@ -1,4 +1,5 @@
--- Any calls of one connection, with what others do to the hub between them, and what they come to.
+-- Any calls of one connection, with what others do to the hub between them, and what they come to (docs/GUARANTEE.md,
+-- "A connection").
 use Rattle.std.specs.Prelude.{◌≡◌, ◌⊎◌, ◌||◌, ℕ, Bool, true, false, List, [], ◌∷◌, ◌++◌, Option, Some, None, Result, if◌then◌else◌}
 use Rattle.std.specs.List.{flat_map, list_any, AllByRecursion}
 use Rattle.std.specs.Option.{option_to_list}

@@ -1,4 +1,4 @@
--- What each call of a connection does (docs/PROTOCOL.md, "A connection's life").
+-- What each call of a connection does (docs/GUARANTEE.md, "A connection").
 use Rattle.std.specs.Prelude.{◌≡◌, ◌⊎◌, ℕ, Bool, true, false, List, [], ◌++◌, Option, Some, None, Result, Ok, Err}
 use Rattle.connect_opts.specs.Info.{info_text}
 use Rattle.wire_read.specs.declared.frame.Frame.{Frame}

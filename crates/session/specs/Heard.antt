@@ -1,4 +1,4 @@
--- What happens to a connection, in order, and what it comes to (docs/PROTOCOL.md, "A connection's life").
+-- What happens to a connection, in order, and what it comes to (docs/GUARANTEE.md, "A connection").
 use Rattle.std.specs.Prelude.{ℕ, Bool, true, false, not, ◌&&◌, List, [], ◌∷◌, ◌++◌, Result, Ok, Err, IsTrue}
 use Rattle.connect_opts.specs.Info.{info_text}
 use Rattle.wire_read.specs.declared.frame.Frame.{Frame}

@@ -1,4 +1,4 @@
--- The turns of frames, in order, and the frames that a piece completes (docs/PROTOCOL.md, "A connection's life").
+-- The turns of frames, in order, and the frames that a piece completes (docs/GUARANTEE.md, "A connection").
 use Rattle.std.specs.Prelude.{◌≡◌, ℕ, Bool, true, false, List, [], ◌∷◌, ◌++◌, Option, Some, None, if◌then◌else◌}
 use Rattle.wire_read.specs.declared.frame.Frame.{Frame}
 use Rattle.wire_read.specs.Framing.{Reader, frames_of}

@@ -1,4 +1,4 @@
--- A frame's turn (docs/PROTOCOL.md, "A connection's life").
+-- A frame's turn (docs/GUARANTEE.md, "A connection").
 use Rattle.std.specs.Prelude.{◌≡◌, ◌⊎◌, ℕ, List, [], Option, Some, None, Result, Ok, Err}
 use Rattle.wire_read.specs.declared.frame.Frame.{Frame}
 use Rattle.hub.specs.declared.event.Event.{Event}

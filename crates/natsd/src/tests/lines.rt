@@ -1,4 +1,4 @@
-use crate::tests::scripts::{assert_answers, assert_prints};
+use crate::tests::scripts::{as_demo, assert_answers, assert_prints};
 use std::test::Fail;
 
 #[test]
@@ -95,17 +95,25 @@ send 1 CONNECT {"user":"demo","pass":"demo","verbose":false}\r\nSUB foo 1\r\nPUB
 history full
 "#;
     assert_prints(&rt, script, prints, 1)?;
-    // The end of a client is an event too, where it has a session.
-    for (end, status) in [(&b"end 1\nopen 1\n"[..], 1), (b"open 2\nend 2\n", 0)] {
-        let mut script = Vec::from_slice(
-            rt.alloc(),
-            br#"caps 1 1
-open 1
-send 1 CONNECT {"user":"demo","pass":"demo","verbose":false}\r\n
-"#,
-        )?;
-        script.extend_from_slice(end)?;
-        let answers: &[u8] = if status == 1 { b"history full\n" } else { b"" };
+    // A Take is an event too, and so is the end of a client and that of a connection that closes, where a session stands.
+    for (caps, lines, answers, status) in [
+        (
+            &b"caps 16 3\n"[..],
+            &br"send 1 SUB foo 1\r\nPUB foo 0\r\n\r\n"[..],
+            &b"history full\n"[..],
+            1,
+        ),
+        (b"caps 1 1\n", b"end 1\nopen 1\n", b"history full\n", 1),
+        (b"caps 1 1\n", b"open 2\nend 2\n", b"", 0),
+        (
+            b"caps 1 1\n",
+            br"send 1 X\r\n",
+            b"1< -ERR 'Unknown Protocol Operation'\\r\\n\n1 closed\nhistory full\n",
+            1,
+        ),
+    ] {
+        let mut script = Vec::from_slice(rt.alloc(), caps)?;
+        script.extend_from_slice(as_demo(rt.alloc(), lines)?.as_slice())?;
         assert_answers(&rt, script.as_slice(), answers, status)?;
     }
     Ok(())
