@@ -11,6 +11,7 @@ use Rattle.hub.specs.declared.answer.HubRefusal.TheVariants as refusal
 use Rattle.session.specs.declared.plan.Plan.{Plan}
 use Rattle.session.specs.declared.plan.Plan.TheVariants.{Tells, Asks, Publishes}
 use Rattle.session.specs.declared.stage.Stage.{Stage}
+use Rattle.session.specs.Accounts.{IsPortTo}
 use Rattle.session.specs.Plans.{plan_of}
 use Rattle.session.specs.Replies.{told, is_closed}
 use Rattle.session.specs.Serving.{Spot, spot, Served, served, rests, behind, UnlessClosed, IsFollowed, Serves}
@@ -18,10 +19,6 @@ use Rattle.session.specs.Turns.{Steps, Turned, Goes, Stalls, turn_after, event, 
 use Rattle.natsd.specs.Server.{heard, IsDrawn}
 use Rattle.natsd.specs.Session.{Here, FrameTurn, frame_turn, word_of, words_after, answered_turn, planned, goes_on, turns, is_memory_stall}
 use Rattle.natsd.proofs.Answering.{is_memory_answer, answered_is}
-
--- a port that is a hub: each of its steps is one of the hub
-abbrev pub IsOver : {P : Type 0} → Steps P → (P → State) → Type 0
-IsOver {P} steps hub_of = (p : P) (e : Event) (r : Result Answer (Event × HubRefusal)) (p' : P) → steps p e r p' → IsStep (hub_of p) e r (hub_of p')
 
 -- what is seen of a place between two turns, and of what the turns came to
 abbrev pub seen : {P : Type 0} → (P → State) → Spot P (List ℕ) → Here
@@ -47,7 +44,7 @@ memory_after s accepted f word (Err refusal.SessionTaken) = refl
 memory_after s accepted f word (Err refusal.SessionLimit) = refl
 
 -- the hub was asked
-asked_is : {P : Type 0} (steps : Steps P) (hub_of : P → State) → IsOver steps hub_of → (s accepted : Stage) (f : Frame) (word : Option ℕ) (words : List ℕ) (e : Event)
+asked_is : {P : Type 0} (steps : Steps P) (hub_of : P → State) → IsPortTo steps hub_of → (s accepted : Stage) (f : Frame) (word : Option ℕ) (words : List ℕ) (e : Event)
     (p p' : P) (r : Result Outcome HubRefusal) (t : Turned) → IsAnswered steps p e r p' → t ≡ turn_after s accepted f word r → is_memory_turn t ≡ false →
     frame_turn t (hub_of p') words ≡ answered_turn s accepted f word words (heard (hub_of p) e)
 asked_is steps hub_of over s accepted f word words e p p' r t answered is enough =
@@ -61,7 +58,7 @@ word_is (Some w) words words' drawn h = (h.0, h.1)
 word_is None words words' drawn h = (h.0, h.1)
 
 -- a turn by its plan
-planned_is : {P : Type 0} (steps : Steps P) (hub_of : P → State) → IsOver steps hub_of → (now conn : ℕ) (at : Spot P (List ℕ)) (f : Frame) (t : Turned) (p : P) (w : List ℕ) (plan : Plan) →
+planned_is : {P : Type 0} (steps : Steps P) (hub_of : P → State) → IsPortTo steps hub_of → (now conn : ℕ) (at : Spot P (List ℕ)) (f : Frame) (t : Turned) (p : P) (w : List ℕ) (plan : Plan) →
     IsPlanned steps IsDrawn now conn at.stage at.word f at.port at.words t p w plan → is_memory_turn t ≡ false →
     frame_turn t (hub_of p) w ≡ planned now conn (seen hub_of at) f plan
 planned_is steps hub_of over now conn at f t p w (Tells r) h enough =
@@ -100,7 +97,7 @@ unless_closed hub_of true at r Turns after while_open h = ap (λ (x : Served _ (
 unless_closed hub_of false at r Turns after while_open h = while_open h
 
 -- a turn of its plan
-turn_is : {P : Type 0} (steps : Steps P) (hub_of : P → State) → IsOver steps hub_of → (now conn : ℕ) (at : Spot P (List ℕ)) (f : Frame) (t : Turned) (p : P) (w : List ℕ) →
+turn_is : {P : Type 0} (steps : Steps P) (hub_of : P → State) → IsPortTo steps hub_of → (now conn : ℕ) (at : Spot P (List ℕ)) (f : Frame) (t : Turned) (p : P) (w : List ℕ) →
     IsTurn steps IsDrawn now conn at.stage at.word f at.port at.words t p w → is_memory_turn t ≡ false →
     frame_turn t (hub_of p) w ≡ planned now conn (seen hub_of at) f (plan_of conn at.stage f)
 turn_is steps hub_of over now conn at f t p w (inl untouched) enough =
@@ -108,7 +105,7 @@ turn_is steps hub_of over now conn at f t p w (inl untouched) enough =
 turn_is steps hub_of over now conn at f t p w (inr h) enough = planned_is steps hub_of over now conn at f t p w (plan_of conn at.stage f) h enough
 
 -- frames in order
-pub turns_are : {P : Type 0} (steps : Steps P) (hub_of : P → State) → IsOver steps hub_of → (now conn : ℕ) (fs : List Frame) (at : Spot P (List ℕ)) (r : Served P (List ℕ)) →
+pub turns_are : {P : Type 0} (steps : Steps P) (hub_of : P → State) → IsPortTo steps hub_of → (now conn : ℕ) (fs : List Frame) (at : Spot P (List ℕ)) (r : Served P (List ℕ)) →
     Serves steps IsDrawn now conn fs at r → is_memory_stall r.stall ≡ false → seen_served hub_of r ≡ turns now conn fs (seen hub_of at)
 unfolding Serves turns
 turns_are steps hub_of over now conn [] at r h enough = ap (λ (x : Served _ (List ℕ)). seen_served hub_of x) h
