@@ -138,7 +138,7 @@ sub-keeps w now conn p sid sound = by_session (session_of w.sessions conn) refl
         Keeps w (event now (Sub conn p sid)) (numbered (w.number + 1) (Ok (cond l (SubLimit, advanced w now) (Subscribed, record (advanced w now) { subscriptions = w.subscriptions ++ subscription_of (w.number + 1) conn p sid ∷ [] }))))
     by_limit true limit taken may fit = routed w now (Sub conn p sid) SubLimit w.sessions w.subscriptions (refl, refl) fit (sym may) (λ _. tt) (taken, limit, untouched w now) (sound-same w now sound)
     by_limit false limit taken may fit =
-        routed w now (Sub conn p sid) Subscribed w.sessions (w.subscriptions ++ subscription_of (w.number + 1) conn p sid ∷ []) (refl, refl) fit (sym may) (λ _. tt) (taken, limit, refl, refl) (sound-add w now conn p sid may taken sound)
+        routed w now (Sub conn p sid) Subscribed w.sessions (w.subscriptions ++ subscription_of (w.number + 1) conn p sid ∷ []) (refl, refl) fit (sym may) (λ _. tt) (taken, limit, refl, refl) (sound-add w now conn p sid may taken limit sound)
 
     by_sid : (t : Bool) → stands w.subscriptions conn sid ≡ t → may_subscribe (user_at w conn) p ≡ true → is_fit w (Sub conn p sid) ≡ true →
         Keeps w (event now (Sub conn p sid)) (numbered (w.number + 1) (Ok (cond t (SameSid, advanced w now) (cond (has_all w.subscriptions conn) (SubLimit, advanced w now) (Subscribed, record (advanced w now) { subscriptions = w.subscriptions ++ subscription_of (w.number + 1) conn p sid ∷ [] })))))

@@ -28,7 +28,7 @@ use Rattle.hub.proofs.Finds.{find-map, AllPairs-head, AllPairs-tail, AllPairs-ma
 use Rattle.hub.proofs.Places.{session_of-none}
 use Rattle.hub.proofs.Naming.{name_of, are_named_once, unlike, named_again}
 use Rattle.hub.proofs.Ascending.{AreApart, among-ascending, ascending-rises}
-use Rattle.hub.proofs.Soundness.{IsOfPolicy, HasBound, IsApart}
+use Rattle.hub.proofs.Soundness.{IsOfPolicy, HasBound, IsApart, quotas-filter}
 
 -- ---- the same user, found by its name
 
@@ -240,6 +240,7 @@ sound-reload w now doc sound valid = record {
       ∙ filter_passes (stands_on doc w.sessions) w.subscriptions k d h;
   limits = All-filter (stands_on doc w.sessions) (λ (s : Subscription). has_ended s ≡ false) w.subscriptions sound.limits;
   sids = AllPairs-filter (λ (s t : Subscription). has_same_sid s t ≡ false) (stands_on doc w.sessions) w.subscriptions sound.sids;
+  quotas = quotas-filter (stands_on doc w.sessions) w.subscriptions sound.quotas;
   ids = AllPairs-filter (λ (s t : Subscription). s.id < t.id) (stands_on doc w.sessions) w.subscriptions sound.ids;
   numbers = All-filter (stands_on doc w.sessions) (λ (s : Subscription). s.id ≤ w.number + 1) w.subscriptions (λ k d h. let n = sound.numbers k d h in omega arith);
   epoch = let h = sound.epoch in omega arith;

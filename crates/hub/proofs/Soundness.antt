@@ -8,7 +8,7 @@ use Rattle.std.proofs.lemmas.Bool.{eqb-true, eqb-false, leb-false, not-true}
 use Rattle.std.proofs.lemmas.List.{length-map, length-append}
 use Rattle.std.proofs.lemmas.List.Folds.{find-append}
 use Rattle.std.proofs.lemmas.List.Filters.{length-filter_both}
-use Rattle.std.proofs.lemmas.List.Elements.{All-push, All-map, All-filter, filter_passes}
+use Rattle.std.proofs.lemmas.List.Elements.{All-push, All-map, All-filter, filter_passes, filter-append}
 use Rattle.std.proofs.lemmas.List.Kept.{AllPairs-filter}
 use Rattle.std.proofs.lemmas.List.Quantifiers.{all_pairs_push}
 use Rattle.subjects.specs.Subject.{Token}
@@ -16,10 +16,11 @@ use Rattle.policy_doc.specs.declared.document.PolicyDoc.{PolicyDoc}
 use Rattle.hub.specs.World.{World, session_of}
 use Rattle.hub.specs.Limit.{has_ended, unended}
 use Rattle.hub.specs.Sound.{IsSound, has_same_sid, user_named, user_behind, user_at, may_subscribe}
-use Rattle.hub.specs.Transition.{new_session, subscription_of, stands}
+use Rattle.hub.specs.Transition.{new_session, subscription_of, stands, of_connection, has_all}
 use Rattle.hub.specs.declared.ready.User.{User}
 use Rattle.hub.specs.declared.tables.Session.{Session}
 use Rattle.hub.specs.declared.tables.Subscription.{Subscription}
+use Rattle.hub.proofs.Lists.{length-filter_twice, length-filter_map}
 use Rattle.hub.proofs.Finds.{find-All, find-none, find-filter, find-map, any-none, AllPairs-map}
 
 -- the world after an answered step that left these sessions and subscriptions
@@ -38,6 +39,10 @@ IsApart y z = y.conn ≢ z.conn
 
 abbrev IsAllowed : PolicyDoc → List Session → Subscription → Type 0
 IsAllowed doc zs s = may_subscribe (user_behind doc (session_of zs s.conn)) s.subject ≡ true
+
+-- no connection has more than 4,096 of the subscriptions
+abbrev HasQuotas : List Subscription → Type 0
+HasQuotas subs = (conn : ℕ) → length (of_connection conn subs) ≤ 4096
 
 -- the user that a connection acts for is that of its session
 pub user_at-session : (w : World) → IsSound w → (conn : ℕ) (z : Session) → session_of w.sessions conn ≡ Some z → user_at w conn ≡ Some z.user
@@ -63,6 +68,7 @@ sound-same w now sound = record {
   subscriptions = sound.subscriptions;
   limits = sound.limits;
   sids = sound.sids;
+  quotas = sound.quotas;
   ids = sound.ids;
   numbers = numbers-next w sound;
   epoch = epoch-next w sound;
@@ -94,6 +100,7 @@ sound-map w now f keeps sound = record {
   subscriptions = λ k d h. allowed-map w.policy f w.sessions keeps.conn keeps.user (get_or w.subscriptions k d) (sound.subscriptions k d h);
   limits = sound.limits;
   sids = sound.sids;
+  quotas = sound.quotas;
   ids = sound.ids;
   numbers = numbers-next w sound;
   epoch = epoch-next w sound;
@@ -120,15 +127,24 @@ sound-open w now conn u echo free room is sound = record {
   subscriptions = λ k d h. allowed-open w.policy w.sessions (new_session conn u echo w.capacity) (get_or w.subscriptions k d) (sound.subscriptions k d h);
   limits = sound.limits;
   sids = sound.sids;
+  quotas = sound.quotas;
   ids = sound.ids;
   numbers = numbers-next w sound;
   epoch = epoch-next w sound;
 }
 
 -- a subscription is added
-pub sound-add : (w : World) (now conn : ℕ) (p : List Token) (sid : List ℕ) → may_subscribe (user_at w conn) p ≡ true → stands w.subscriptions conn sid ≡ false → IsSound w →
+quotas-add : (subs : List Subscription) (s : Subscription) → has_all subs s.conn ≡ false → HasQuotas subs → HasQuotas (subs ++ s ∷ [])
+quotas-add subs s room quotas conn =
+    omega (arith, ap (λ (xs : List Subscription). length xs) (filter-append (λ (t : Subscription). t.conn == conn) subs (s ∷ [])), length-append (of_connection conn subs) (of_connection conn (s ∷ [])), here (s.conn == conn) refl)
+  where
+    here : (b : Bool) → (s.conn == conn) ≡ b → length (of_connection conn subs) + length (cond b (s ∷ []) []) ≤ 4096
+    here true is = omega (arith, leb-false 4096 (length (of_connection s.conn subs)) room, ap (λ n. length (of_connection n subs)) (eqb-true s.conn conn is))
+    here false is = omega (arith, quotas conn)
+
+pub sound-add : (w : World) (now conn : ℕ) (p : List Token) (sid : List ℕ) → may_subscribe (user_at w conn) p ≡ true → stands w.subscriptions conn sid ≡ false → has_all w.subscriptions conn ≡ false → IsSound w →
     IsSound (next w now w.sessions (w.subscriptions ++ subscription_of (w.number + 1) conn p sid ∷ []))
-sound-add w now conn p sid may free sound = record {
+sound-add w now conn p sid may free room sound = record {
   policy = sound.policy;
   limit = sound.limit;
   connections = sound.connections;
@@ -137,10 +153,15 @@ sound-add w now conn p sid may free sound = record {
   subscriptions = All-push (IsAllowed w.policy w.sessions) w.subscriptions (subscription_of (w.number + 1) conn p sid) sound.subscriptions may;
   limits = All-push (λ (s : Subscription). has_ended s ≡ false) w.subscriptions (subscription_of (w.number + 1) conn p sid) sound.limits refl;
   sids = all_pairs_push (λ (s t : Subscription). has_same_sid s t ≡ false) w.subscriptions (subscription_of (w.number + 1) conn p sid) sound.sids (any-none (λ (s : Subscription). has_same_sid s (subscription_of (w.number + 1) conn p sid)) w.subscriptions free);
+  quotas = quotas-add w.subscriptions (subscription_of (w.number + 1) conn p sid) room sound.quotas;
   ids = all_pairs_push (λ (s t : Subscription). s.id < t.id) w.subscriptions (subscription_of (w.number + 1) conn p sid) sound.ids (λ k d h. let n = sound.numbers k d h in omega arith);
   numbers = All-push (λ (s : Subscription). s.id ≤ w.number + 1) w.subscriptions (subscription_of (w.number + 1) conn p sid) (numbers-next w sound) (omega arith);
   epoch = epoch-next w sound;
 }
+
+-- no connection has more of those that stay than of all
+pub quotas-filter : (p : Subscription → Bool) (subs : List Subscription) → HasQuotas subs → HasQuotas (filter p subs)
+quotas-filter p subs quotas conn = omega (arith, length-filter_twice (λ (s : Subscription). s.conn == conn) p subs, quotas conn)
 
 -- a connection's session and subscriptions go
 not_of : (c conn : ℕ) → not (c == conn) ≡ true → (n : ℕ) → (n == c) ≡ true → not (n == conn) ≡ true
@@ -162,6 +183,7 @@ sound-close w now conn sound = record {
   subscriptions = λ k d h. allowed-close w.policy w.sessions conn (get_or (filter (λ (s : Subscription). not (s.conn == conn)) w.subscriptions) k d) (filter_passes (λ (s : Subscription). not (s.conn == conn)) w.subscriptions k d h) (All-filter (λ (s : Subscription). not (s.conn == conn)) (IsAllowed w.policy w.sessions) w.subscriptions sound.subscriptions k d h);
   limits = All-filter (λ (s : Subscription). not (s.conn == conn)) (λ (s : Subscription). has_ended s ≡ false) w.subscriptions sound.limits;
   sids = AllPairs-filter (λ (s t : Subscription). has_same_sid s t ≡ false) (λ (s : Subscription). not (s.conn == conn)) w.subscriptions sound.sids;
+  quotas = quotas-filter (λ (s : Subscription). not (s.conn == conn)) w.subscriptions sound.quotas;
   ids = AllPairs-filter (λ (s t : Subscription). s.id < t.id) (λ (s : Subscription). not (s.conn == conn)) w.subscriptions sound.ids;
   numbers = All-filter (λ (s : Subscription). not (s.conn == conn)) (λ (s : Subscription). s.id ≤ w.number + 1) w.subscriptions (numbers-next w sound);
   epoch = epoch-next w sound;
@@ -208,6 +230,10 @@ rising-again f keeps s t is = let e = keeps.id s in let g = keeps.id t in omega 
 below-again : (n : ℕ) (f : Subscription → Subscription) → KeepsSubscription f → (s : Subscription) → s.id ≤ n → (f s).id ≤ n
 below-again n f keeps s is = let e = keeps.id s in omega arith
 
+quotas-again : (f : Subscription → Subscription) → KeepsSubscription f → (subs : List Subscription) → HasQuotas subs → HasQuotas (map f subs)
+quotas-again f keeps subs quotas conn =
+    omega (arith, length-filter_map (λ (s : Subscription). s.conn == conn) f subs (λ s. ap (λ n. n == conn) (keeps.conn s)), quotas conn)
+
 pub sound-limits : (w : World) (f : Subscription → Subscription) → KeepsSubscription f → IsSound w → IsSound (record w { subscriptions = unended (map f w.subscriptions) })
 sound-limits w f keeps sound = record {
   policy = sound.policy;
@@ -218,6 +244,7 @@ sound-limits w f keeps sound = record {
   subscriptions = All-filter IsOpen (IsAllowed w.policy w.sessions) subs (All-map (IsAllowed w.policy w.sessions) f w.subscriptions (λ k d h. allowed-again w.policy w.sessions f keeps (get_or w.subscriptions k d) (sound.subscriptions k d h)));
   limits = λ k d h. not-true (has_ended (get_or (unended subs) k d)) (filter_passes IsOpen subs k d h);
   sids = AllPairs-filter (λ (s t : Subscription). has_same_sid s t ≡ false) IsOpen subs (AllPairs-map (λ (s t : Subscription). has_same_sid s t ≡ false) f w.subscriptions (apart-again f keeps) sound.sids);
+  quotas = quotas-filter IsOpen subs (quotas-again f keeps w.subscriptions sound.quotas);
   ids = AllPairs-filter (λ (s t : Subscription). s.id < t.id) IsOpen subs (AllPairs-map (λ (s t : Subscription). s.id < t.id) f w.subscriptions (rising-again f keeps) sound.ids);
   numbers = All-filter IsOpen (λ (s : Subscription). s.id ≤ w.number) subs (All-map (λ (s : Subscription). s.id ≤ w.number) f w.subscriptions (λ k d h. below-again w.number f keeps (get_or w.subscriptions k d) (sound.numbers k d h)));
   epoch = sound.epoch;

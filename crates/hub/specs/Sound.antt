@@ -9,6 +9,7 @@ use Rattle.permissions.specs.Verdicts.{subscribe_verdict, is_allowed}
 use Rattle.hub.specs.Users.{users_of}
 use Rattle.hub.specs.World.{World, session_of}
 use Rattle.hub.specs.Limit.{has_ended, is_under}
+use Rattle.hub.specs.Transition.{of_connection}
 use Rattle.hub.specs.declared.ready.User.{User}
 use Rattle.hub.specs.declared.tables.Session.{Session}
 use Rattle.hub.specs.declared.tables.Subscription.{Subscription}
@@ -53,6 +54,8 @@ pub record IsSound (w : World) : Type 0 where
   pub limits : All (λ (s : Subscription). has_ended s ≡ false) w.subscriptions
   -- no connection has two of one sid
   pub sids : AllPairs (λ (s t : Subscription). has_same_sid s t ≡ false) w.subscriptions
+  -- no connection has more than 4,096 standing subscriptions
+  pub quotas : (conn : ℕ) → length (of_connection conn w.subscriptions) ≤ 4096
   -- their ids rise, and none is above the last number
   pub ids : AllPairs (λ (s t : Subscription). s.id < t.id) w.subscriptions
   pub numbers : All (λ (s : Subscription). s.id ≤ w.number) w.subscriptions

@@ -112,9 +112,10 @@ impl Hub {
 
     /// Tells what holds of every hub (docs/GUARANTEE.md, "What always holds"): the policy in force is valid and
     /// refuses no standing subscription; at most 4,096 sessions stand, each of a user of that policy; no connection
-    /// has two sessions, or two subscriptions of one sid; no outbox holds more than the hub's capacity; the ids of
-    /// subscriptions rise, and none is above the last number. And the history is legal: its entries lead, one by
-    /// one, from the world that the hub opened with to the present one. They are no more than it may hold.
+    /// has two sessions, two subscriptions of one sid, or more than 4,096 subscriptions; no outbox holds more than
+    /// the hub's capacity; the ids of subscriptions rise, and none is above the last number. And the history is
+    /// legal: its entries lead, one by one, from the world that the hub opened with to the present one. They are no
+    /// more than it may hold.
     pub fn known(&self)
         ensures sound { IsSound self.now.world }
         ensures opening { self.now.opening ≡ opening_world self.now.opening.policy self.now.world.capacity }
