@@ -61,10 +61,8 @@ IsCall steps draws hub_of (Others e) m g m' = (r : Result Outcome HubRefusal) ×
 
 -- what a call takes of the client's bytes: none once the connection has closed, or where it says so
 abbrev pub unless_refused : Option Stall → List ℕ → List ℕ
-unless_refused None piece = piece
 unless_refused (Some stall.PieceNotTaken) piece = []
-unless_refused (Some stall.Memory) piece = piece
-unless_refused (Some stall.HistoryFull) piece = piece
+unless_refused _ piece = piece
 
 abbrev pub taken_by : {W : Type 0} → Call W → Connection → Given → List ℕ
 taken_by (Bytes now piece w w') c g = if is_closed c.stage then [] else unless_refused g.stall piece

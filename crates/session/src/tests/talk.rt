@@ -1,8 +1,9 @@
 ghost use Rattle.std.specs.Prelude.{◌≡◌, ◌≤◌};
 
-use crate::{Conn, Direct, Output, Stall, Words};
+use crate::tests::port::Refusing;
+use crate::{Conn, Direct, Output, Port, Stall, Words};
 use bytes::Bytes;
-use hub::{Answer, Caps, Command, Event, Hub, HubRefusal, Ready};
+use hub::{Answer, Caps, Command, Entry, Event, Hub, HubRefusal, Ready};
 use lists::Items;
 use policy_doc::{AccountDoc, Accounts, Direction, PermDoc, Policy, PolicyDoc, UserDoc};
 use std::alloc::Global;
@@ -36,6 +37,8 @@ pub enum Ask<'a> {
     Bytes(&'a [u8]),
     /// The same, a byte at a time.
     EachByte(&'a [u8]),
+    /// A SUB to foo under each sid of four digits below this number.
+    SubEach(u64),
     /// A piece. Where memory lacks nothing goes on, and `[stalled]` is told.
     BytesOnce(&'a [u8]),
     /// Goes on after `BytesOnce` of this piece, if it stalled.
@@ -48,13 +51,19 @@ pub enum Ask<'a> {
     Mute,
     /// Others close the session of connection 1.
     Gone,
+    /// The next event of a connection is refused so, and the hub does not see it.
+    Refuse(HubRefusal),
     /// Tells how many words were drawn, at most nine.
     Drawn,
+    /// Tells what the history holds, and the word of each message.
+    History,
+    /// Tells how many calls have stalled, at most nine.
+    Stalls,
 }
 
-/// What is told: what the calls write, with a mark where a connection closes, and one where the history is full. A
-/// mark says at the end whether a session stands for connection 1. A call that memory lacked for is made again, so
-/// one growth that is refused changes nothing of what is told.
+/// What is told: what the calls write, with a mark where a connection closes, where the history is full, and where
+/// memory lacks by a `Refuse`. A mark says at the end whether a session stands for connection 1. A call that memory
+/// lacked for is made again, so one growth that is refused changes nothing of what is told.
 pub(crate) fn told(alloc: Global, caps: Caps, asks: &[Ask<'_>]) -> Result<Vec<u8>, Fail>
     requires low { 1 ≤ caps.outbox }
     requires high { caps.outbox ≤ 65536 }
@@ -120,12 +129,31 @@ impl Client {
         }
     }
 
-    fn call(&mut self, alloc: Global, hub: &mut Hub, words: &mut Rising, call: Call<'_>) -> Given {
-        let output = make_call(alloc, hub, &mut self.conn, words, call);
+    fn call(
+        &mut self,
+        alloc: Global,
+        hub: &mut Hub,
+        refusal: &mut Option<HubRefusal>,
+        words: &mut Rising,
+        call: Call<'_>,
+    ) -> Given {
+        let is_refused = refusal.is_some();
+        let output = if is_refused {
+            make_call(
+                alloc,
+                &mut Refusing { hub, refusal },
+                &mut self.conn,
+                words,
+                call,
+            )
+        } else {
+            make_call(alloc, &mut Direct::new(hub), &mut self.conn, words, call)
+        };
+        let was_refused = is_refused && refusal.is_none();
         let was_closed = self.closed;
         self.closed = was_closed || output.close;
         Given {
-            mark: mark_of(was_closed, call, &output),
+            mark: mark_of(was_closed, was_refused, call, &output),
             stall: output.stall,
             bytes: output.bytes,
         }
@@ -143,6 +171,9 @@ struct Talk {
     is_second: bool,
     // What stopped the last call that was made once.
     stall: Option<Stall>,
+    // How the next event is refused.
+    refusal: Option<HubRefusal>,
+    stalls: u64,
     told: Vec<u8>,
 }
 
@@ -163,6 +194,8 @@ impl Talk {
             second: Client::new(alloc, 2),
             is_second: false,
             stall: None,
+            refusal: None,
+            stalls: 0,
             told,
         })
     }
@@ -174,6 +207,7 @@ impl Talk {
             Ask::Open => self.finish(Call::Open),
             Ask::Bytes(piece) => self.finish(Call::Bytes(piece)),
             Ask::EachByte(text) => self.each_byte(text),
+            Ask::SubEach(end) => self.sub_each(end),
             Ask::BytesOnce(piece) => self.try_bytes(piece),
             Ask::GoOn(piece) => self.go_on(piece),
             Ask::Drain => self.finish(Call::Drain),
@@ -181,12 +215,20 @@ impl Talk {
             Ask::End => self.finish(Call::End),
             Ask::Mute => self.mute(),
             Ask::Gone => self.submit(Command::Close { conn: 1 }),
-            Ask::Drawn => self.tell_drawn(),
+            Ask::Refuse(refusal) => self.refuse(refusal),
+            Ask::Drawn => self.tell_digit(b"drawn", self.words.last),
+            Ask::History => tell_entries(&mut self.told, self.hub.history()),
+            Ask::Stalls => self.tell_digit(b"stalls", self.stalls),
         }
     }
 
     fn turn_to(&mut self, second: bool) -> Result<(), Fail> {
         self.is_second = second;
+        Ok(())
+    }
+
+    fn refuse(&mut self, refusal: HubRefusal) -> Result<(), Fail> {
+        self.refusal = Some(refusal);
         Ok(())
     }
 
@@ -199,11 +241,25 @@ impl Talk {
     fn call(&mut self, call: Call<'_>) -> Result<Option<Stall>, Fail> {
         let alloc = self.alloc;
         let output = if self.is_second {
-            self.second
-                .call(alloc, &mut self.hub, &mut self.words, call)
+            self.second.call(
+                alloc,
+                &mut self.hub,
+                &mut self.refusal,
+                &mut self.words,
+                call,
+            )
         } else {
-            self.first.call(alloc, &mut self.hub, &mut self.words, call)
+            self.first.call(
+                alloc,
+                &mut self.hub,
+                &mut self.refusal,
+                &mut self.words,
+                call,
+            )
         };
+        if output.stall.is_some() {
+            self.stalls = self.stalls.wrapping_add(1);
+        }
         self.tell(output.bytes.as_slice())?;
         self.tell(output.mark)?;
         Ok(output.stall)
@@ -225,6 +281,21 @@ impl Talk {
     fn each_byte(&mut self, text: &[u8]) -> Result<(), Fail> {
         for piece in text.chunks(1) {
             self.finish(Call::Bytes(piece))?;
+        }
+        Ok(())
+    }
+
+    fn sub_each(&mut self, end: u64) -> Result<(), Fail> {
+        for number in 0..end {
+            let sid = [
+                digit_of(number / 1000),
+                digit_of(number / 100),
+                digit_of(number / 10),
+                digit_of(number),
+            ];
+            self.finish(Call::Bytes(b"SUB foo "))?;
+            self.finish(Call::Bytes(sid.as_slice()))?;
+            self.finish(Call::Bytes(b"\r\n"))?;
         }
         Ok(())
     }
@@ -268,12 +339,46 @@ impl Talk {
         }
     }
 
-    fn tell_drawn(&mut self) -> Result<(), Fail> {
-        let digit = b'0' + (self.words.last % 10) as u8;
-        self.tell(b"[drawn ")?;
-        self.tell(&[digit])?;
+    fn tell_digit(&mut self, name: &[u8], number: u64) -> Result<(), Fail> {
+        self.tell(b"[")?;
+        self.tell(name)?;
+        self.tell(b" ")?;
+        self.tell(&[digit_of(number)])?;
         self.tell(b"]")
     }
+}
+
+/// The last digit of a number.
+fn digit_of(number: u64) -> u8 {
+    b'0' + (number % 10) as u8
+}
+
+/// What each entry was asked, in order.
+fn tell_entries(told: &mut Vec<u8>, entries: &[Entry]) -> Result<(), Fail> {
+    told.extend_from_slice(b"[entries")?;
+    for entry in entries {
+        tell_command(told, &entry.event.what)?;
+    }
+    told.extend_from_slice(b"]")?;
+    Ok(())
+}
+
+/// The name of a command, and the word of a message.
+fn tell_command(told: &mut Vec<u8>, what: &Command) -> Result<(), Fail> {
+    let name = match what {
+        Command::Connect { .. } => b" connect".as_slice(),
+        Command::Sub { .. } => b" sub",
+        Command::Unsub { .. } => b" unsub",
+        Command::Pub { .. } => b" pub ",
+        Command::Take { .. } => b" take",
+        Command::Close { .. } => b" close",
+        Command::Reload(_) => b" reload",
+    };
+    told.extend_from_slice(name)?;
+    if let Command::Pub { word, .. } = what {
+        told.push(digit_of(*word))?;
+    }
+    Ok(())
 }
 
 // A step without its clauses: what a test asserts, it computes.
@@ -281,19 +386,18 @@ fn step(hub: &mut Hub, event: Event) -> Result<Answer, (Event, HubRefusal)> {
     hub.step(event)
 }
 
-fn make_call(
+fn make_call<P: Port>(
     alloc: Global,
-    hub: &mut Hub,
+    port: &mut P,
     conn: &mut Conn,
     words: &mut Rising,
     call: Call<'_>,
 ) -> Output {
-    let mut port = Direct::new(hub);
     match call {
         Call::Open => conn.opened(alloc),
-        Call::Bytes(piece) => conn.on_bytes(alloc, &mut port, piece, 0, words),
-        Call::Drain => conn.drain(alloc, &mut port, 64, 0),
-        Call::End => conn.ended(&mut port, 0),
+        Call::Bytes(piece) => conn.on_bytes(alloc, port, piece, 0, words),
+        Call::Drain => conn.drain(alloc, port, 64, 0),
+        Call::End => conn.ended(port, 0),
     }
 }
 
@@ -312,10 +416,14 @@ fn call_again(call: Call<'_>, stall: Option<Stall>) -> Option<Call<'_>> {
     }
 }
 
-/// A mark where the history is full, where a connection closes, and where a closed one answers as if it were open.
-fn mark_of(was_closed: bool, call: Call<'_>, output: &Output) -> &'static [u8] {
+/// A mark where the history is full, where memory lacks for an event that was refused, where a connection closes, and
+/// where a closed one answers as if it were open.
+fn mark_of(was_closed: bool, was_refused: bool, call: Call<'_>, output: &Output) -> &'static [u8] {
     if output.stall == Some(Stall::HistoryFull) {
         return b"[history full]";
+    }
+    if was_refused && output.stall == Some(Stall::Memory) {
+        return b"[no memory]";
     }
     match call {
         Call::Open | Call::End => b"",
