@@ -48,13 +48,13 @@ completes_full written after start all t w k more is h =
     }
 
 -- no Take is to be made, however many may be
-takes_none : (most : ℕ) (w : Serving) (k : Client) → pending_turn w k ≡ None → takes most w k ≡ quiet k w
+pub takes_none : (most : ℕ) (w : Serving) (k : Client) → pending_turn w k ≡ None → takes most w k ≡ quiet k w
 unfolding takes
 takes_none zero w k none = refl
 takes_none (suc most) w k none = ap (λ (o : Option Turn). if_any o (λ w' k'. takes most w' k') w k) none
 
 -- one Take, and then the others
-takes_some : (most : ℕ) (w : Serving) (k : Client) (t : Turn) → pending_turn w k ≡ Some t →
+pub takes_some : (most : ℕ) (w : Serving) (k : Client) (t : Turn) → pending_turn w k ≡ Some t →
     takes (suc most) w k ≡ goes_on t t.full (λ w' k'. takes most w' k')
 unfolding takes
 takes_some most w k t some = ap (λ (o : Option Turn). if_any o (λ w' k'. takes most w' k') w k) some

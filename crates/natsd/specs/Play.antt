@@ -105,7 +105,7 @@ IsTurnIf (Some t) before after k k' w w' (Some full) = IsTurn t before after k' 
 IsTurnIf None before after k k' w w' (Some full) = ⊥
 IsTurnIf (Some t) before after k k' w w' None = ⊥
 
--- each Take but the last takes 64 deliveries, so these are enough
+-- each Take but the last takes 64 deliveries, so these are enough: `Client::drain` leaves nothing that is pending
 abbrev pub enough_takes : Option (ℕ × Bool) → ℕ
 enough_takes None = 1
 enough_takes (Some waiting) = waiting.0 / 64 + 1

@@ -1,5 +1,5 @@
 // The open connections of a script (docs/SCRIPT.md).
-ghost use Rattle.std.specs.Prelude.{◌≡◌, ◌++◌, IfOk, OnOk};
+ghost use Rattle.std.specs.Prelude.{◌≡◌, ◌++◌, false, None, IfOk, OnOk};
 ghost use Rattle.natsd.specs.Play.{shown_if, settled_by, end_turn, is_pending, enough_takes, pending_turn, takes, IsTurn, IsTurnIf};
 
 use crate::output::{write_closed, write_full, write_shown};
@@ -62,14 +62,15 @@ impl Client {
     }
 
     /// Drains the connection, unless it is held: Takes of 64 while something is pending. Answers whether the history
-    /// is full.
+    /// is full; if it isn't, nothing is pending then.
     pub fn drain(
         &mut self,
         alloc: Global,
         server: &mut Server,
         out: &mut Vec<u8>,
     ) -> Result<bool, NoMemory>
-        ensures { IfOk result (λ full. IsTurn (drain_turn server.old self.old) out.old.items out.new.items self.new server.new full) }
+        ensures turn { IfOk result (λ full. IsTurn (drain_turn server.old self.old) out.old.items out.new.items self.new server.new full) }
+        ensures drained { IfOk result (λ full. full ≡ false → self.old.held ≡ false → pending_turn server.new self.new ≡ None) }
     {
         if self.held {
             return Ok(false);

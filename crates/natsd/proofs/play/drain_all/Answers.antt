@@ -10,7 +10,7 @@ pub returns-then-branch : goal.returns-then-branch
 returns-then-branch c =
     let within : c.draining.client-index < length c.draining.clients = omega arith in
     draining_full c.draining.clients c.draining.client-index c.client-item.result c.drain.new.self c.draining.server c.drain.new.server c.draining.out.items c.drain.new.out.items c.args.out.now.items (drained c.args.clients.now c.args.server.now)
-    within (IsTurn-same _ _ _ _ _ _ _ c.if-branch.true c.in_ok-drain.ensures) c.draining.invariant.leads
+    within (IsTurn-same _ _ _ _ _ _ _ c.if-branch.true c.in_ok-drain.ensures.turn) c.draining.invariant.leads
 
 pub draining-preserved : goal.draining-preserved
 draining-preserved c =
@@ -18,7 +18,7 @@ draining-preserved c =
     record {
       leads =
           draining_more c.draining.clients c.draining.client-index c.client-item.result c.drain.new.self c.draining.server c.drain.new.server c.draining.out.items c.drain.new.out.items c.args.out.now.items (drained c.args.clients.now c.args.server.now)
-          within (IsTurn-same _ _ _ _ _ _ _ c.if-branch.false c.in_ok-drain.ensures) c.draining.invariant.leads;
+          within (IsTurn-same _ _ _ _ _ _ _ c.if-branch.false c.in_ok-drain.ensures.turn) c.draining.invariant.leads;
       len = length-set _ _ _ ∙ c.draining.invariant.len;
     }
 
