@@ -1,4 +1,4 @@
-use crate::tests::talk::{Ask, CAPS, DEMO, told};
+use crate::tests::talk::{Ask, CAPS, DEMO, assert_told};
 use hub::Caps;
 use std::test::Fail;
 
@@ -9,8 +9,8 @@ const ONE_DELIVERY: Caps = Caps {
 
 #[test]
 fn who_misses_a_delivery_is_closed(rt: HostRuntime) -> Result<(), Fail> {
-    let told = told(
-        rt.alloc(),
+    assert_told(
+        &rt,
         ONE_DELIVERY,
         &[
             Ask::Bytes(DEMO),
@@ -21,50 +21,38 @@ fn who_misses_a_delivery_is_closed(rt: HostRuntime) -> Result<(), Fail> {
             Ask::End,
             Ask::Drain,
         ],
-    )?;
-    assert_eq!(rt;
-        told.as_slice(),
-        b"MSG foo 1 1\r\na\r\n-ERR 'Slow Consumer'\r\n[closed]".as_slice()
-    );
-    Ok(())
+        b"MSG foo 1 1\r\na\r\n-ERR 'Slow Consumer'\r\n[closed]",
+    )
 }
 
 #[test]
 fn the_session_of_a_slow_consumer_stands_till_the_end(rt: HostRuntime) -> Result<(), Fail> {
-    let told = told(
-        rt.alloc(),
+    assert_told(
+        &rt,
         ONE_DELIVERY,
         &[
             Ask::Bytes(DEMO),
             Ask::Bytes(b"SUB foo 1\r\nPUB foo 1\r\na\r\nPUB foo 1\r\nb\r\n"),
             Ask::Drain,
         ],
-    )?;
-    assert_eq!(rt;
-        told.as_slice(),
-        b"MSG foo 1 1\r\na\r\n-ERR 'Slow Consumer'\r\n[closed][session]".as_slice()
-    );
-    Ok(())
+        b"MSG foo 1 1\r\na\r\n-ERR 'Slow Consumer'\r\n[closed][session]",
+    )
 }
 
 #[test]
 fn a_drain_after_the_session_has_gone_closes(rt: HostRuntime) -> Result<(), Fail> {
-    let told = told(
-        rt.alloc(),
+    assert_told(
+        &rt,
         CAPS,
         &[Ask::Bytes(DEMO), Ask::Gone, Ask::Drain, Ask::End],
-    )?;
-    assert_eq!(rt;
-        told.as_slice(),
-        b"-ERR 'Authorization Violation'\r\n[closed]".as_slice()
-    );
-    Ok(())
+        b"-ERR 'Authorization Violation'\r\n[closed]",
+    )
 }
 
 #[test]
 fn a_drain_that_stalls_goes_on(rt: HostRuntime) -> Result<(), Fail> {
-    let told = told(
-        rt.alloc(),
+    assert_told(
+        &rt,
         CAPS,
         &[
             Ask::Bytes(DEMO),
@@ -77,16 +65,11 @@ fn a_drain_that_stalls_goes_on(rt: HostRuntime) -> Result<(), Fail> {
             Ask::Bytes(b"PUB foo 1\r\nd\r\n"),
             Ask::Drain,
         ],
-    )?;
-    assert_eq!(rt;
-        told.as_slice(),
         b"MSG foo 1 re.1 1\r\na\r\n\
             MSG foo 1 60\r\nthe quick brown fox jumps over the lazy dog, again and again\r\n\
             MSG foo 1 60\r\nthe quick brown fox jumps over the lazy dog, again and again\r\n\
-            MSG foo 1 1\r\nd\r\n[session]"
-            .as_slice()
-    );
-    Ok(())
+            MSG foo 1 1\r\nd\r\n[session]",
+    )
 }
 
 const FOUR_DELIVERIES: Caps = Caps {
@@ -96,8 +79,8 @@ const FOUR_DELIVERIES: Caps = Caps {
 
 #[test]
 fn a_drain_that_stalls_tells_last_what_was_missed(rt: HostRuntime) -> Result<(), Fail> {
-    let told = told(
-        rt.alloc(),
+    assert_told(
+        &rt,
         FOUR_DELIVERIES,
         &[
             Ask::Bytes(DEMO),
@@ -112,14 +95,9 @@ fn a_drain_that_stalls_tells_last_what_was_missed(rt: HostRuntime) -> Result<(),
             Ask::Drain,
             Ask::End,
         ],
-    )?;
-    assert_eq!(rt;
-        told.as_slice(),
         b"MSG foo 1 re.1 1\r\na\r\n\
             MSG foo 1 60\r\nthe quick brown fox jumps over the lazy dog, again and again\r\n\
             MSG foo 1 60\r\nthe quick brown fox jumps over the lazy dog, again and again\r\n\
-            MSG foo 1 60\r\nthe quick brown fox jumps over the lazy dog, again and again\r\n-ERR 'Slow Consumer'\r\n[closed]"
-            .as_slice()
-    );
-    Ok(())
+            MSG foo 1 60\r\nthe quick brown fox jumps over the lazy dog, again and again\r\n-ERR 'Slow Consumer'\r\n[closed]",
+    )
 }

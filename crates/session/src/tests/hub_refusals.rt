@@ -1,12 +1,12 @@
 // What a client is told where the hub refuses, and where it has too much.
-use crate::tests::talk::{Ask, CAPS, DEMO, VERBOSE, told};
+use crate::tests::talk::{Ask, CAPS, DEMO, VERBOSE, assert_told};
 use hub::{Caps, HubRefusal};
 use std::test::Fail;
 
 #[test]
 fn a_session_of_that_number_refuses_a_connect(rt: HostRuntime) -> Result<(), Fail> {
-    let told = told(
-        rt.alloc(),
+    assert_told(
+        &rt,
         CAPS,
         &[
             Ask::Refuse(HubRefusal::SessionTaken),
@@ -15,18 +15,14 @@ fn a_session_of_that_number_refuses_a_connect(rt: HostRuntime) -> Result<(), Fai
             Ask::End,
             Ask::History,
         ],
-    )?;
-    assert_eq!(rt;
-        told.as_slice(),
-        b"-ERR 'Invalid Client Protocol'\r\n[closed][entries]".as_slice()
-    );
-    Ok(())
+        b"-ERR 'Invalid Client Protocol'\r\n[closed][entries]",
+    )
 }
 
 #[test]
 fn too_many_sessions_refuse_a_connect(rt: HostRuntime) -> Result<(), Fail> {
-    let told = told(
-        rt.alloc(),
+    assert_told(
+        &rt,
         CAPS,
         &[
             Ask::Refuse(HubRefusal::SessionLimit),
@@ -35,18 +31,14 @@ fn too_many_sessions_refuse_a_connect(rt: HostRuntime) -> Result<(), Fail> {
             Ask::End,
             Ask::History,
         ],
-    )?;
-    assert_eq!(rt;
-        told.as_slice(),
-        b"-ERR 'Maximum Connections Exceeded'\r\n[closed][entries]".as_slice()
-    );
-    Ok(())
+        b"-ERR 'Maximum Connections Exceeded'\r\n[closed][entries]",
+    )
 }
 
 #[test]
 fn a_message_without_a_session_closes(rt: HostRuntime) -> Result<(), Fail> {
-    let told = told(
-        rt.alloc(),
+    assert_told(
+        &rt,
         CAPS,
         &[
             Ask::Bytes(DEMO),
@@ -55,12 +47,8 @@ fn a_message_without_a_session_closes(rt: HostRuntime) -> Result<(), Fail> {
             Ask::End,
             Ask::History,
         ],
-    )?;
-    assert_eq!(rt;
-        told.as_slice(),
-        b"-ERR 'Authorization Violation'\r\n[closed][entries connect][session]".as_slice()
-    );
-    Ok(())
+        b"-ERR 'Authorization Violation'\r\n[closed][entries connect][session]",
+    )
 }
 
 const MANY_ENTRIES: Caps = Caps {
@@ -70,18 +58,14 @@ const MANY_ENTRIES: Caps = Caps {
 
 #[test]
 fn one_subscription_too_many_is_told(rt: HostRuntime) -> Result<(), Fail> {
-    let told = told(
-        rt.alloc(),
+    assert_told(
+        &rt,
         MANY_ENTRIES,
         &[
             Ask::Bytes(DEMO),
             Ask::SubEach(4096),
             Ask::Bytes(b"PING\r\nSUB bar x\r\nPING\r\n"),
         ],
-    )?;
-    assert_eq!(rt;
-        told.as_slice(),
-        b"PONG\r\n-ERR 'Maximum Subscriptions Exceeded'\r\nPONG\r\n[session]".as_slice()
-    );
-    Ok(())
+        b"PONG\r\n-ERR 'Maximum Subscriptions Exceeded'\r\nPONG\r\n[session]",
+    )
 }

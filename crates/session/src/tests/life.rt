@@ -1,35 +1,31 @@
-use crate::tests::talk::{Ask, CAPS, DEMO, HEADERS, VERBOSE, told};
+use crate::tests::talk::{Ask, CAPS, DEMO, HEADERS, VERBOSE, assert_told};
 use hub::Caps;
 use std::test::Fail;
 
 #[test]
 fn the_opening_writes_info(rt: HostRuntime) -> Result<(), Fail> {
-    let told = told(rt.alloc(), CAPS, &[Ask::Open])?;
-    assert_eq!(rt;
-        told.as_slice(),
-        b"INFO {\"auth_required\":true,\"client_id\":1,\"headers\":true,\"max_payload\":1048576,\"proto\":1,\"server_id\":\"natsd\",\"version\":\"0.1.0\"}\r\n".as_slice()
-    );
-    Ok(())
+    assert_told(
+        &rt,
+        CAPS,
+        &[Ask::Open],
+        b"INFO {\"auth_required\":true,\"client_id\":1,\"headers\":true,\"max_payload\":1048576,\"proto\":1,\"server_id\":\"natsd\",\"version\":\"0.1.0\"}\r\n",
+    )
 }
 
 #[test]
 fn before_connect_nothing_else_is_looked_at(rt: HostRuntime) -> Result<(), Fail> {
-    let told = told(
-        rt.alloc(),
+    assert_told(
+        &rt,
         CAPS,
         &[Ask::Bytes(b"PONG\r\nPING\r\nUNSUB 1\r\n"), Ask::End],
-    )?;
-    assert_eq!(rt;
-        told.as_slice(),
-        b"PONG\r\n-ERR 'Authorization Violation'\r\n[closed]".as_slice()
-    );
-    Ok(())
+        b"PONG\r\n-ERR 'Authorization Violation'\r\n[closed]",
+    )
 }
 
 #[test]
 fn a_message_comes_in_a_drain(rt: HostRuntime) -> Result<(), Fail> {
-    let told = told(
-        rt.alloc(),
+    assert_told(
+        &rt,
         CAPS,
         &[
             Ask::Bytes(VERBOSE),
@@ -38,12 +34,8 @@ fn a_message_comes_in_a_drain(rt: HostRuntime) -> Result<(), Fail> {
             Ask::Drain,
             Ask::End,
         ],
-    )?;
-    assert_eq!(rt;
-        told.as_slice(),
-        b"+OK\r\n+OK\r\n+OK\r\nPONG\r\nMSG foo 1 reply 2\r\nhi\r\n".as_slice()
-    );
-    Ok(())
+        b"+OK\r\n+OK\r\n+OK\r\nPONG\r\nMSG foo 1 reply 2\r\nhi\r\n",
+    )
 }
 
 #[test]
@@ -57,10 +49,7 @@ fn a_stream_may_be_cut_anywhere(rt: HostRuntime) -> Result<(), Fail> {
         MSG foo 1 re.1 2\r\nhi\r\nHMSG foo 1 12 14\r\nNATS/1.0\r\n\r\nho\r\n[session]"
         .as_slice();
     for asks in [whole, cut] {
-        assert_eq!(rt;
-            told(rt.alloc(), CAPS, asks.as_slice())?.as_slice(),
-            answers
-        );
+        assert_told(&rt, CAPS, asks.as_slice(), answers)?;
     }
     Ok(())
 }
@@ -72,8 +61,8 @@ const TWO_ENTRIES: Caps = Caps {
 
 #[test]
 fn a_full_history_keeps_the_frames(rt: HostRuntime) -> Result<(), Fail> {
-    let told = told(
-        rt.alloc(),
+    assert_told(
+        &rt,
         TWO_ENTRIES,
         &[
             Ask::Bytes(DEMO),
@@ -85,20 +74,15 @@ fn a_full_history_keeps_the_frames(rt: HostRuntime) -> Result<(), Fail> {
             Ask::Drawn,
             Ask::End,
         ],
-    )?;
-    assert_eq!(rt;
-        told.as_slice(),
         b"PONG\r\n[history full][drawn 1]\
-            [history full][history full][history full][drawn 1][history full][session]"
-            .as_slice()
-    );
-    Ok(())
+            [history full][history full][history full][drawn 1][history full][session]",
+    )
 }
 
 #[test]
 fn a_frame_after_the_session_has_gone_closes(rt: HostRuntime) -> Result<(), Fail> {
-    let told = told(
-        rt.alloc(),
+    assert_told(
+        &rt,
         CAPS,
         &[
             Ask::Bytes(DEMO),
@@ -106,10 +90,6 @@ fn a_frame_after_the_session_has_gone_closes(rt: HostRuntime) -> Result<(), Fail
             Ask::Bytes(b"SUB foo 1\r\nPING\r\n"),
             Ask::End,
         ],
-    )?;
-    assert_eq!(rt;
-        told.as_slice(),
-        b"-ERR 'Authorization Violation'\r\n[closed]".as_slice()
-    );
-    Ok(())
+        b"-ERR 'Authorization Violation'\r\n[closed]",
+    )
 }

@@ -1,11 +1,11 @@
 // Under `rt try --test --fail-alloc N` the Nth growth of each test is refused, once.
-use crate::tests::talk::{Ask, CAPS, DEMO, HEADERS, VERBOSE, told};
+use crate::tests::talk::{Ask, CAPS, DEMO, HEADERS, VERBOSE, assert_told, told};
 use std::test::Fail;
 
 #[test]
 fn a_refused_growth_changes_no_byte(rt: HostRuntime) -> Result<(), Fail> {
-    let told = told(
-        rt.alloc(),
+    assert_told(
+        &rt,
         CAPS,
         &[
             Ask::Open,
@@ -30,9 +30,6 @@ fn a_refused_growth_changes_no_byte(rt: HostRuntime) -> Result<(), Fail> {
             Ask::Bytes(b"PING\r\nHPUB foo 0 0\r\n\r\nPING\r\n"),
             Ask::End,
         ],
-    )?;
-    assert_eq!(rt;
-        told.as_slice(),
         b"INFO {\"auth_required\":true,\"client_id\":1,\"headers\":true,\"max_payload\":1048576,\"proto\":1,\"server_id\":\"natsd\",\"version\":\"0.1.0\"}\r\n\
             +OK\r\n+OK\r\n+OK\r\n+OK\r\nPONG\r\n-ERR 'Invalid Subject'\r\n\
             HMSG foo 1 re.1 12 72\r\nNATS/1.0\r\n\r\nthe quick brown fox jumps over the lazy dog, again and again\r\n\
@@ -40,10 +37,8 @@ fn a_refused_growth_changes_no_byte(rt: HostRuntime) -> Result<(), Fail> {
             +OK\r\n+OK\r\n[drawn 3]\
             MSG foo 2 re.1 60\r\nthe quick brown fox jumps over the lazy dog, again and again\r\n\
             MSG foo 2 re.2 60\r\nthe quick brown fox jumps over the lazy dog, again and again\r\n\
-            MSG foo 2 1\r\ny\r\nPONG\r\n-ERR 'Parser Error'\r\n[closed]"
-            .as_slice()
-    );
-    Ok(())
+            MSG foo 2 1\r\ny\r\nPONG\r\n-ERR 'Parser Error'\r\n[closed]",
+    )
 }
 
 #[test]

@@ -1,12 +1,12 @@
 // A port that refuses an event once: the call stalls, and the next one goes on.
-use crate::tests::talk::{Ask, CAPS, DEMO, HEADERS, VERBOSE, told};
+use crate::tests::talk::{Ask, CAPS, DEMO, HEADERS, VERBOSE, assert_told};
 use hub::HubRefusal;
 use std::test::Fail;
 
 #[test]
 fn a_quiet_sub_that_stalls_is_submitted_once(rt: HostRuntime) -> Result<(), Fail> {
-    let told = told(
-        rt.alloc(),
+    assert_told(
+        &rt,
         CAPS,
         &[
             Ask::Bytes(DEMO),
@@ -19,18 +19,14 @@ fn a_quiet_sub_that_stalls_is_submitted_once(rt: HostRuntime) -> Result<(), Fail
             Ask::Bytes(b"PUB foo 1\r\na\r\n"),
             Ask::Drain,
         ],
-    )?;
-    assert_eq!(rt;
-        told.as_slice(),
-        b"[history full][entries connect][entries connect sub]MSG foo 1 1\r\na\r\n[session]".as_slice()
-    );
-    Ok(())
+        b"[history full][entries connect][entries connect sub]MSG foo 1 1\r\na\r\n[session]",
+    )
 }
 
 #[test]
 fn a_sub_that_stalls_is_accepted_once(rt: HostRuntime) -> Result<(), Fail> {
-    let told = told(
-        rt.alloc(),
+    assert_told(
+        &rt,
         CAPS,
         &[
             Ask::Bytes(VERBOSE),
@@ -39,18 +35,14 @@ fn a_sub_that_stalls_is_accepted_once(rt: HostRuntime) -> Result<(), Fail> {
             Ask::Bytes(b""),
             Ask::History,
         ],
-    )?;
-    assert_eq!(rt;
-        told.as_slice(),
-        b"+OK\r\n[history full]+OK\r\nPONG\r\n[entries connect sub][session]".as_slice()
-    );
-    Ok(())
+        b"+OK\r\n[history full]+OK\r\nPONG\r\n[entries connect sub][session]",
+    )
 }
 
 #[test]
 fn a_message_that_stalls_keeps_its_word(rt: HostRuntime) -> Result<(), Fail> {
-    let told = told(
-        rt.alloc(),
+    assert_told(
+        &rt,
         CAPS,
         &[
             Ask::Bytes(VERBOSE),
@@ -64,20 +56,15 @@ fn a_message_that_stalls_keeps_its_word(rt: HostRuntime) -> Result<(), Fail> {
             Ask::Drawn,
             Ask::History,
         ],
-    )?;
-    assert_eq!(rt;
-        told.as_slice(),
         b"+OK\r\n[no memory]+OK\r\n[drawn 1][history full][drawn 2]+OK\r\n[drawn 2]\
-            [entries connect pub 1 pub 2][session]"
-            .as_slice()
-    );
-    Ok(())
+            [entries connect pub 1 pub 2][session]",
+    )
 }
 
 #[test]
 fn a_take_that_stalls_is_made_once(rt: HostRuntime) -> Result<(), Fail> {
-    let told = told(
-        rt.alloc(),
+    assert_told(
+        &rt,
         CAPS,
         &[
             Ask::Bytes(DEMO),
@@ -91,20 +78,15 @@ fn a_take_that_stalls_is_made_once(rt: HostRuntime) -> Result<(), Fail> {
             Ask::Drain,
             Ask::History,
         ],
-    )?;
-    assert_eq!(rt;
-        told.as_slice(),
         b"[history full][entries connect sub pub 1]MSG foo 1 1\r\na\r\n\
-            [no memory]MSG foo 1 1\r\nb\r\n[entries connect sub pub 1 take pub 2 take][session]"
-            .as_slice()
-    );
-    Ok(())
+            [no memory]MSG foo 1 1\r\nb\r\n[entries connect sub pub 1 take pub 2 take][session]",
+    )
 }
 
 #[test]
 fn an_end_that_stalls_closes_the_session_later(rt: HostRuntime) -> Result<(), Fail> {
-    let told = told(
-        rt.alloc(),
+    assert_told(
+        &rt,
         CAPS,
         &[
             Ask::Bytes(DEMO),
@@ -121,19 +103,15 @@ fn an_end_that_stalls_closes_the_session_later(rt: HostRuntime) -> Result<(), Fa
             Ask::End,
             Ask::History,
         ],
-    )?;
-    assert_eq!(rt;
-        told.as_slice(),
-        b"[history full][entries connect connect][no memory][entries connect connect close close]".as_slice()
-    );
-    Ok(())
+        b"[history full][entries connect connect][no memory][entries connect connect close close]",
+    )
 }
 
 // Each call is made once. Under `--fail-alloc` one of them may stall, and this test fails.
 #[test]
 fn with_ample_memory_no_call_stalls(rt: HostRuntime) -> Result<(), Fail> {
-    let told = told(
-        rt.alloc(),
+    assert_told(
+        &rt,
         CAPS,
         &[
             Ask::Open,
@@ -146,13 +124,8 @@ fn with_ample_memory_no_call_stalls(rt: HostRuntime) -> Result<(), Fail> {
             Ask::End,
             Ask::Stalls,
         ],
-    )?;
-    assert_eq!(rt;
-        told.as_slice(),
         b"INFO {\"auth_required\":true,\"client_id\":1,\"headers\":true,\"max_payload\":1048576,\"proto\":1,\"server_id\":\"natsd\",\"version\":\"0.1.0\"}\r\n\
             +OK\r\n+OK\r\n+OK\r\n+OK\r\nMSG foo 1 re 1\r\na\r\n\
-            HMSG foo 1 12 13\r\nNATS/1.0\r\n\r\nb\r\n+OK\r\nPONG\r\n[stalls 0]"
-            .as_slice()
-    );
-    Ok(())
+            HMSG foo 1 12 13\r\nNATS/1.0\r\n\r\nb\r\n+OK\r\nPONG\r\n[stalls 0]",
+    )
 }

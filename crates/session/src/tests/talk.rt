@@ -7,6 +7,7 @@ use hub::{Answer, Caps, Command, Entry, Event, Hub, HubRefusal, Ready};
 use lists::Items;
 use policy_doc::{AccountDoc, Accounts, Direction, PermDoc, Policy, PolicyDoc, UserDoc};
 use std::alloc::Global;
+use std::process::Abort;
 use std::test::Fail;
 
 /// Room for more than most tests use.
@@ -80,6 +81,21 @@ pub(crate) fn told(alloc: Global, caps: Caps, asks: &[Ask<'_>]) -> Result<Vec<u8
     }
     let Talk { told, .. } = talk;
     Ok(told)
+}
+
+/// That the calls tell this.
+pub(crate) fn assert_told<R: Abort + AllocGlobal>(
+    rt: &R,
+    caps: Caps,
+    asks: &[Ask<'_>],
+    want: &[u8],
+) -> Result<(), Fail>
+    requires low { 1 ≤ caps.outbox }
+    requires high { caps.outbox ≤ 65536 }
+{
+    let told = told(rt.alloc(), caps, asks)?;
+    assert_eq!(rt; told.as_slice(), want);
+    Ok(())
 }
 
 /// Words that rise by one.
