@@ -23,7 +23,7 @@ use Rattle.session.specs.Drains.{Drain, Drains, ends, texts, IsTold, IsTakeTold,
 use Rattle.session.specs.Replies.{is_closed, closed_from, takes_headers}
 use Rattle.session.specs.Serving.{Served, spot, served, frames_after, reader_after}
 use Rattle.session.specs.Turns.{Steps, event}
-use Rattle.natsd.specs.Server.{Serving, heard, IsDrawn}
+use Rattle.natsd.specs.Server.{Serving, heard, IsNextWord}
 use Rattle.natsd.specs.Session.{Here, Closing, turns, after_turns, unchanged, bytes_call, delivered, take_answered, drain_of, after_drain, drain_if, drain_call, closed_by, closing, end_call, is_memory_stall, IsCall}
 use Rattle.natsd.proofs.Answering.{is_memory_answer, answered_is}
 use Rattle.natsd.proofs.Turning.{turns_are}
@@ -64,7 +64,7 @@ read_conn c c' reader o text at r is_reader is_stall is_conn is_owed is_missed i
 
 -- the piece is read
 read_is : {P : Type 0} (steps : Steps P) (hub_of : P → State) → IsPortTo steps hub_of → (w : Serving) (piece : List ℕ) (c : Connection) (p : P) (o : Output) (c' : Connection) (p' : P) (words : List ℕ) →
-    IsRead steps IsDrawn w.moment piece c p w.words o c' p' words → is_memory_stall o.stall ≡ false → hub_of p ≡ w.hub →
+    IsRead steps IsNextWord w.moment piece c p w.words o c' p' words → is_memory_stall o.stall ≡ false → hub_of p ≡ w.hub →
     IsCall (after_turns w c piece (turns w.moment c.conn (c.frames ++ frames_after c.reader piece) (spot w.hub w.words c.stage c.word))) o c' (record w { hub = hub_of p'; words = words })
 read_is steps hub_of over w piece c p o c' p' words h enough at =
     let fs = c.frames ++ frames_after c.reader piece in
@@ -81,7 +81,7 @@ read_is steps hub_of over w piece c p o c' p' words h enough at =
 
 -- the client's bytes, and whether the connection has closed
 bytes_at : {P : Type 0} (steps : Steps P) (hub_of : P → State) → IsPortTo steps hub_of → (w : Serving) (piece : List ℕ) (c : Connection) (p : P) (o : Output) (c' : Connection) (p' : P) (words : List ℕ) (closed : Bool) →
-    IsServedAt steps IsDrawn w.moment piece c p w.words o c' p' words closed → is_memory_stall o.stall ≡ false → hub_of p ≡ w.hub →
+    IsServedAt steps IsNextWord w.moment piece c p w.words o c' p' words closed → is_memory_stall o.stall ≡ false → hub_of p ≡ w.hub →
     IsCall (cond closed (unchanged w c None) (after_turns w c piece (turns w.moment c.conn (c.frames ++ frames_after c.reader piece) (spot w.hub w.words c.stage c.word)))) o c' (record w { hub = hub_of p'; words = words })
 bytes_at steps hub_of over w piece c p o c' p' words true h enough at = nothing_is hub_of w c p o c' p' words true None h.0 at h.1
 bytes_at steps hub_of over w piece c p o c' p' words false (inl h) enough at =
@@ -89,7 +89,7 @@ bytes_at steps hub_of over w piece c p o c' p' words false (inl h) enough at =
 bytes_at steps hub_of over w piece c p o c' p' words false (inr h) enough at = read_is steps hub_of over w piece c p o c' p' words h enough at
 
 pub bytes_is : {P : Type 0} (steps : Steps P) (hub_of : P → State) → IsPortTo steps hub_of → (w : Serving) (piece : List ℕ) (c : Connection) (p : P) (o : Output) (c' : Connection) (p' : P) (words : List ℕ) →
-    IsServed steps IsDrawn w.moment piece c p w.words o c' p' words → is_memory_stall o.stall ≡ false → hub_of p ≡ w.hub →
+    IsServed steps IsNextWord w.moment piece c p w.words o c' p' words → is_memory_stall o.stall ≡ false → hub_of p ≡ w.hub →
     IsCall (bytes_call w c piece) o c' (record w { hub = hub_of p'; words = words })
 unfolding bytes_call
 bytes_is steps hub_of over w piece c p o c' p' words h enough at = bytes_at steps hub_of over w piece c p o c' p' words (is_closed c.stage) h enough at

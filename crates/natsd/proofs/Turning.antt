@@ -16,7 +16,7 @@ use Rattle.session.specs.Plans.{plan_of}
 use Rattle.session.specs.Replies.{told, is_closed}
 use Rattle.session.specs.Serving.{Spot, spot, Served, served, rests, behind, UnlessClosed, IsFollowed, Serves}
 use Rattle.session.specs.Turns.{Steps, Turned, Goes, Stalls, turn_after, event, IsAnswered, IsWord, IsPlanned, IsTurn}
-use Rattle.natsd.specs.Server.{heard, IsDrawn}
+use Rattle.natsd.specs.Server.{heard, IsNextWord}
 use Rattle.natsd.specs.Session.{Here, FrameTurn, frame_turn, word_of, words_after, answered_turn, planned, goes_on, turns, is_memory_stall}
 use Rattle.natsd.proofs.Answering.{is_memory_answer, answered_is}
 
@@ -53,13 +53,13 @@ asked_is steps hub_of over s accepted f word words e p p' r t answered is enough
     ∙ ap (λ (a : Result Outcome HubRefusal × State). answered_turn s accepted f word words a) (answered_is (hub_of p) e answered.0 r (hub_of p') (over p e answered.0 p' answered.1) answered.2 had)
 
 -- the word of a message
-word_is : (word : Option ℕ) (words words' : List ℕ) (drawn : ℕ) → IsWord IsDrawn words word drawn words' → (drawn ≡ word_of word words) × (words' ≡ words_after word words)
+word_is : (word : Option ℕ) (words words' : List ℕ) (drawn : ℕ) → IsWord IsNextWord words word drawn words' → (drawn ≡ word_of word words) × (words' ≡ words_after word words)
 word_is (Some w) words words' drawn h = (h.0, h.1)
 word_is None words words' drawn h = (h.0, h.1)
 
 -- a turn by its plan
 planned_is : {P : Type 0} (steps : Steps P) (hub_of : P → State) → IsPortTo steps hub_of → (now conn : ℕ) (at : Spot P (List ℕ)) (f : Frame) (t : Turned) (p : P) (w : List ℕ) (plan : Plan) →
-    IsPlanned steps IsDrawn now conn at.stage at.word f at.port at.words t p w plan → is_memory_turn t ≡ false →
+    IsPlanned steps IsNextWord now conn at.stage at.word f at.port at.words t p w plan → is_memory_turn t ≡ false →
     frame_turn t (hub_of p) w ≡ planned now conn (seen hub_of at) f plan
 planned_is steps hub_of over now conn at f t p w (Tells r) h enough =
     ap (λ (x : Turned). frame_turn x (hub_of p) w) h.0 ∙ ap (λ (x : State). frame_turn (Goes (told r)) x w) (ap hub_of h.1) ∙ ap (λ (x : List ℕ). frame_turn (Goes (told r)) (hub_of at.port) x) h.2
@@ -98,7 +98,7 @@ unless_closed hub_of false at r Turns after while_open h = while_open h
 
 -- a turn of its plan
 turn_is : {P : Type 0} (steps : Steps P) (hub_of : P → State) → IsPortTo steps hub_of → (now conn : ℕ) (at : Spot P (List ℕ)) (f : Frame) (t : Turned) (p : P) (w : List ℕ) →
-    IsTurn steps IsDrawn now conn at.stage at.word f at.port at.words t p w → is_memory_turn t ≡ false →
+    IsTurn steps IsNextWord now conn at.stage at.word f at.port at.words t p w → is_memory_turn t ≡ false →
     frame_turn t (hub_of p) w ≡ planned now conn (seen hub_of at) f (plan_of conn at.stage f)
 turn_is steps hub_of over now conn at f t p w (inl untouched) enough =
     let lacked : is_memory_turn t ≡ true = ap is_memory_turn untouched.stalls in absurd (cc)
@@ -106,16 +106,16 @@ turn_is steps hub_of over now conn at f t p w (inr h) enough = planned_is steps 
 
 -- frames in order
 pub turns_are : {P : Type 0} (steps : Steps P) (hub_of : P → State) → IsPortTo steps hub_of → (now conn : ℕ) (fs : List Frame) (at : Spot P (List ℕ)) (r : Served P (List ℕ)) →
-    Serves steps IsDrawn now conn fs at r → is_memory_stall r.stall ≡ false → seen_served hub_of r ≡ turns now conn fs (seen hub_of at)
+    Serves steps IsNextWord now conn fs at r → is_memory_stall r.stall ≡ false → seen_served hub_of r ≡ turns now conn fs (seen hub_of at)
 unfolding Serves turns
 turns_are steps hub_of over now conn [] at r h enough = ap (λ (x : Served _ (List ℕ)). seen_served hub_of x) h
 turns_are {P} steps hub_of over now conn (f ∷ fs) at r h enough =
-    let Turns : Type 0 = (t : Turned) × (p : P) × (w : List ℕ) × IsTurn steps IsDrawn now conn at.stage at.word f at.port at.words t p w
-    × IsFollowed (Serves steps IsDrawn now conn fs) (f ∷ fs) at.stage t p w r in
+    let Turns : Type 0 = (t : Turned) × (p : P) × (w : List ℕ) × IsTurn steps IsNextWord now conn at.stage at.word f at.port at.words t p w
+    × IsFollowed (Serves steps IsNextWord now conn fs) (f ∷ fs) at.stage t p w r in
     let t : FrameTurn = planned now conn (seen hub_of at) f (plan_of conn at.stage f) in
     unless_closed hub_of (is_closed at.stage) at r Turns (goes_on (turns now conn fs) (f ∷ fs) at.stage t t.turned)
     (λ (h' : Turns).
-    let had = stalled_is (Serves steps IsDrawn now conn fs) (f ∷ fs) at.stage h'.0 h'.1 h'.2 r h'.4 enough in
-    followed_is hub_of (Serves steps IsDrawn now conn fs) (turns now conn fs) (f ∷ fs) at.stage h'.0 h'.1 h'.2 r (turns_are steps hub_of over now conn fs) h'.4 enough
+    let had = stalled_is (Serves steps IsNextWord now conn fs) (f ∷ fs) at.stage h'.0 h'.1 h'.2 r h'.4 enough in
+    followed_is hub_of (Serves steps IsNextWord now conn fs) (turns now conn fs) (f ∷ fs) at.stage h'.0 h'.1 h'.2 r (turns_are steps hub_of over now conn fs) h'.4 enough
     ∙ ap (λ (x : FrameTurn). goes_on (turns now conn fs) (f ∷ fs) at.stage x x.turned) (turn_is steps hub_of over now conn at f h'.0 h'.1 h'.2 h'.3 had))
     h

@@ -51,5 +51,5 @@ later_words [] = []
 later_words (word ∷ words) = words
 
 -- a word is drawn from the front
-abbrev pub IsDrawn : List ℕ → ℕ → List ℕ → Type 0
-IsDrawn words word after = (word ≡ first_word words) × (after ≡ later_words words)
+abbrev pub IsNextWord : List ℕ → ℕ → List ℕ → Type 0
+IsNextWord words word after = (word ≡ first_word words) × (after ≡ later_words words)

@@ -2,7 +2,7 @@
 ghost use Rattle.std.specs.Prelude.{◌≡◌, ◌≤◌, ◌++◌, ◌∷◌, [], false, IfOk, OnOk};
 ghost use Rattle.hub.specs.Shown.{waiting_of};
 ghost use Rattle.session.specs.Replies.{is_closed};
-ghost use Rattle.natsd.specs.Server.{opened, opening, with_policy, with_caps, IsDrawn};
+ghost use Rattle.natsd.specs.Server.{opened, opening, with_policy, with_caps, IsNextWord};
 ghost use Rattle.natsd.specs.Session.{bytes_call, drain_call, end_call, is_memory_stall, IsCall};
 
 use hub::{Caps, Hub, Ready};
@@ -28,7 +28,7 @@ impl Model for ScriptWords {
 }
 
 impl Words for ScriptWords {
-    ghost draws = { λ old word new. IsDrawn old word new };
+    ghost draws = { λ old word new. IsNextWord old word new };
 
     fn next(&mut self) -> u64 {
         match self.left.pop_front() {
