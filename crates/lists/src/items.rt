@@ -74,6 +74,15 @@ impl<T> Items<T> {
     }
 }
 
+impl<T: Copying> Copying for Option<T> {
+    fn copy(&self, alloc: Global) -> Result<Option<T>, NoMemory> {
+        match self {
+            None => Ok(None),
+            Some(value) => Ok(Some(value.copy(alloc)?)),
+        }
+    }
+}
+
 impl<T: Copying + Drop> Copying for Items<T> {
     fn copy(&self, alloc: Global) -> Result<Items<T>, NoMemory> {
         let mut copies = Vec::with_capacity(alloc, self.items.len())?;

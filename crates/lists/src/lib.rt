@@ -4,10 +4,12 @@
 mod items;
 mod no_memory;
 mod pieces;
+mod shared;
 
 pub use items::{Copying, Items};
 pub use no_memory::NoMemory;
 pub use pieces::Pieces;
+pub use shared::{Shared, SharedText};
 
 #[cfg(test)]
 mod tests;

@@ -1,0 +1,95 @@
+ghost use Rattle.std.specs.Prelude.{◌≡◌, IfOk};
+
+use crate::event::{Event, Sid};
+use crate::message::Message;
+use lists::{Copying, Items, NoMemory, Shared};
+use permissions::{By, Verdict};
+use std::alloc::Global;
+
+/// A message on its way to one subscription. All deliveries of a message share it.
+#[derive(Debug, Drop)]
+pub struct Delivery {
+    /// What is sent: its subject is the one that the subscriber sees.
+    pub message: Shared<Message>,
+    /// The client's own id of the subscription.
+    pub sid: Sid,
+}
+
+impl Copying for Delivery {
+    fn copy(&self, _alloc: Global) -> Result<Delivery, NoMemory> {
+        Ok(Delivery {
+            message: self.message.again()?,
+            sid: self.sid.again()?,
+        })
+    }
+}
+
+/// What a message met at one subscription.
+#[derive(Debug, Drop)]
+pub enum Item {
+    /// It is in the outbox of that connection's session, for that subscription.
+    Entered { conn: u64, sid: Sid },
+    /// The outbox had no room left, and the message is not in it.
+    Full { conn: u64, sid: Sid },
+}
+
+/// A subscription that a reload has removed from a session that stays.
+#[derive(Debug, Drop)]
+pub struct Removed {
+    /// The number of the entry that made it.
+    pub id: u64,
+    /// The connection whose session had it.
+    pub conn: u64,
+    /// The client's own id for it.
+    pub sid: Sid,
+    /// The verdict of the new policy, which refuses it.
+    pub verdict: Verdict,
+}
+
+/// What came of a command that was not refused.
+#[derive(Debug, Drop)]
+pub enum Outcome {
+    /// A session stands for the connection.
+    Connected,
+    /// No user has that name and password. There is no session.
+    AuthViolation,
+    /// The subscription stands.
+    Subscribed,
+    /// A subscription of that id stands already, and stays as it is.
+    SameSid,
+    /// The connection has all the subscriptions that it may have, and this one is not added. It is a limit and no
+    /// denial.
+    SubLimit,
+    /// The user's permissions refuse the command, by this verdict.
+    Denied(Verdict),
+    /// The message is accepted by this rule, and met these subscriptions, oldest first.
+    Published(By, Items<Item>),
+    /// These deliveries left the outbox, and whether a full outbox has lost one since the Connect or last Take.
+    Taken(Items<Delivery>, bool),
+    /// The subscription of that id, if one stood, has ended or has its limit.
+    Unsubscribed,
+    /// The session is gone.
+    Closed,
+    /// The policy is in force. The sessions of these connections are gone, ascending; and the sessions that stay
+    /// have lost these subscriptions, oldest first.
+    Reloaded {
+        gone: Items<u64>,
+        removed: Items<Removed>,
+    },
+}
+
+/// What the hub remembers of an event that it answered, and tells of it.
+#[derive(Debug, Drop)]
+pub struct Entry {
+    /// Numbers begin at 1 and rise by one.
+    pub number: u64,
+    /// Which policy is in force after the step, counted from 1. A reload alone raises it, by one.
+    pub epoch: u128,
+    /// What came of the command.
+    pub outcome: Outcome,
+    /// What was asked, and when.
+    pub event: Event,
+}
+
+/// What is told of an event: the entry that is kept of it, which the answer and the history share.
+pub type Answer = Shared<Entry>;

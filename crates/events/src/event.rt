@@ -1,0 +1,116 @@
+ghost use Rattle.std.specs.Prelude.{◌≡◌, IfOk};
+
+use crate::message::Message;
+use lists::{Copying, NoMemory, Shared, SharedText};
+use ready::Ready;
+use std::alloc::Global;
+use subjects::Pattern;
+
+/// A client's own id of a subscription.
+pub type Sid = SharedText;
+
+/// What the hub is asked, and when.
+#[derive(Debug, Drop)]
+pub struct Event {
+    /// Milliseconds by the caller's clock. The hub's clock never goes back: an earlier moment counts as the latest one.
+    pub now: u64,
+    /// What is asked.
+    pub what: Command,
+}
+
+/// A command: of one connection, which the caller names by a number of its own, or a reload, which is nobody's.
+#[derive(Debug, Drop)]
+pub enum Command {
+    /// A client has shown who it is (NATS documentation, "Client Protocol", CONNECT). Without a user it is answered
+    /// AuthViolation. Without `echo` the client's own messages don't come to its own subscriptions.
+    Connect {
+        conn: u64,
+        user: Option<SharedText>,
+        password: SharedText,
+        echo: bool,
+    },
+    /// A subscription under the client's own id for it (SUB).
+    Sub {
+        conn: u64,
+        subject: Shared<Pattern>,
+        sid: Sid,
+    },
+    /// The end of a subscription (UNSUB): at once, or once it has received `most` messages since its SUB. The limit
+    /// takes the place of an earlier one. An id that no subscription has is no mistake.
+    Unsub {
+        conn: u64,
+        sid: Sid,
+        most: Option<u64>,
+    },
+    /// A message for whoever subscribes to its subject (PUB, HPUB). The word, which is drawn by the caller, has no
+    /// effect yet: it is to choose the members of queue groups.
+    Pub {
+        conn: u64,
+        message: Shared<Message>,
+        word: u64,
+    },
+    /// The next deliveries of a session's outbox, `most` at most, oldest first.
+    Take {
+        conn: u64,
+        most: usize,
+    },
+    /// The client has gone: its session, outbox and subscriptions go with it.
+    Close {
+        conn: u64,
+    },
+    /// Another policy comes into force. Sessions stay whose user it has under the same name, with the same password
+    /// and account; the others are closed. Subscriptions that it refuses are removed.
+    Reload(Ready),
+}
+
+impl Copying for Command {
+    fn copy(&self, alloc: Global) -> Result<Command, NoMemory> {
+        match self {
+            Command::Connect {
+                conn,
+                user,
+                password,
+                echo,
+            } => Ok(Command::Connect {
+                conn: *conn,
+                user: user.copy(alloc)?,
+                password: password.again()?,
+                echo: *echo,
+            }),
+            Command::Sub { conn, subject, sid } => Ok(Command::Sub {
+                conn: *conn,
+                subject: subject.again()?,
+                sid: sid.again()?,
+            }),
+            Command::Unsub { conn, sid, most } => Ok(Command::Unsub {
+                conn: *conn,
+                sid: sid.again()?,
+                most: *most,
+            }),
+            Command::Pub {
+                conn,
+                message,
+                word,
+            } => Ok(Command::Pub {
+                conn: *conn,
+                message: message.again()?,
+                word: *word,
+            }),
+            Command::Take { conn, most } => Ok(Command::Take {
+                conn: *conn,
+                most: *most,
+            }),
+            Command::Close { conn } => Ok(Command::Close { conn: *conn }),
+            Command::Reload(ready) => Ok(Command::Reload(ready.copy(alloc)?)),
+        }
+    }
+}
+
+impl Copying for Event {
+    fn copy(&self, alloc: Global) -> Result<Event, NoMemory> {
+        Ok(Event {
+            now: self.now,
+            what: self.what.copy(alloc)?,
+        })
+    }
+}

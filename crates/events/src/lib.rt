@@ -1,0 +1,18 @@
+//! What a connection and the tables say to each other: events, what is answered, and messages on their way. It has
+//! no behaviour beyond further owners and texts.
+#![tactic(auto)]
+
+mod answer;
+mod event;
+mod message;
+mod port;
+mod refusal;
+
+pub use answer::{Answer, Delivery, Entry, Item, Outcome, Removed};
+pub use event::{Command, Event, Sid};
+pub use message::Message;
+pub use port::Port;
+pub use refusal::HubRefusal;
+
+#[cfg(test)]
+mod tests;

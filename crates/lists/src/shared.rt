@@ -1,0 +1,105 @@
+ghost use Rattle.std.specs.Prelude.{◌≡◌, IfOk};
+
+use crate::{Copying, NoMemory};
+use std::alloc::Global;
+use std::marker::Model;
+use std::sync::{Arc, ArcSlice};
+
+/// A value with several owners. One more owner takes no memory and copies nothing. A clause sees the value.
+#[derive(Debug, Drop)]
+pub struct Shared<T> {
+    value: Arc<T>,
+}
+
+impl<T> Model for Shared<T> {
+    ghost use Rattle.std.specs.Arc.{arc_value};
+
+    ghost Value = { T };
+
+    ghost view = { λ shared. arc_value shared.value };
+}
+
+impl<T> Shared<T> {
+    /// The value.
+    pub fn get(&self) -> &T
+        ensures { result.now ≡ self.now }
+    {
+        &self.value
+    }
+
+    /// One more owner. `NoMemory` where there are too many to count.
+    pub fn again(&self) -> Result<Shared<T>, NoMemory>
+        ensures { IfOk result (λ same. same ≡ self.now) }
+    {
+        Ok(Shared {
+            value: Arc::try_clone(&self.value)?,
+        })
+    }
+}
+
+impl<T: Drop> Shared<T> {
+    /// The first owner of a value. `NoMemory` where memory could not be had.
+    pub fn new(alloc: Global, value: T) -> Result<Shared<T>, NoMemory>
+        ensures { IfOk result (λ shared. shared ≡ value) }
+    {
+        Ok(Shared {
+            value: Arc::new(alloc, value)?,
+        })
+    }
+}
+
+impl<T> Copying for Shared<T> {
+    fn copy(&self, _alloc: Global) -> Result<Shared<T>, NoMemory> {
+        let same = self.again()?;
+        Ok(same)
+    }
+}
+
+/// A short text with several owners, as a name or an id. One more owner takes no memory. A clause sees its bytes.
+#[derive(Debug, Drop)]
+pub struct SharedText {
+    bytes: ArcSlice<u8>,
+}
+
+impl Model for SharedText {
+    ghost use Rattle.std.specs.Prelude.{List, ℕ};
+    ghost use Rattle.std.specs.Arc.{arc_slice_items};
+
+    ghost Value = { List ℕ };
+
+    ghost view = { λ text. arc_slice_items text.bytes };
+}
+
+impl SharedText {
+    /// A text of these bytes, which are copied. `NoMemory` where memory could not be had.
+    pub fn of(alloc: Global, bytes: &[u8]) -> Result<SharedText, NoMemory>
+        ensures { IfOk result (λ text. text ≡ bytes.now) }
+    {
+        Ok(SharedText {
+            bytes: ArcSlice::from_slice(alloc, bytes)?,
+        })
+    }
+
+    /// The bytes.
+    pub fn as_slice(&self) -> &[u8]
+        ensures { result.now ≡ self.now }
+    {
+        self.bytes.as_slice()
+    }
+
+    /// One more owner. `NoMemory` where there are too many to count.
+    pub fn again(&self) -> Result<SharedText, NoMemory>
+        ensures { IfOk result (λ same. same ≡ self.now) }
+    {
+        Ok(SharedText {
+            bytes: self.bytes.clone()?,
+        })
+    }
+}
+
+impl Copying for SharedText {
+    fn copy(&self, _alloc: Global) -> Result<SharedText, NoMemory> {
+        let same = self.again()?;
+        Ok(same)
+    }
+}

@@ -1,0 +1,172 @@
+ghost use Rattle.std.specs.Prelude.{◌≡◌, ◌++◌, IfOk, OnOk};
+
+use bytes::Bytes;
+use lists::{Copying, NoMemory, SharedText};
+use permissions::Compiled;
+use policy_doc::{NamedAccount, Policy, PolicyDoc, UserDoc};
+use std::alloc::Global;
+use std::marker::Model;
+use std::sync::Arc;
+
+/// A user of a policy, with its permissions compiled.
+#[derive(Debug, Drop)]
+pub struct User {
+    /// The name of its account.
+    pub account: Bytes,
+    /// Its own name, which no other user has.
+    pub user: Bytes,
+    /// What it shows to connect.
+    pub password: Bytes,
+    /// What it may publish and subscribe to.
+    pub rules: Compiled,
+}
+
+impl Copying for User {
+    fn copy(&self, alloc: Global) -> Result<User, NoMemory> {
+        Ok(User {
+            account: self.account.clone()?,
+            user: self.user.clone()?,
+            password: self.password.clone()?,
+            rules: self.rules.copy(alloc)?,
+        })
+    }
+}
+
+/// A policy with its users, each with compiled permissions.
+#[derive(Debug, Drop)]
+struct Parts {
+    policy: Policy,
+    users: Vec<User>,
+}
+
+/// A policy made ready to be asked: each of its users has compiled permissions. Copies share it. A clause sees the
+/// policy.
+#[derive(Debug, Drop)]
+pub struct Ready {
+    shared: Arc<Parts>,
+}
+
+impl Model for Ready {
+    ghost use Rattle.std.specs.Prelude.{◌≡◌};
+    ghost use Rattle.policy_doc.specs.declared.document.PolicyDoc.{PolicyDoc};
+
+    ghost Value = { PolicyDoc };
+
+    ghost use Rattle.ready.specs.Users.{users_of};
+    ghost use Rattle.std.specs.Arc.{arc_value};
+    ghost use Rattle.policy_doc.specs.Document.{IsValidPolicy};
+
+    ghost view = { λ r. (arc_value r.shared).policy };
+
+    ghost invariant = { λ r. IsValidPolicy (arc_value r.shared).policy
+        × ((arc_value r.shared).users.items ≡ users_of (arc_value r.shared).policy) };
+}
+
+impl Ready {
+    ghost use Rattle.std.specs.Prelude.{◌≡◌, Some, IfOk, IfErr};
+    ghost use Rattle.std.specs.Option.{option_copied};
+    ghost use Rattle.ready.specs.Users.{user_with_password, user_again};
+
+    /// The policy, made ready. Where memory could not be had, the policy is handed back.
+    pub fn of(alloc: Global, policy: Policy) -> Result<Ready, (Policy, NoMemory)>
+        ensures ok { IfOk result (λ ready. ready ≡ policy) }
+        ensures err { IfErr result (λ refused. refused.0 ≡ policy) }
+    {
+        match users_of(alloc, policy.doc()) {
+            Ok(users) => share(alloc, Parts { policy, users }),
+            Err(refused) => Err((policy, refused)),
+        }
+    }
+
+    /// The policy.
+    pub fn policy(&self) -> &Policy
+        ensures { result.now ≡ self.now }
+    {
+        &self.shared.policy
+    }
+
+    /// The user with that name and password; no name is nobody's.
+    pub fn user_with_password(
+        &self,
+        name: &Option<SharedText>,
+        password: &SharedText,
+    ) -> Option<&User>
+        ensures { option_copied result ≡ user_with_password self.now name.now password.now }
+    {
+        match name {
+            None => None,
+            Some(name) => self.user_named(name.as_slice(), password.as_slice()),
+        }
+    }
+
+    fn user_named(&self, name: &[u8], password: &[u8]) -> Option<&User>
+        ensures { option_copied result ≡ user_with_password self.now (Some name.now) password.now }
+    {
+        self.shared.users.iter().find(|user| user.user.as_slice() == name
+            && user.password.as_slice() == password)
+    }
+
+    /// The user with the same name, password and account as another.
+    pub fn user_again(&self, user: &User) -> Option<&User>
+        ensures { option_copied result ≡ user_again self.now user.now }
+    {
+        self.shared.users.iter().find(|known| {
+            known.user == user.user
+                && known.password == user.password
+                && known.account == user.account
+        })
+    }
+}
+
+impl Copying for Ready {
+    fn copy(&self, _alloc: Global) -> Result<Ready, NoMemory> {
+        Ok(Ready {
+            shared: Arc::try_clone(&self.shared)?,
+        })
+    }
+}
+
+ghost use Rattle.std.specs.Prelude.{IfErr};
+ghost use Rattle.ready.specs.Users.{user_in, users_in, users_of as all_users_of};
+
+/// Shares what was made ready. Where memory could not be had, the policy is handed back.
+fn share(alloc: Global, parts: Parts) -> Result<Ready, (Policy, NoMemory)>
+    requires { parts.users.items ≡ all_users_of parts.policy }
+    ensures ok { IfOk result (λ ready. ready ≡ parts.policy) }
+    ensures err { IfErr result (λ refused. refused.0 ≡ parts.policy) }
+{
+    match Arc::new(alloc, parts) {
+        Ok(shared) => Ok(Ready { shared }),
+        Err(refused) => Err((refused.value.policy, NoMemory)),
+    }
+}
+
+fn users_of(alloc: Global, doc: &PolicyDoc) -> Result<Vec<User>, NoMemory>
+    ensures { IfOk result (λ users. users.items ≡ all_users_of doc.now) }
+{
+    let mut users = Vec::new(alloc);
+    for account in doc.accounts.as_slice() {
+        add_users(alloc, &mut users, account)?;
+    }
+    Ok(users)
+}
+
+fn add_users(alloc: Global, users: &mut Vec<User>, account: &NamedAccount) -> Result<(), NoMemory>
+    ensures { OnOk result (users.new.items ≡ users.old.items ++ users_in account.now) }
+{
+    for user in account.account.users.as_slice() {
+        users.push(user_of(alloc, &account.name, user)?)?;
+    }
+    Ok(())
+}
+
+fn user_of(alloc: Global, account: &Bytes, user: &UserDoc) -> Result<User, NoMemory>
+    ensures { IfOk result (λ made. made ≡ user_in account.now user.now) }
+{
+    Ok(User {
+        account: account.clone()?,
+        user: user.user.clone()?,
+        password: user.password.clone()?,
+        rules: Compiled::of(alloc, user)?,
+    })
+}

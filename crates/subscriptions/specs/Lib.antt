@@ -1,0 +1,2 @@
+pub mod Subscriptions
+pub mod Limit

@@ -1,0 +1,23 @@
+use bytes::Bytes;
+use events::Sid;
+use lists::Shared;
+use subjects::Pattern;
+
+/// A subscription that stands.
+#[derive(Drop)]
+pub struct Subscription {
+    /// The number of the entry that made it. They rise, so the oldest has the least.
+    pub id: u64,
+    /// The connection whose session has it.
+    pub conn: u64,
+    /// The name of the account of that session's user.
+    pub account: Bytes,
+    /// What it asks for.
+    pub subject: Shared<Pattern>,
+    /// The client's own id for it.
+    pub sid: Sid,
+    /// How many messages it has received since its SUB. It stays at 2^64 - 1.
+    pub received: u64,
+    /// How many it is to receive in all, where an UNSUB has said so.
+    pub most: Option<u64>,
+}
