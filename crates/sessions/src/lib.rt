@@ -1,0 +1,6 @@
+//! The sessions.
+#![tactic(auto)]
+
+mod session;
+
+pub use session::{Addressed, Session};

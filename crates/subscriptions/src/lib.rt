@@ -1,0 +1,6 @@
+//! The standing subscriptions.
+#![tactic(auto)]
+
+mod subscription;
+
+pub use subscription::Subscription;

@@ -1,0 +1,5 @@
+pub mod World
+pub mod Routing
+pub mod Reload
+pub mod Transition
+pub mod Shown

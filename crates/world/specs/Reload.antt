@@ -1,0 +1,74 @@
+-- A reload: what becomes of the sessions and the subscriptions when another policy comes into force
+-- (docs/GUARANTEE.md, "A reload").
+use Rattle.std.specs.Prelude.{◌+◌, ℕ, List, Bool, false, Option, Some, None, if◌then◌else◌, filter, All, IfSome}
+use Rattle.std.specs.List.{filter_map}
+use Rattle.policy_doc.specs.Document.{IsValidPolicy}
+use Rattle.policy_doc.specs.declared.document.PolicyDoc.{PolicyDoc}
+use Rattle.permissions.specs.Verdicts.{subscribe_verdict, is_allowed, IsJustifiedSubscribe}
+use Rattle.permissions.specs.declared.verdict.Verdict.{Verdict}
+use Rattle.ready.specs.declared.ready.User.{User}
+use Rattle.events.specs.declared.answer.Removed.{Removed}
+use Rattle.events.specs.declared.answer.Outcome.{Outcome}
+use Rattle.events.specs.declared.answer.Outcome.TheVariants.{Reloaded}
+use Rattle.sessions.specs.Sessions.{session_of}
+use Rattle.sessions.specs.Renewal.{user_again_of, remaining, closed_conns}
+use Rattle.sessions.specs.declared.session.Session.{Session}
+use Rattle.subscriptions.specs.declared.subscription.Subscription.{Subscription}
+use Rattle.world.specs.World.{World}
+
+-- whom a session that stays acts for
+abbrev pub user_after : PolicyDoc → Option Session → Option User
+user_after doc None = None
+user_after doc (Some z) = user_again_of doc z
+
+-- the verdict on a pattern, where there is a user
+abbrev pub verdict_for : Option User → Subscription → Option Verdict
+verdict_for None sub = None
+verdict_for (Some u) sub = Some (subscribe_verdict u.rules sub.subject)
+
+-- the verdict of the policy on a subscription, if its session stays
+abbrev pub verdict_after : PolicyDoc → List Session → Subscription → Option Verdict
+verdict_after doc zs sub = verdict_for (user_after doc (session_of zs sub.conn)) sub
+
+-- a subscription stands on where its session stays and may have it
+abbrev pub may_stand : Option Verdict → Bool
+may_stand None = false
+may_stand (Some v) = is_allowed v
+
+abbrev pub stands_on : PolicyDoc → List Session → Subscription → Bool
+stands_on doc zs sub = may_stand (verdict_after doc zs sub)
+
+-- a subscription that a session has lost by this verdict
+abbrev pub removed_by : Subscription → Verdict → Removed
+removed_by sub v = record { id = sub.id; conn = sub.conn; sid = sub.sid; verdict = v }
+
+-- what is reported of a subscription: its removal, where its session stays and may not have it
+abbrev pub removal : Subscription → Option Verdict → Option Removed
+removal sub None = None
+removal sub (Some v) = if is_allowed v then None else Some (removed_by sub v)
+
+abbrev pub removal_after : PolicyDoc → List Session → Subscription → Option Removed
+removal_after doc zs sub = removal sub (verdict_after doc zs sub)
+
+-- ---- the step
+
+-- the policy comes into force, the next epoch begins, and outboxes stay as they are
+abbrev pub reloaded : World → PolicyDoc → Outcome × World
+reloaded w doc = (
+  Reloaded (closed_conns doc w.sessions) (filter_map (removal_after doc w.sessions) w.subscriptions),
+  record w {
+    policy = doc;
+    epoch = w.epoch + 1;
+    sessions = remaining doc w.sessions;
+    subscriptions = filter (stands_on doc w.sessions) w.subscriptions;
+  },
+)
+
+-- the verdict on a subscription, if its session stays, has its reason in the lists of the user
+abbrev pub IsReasonedVerdict : PolicyDoc → List Session → Subscription → Type 0
+IsReasonedVerdict doc zs sub =
+    IfSome (user_after doc (session_of zs sub.conn)) (λ (u : User). IsJustifiedSubscribe sub.subject u.rules.subscribe (subscribe_verdict u.rules sub.subject))
+
+-- a valid policy, and a reason for each verdict
+abbrev pub IsReasonedReload : PolicyDoc → List Session → List Subscription → Type 0
+IsReasonedReload doc zs subs = IsValidPolicy doc × All (IsReasonedVerdict doc zs) subs

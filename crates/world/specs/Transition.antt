@@ -1,0 +1,127 @@
+-- The transition: what one event makes of the world (docs/GUARANTEE.md, "The step").
+use Rattle.std.specs.Prelude.{◌==◌, ◌+◌, ◌∷◌, ◌++◌, ◌≡◌, ℕ, List, [], Bool, Option, Some, None, Result, Ok, Err, if◌then◌else◌, filter, map, not, length, nat_le, take, IsSomeAnd}
+use Rattle.subjects.specs.Subject.{Token}
+use Rattle.permissions.specs.Verdicts.{publish_verdict, subscribe_verdict, IsJustifiedPublish, IsJustifiedSubscribe}
+use Rattle.permissions.specs.declared.verdict.Verdict.{Verdict}
+use Rattle.permissions.specs.declared.verdict.Verdict.TheVariants.{Allowed, DeniedBy, NoAllow}
+use Rattle.ready.specs.Users.{user_with_password}
+use Rattle.ready.specs.declared.ready.User.{User}
+use Rattle.events.specs.Messages.{Message}
+use Rattle.events.specs.declared.event.Event.{Event}
+use Rattle.events.specs.declared.event.Command.{Command}
+use Rattle.events.specs.declared.event.Command.TheVariants.{Connect, Sub, Unsub, Pub, Take, Close, Reload}
+use Rattle.events.specs.declared.answer.Entry.{Entry}
+use Rattle.events.specs.declared.answer.Outcome.{Outcome}
+use Rattle.events.specs.declared.answer.Outcome.TheVariants.{Connected, AuthViolation, Subscribed, SameSid, SubLimit, Denied, Unsubscribed, Published, Taken, Closed, Reloaded}
+use Rattle.events.specs.declared.refusal.HubRefusal.{HubRefusal}
+use Rattle.events.specs.declared.refusal.HubRefusal.TheVariants.{NoSession, SessionTaken, SessionLimit, NoMemory}
+use Rattle.sessions.specs.Sessions.{session_of, with_session, new_session, drained}
+use Rattle.sessions.specs.declared.session.Session.{Session}
+use Rattle.subscriptions.specs.Subscriptions.{stands, has_all, subscription_of}
+use Rattle.subscriptions.specs.Limit.{unended, limited}
+use Rattle.subscriptions.specs.declared.subscription.Subscription.{Subscription}
+use Rattle.world.specs.World.{World, advanced}
+use Rattle.world.specs.Routing.{own_view, routed}
+use Rattle.world.specs.Reload.{reloaded, IsReasonedReload}
+
+-- a session with an empty outbox, where a user has that name and password
+abbrev pub connected : World → ℕ → Bool → Option User → Outcome × World
+connected w conn echo None = (AuthViolation, w)
+connected w conn echo (Some u) =
+    (Connected, record w { sessions = w.sessions ++ new_session conn u echo w.capacity ∷ [] })
+
+-- the verdict first, then whether the id is taken, then whether the connection has all that it may have
+abbrev pub subscribed : World → ℕ → List ℕ → List Token → List ℕ → Verdict → Outcome × World
+subscribed w conn account p sid (Allowed by) =
+    if stands w.subscriptions conn sid then (SameSid, w)
+    else if has_all w.subscriptions conn then (SubLimit, w)
+    else (Subscribed, record w { subscriptions = w.subscriptions ++ subscription_of (w.number + 1) conn account p sid ∷ [] })
+subscribed w conn account p sid (DeniedBy i) = (Denied (DeniedBy i), w)
+subscribed w conn account p sid NoAllow = (Denied NoAllow, w)
+
+-- a subscription takes a limit, and ends where it has reached it; an id that none has changes nothing
+abbrev pub unsubscribed : World → ℕ → List ℕ → Option ℕ → Outcome × World
+unsubscribed w conn sid most =
+    (Unsubscribed, record w { subscriptions = unended (map (limited conn sid most) w.subscriptions) })
+
+-- the verdict first, then the message to whom it is for, which count it
+abbrev pub published : World → Session → Message → Verdict → Outcome × World
+published w z m (Allowed by) = let after = routed w z (own_view z m) in (Published by after.0, after.1)
+published w z m (DeniedBy i) = (Denied (DeniedBy i), w)
+published w z m NoAllow = (Denied NoAllow, w)
+
+-- the oldest deliveries of a session, and whether one was missed since the last Take
+abbrev pub taken : World → ℕ → ℕ → Session → Outcome × World
+taken w conn most z = (Taken (take most z.outbox.waiting) z.missed, record w { sessions = with_session (drained most) conn w.sessions })
+
+-- the session goes, with its outbox and its subscriptions
+abbrev pub closed : World → ℕ → Outcome × World
+closed w conn =
+    (Closed, record w { sessions = filter (λ (z : Session). not (z.conn == conn)) w.sessions; subscriptions = filter (λ (s : Subscription). not (s.conn == conn)) w.subscriptions })
+
+-- a command of a connection with a session, or NoSession
+abbrev pub in_session : {W : Type 0} → Option Session → (Session → Outcome × W) → Result (Outcome × W) HubRefusal
+in_session None _ = Err NoSession
+in_session (Some z) f = Ok (f z)
+
+-- a Connect of a connection without a session, while there is room for one more: 4,096 may stand
+abbrev pub in_new_session : World → Option Session → Outcome × World → Result (Outcome × World) HubRefusal
+in_new_session w (Some z) _ = Err SessionTaken
+in_new_session w None r = if nat_le 4096 (length w.sessions) then Err SessionLimit else Ok r
+
+-- what a command makes of the world, or why it is refused
+abbrev pub moved : World → Command → Result (Outcome × World) HubRefusal
+moved w (Connect conn user password echo) =
+    in_new_session w (session_of w.sessions conn) (connected w conn echo (user_with_password w.policy user password))
+moved w (Sub conn p sid) =
+    in_session (session_of w.sessions conn) (λ z. subscribed w conn z.user.account p sid (subscribe_verdict z.user.rules p))
+moved w (Unsub conn sid most) = in_session (session_of w.sessions conn) (λ z. unsubscribed w conn sid most)
+moved w (Pub conn m word) =
+    in_session (session_of w.sessions conn) (λ z. published w z m (publish_verdict z.user.rules m.subject))
+moved w (Take conn most) = in_session (session_of w.sessions conn) (taken w conn most)
+moved w (Close conn) = in_session (session_of w.sessions conn) (λ z. closed w conn)
+moved w (Reload doc) = Ok (reloaded w doc)
+
+-- each step raises the number by one
+abbrev pub numbered : ℕ → Result (Outcome × World) HubRefusal → Result (Outcome × World) HubRefusal
+numbered n (Ok r) = Ok (r.0, record r.1 { number = n })
+numbered n (Err e) = Err e
+
+-- the transition: outcome and world after, or the refusal
+abbrev pub transition : World → Event → Result (Outcome × World) HubRefusal
+transition w e = numbered (w.number + 1) (moved (advanced w e.now) e.what)
+
+-- ---- what is told of an event
+
+-- the entry of an event: its outcome, with the number and the epoch of the world after it
+abbrev pub entry_of : Outcome → World → Event → Entry
+entry_of o after e = record { number = after.number; epoch = after.epoch; outcome = o; event = e }
+
+-- A refusal is the transition's, or want of memory where it refuses nothing.
+abbrev pub IsRefusal : {R : Type 0} → Result R HubRefusal → HubRefusal → Type 0
+IsRefusal (Ok _) r = r ≡ NoMemory
+IsRefusal (Err e) r = r ≡ e
+
+-- why the transition refuses an event, if it does
+abbrev pub refusal_in : {R : Type 0} → Result R HubRefusal → Option HubRefusal
+refusal_in (Ok _) = None
+refusal_in (Err e) = Some e
+
+-- What a step answered and left: the event's entry, twice, and the world after it; or a refusal that changes nothing.
+abbrev pub IsApplied : World → Event → Result (Entry × Entry) HubRefusal → World → Type 0
+IsApplied w e (Ok both) after =
+    (transition w e ≡ Ok (both.0.outcome, after)) × (both.0 ≡ entry_of both.0.outcome after e) × (both.1 ≡ both.0)
+IsApplied w e (Err r) after = (after ≡ w) × IsRefusal (transition w e) r
+
+-- ---- reasons
+
+-- What is denied has its reason in the lists of the session's user: the least deny entry that has all that was
+-- asked, or no deny entry has it, an allow list is given, and each of its entries lacks some of it. So has what a
+-- reload removes, whose policy is valid.
+abbrev pub IsReasoned : World → Command → Outcome → Type 0
+IsReasoned w (Sub conn p sid) (Denied v) =
+    IsSomeAnd (session_of w.sessions conn) (λ (z : Session). IsJustifiedSubscribe p z.user.rules.subscribe v)
+IsReasoned w (Pub conn m word) (Denied v) =
+    IsSomeAnd (session_of w.sessions conn) (λ (z : Session). IsJustifiedPublish m.subject z.user.rules.publish v)
+IsReasoned w (Reload doc) (Reloaded gone removed) = IsReasonedReload doc w.sessions w.subscriptions
+IsReasoned w command outcome = Unit {0}
