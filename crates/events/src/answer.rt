@@ -24,6 +24,17 @@ impl Copying for Delivery {
     }
 }
 
+/// A delivery, and the subscription that it is for.
+#[derive(Debug, Drop)]
+pub struct Addressed {
+    /// The number of the entry that made the subscription.
+    pub id: u64,
+    /// The connection whose session has it.
+    pub conn: u64,
+    /// What is sent.
+    pub delivery: Delivery,
+}
+
 /// What a message met at one subscription.
 #[derive(Debug, Drop)]
 pub enum Item {

@@ -23,7 +23,7 @@ impl<T> Model for Outbox<T> {
 }
 
 impl<T> Outbox<T> {
-    ghost use Rattle.std.specs.Prelude.{◌≡◌, ◌≤◌, ◌<◌, ◌++◌, ◌∷◌, [], length, take, drop, IfOk, IfErr, OnOk, OnErr, nat_le};
+    ghost use Rattle.std.specs.Prelude.{◌≡◌, ◌≤◌, ◌<◌, ◌-◌, ◌++◌, ◌∷◌, [], length, take, drop, IfOk, IfErr, OnOk, OnErr, nat_le};
 
     /// An empty outbox for `capacity` elements, one at least. All its memory is taken here; `NoMemory` where it
     /// could not be had.
@@ -52,6 +52,13 @@ impl<T> Outbox<T> {
         self.ring.capacity() <= self.ring.len()
     }
 
+    /// How much more may wait.
+    pub fn room(&self) -> usize
+        ensures { result ≡ self.now.capacity - length self.now.waiting }
+    {
+        self.ring.capacity() - self.ring.len()
+    }
+
     /// Adds an element at the end, or hands it back where the outbox is full. It takes no memory.
     pub fn offer(&mut self, value: T) -> Result<(), T>
         ensures ok { OnOk result ((length self.old.waiting < self.old.capacity)
@@ -71,6 +78,18 @@ impl<T> Outbox<T> {
         let count = most.min(self.ring.len());
         let taken = take_front(&mut self.ring, count)?;
         Ok(taken)
+    }
+}
+
+impl<T: Drop> Outbox<T> {
+    ghost use Rattle.std.specs.Prelude.{◌≡◌, drop};
+
+    /// Lets the next elements go, `most` at most, oldest first. It takes no memory.
+    pub fn discard(&mut self, most: usize)
+        ensures { self.new ≡ record self.old { waiting = drop most self.old.waiting } }
+    {
+        let kept = self.ring.len().saturating_sub(most);
+        self.ring.truncate_front(kept);
     }
 }
 

@@ -40,7 +40,15 @@ fn the_oldest_leave_first(rt: HostRuntime) -> Result<(), Fail> {
     assert_eq!(rt; outbox.offer(Note(6)), Err(Note(6)));
     let left = [Note(3), Note(4), Note(5)];
     assert_eq!(rt; outbox.front(9)?.as_slice(), left.as_slice());
+    assert_eq!(rt; outbox.room(), 0);
     assert_eq!(rt; outbox.take(9)?.as_slice(), left.as_slice());
     assert_eq!(rt; outbox.front(9)?.len(), 0);
+    assert_eq!(rt; outbox.offer(Note(7)), Ok(()));
+    assert_eq!(rt; outbox.offer(Note(8)), Ok(()));
+    outbox.discard(1);
+    assert_eq!(rt; outbox.room(), 2);
+    assert_eq!(rt; outbox.front(9)?.as_slice(), [Note(8)].as_slice());
+    outbox.discard(9);
+    assert_eq!(rt; outbox.room(), 3);
     Ok(())
 }

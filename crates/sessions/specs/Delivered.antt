@@ -1,16 +1,21 @@
 -- Deliveries offered to outboxes (docs/GUARANTEE.md, "Delivery").
-use Rattle.std.specs.Prelude.{◌∷◌, ◌++◌, ℕ, List, [], Bool, true, false, Option, Some, None, if◌then◌else◌, length, nat_lt}
+use Rattle.std.specs.Prelude.{◌∷◌, ◌++◌, ◌-◌, ℕ, List, [], Bool, true, false, Option, Some, None, if◌then◌else◌, length, nat_lt}
 use Rattle.events.specs.declared.answer.Delivery.{Delivery}
 use Rattle.events.specs.declared.answer.Item.{Item}
 use Rattle.events.specs.declared.answer.Item.TheVariants.{Entered, Full}
 use Rattle.sessions.specs.Sessions.{session_of, with_session}
 use Rattle.sessions.specs.declared.session.Session.{Session}
-use Rattle.sessions.specs.declared.session.Addressed.{Addressed}
+use Rattle.events.specs.declared.answer.Addressed.{Addressed}
 
 -- whether one more delivery has room
 abbrev pub has_room : Option Session → Bool
 has_room None = false
 has_room (Some z) = nat_lt (length z.outbox.waiting) z.outbox.capacity
+
+-- how many more deliveries have room
+abbrev pub room_in : Option Session → ℕ
+room_in None = 0
+room_in (Some z) = z.outbox.capacity - length z.outbox.waiting
 
 -- the session after a delivery was offered to its outbox: it waits there, or was missed
 abbrev pub offered : Delivery → Session → Session

@@ -1,4 +1,4 @@
--- The sessions when another policy comes into force (docs/GUARANTEE.md, "A reload").
+-- What becomes of the sessions when another policy comes into force (docs/GUARANTEE.md, "A reload").
 use Rattle.std.specs.Prelude.{◌∷◌, ℕ, List, [], Bool, Option, Some, None, if◌then◌else◌, filter, map, not, is_some, nat_le}
 use Rattle.policy_doc.specs.declared.document.PolicyDoc.{PolicyDoc}
 use Rattle.ready.specs.Users.{user_again}

@@ -1,5 +1,5 @@
 -- The sessions as a list, in order of connecting (docs/GUARANTEE.md, "The world").
-use Rattle.std.specs.Prelude.{◌≡◌, ◌==◌, ◌<◌, ◌∷◌, ℕ, List, [], Bool, false, Option, Some, None, length, slice_index_or, slice_set, if◌then◌else◌, find, drop}
+use Rattle.std.specs.Prelude.{◌≡◌, ◌≢◌, ◌==◌, ◌<◌, ◌∷◌, ℕ, List, [], Bool, false, Option, Some, None, length, slice_index_or, slice_set, if◌then◌else◌, find, drop}
 use Rattle.ready.specs.declared.ready.User.{User}
 use Rattle.sessions.specs.declared.session.Session.{Session}
 
@@ -19,6 +19,10 @@ new_session conn u echo capacity = record { conn = conn; user = u; echo = echo; 
 -- a session after a Take: its oldest deliveries have left, and what was missed has been told
 abbrev pub drained : ℕ → Session → Session
 drained most z = record z { missed = false; outbox = record z.outbox { waiting = drop most z.outbox.waiting } }
+
+-- two sessions of different connections
+abbrev pub IsApart : Session → Session → Type 0
+IsApart y z = y.conn ≢ z.conn
 
 -- no session is the connection's, so there is nothing to change
 pub record IsNowhere (conn : ℕ) (zs : List Session) : Type 0 where

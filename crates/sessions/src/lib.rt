@@ -1,6 +1,13 @@
-//! The sessions.
+//! The sessions in order of connecting, each found by its connection at once, and the deliveries that wait for them.
 #![tactic(auto)]
 
+mod plan;
+mod renewal;
 mod session;
+mod sessions;
 
-pub use session::{Addressed, Session};
+pub use session::Session;
+pub use sessions::Sessions;
+
+#[cfg(test)]
+mod tests;

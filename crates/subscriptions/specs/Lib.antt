@@ -1,2 +1,6 @@
-pub mod Subscriptions
+pub mod Addressing
+pub mod Changes
+pub mod Kept
 pub mod Limit
+pub mod Subscriptions
+pub mod Turns

@@ -9,6 +9,10 @@ use Rattle.subscriptions.specs.declared.subscription.Subscription.{Subscription}
 abbrev pub is_under : ℕ → List ℕ → Subscription → Bool
 is_under conn sid sub = (sub.conn == conn) && pointwise nat_eq sub.sid sid
 
+-- whether two subscriptions have the same connection and sid
+abbrev pub has_same_sid : Subscription → Subscription → Bool
+has_same_sid sub other = is_under other.conn other.sid sub
+
 -- whether a subscription of the connection stands under that id
 abbrev pub stands : List Subscription → ℕ → List ℕ → Bool
 stands subs conn sid = list_any (is_under conn sid) subs

@@ -2,4 +2,5 @@ pub mod World
 pub mod Routing
 pub mod Reload
 pub mod Transition
+pub mod Changes
 pub mod Shown

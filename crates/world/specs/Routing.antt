@@ -3,13 +3,13 @@ use Rattle.std.specs.Prelude.{◌&&◌, ◌||◌, ◌==◌, ℕ, List, Bool, fal
 use Rattle.subjects.specs.Subject.{Token}
 use Rattle.permissions.specs.Verdicts.{delivery_verdict, is_allowed}
 use Rattle.events.specs.Messages.{Message}
-use Rattle.events.specs.declared.answer.Delivery.{Delivery}
+use Rattle.events.specs.declared.answer.Addressed.{Addressed}
 use Rattle.events.specs.declared.answer.Item.{Item}
 use Rattle.sessions.specs.Sessions.{session_of}
 use Rattle.sessions.specs.Delivered.{delivered}
 use Rattle.sessions.specs.declared.session.Session.{Session}
-use Rattle.sessions.specs.declared.session.Addressed.{Addressed}
 use Rattle.subscriptions.specs.Subscriptions.{has_subject}
+use Rattle.subscriptions.specs.Addressing.{addressed_to}
 use Rattle.subscriptions.specs.Limit.{unended, counted}
 use Rattle.subscriptions.specs.declared.subscription.Subscription.{Subscription}
 use Rattle.world.specs.World.{World}
@@ -35,6 +35,10 @@ may_hear publisher conn = publisher.echo || not (conn == publisher.conn)
 abbrev pub is_open_to : List Session → Session → List Token → ℕ → Bool
 is_open_to zs publisher s conn = may_hear publisher conn && lets_through s (session_of zs conn)
 
+-- the same of a delivery, by the connection that it is for
+abbrev pub is_open : List Session → Session → List Token → Addressed → Bool
+is_open zs publisher s a = is_open_to zs publisher s a.conn
+
 -- a subscription is admitted where it is of the account and has the subject, may hear the publisher, and its session's
 -- permissions let the message through
 abbrev pub is_admitted : List Session → Session → View → Subscription → Bool
@@ -43,13 +47,6 @@ is_admitted zs publisher v sub = has_subject v.account v.message.subject sub && 
 -- the subscriptions that a message is for, oldest first
 abbrev pub admitted : World → Session → View → List Subscription
 admitted w publisher v = filter (is_admitted w.sessions publisher v) w.subscriptions
-
--- what a subscriber is sent, and where it goes
-abbrev pub delivery_to : Message → Subscription → Delivery
-delivery_to m sub = record { message = m; sid = sub.sid }
-
-abbrev pub addressed_to : Message → Subscription → Addressed
-addressed_to m sub = record { id = sub.id; conn = sub.conn; delivery = delivery_to m sub }
 
 -- the deliveries of a view, oldest subscription first
 abbrev pub deliveries : World → Session → View → List Addressed

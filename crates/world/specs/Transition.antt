@@ -94,8 +94,11 @@ transition w e = numbered (w.number + 1) (moved (advanced w e.now) e.what)
 -- ---- what is told of an event
 
 -- the entry of an event: its outcome, with the number and the epoch of the world after it
+abbrev pub entry_with : ℕ → ℕ → Outcome → Event → Entry
+entry_with number epoch o e = record { number = number; epoch = epoch; outcome = o; event = e }
+
 abbrev pub entry_of : Outcome → World → Event → Entry
-entry_of o after e = record { number = after.number; epoch = after.epoch; outcome = o; event = e }
+entry_of o after e = entry_with after.number after.epoch o e
 
 -- A refusal is the transition's, or want of memory where it refuses nothing.
 abbrev pub IsRefusal : {R : Type 0} → Result R HubRefusal → HubRefusal → Type 0
@@ -112,6 +115,12 @@ abbrev pub IsApplied : World → Event → Result (Entry × Entry) HubRefusal �
 IsApplied w e (Ok both) after =
     (transition w e ≡ Ok (both.0.outcome, after)) × (both.0 ≡ entry_of both.0.outcome after e) × (both.1 ≡ both.0)
 IsApplied w e (Err r) after = (after ≡ w) × IsRefusal (transition w e) r
+
+-- The same before the number has risen: what the command makes of the world, with the entry of the next number.
+abbrev pub IsMoved : World → Event → Result (Entry × Entry) HubRefusal → World → Type 0
+IsMoved w e (Ok both) after =
+    (moved w e.what ≡ Ok (both.0.outcome, after)) × (both.0 ≡ entry_with (w.number + 1) after.epoch both.0.outcome e) × (both.1 ≡ both.0)
+IsMoved w e (Err r) after = (after ≡ w) × IsRefusal (moved w e.what) r
 
 -- ---- reasons
 

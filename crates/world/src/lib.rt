@@ -1,6 +1,13 @@
-//! The world: the tables, and one step of them.
+//! The world: the tables of the router, and what one event makes of them.
 #![tactic(auto)]
 
+mod carry_out;
+mod change;
+mod decide;
+mod reload;
+mod route;
 mod standing;
+mod world;
 
 pub use standing::Standing;
+pub use world::World;

@@ -1,6 +1,11 @@
+ghost use Rattle.std.specs.Prelude.{◌≡◌, IfOk, map};
+ghost use Rattle.world.specs.Shown.{standing_of};
+
 use events::Sid;
-use lists::Shared;
+use lists::{Items, NoMemory, Shared};
+use std::alloc::Global;
 use subjects::Pattern;
+use subscriptions::{Subscription, Subscriptions};
 
 /// A standing subscription, as it is shown.
 #[derive(Drop)]
@@ -17,4 +22,31 @@ pub struct Standing {
     pub received: u64,
     /// How many it is to receive in all, where an UNSUB has said so.
     pub most: Option<u64>,
+}
+
+/// The standing subscriptions, oldest first.
+pub(crate) fn standing_all(
+    alloc: Global,
+    subscriptions: &Subscriptions,
+) -> Result<Items<Standing>, NoMemory>
+    ensures { IfOk result (λ all. all ≡ map standing_of subscriptions.now) }
+{
+    let mut all = Vec::with_capacity(alloc, subscriptions.len())?;
+    for subscription in subscriptions.values() {
+        all.push(show_standing(subscription)?)?;
+    }
+    Ok(Items::from_vec(all))
+}
+
+fn show_standing(subscription: &Subscription) -> Result<Standing, NoMemory>
+    ensures { IfOk result (λ shown. shown ≡ standing_of subscription.now) }
+{
+    Ok(Standing {
+        id: subscription.id,
+        conn: subscription.conn,
+        subject: subscription.subject.again()?,
+        sid: subscription.sid.again()?,
+        received: subscription.received,
+        most: subscription.most,
+    })
 }

@@ -1,0 +1,10 @@
+-- no connection stands twice among the keys
+use Rattle.std.proofs.Common.{List, subst}
+use Rattle.std.specs.Prelude.{AllPairs}
+use Rattle.sessions.specs.Sessions.{IsApart}
+use Rattle.sessions.specs.declared.session.Session.{Session}
+use Rattle.sessions.proofs.Keys.{apart_by_keys}
+use Rattle.sessions.proofs.sessions.Sessions.known.Goals as goal
+
+pub returns : goal.returns
+returns c = subst (λ (zs : List Session). AllPairs IsApart zs) c.self.view_is (apart_by_keys c.self.inside.conns.keys c.self.inside.list.items c.as_slice-keys.ensures.unique c.self.invariant.0)

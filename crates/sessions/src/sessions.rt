@@ -1,0 +1,211 @@
+use crate::plan::{place_in, plan_all};
+use crate::{Session, renewal};
+use events::{Addressed, Item};
+use indexmap::IndexSet;
+use lists::NoMemory;
+use ready::{Ready, User};
+use std::alloc::Global;
+use std::collections::VecDeque;
+use std::marker::Model;
+
+/// The sessions, each found by its connection at once. A clause sees them as a list, in order of connecting.
+#[derive(Drop)]
+pub struct Sessions {
+    alloc: Global,
+    /// The connection of each, which finds its place.
+    conns: IndexSet<u64>,
+    list: Vec<Session>,
+    /// Beside each, its room while deliveries are planned.
+    rooms: Vec<usize>,
+}
+
+impl Model for Sessions {
+    ghost use Rattle.std.specs.Prelude.{◌≡◌, ◌≤◌, List, map, length};
+    ghost use Rattle.sessions.specs.Renewal.{connection_of};
+    ghost use Rattle.sessions.specs.declared.session.Session.{Session};
+
+    ghost Value = { List Session };
+
+    ghost view = { λ s. s.list.items };
+
+    ghost invariant = { λ s. (s.conns.keys ≡ map connection_of s.list.items) × (length s.list.items ≤ length s.rooms.items) };
+}
+
+impl Sessions {
+    ghost use Rattle.std.specs.Prelude.{◌≡◌, ◌==◌, ◌++◌, ◌∷◌, [], None, AllPairs, IfOk, OnOk, OnErr, MatchOption, length, filter, not, is_some};
+    ghost use Rattle.std.specs.List.{filter_map};
+    ghost use Rattle.std.specs.Option.{option_copied};
+    ghost use Rattle.sessions.specs.Sessions.{session_of, with_session, drained, IsApart, IsNowhere, IsPlace};
+    ghost use Rattle.sessions.specs.Delivered.{delivered, after_offer};
+    ghost use Rattle.sessions.specs.Renewal.{user_again_of, closed_conns, remaining};
+
+    /// No session.
+    pub fn new(alloc: Global) -> Sessions
+        ensures { result ≡ [] }
+    {
+        Sessions {
+            alloc,
+            conns: IndexSet::new(alloc),
+            list: Vec::new(alloc),
+            rooms: Vec::new(alloc),
+        }
+    }
+
+    /// How many sessions there are.
+    pub fn len(&self) -> usize
+        ensures { result ≡ length self.now }
+    {
+        self.list.len()
+    }
+
+    /// The sessions in order of connecting.
+    pub fn as_slice(&self) -> &[Session]
+        ensures { result.now ≡ self.now }
+    {
+        self.list.as_slice()
+    }
+
+    /// What always holds: no two sessions have one connection. It does nothing when it runs.
+    pub fn known(&self)
+        ensures { AllPairs IsApart self.now }
+    {
+        let _keys = self.conns.as_slice();
+    }
+
+    /// The place of the session of a connection.
+    fn place_of(&self, conn: u64) -> Option<usize>
+        ensures { MatchOption result (IsNowhere conn self.now) (IsPlace conn self.now) }
+    {
+        let place = place_in(&self.conns, self.list.as_slice(), conn);
+        place
+    }
+
+    /// The session of a connection, if it has one.
+    pub fn find(&self, conn: u64) -> Option<&Session>
+        ensures { option_copied result ≡ session_of self.now conn }
+    {
+        match self.place_of(conn) {
+            None => None,
+            Some(place) => Some(&self.list[place]),
+        }
+    }
+
+    /// Whether a connection has a session.
+    pub fn has(&self, conn: u64) -> bool
+        ensures { result ≡ is_some (session_of self.now conn) }
+    {
+        self.find(conn).is_some()
+    }
+
+    /// Adds the session of a connection that has none. `NoMemory` where memory could not be had: then nothing is
+    /// added.
+    pub fn push(&mut self, session: Session) -> Result<(), NoMemory>
+        requires { session_of self.old session.conn ≡ None }
+        ensures ok { OnOk result (self.new ≡ self.old ++ session ∷ []) }
+        ensures err { OnErr result (self.new ≡ self.old) }
+    {
+        self.list.reserve(1)?;
+        self.rooms.push(0)?;
+        self.conns.insert(session.conn)?;
+        self.list.push_reserved(session);
+        Ok(())
+    }
+
+    /// Removes the session of a connection, with its outbox, if it has one.
+    pub fn remove(&mut self, conn: u64)
+        ensures { self.new ≡ filter (λ (z : Session). not (z.conn == conn)) self.old }
+    {
+        forget_conn(&mut self.conns, conn);
+        remove_from(&mut self.list, conn);
+    }
+
+    /// What each delivery will meet, where they are handed over in turn. `NoMemory` where memory could not be had.
+    pub fn plan(&mut self, all: &[Addressed]) -> Result<Vec<Item>, NoMemory>
+        ensures items { IfOk result (λ items. items.items ≡ (delivered all.now self.old).1) }
+        ensures same { self.new ≡ self.old }
+    {
+        let rooms = self.rooms.as_mut_slice();
+        let items = plan_all(self.alloc, &self.conns, self.list.as_slice(), rooms, all)?;
+        Ok(items)
+    }
+
+    /// Hands a delivery over to the session that it is for: it waits in the outbox, or was missed where that is
+    /// full. It takes no memory.
+    pub fn hand_over(&mut self, next: Addressed)
+        ensures { self.new ≡ after_offer next self.old }
+    {
+        let Addressed {
+            id: _,
+            conn,
+            delivery,
+        } = next;
+        match self.place_of(conn) {
+            None => {}
+            Some(place) => self.list[place].offer(delivery),
+        }
+    }
+
+    /// Hands deliveries over in turn. It takes no memory.
+    pub fn hand_over_all(&mut self, all: Vec<Addressed>)
+        ensures { self.new ≡ (delivered all.items self.old).0 }
+    {
+        for next in all {
+            self.hand_over(next);
+        }
+    }
+
+    /// Lets the oldest deliveries of a connection's outbox go, `most` at most, and forgets that one was missed.
+    pub fn drain(&mut self, conn: u64, most: usize)
+        ensures { self.new ≡ with_session (drained most) conn self.old }
+    {
+        match self.place_of(conn) {
+            None => {}
+            Some(place) => self.list[place].drain(most),
+        }
+    }
+
+    /// The users of the sessions that stay under a policy, session by session, as the policy has them. `NoMemory`
+    /// where memory could not be had.
+    pub fn users_again(&self, ready: &Ready) -> Result<VecDeque<User>, NoMemory>
+        ensures { IfOk result (λ users. users.items ≡ filter_map (user_again_of ready.now) self.now) }
+    {
+        let users = renewal::users_again(self.alloc, ready, self.list.as_slice())?;
+        Ok(users)
+    }
+
+    /// The connections of the sessions that don't stay under a policy, ascending. `NoMemory` where memory could not
+    /// be had.
+    pub fn closed(&self, ready: &Ready) -> Result<Vec<u64>, NoMemory>
+        ensures { IfOk result (λ gone. gone.items ≡ closed_conns ready.now self.now) }
+    {
+        let gone = renewal::closed(self.alloc, ready, self.list.as_slice())?;
+        Ok(gone)
+    }
+
+    /// Removes the sessions that don't stay under a policy, with their outboxes, and gives each of the others its
+    /// user as the policy has it. The users are those of `users_again`. It takes no memory.
+    pub fn renew(&mut self, ready: &Ready, users: VecDeque<User>)
+        requires { users.items ≡ filter_map (user_again_of ready.now) self.old }
+        ensures { self.new ≡ remaining ready.now self.old }
+    {
+        let _keys = self.conns.as_slice();
+        renewal::renew_list(ready, &mut self.list, users);
+        renewal::note_conns(&mut self.conns, self.list.as_slice());
+    }
+}
+
+ghost use Rattle.std.specs.Prelude.{◌≡◌, ◌==◌, filter, not};
+
+/// Removes a connection from those that are noted.
+fn forget_conn(conns: &mut IndexSet<u64>, conn: u64)
+    ensures { conns.new.keys ≡ filter (λ k. not (k == conn)) conns.old.keys }
+{
+    conns.retain(|other| *other != conn);
+}
+
+/// Removes the session of a connection.
+fn remove_from(list: &mut Vec<Session>, conn: u64)
+    ensures { list.new.items ≡ filter (λ (z : Session). not (z.conn == conn)) list.old.items }
+{
+    list.retain(|session| session.conn != conn);
+}

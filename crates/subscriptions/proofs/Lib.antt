@@ -1,0 +1,6 @@
+pub mod Entries
+pub mod Ends
+pub mod Turns
+pub mod Apart
+pub mod Having
+pub mod Known

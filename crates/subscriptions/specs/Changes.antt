@@ -1,0 +1,21 @@
+-- A change of one subscription, by its id.
+use Rattle.std.specs.Prelude.{◌==◌, ◌+◌, ℕ, List, Bool, Option, Some, if◌then◌else◌, nat_lt}
+use Rattle.std.specs.Ordering.{nat_cmp}
+use Rattle.std.specs.BTreeMap.{is_at}
+use Rattle.subscriptions.specs.Limit.{limit_of}
+use Rattle.subscriptions.specs.declared.subscription.Subscription.{Subscription}
+
+abbrev pub only : (Subscription → Subscription) → ℕ → Subscription → Subscription
+only f id s = if s.id == id then f s else s
+
+-- one message more; the count stays at 2^64 - 1
+abbrev pub bumped : Subscription → Subscription
+bumped s = if nat_lt s.received 18446744073709551615 then record s { received = s.received + 1 } else s
+
+-- with a limit, in place of an earlier one
+abbrev pub capped : Option ℕ → Subscription → Subscription
+capped most s = record s { most = Some (limit_of most) }
+
+-- the test of a key
+abbrev pub is_id : ℕ → ℕ → Bool
+is_id id = is_at (nat_cmp id)

@@ -1,0 +1,72 @@
+-- What is to be done for a command, once all memory for it is had (docs/ARCHITECTURE.md, "Decide, then do").
+use Rattle.std.specs.Prelude.{◌≡◌, ◌==◌, ◌+◌, ◌∷◌, ◌++◌, ℕ, Bool, List, [], None, Result, Ok, Err, filter, map, not, false}
+use Rattle.std.specs.List.{filter_map}
+use Rattle.events.specs.Messages.{Message}
+use Rattle.events.specs.declared.answer.Item.{Item}
+use Rattle.events.specs.declared.answer.Outcome.{Outcome}
+use Rattle.events.specs.declared.answer.Outcome.TheVariants.{Published}
+use Rattle.events.specs.declared.refusal.HubRefusal.{HubRefusal}
+use Rattle.sessions.specs.Sessions.{session_of, with_session, drained}
+use Rattle.sessions.specs.Delivered.{delivered}
+use Rattle.sessions.specs.Renewal.{remaining, user_again_of}
+use Rattle.sessions.specs.declared.session.Session.{Session}
+use Rattle.events.specs.declared.answer.Addressed.{Addressed}
+use Rattle.subscriptions.specs.Subscriptions.{stands, subscription_of}
+use Rattle.subscriptions.specs.Limit.{unended, counted, limited}
+use Rattle.subscriptions.specs.Addressing.{addressed_to}
+use Rattle.subscriptions.specs.declared.subscription.Subscription.{Subscription}
+use Rattle.world.specs.World.{World}
+use Rattle.world.specs.Reload.{stands_on}
+use Rattle.world.specs.Transition.{IsRefusal}
+use Rattle.world.specs.declared.change.Change.{Change}
+use Rattle.world.specs.declared.change.Change.TheVariants.{Nothing, Open, Stand, Limit, Deliver, Drain, Leave, Install}
+use Rattle.world.specs.declared.change.Decided.{Decided}
+
+-- deliveries of one message for some of the standing subscriptions, oldest first
+abbrev pub AreAddressed : List Addressed → List Subscription → Type 0
+AreAddressed all subs = (m : Message) × (p : Subscription → Bool) × (all ≡ map (addressed_to m) (filter p subs))
+
+-- the items of an outcome
+abbrev pub items_in : Outcome → List Item
+items_in (Published by items) = items
+items_in _ = []
+
+abbrev pub done : World → Change → Outcome → World
+done w Nothing o = w
+done w (Open z) o = record w { sessions = w.sessions ++ z ∷ [] }
+done w (Stand conn account p sid) o =
+    record w { subscriptions = w.subscriptions ++ subscription_of (w.number + 1) conn account p sid ∷ [] }
+done w (Limit conn sid most) o = record w { subscriptions = unended (map (limited conn sid most) w.subscriptions) }
+done w (Deliver all) o =
+    record w { sessions = (delivered all w.sessions).0; subscriptions = unended (map (counted (items_in o)) w.subscriptions) }
+done w (Drain conn most) o = record w { sessions = with_session (drained most) conn w.sessions }
+done w (Leave conn) o =
+    record w { sessions = filter (λ (z : Session). not (z.conn == conn)) w.sessions; subscriptions = filter (λ (s : Subscription). not (s.conn == conn)) w.subscriptions }
+done w (Install doc users) o = record w {
+  policy = doc;
+  epoch = w.epoch + 1;
+  sessions = remaining doc w.sessions;
+  subscriptions = filter (stands_on doc w.sessions) w.subscriptions;
+}
+
+-- what opens has no session yet, and what is to stand doesn't; deliveries are for standing subscriptions, and the
+-- outcome tells what each of them meets; a policy comes with the users of the sessions that stay
+abbrev pub IsFit : World → Change → Outcome → Type 0
+IsFit w Nothing o = Unit {0}
+IsFit w (Open z) o = session_of w.sessions z.conn ≡ None
+IsFit w (Stand conn account p sid) o = stands w.subscriptions conn sid ≡ false
+IsFit w (Limit conn sid most) o = Unit {0}
+IsFit w (Deliver all) o = (items_in o ≡ (delivered all w.sessions).1) × AreAddressed all w.subscriptions
+IsFit w (Drain conn most) o = Unit {0}
+IsFit w (Leave conn) o = Unit {0}
+IsFit w (Install doc users) o = users.items ≡ filter_map (user_again_of doc) w.sessions
+
+-- what a command comes to, or why it is refused
+abbrev pub IsDecided : World → Result (Outcome × World) HubRefusal → Result Decided HubRefusal → Type 0
+IsDecided w t (Ok d) = (t ≡ Ok (d.outcome, done w d.change d.outcome)) × IsFit w d.change d.outcome
+IsDecided w t (Err r) = IsRefusal t r
+
+-- which policy is in force once a change is done
+abbrev pub epoch_after : ℕ → Change → ℕ
+epoch_after epoch (Install doc users) = epoch + 1
+epoch_after epoch _ = epoch

@@ -1,0 +1,248 @@
+//! What each command comes to, before anything changes.
+ghost use Rattle.std.specs.Prelude.{◌≡◌, IfOk, IfErr};
+
+use crate::change::{Change, Decided};
+use crate::reload::{Prepared, prepare};
+use crate::route::address_all;
+use crate::world::World;
+use bytes::Bytes;
+use events::{Command, HubRefusal, Message, Outcome, Sid};
+use lists::{Items, NoMemory, Shared, SharedText};
+use permissions::Verdict;
+use ready::Ready;
+use sessions::Session;
+use subjects::Pattern;
+
+/// How many sessions may stand.
+pub(crate) const SESSIONS: usize = 4096;
+
+/// An outcome that changes nothing.
+fn unchanged(outcome: Outcome) -> Decided
+    ensures outcome { result.outcome ≡ outcome }
+    ensures change { result.change ≡ change.Nothing }
+{
+    Decided {
+        outcome,
+        change: Change::Nothing,
+    }
+}
+
+/// A subscription is to stand: what it holds has one more owner.
+fn stand(
+    conn: u64,
+    account: &Bytes,
+    subject: &Shared<Pattern>,
+    sid: &Sid,
+) -> Result<Change, NoMemory>
+    ensures { IfOk result (λ made. made ≡ change.Stand conn account.now subject.now sid.now) }
+{
+    Ok(Change::Stand {
+        conn,
+        account: account.clone()?,
+        subject: subject.again()?,
+        sid: sid.again()?,
+    })
+}
+
+ghost use Rattle.world.specs.declared.change.Change.TheVariants as change;
+
+impl World {
+    ghost use Rattle.std.specs.Prelude.{ℕ, ◌≡◌, IfOk};
+    ghost use Rattle.permissions.specs.Verdicts.{publish_verdict};
+    ghost use Rattle.events.specs.declared.event.Command.TheVariants as command;
+    ghost use Rattle.sessions.specs.Sessions.{session_of};
+    ghost use Rattle.world.specs.Transition.{moved, published, in_session, IsReasoned};
+    ghost use Rattle.world.specs.Changes.{IsDecided};
+
+    /// What a command comes to: what is told of it, and what is to be done; or why it is refused. Nothing has changed
+    /// yet.
+    pub(crate) fn decide(&mut self, command: &Command) -> Result<Decided, HubRefusal>
+        ensures decided { IsDecided self.old (moved self.old command.now) result }
+        ensures reason { IfOk result (λ d. IsReasoned self.old command.now d.outcome) }
+        ensures same { self.new ≡ self.old }
+    {
+        match command {
+            Command::Connect {
+                conn,
+                user,
+                password,
+                echo,
+            } => self.connect(*conn, user, password, *echo),
+            Command::Sub { conn, subject, sid } => self.subscribe(*conn, subject, sid),
+            Command::Unsub { conn, sid, most } => self.unsubscribe(*conn, sid, *most),
+            Command::Pub {
+                conn,
+                message,
+                word: _,
+            } => self.publish(*conn, message),
+            Command::Take { conn, most } => self.take(*conn, *most),
+            Command::Close { conn } => self.close(*conn),
+            Command::Reload(ready) => self.reload(ready),
+        }
+    }
+
+    /// A session for the user with that name and password, while there is room for one more.
+    fn connect(
+        &self,
+        conn: u64,
+        user: &Option<SharedText>,
+        password: &SharedText,
+        echo: bool,
+    ) -> Result<Decided, HubRefusal>
+        ensures decided { IsDecided self.now (moved self.now (command.Connect conn user.now password.now echo)) result }
+        ensures reason { IfOk result (λ d. IsReasoned self.now (command.Connect conn user.now password.now echo) d.outcome) }
+    {
+        if self.sessions.has(conn) {
+            return Err(HubRefusal::SessionTaken);
+        }
+        if self.sessions.len() >= SESSIONS {
+            return Err(HubRefusal::SessionLimit);
+        }
+        match self.ready.user_with_password(user, password) {
+            None => Ok(unchanged(Outcome::AuthViolation)),
+            Some(user) => {
+                let session = Session::new(self.alloc, conn, user, echo, self.capacity)?;
+                Ok(Decided {
+                    outcome: Outcome::Connected,
+                    change: Change::Open(session),
+                })
+            }
+        }
+    }
+
+    /// A subscription, where the user's permissions allow it, its id is free and the connection may have one more.
+    fn subscribe(
+        &self,
+        conn: u64,
+        subject: &Shared<Pattern>,
+        sid: &Sid,
+    ) -> Result<Decided, HubRefusal>
+        ensures decided { IsDecided self.now (moved self.now (command.Sub conn subject.now sid.now)) result }
+        ensures reason { IfOk result (λ d. IsReasoned self.now (command.Sub conn subject.now sid.now) d.outcome) }
+    {
+        match self.sessions.find(conn) {
+            None => Err(HubRefusal::NoSession),
+            Some(session) => match session.user.rules.subscribe(subject.get()) {
+                Verdict::Allowed(_) => {
+                    if self.subscriptions.stands(conn, sid) {
+                        return Ok(unchanged(Outcome::SameSid));
+                    }
+                    if self.subscriptions.has_all(conn) {
+                        return Ok(unchanged(Outcome::SubLimit));
+                    }
+                    let change = stand(conn, &session.user.account, subject, sid)?;
+                    Ok(Decided {
+                        outcome: Outcome::Subscribed,
+                        change,
+                    })
+                }
+                Verdict::DeniedBy(index) => {
+                    Ok(unchanged(Outcome::Denied(Verdict::DeniedBy(index))))
+                }
+                Verdict::NoAllow => Ok(unchanged(Outcome::Denied(Verdict::NoAllow))),
+            },
+        }
+    }
+
+    /// A limit, or an end, for the connection's subscription of that id.
+    fn unsubscribe(&self, conn: u64, sid: &Sid, most: Option<u64>) -> Result<Decided, HubRefusal>
+        ensures decided { IsDecided self.now (moved self.now (command.Unsub conn sid.now most)) result }
+        ensures reason { IfOk result (λ d. IsReasoned self.now (command.Unsub conn sid.now most) d.outcome) }
+    {
+        if !self.sessions.has(conn) {
+            return Err(HubRefusal::NoSession);
+        }
+        let sid = sid.again()?;
+        Ok(Decided {
+            outcome: Outcome::Unsubscribed,
+            change: Change::Limit { conn, sid, most },
+        })
+    }
+
+    /// A message to whom it is for, where the user's permissions allow it.
+    fn publish(&mut self, conn: u64, message: &Shared<Message>) -> Result<Decided, HubRefusal>
+        ensures decided { IsDecided self.old (in_session (session_of self.old.sessions conn) (λ z. published self.old z message.now (publish_verdict z.user.rules message.now.subject))) result }
+        ensures reason { IfOk result (λ d. (word : ℕ) → IsReasoned self.old (command.Pub conn message.now word) d.outcome) }
+        ensures same { self.new ≡ self.old }
+    {
+        let (by, all) = match self.sessions.find(conn) {
+            None => return Err(HubRefusal::NoSession),
+            Some(session) => match session.user.rules.publish(message.get().subject()) {
+                Verdict::Allowed(by) => (
+                    by,
+                    address_all(
+                        self.alloc,
+                        &self.sessions,
+                        &self.subscriptions,
+                        session,
+                        message,
+                    )?,
+                ),
+                Verdict::DeniedBy(index) => {
+                    return Ok(unchanged(Outcome::Denied(Verdict::DeniedBy(index))));
+                }
+                Verdict::NoAllow => {
+                    return Ok(unchanged(Outcome::Denied(Verdict::NoAllow)));
+                }
+            },
+        };
+        let items = self.sessions.plan(all.as_slice())?;
+        Ok(Decided {
+            outcome: Outcome::Published(by, Items::from_vec(items)),
+            change: Change::Deliver(Items::from_vec(all)),
+        })
+    }
+
+    /// The oldest deliveries of a session's outbox.
+    fn take(&self, conn: u64, most: usize) -> Result<Decided, HubRefusal>
+        ensures decided { IsDecided self.now (moved self.now (command.Take conn most)) result }
+        ensures reason { IfOk result (λ d. IsReasoned self.now (command.Take conn most) d.outcome) }
+    {
+        match self.sessions.find(conn) {
+            None => Err(HubRefusal::NoSession),
+            Some(session) => {
+                let front = session.outbox.front(most)?;
+                let missed = session.missed;
+                Ok(Decided {
+                    outcome: Outcome::Taken(Items::from_vec(front), missed),
+                    change: Change::Drain { conn, most },
+                })
+            }
+        }
+    }
+
+    /// The end of a session.
+    fn close(&self, conn: u64) -> Result<Decided, HubRefusal>
+        ensures decided { IsDecided self.now (moved self.now (command.Close conn)) result }
+        ensures reason { IfOk result (λ d. IsReasoned self.now (command.Close conn) d.outcome) }
+    {
+        if !self.sessions.has(conn) {
+            return Err(HubRefusal::NoSession);
+        }
+        Ok(Decided {
+            outcome: Outcome::Closed,
+            change: Change::Leave { conn },
+        })
+    }
+
+    /// Another policy: whose sessions stay, and which subscriptions they lose.
+    fn reload(&self, ready: &Ready) -> Result<Decided, HubRefusal>
+        ensures decided { IsDecided self.now (moved self.now (command.Reload ready.now)) result }
+        ensures reason { IfOk result (λ d. IsReasoned self.now (command.Reload ready.now) d.outcome) }
+    {
+        let prepared = prepare(self.alloc, ready, &self.sessions, &self.subscriptions)?;
+        let Prepared {
+            ready,
+            users,
+            gone,
+            removed,
+        } = prepared;
+        Ok(Decided {
+            outcome: Outcome::Reloaded {
+                gone: Items::from_vec(gone),
+                removed: Items::from_vec(removed),
+            },
+            change: Change::Install { ready, users },
+        })
+    }
+}

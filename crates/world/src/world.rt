@@ -1,0 +1,252 @@
+//! The tables, and one step of them.
+use crate::change::{Change, Decided};
+use crate::decide::SESSIONS;
+use crate::standing::{Standing, standing_all};
+use events::{Answer, Command, Entry, Event, HubRefusal, Outcome};
+use lists::{Copying, Items, NoMemory, Shared};
+use policy_doc::Policy;
+use ready::Ready;
+use sessions::Sessions;
+use std::alloc::Global;
+use std::marker::Model;
+use subscriptions::Subscriptions;
+
+/// The tables: the policy in force, the sessions with their outboxes, and the standing subscriptions. A clause sees
+/// the world that they show.
+#[derive(Drop)]
+pub struct World {
+    pub(crate) alloc: Global,
+    pub(crate) ready: Ready,
+    pub(crate) capacity: usize,
+    pub(crate) epoch: u128,
+    pub(crate) moment: u64,
+    pub(crate) number: u64,
+    pub(crate) sessions: Sessions,
+    pub(crate) subscriptions: Subscriptions,
+}
+
+impl Model for World {
+    ghost use Rattle.std.specs.Prelude.{◌≤◌};
+    ghost use Rattle.world.specs.World as worlds;
+
+    ghost Value = { worlds.World };
+
+    ghost view = { λ w. record {
+      capacity = w.capacity;
+      policy = w.ready;
+      epoch = w.epoch;
+      moment = w.moment;
+      sessions = w.sessions;
+      subscriptions = w.subscriptions;
+      number = w.number;
+    } };
+
+    ghost invariant = { λ w. 1 ≤ w.capacity };
+}
+
+impl World {
+    ghost use Rattle.std.specs.Prelude.{◌≡◌, ◌==◌, ◌<◌, ◌≤◌, ◌+◌, ℕ, false, IfOk, IfErr, All, map};
+    ghost use Rattle.events.specs.declared.answer.Outcome.{Outcome};
+    ghost use Rattle.sessions.specs.Sessions.{session_of};
+    ghost use Rattle.sessions.specs.declared.session.Session.{Session};
+    ghost use Rattle.subscriptions.specs.declared.subscription.Subscription.{Subscription};
+    ghost use Rattle.world.specs.World as worlds;
+    ghost use Rattle.world.specs.World.{opening_world, advanced};
+    ghost use Rattle.world.specs.Transition.{IsApplied, IsReasoned, IsRefusal, IsMoved, transition, moved, refusal_in, in_session, in_new_session};
+    ghost use Rattle.world.specs.Shown.{standing_of, waiting_of};
+
+    /// The tables over a policy, with nobody connected. `outbox` is how many deliveries may wait for a session.
+    pub fn new(alloc: Global, ready: Ready, outbox: usize) -> Result<World, (Ready, NoMemory)>
+        requires low { 1 ≤ outbox }
+        requires high { outbox ≤ 65536 }
+        ensures ok { IfOk result (λ world. world ≡ opening_world ready outbox) }
+        ensures err { IfErr result (λ refused. refused.0 ≡ ready) }
+    {
+        Ok(World {
+            alloc,
+            ready,
+            capacity: outbox,
+            epoch: 1,
+            moment: 0,
+            number: 0,
+            sessions: Sessions::new(alloc),
+            subscriptions: Subscriptions::new(alloc),
+        })
+    }
+
+    /// One event, which stays with the caller. The outcome and the world after it are the transition's. What is told
+    /// of it comes twice, once for the answer and once for the history: two owners of one entry. A refusal changes
+    /// nothing: `SessionTaken` to a Connect of a connection with a session, `NoSession` to any other command of one
+    /// without, `SessionLimit` to a Connect while 4,096 sessions stand, `NoMemory` where memory could not be had.
+    pub fn apply(&mut self, event: &Event) -> Result<(Answer, Answer), HubRefusal>
+        requires fresh { (self.old.number == 18446744073709551615) ≡ false }
+        requires epoch { self.old.epoch ≤ self.old.number + 1 }
+        requires ids { All (λ (s : Subscription). s.id ≤ self.old.number) self.old.subscriptions }
+        ensures step { IsApplied self.old event.entry.now result self.new }
+        ensures reason { IfOk result (λ both. IsReasoned self.old event.entry.now.what both.0.outcome) }
+    {
+        let next = self.number + 1;
+        let before = self.moment;
+        self.moment = before.max(event.now);
+        match self.enter(event) {
+            Ok(both) => {
+                self.number = next;
+                Ok(both)
+            }
+            Err(refusal) => {
+                self.moment = before;
+                Err(refusal)
+            }
+        }
+    }
+
+    /// Decides, makes the event's entry, and then does what was decided. The moment is the event's already, the number
+    /// the last one's still.
+    fn enter(&mut self, event: &Event) -> Result<(Answer, Answer), HubRefusal>
+        requires fresh { self.old.number < 18446744073709551615 }
+        requires epoch { self.old.epoch ≤ self.old.number + 1 }
+        requires ids { All (λ (s : Subscription). s.id ≤ self.old.number) self.old.subscriptions }
+        ensures step { IsMoved self.old event.entry.now result self.new }
+        ensures reason { IfOk result (λ both. IsReasoned self.old event.entry.now.what both.0.outcome) }
+    {
+        let Decided { outcome, change } = self.decide(&event.what)?;
+        let epoch = epoch_after(self.epoch, &change);
+        let (told, kept) = entry_twice(self.alloc, self.number + 1, epoch, outcome, event)?;
+        self.carry_out(change, &told.get().outcome)?;
+        Ok((told, kept))
+    }
+
+    /// Why an event is refused, want of memory aside; `None` where it is not.
+    pub fn refuses(&self, event: &Event) -> Option<HubRefusal>
+        ensures { result ≡ refusal_in (transition self.now event.entry.now) }
+    {
+        match &event.what {
+            Command::Connect { conn, .. } => self.refuses_connect(*conn),
+            Command::Sub { conn, .. } => self.refuses_other(*conn),
+            Command::Unsub { conn, .. } => self.refuses_other(*conn),
+            Command::Pub { conn, .. } => self.refuses_other(*conn),
+            Command::Take { conn, .. } => self.refuses_other(*conn),
+            Command::Close { conn } => self.refuses_other(*conn),
+            Command::Reload(_) => None,
+        }
+    }
+
+    /// Why a Connect is refused.
+    fn refuses_connect(&self, conn: u64) -> Option<HubRefusal>
+        ensures { (now : ℕ) (connected : Outcome × worlds.World) → refusal_in (in_new_session (advanced self.now now) (session_of self.now.sessions conn) connected) ≡ result }
+    {
+        match self.sessions.find(conn) {
+            Some(_) => Some(HubRefusal::SessionTaken),
+            None => {
+                if self.sessions.len() >= SESSIONS {
+                    Some(HubRefusal::SessionLimit)
+                } else {
+                    None
+                }
+            }
+        }
+    }
+
+    /// Why another command of a connection is refused.
+    fn refuses_other(&self, conn: u64) -> Option<HubRefusal>
+        ensures { (done : Session → Outcome × worlds.World) → refusal_in (in_session (session_of self.now.sessions conn) done) ≡ result }
+    {
+        match self.sessions.find(conn) {
+            Some(_) => None,
+            None => Some(HubRefusal::NoSession),
+        }
+    }
+
+    /// The number of the last entry, 0 before the first.
+    pub fn number(&self) -> u64
+        ensures { result ≡ self.now.number }
+    {
+        self.number
+    }
+
+    /// The policy in force, made ready.
+    pub fn ready(&self) -> &Ready
+        ensures { result.now ≡ self.now.policy }
+    {
+        &self.ready
+    }
+
+    /// The policy in force.
+    pub fn policy(&self) -> &Policy
+        ensures { result.now ≡ self.now.policy }
+    {
+        self.ready.policy()
+    }
+
+    /// The epoch in force: which policy it is, counted from 1.
+    pub fn epoch(&self) -> u128
+        ensures { result ≡ self.now.epoch }
+    {
+        self.epoch
+    }
+
+    /// The standing subscriptions, oldest first. `NoMemory` where memory could not be had.
+    pub fn standing(&self) -> Result<Items<Standing>, NoMemory>
+        ensures { IfOk result (λ all. all ≡ map standing_of self.now.subscriptions) }
+    {
+        let all = standing_all(self.alloc, &self.subscriptions)?;
+        Ok(all)
+    }
+
+    /// How many deliveries wait for the connection's session, and whether one was missed since its Connect or
+    /// last Take; `None` where it has no session.
+    pub fn waiting(&self, conn: u64) -> Option<(usize, bool)>
+        ensures { result ≡ waiting_of self.now conn }
+    {
+        match self.sessions.find(conn) {
+            None => None,
+            Some(session) => Some((session.outbox.len(), session.missed)),
+        }
+    }
+}
+
+ghost use Rattle.std.specs.Prelude.{ℕ, ◌≡◌, ◌<◌, ◌+◌, IfOk};
+ghost use Rattle.world.specs.Transition.{entry_with};
+ghost use Rattle.world.specs.Changes.{epoch_after};
+
+/// Which policy is in force once a change is done.
+fn epoch_after(epoch: u128, change: &Change) -> u128
+    requires { epoch < 340282366920938463463374607431768211455 }
+    ensures { result ≡ epoch_after epoch change.now }
+{
+    match change {
+        Change::Nothing => epoch,
+        Change::Open(_) => epoch,
+        Change::Stand { .. } => epoch,
+        Change::Limit { .. } => epoch,
+        Change::Deliver(_) => epoch,
+        Change::Drain { .. } => epoch,
+        Change::Leave { .. } => epoch,
+        Change::Install { .. } => epoch + 1,
+    }
+}
+
+/// The entry of an event, twice: two owners of one. The event is not copied: what it holds has one more owner.
+fn entry_twice(
+    alloc: Global,
+    number: u64,
+    epoch: u128,
+    outcome: Outcome,
+    event: &Event,
+) -> Result<(Answer, Answer), NoMemory>
+    ensures told { IfOk result (λ both. both.0 ≡ entry_with number epoch outcome event.entry.now) }
+    ensures kept { IfOk result (λ both. both.1 ≡ both.0) }
+{
+    let event = event.copy(alloc)?;
+    let told = Shared::new(
+        alloc,
+        Entry {
+            number,
+            epoch,
+            outcome,
+            event,
+        },
+    )?;
+    let kept = told.again()?;
+    Ok((told, kept))
+}
