@@ -115,6 +115,7 @@ impl Hub {
         }
         match self.world.apply(&event) {
             Ok((told, kept)) => {
+                // The entry has all that the event has.
                 drop(event);
                 self.entries.push_reserved(kept);
                 Ok(told)
