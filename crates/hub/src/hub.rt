@@ -117,8 +117,7 @@ impl Hub {
             Ok((told, kept)) => {
                 // The entry has all that the event has.
                 drop(event);
-                self.entries.push_reserved(kept);
-                Ok(told)
+                Ok(enter(&mut self.entries, told, kept))
             }
             Err(refusal) => Err((event, refusal)),
         }
@@ -230,4 +229,17 @@ impl Hub {
     {
         self.world.waiting(conn)
     }
+}
+
+ghost use Rattle.std.specs.Prelude.{◌≡◌, ◌<◌, ◌++◌, ◌∷◌, [], vec_len, vec_capacity};
+
+/// Enters what is kept of an event behind all entries, in the place that it has there, and gives what is told.
+fn enter(entries: &mut Vec<Answer>, told: Answer, kept: Answer) -> Answer
+    requires room { vec_len entries.old < vec_capacity entries.old }
+    requires same { kept ≡ told }
+    ensures answer { result ≡ told }
+    ensures entered { entries.new.items ≡ entries.old.items ++ told ∷ [] }
+{
+    entries.push_reserved(kept);
+    told
 }

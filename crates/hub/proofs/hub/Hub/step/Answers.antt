@@ -7,33 +7,33 @@ use Rattle.hub.proofs.Legal.{state_of, IsEntered, kept-step, entered-step, enter
 use Rattle.hub.proofs.hub.Hub.step.Goals as goal
 
 -- what the calls ensure
-is_entered : (c : goal.After-push_reserved) → IsEntered c.self.inside.opening c.self.inside.world c.self.inside.most c.self.inside.entries.items c.args.event c.in-Ok.told c.apply.new.self c.push_reserved.new.self.items
+is_entered : (c : goal.After-enter) → IsEntered c.self.inside.opening c.self.inside.world c.self.inside.most c.self.inside.entries.items c.args.event c.enter.result c.apply.new.self c.enter.new.entries.items
 is_entered c =
     let room : is_history_full c.args.self.now ≡ false = sym c.is_full.ensures ∙ c.if-is_full.false in
     let P : State → Type 0 = λ s. is_history_full s ≡ false in
-    record {
+    let Q : Entry → Type 0 = λ a. IsEntered c.self.inside.opening c.self.inside.world c.self.inside.most c.self.inside.entries.items c.args.event a c.apply.new.self c.enter.new.entries.items in
+    subst Q (sym c.enter.ensures.answer)
+    (record {
       sound = c.self.invariant.0;
       run = c.self.invariant.1;
       room = subst P (sym c.self.view_is) room;
       step = c.in-Ok.ensures.applied.0;
       answer = c.in-Ok.ensures.applied.1;
       reason = c.in-Ok.ensures.reason;
-      entered = c.push_reserved.ensures.items
-          ∙ ap (λ (l : List Entry). l ++ c.in-Ok.kept ∷ []) c.reserve.ensures.items
-          ∙ ap (λ (a : Entry). c.self.inside.entries.items ++ a ∷ []) c.in-Ok.ensures.applied.2;
-    }
+      entered = c.enter.ensures.entered ∙ ap (λ (l : List Entry). l ++ c.in-Ok.told ∷ []) c.reserve.ensures.items;
+    })
 
 pub invariant_of-self-in-Ok : goal.invariant_of-self-in-Ok
 invariant_of-self-in-Ok c = kept-step _ _ _ _ _ _ _ _ (is_entered c)
 
 pub returns-in-Ok-clause-transition : goal.returns-in-Ok-clause-transition
 returns-in-Ok-clause-transition c =
-    let P : State → Type 0 = λ s. IsStep s c.args.event (Ok c.in-Ok.told) (state_of c.self.inside.opening c.apply.new.self c.self.inside.most c.push_reserved.new.self.items) in
+    let P : State → Type 0 = λ s. IsStep s c.args.event (Ok c.enter.result) (state_of c.self.inside.opening c.apply.new.self c.self.inside.most c.enter.new.entries.items) in
     subst P c.self.view_is (entered-step _ _ _ _ _ _ _ _ (is_entered c))
 
 pub returns-in-Ok-clause-guarantee : goal.returns-in-Ok-clause-guarantee
 returns-in-Ok-clause-guarantee c =
-    let P : State → Type 0 = λ s. KeepsGuarantee s c.args.event (Ok c.in-Ok.told) (state_of c.self.inside.opening c.apply.new.self c.self.inside.most c.push_reserved.new.self.items) in
+    let P : State → Type 0 = λ s. KeepsGuarantee s c.args.event (Ok c.enter.result) (state_of c.self.inside.opening c.apply.new.self c.self.inside.most c.enter.new.entries.items) in
     subst P c.self.view_is (entered-guaranteed _ _ _ _ _ _ _ _ (is_entered c))
 
 -- a refused one keeps the guarantee, whether the world refuses it or memory
