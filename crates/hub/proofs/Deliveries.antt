@@ -7,15 +7,17 @@ use Rattle.std.proofs.Math.Bool.{or-true, or-false}
 use Rattle.std.proofs.lemmas.List.Folds.{map_fixed}
 use Rattle.std.proofs.lemmas.Bool.{eqb-true, eq-eqb, ne_eqb, ltb-true, ltb-false, lt-ltb, le-ltb, cases_eq}
 use Rattle.std.proofs.lemmas.List.Elements.{All-head, All-tail}
-use Rattle.hub.specs.World.{session_of, with_session}
-use Rattle.hub.specs.Transition.{of_connection}
-use Rattle.hub.specs.Routing.{Message, delivery_to, offered, addressed_to, after_offer, item_of, delivered, has_room}
+use Rattle.events.specs.Messages.{Message}
+use Rattle.events.specs.declared.answer.Delivery.{Delivery}
+use Rattle.events.specs.declared.answer.Item.{Item}
+use Rattle.events.specs.declared.answer.Item.TheVariants.{Entered, Full}
+use Rattle.sessions.specs.Sessions.{session_of, with_session}
+use Rattle.sessions.specs.Delivered.{offered, after_offer, item_of, delivered, has_room}
+use Rattle.sessions.specs.declared.session.Session.{Session}
+use Rattle.subscriptions.specs.Subscriptions.{of_connection}
+use Rattle.subscriptions.specs.declared.subscription.Subscription.{Subscription}
+use Rattle.world.specs.Routing.{delivery_to, addressed_to}
 use Rattle.hub.specs.Guarantee.{receives, room_in, items_of, items_with_room, item_names, names_of}
-use Rattle.hub.specs.declared.tables.Session.{Session}
-use Rattle.hub.specs.declared.tables.Subscription.{Subscription}
-use Rattle.hub.specs.declared.answer.Delivery.{Delivery}
-use Rattle.hub.specs.declared.answer.Item.{Item}
-use Rattle.hub.specs.declared.answer.Item.TheVariants.{Entered, Full}
 use Rattle.hub.proofs.Finds.{AllPairs-head, AllPairs-tail, AllPairs-map}
 use Rattle.hub.proofs.Soundness.{IsApart, either}
 

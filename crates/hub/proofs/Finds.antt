@@ -71,3 +71,9 @@ pub AllPairs-map : {X : Type 0} (R : X → X → Type 0) (f : X → X) (xs : Lis
 AllPairs-map R f xs kept all i j d h k =
     let lj : j < length xs = omega (arith, length-map xs f) in
     rw (get_or-map f xs i d d (omega arith), get_or-map f xs j d d lj) (kept _ _ (all i j d h lj))
+
+-- where each element fails the test, it finds nothing
+pub find-nothing : {X : Type 0} (t : X → Bool) (xs : List X) → All (λ x. t x ≡ false) xs → find t xs ≡ None
+find-nothing t [] none = refl
+find-nothing t (x ∷ xs) none =
+    ap (λ b. cond b (Some x) (find t xs)) (All-head (λ y. t y ≡ false) x xs none) ∙ find-nothing t xs (All-tail (λ y. t y ≡ false) x xs none)

@@ -1,49 +1,55 @@
 -- The transition keeps the guarantee, command by command.
 use Rattle.std.proofs.Common.{◌||◌, ◌≡◌, ◌∙◌, ◌==◌, ◌&&◌, ℕ, ◌+◌, ◌-◌, ◌≤◌, Bool, true, false, not, cond, List, [], ◌∷◌, ◌++◌, map, filter, length, take, drop, Option, Some, None, Result, Ok, Err, ap, sym, refl, subst, arith, max}
-use Rattle.std.specs.Prelude.{IsSomeAnd, is_some, nat_lt, nat_le, IfOk}
+use Rattle.std.specs.Prelude.{IsSomeAnd, is_some, nat_lt, nat_le, nat_eq, IfOk}
+use Rattle.std.specs.Cmp.Lexicographic.{pointwise}
 use Rattle.std.proofs.lemmas.List.{length-append, length-take, length-drop}
-use Rattle.std.proofs.lemmas.List.Elements.{filter_agree}
+use Rattle.std.proofs.lemmas.List.Elements.{All-weaker}
 use Rattle.subjects.specs.Subject.{Token, in_set}
-use Rattle.permissions.specs.Verdicts.{publish_verdict, subscribe_verdict, is_allowed, IsJustifiedPublish, IsJustifiedSubscribe}
+use Rattle.permissions.specs.Verdicts.{publish_verdict, subscribe_verdict, delivery_verdict, is_allowed, IsJustifiedPublish, IsJustifiedSubscribe}
 use Rattle.permissions.specs.declared.verdict.Verdict.{Verdict}
 use Rattle.permissions.specs.declared.verdict.Verdict.TheVariants.{Allowed, DeniedBy, NoAllow}
 use Rattle.policy_doc.specs.declared.document.PolicyDoc.{PolicyDoc}
-use Rattle.hub.specs.Users.{user_with_password}
-use Rattle.hub.specs.World.{World, session_of, with_session, advanced}
-use Rattle.hub.specs.Sound.{IsSound, user_behind, user_at, may_subscribe}
-use Rattle.hub.specs.Routing.{Message, message, admitted, is_admitted, may_hear, lets_through, addressed_to, delivered}
-use Rattle.hub.specs.Limit.{has_entered, unended, counted, is_under, limit_of, limited}
-use Rattle.hub.specs.Transition.{IsReasoned, new_session, has_all, subscription_of, stands, drained, taken, connected, subscribed, unsubscribed, published, closed, in_session, in_new_session, on_sessions, moved, numbered, transition, IsRefusal}
+use Rattle.ready.specs.Users.{user_with_password}
+use Rattle.ready.specs.declared.ready.User.{User}
+use Rattle.events.specs.Messages.{Message}
+use Rattle.events.specs.declared.event.Event.{Event}
+use Rattle.events.specs.declared.event.Command.{Command}
+use Rattle.events.specs.declared.event.Command.TheVariants.{Connect, Sub, Unsub, Pub, Take, Close, Reload}
+use Rattle.events.specs.declared.answer.Delivery.{Delivery}
+use Rattle.events.specs.declared.answer.Entry.{Entry}
+use Rattle.events.specs.declared.answer.Item.{Item}
+use Rattle.events.specs.declared.answer.Outcome.{Outcome}
+use Rattle.events.specs.declared.answer.Outcome.TheVariants.{Connected, AuthViolation, Subscribed, SameSid, SubLimit, Denied, Unsubscribed, Published, Taken, Closed}
+use Rattle.events.specs.declared.refusal.HubRefusal.{HubRefusal}
+use Rattle.events.specs.declared.refusal.HubRefusal.TheVariants.{HistoryFull, NoSession, SessionTaken, SessionLimit, NoMemory}
+use Rattle.sessions.specs.Sessions.{session_of, with_session, new_session, drained}
+use Rattle.sessions.specs.Delivered.{delivered}
+use Rattle.sessions.specs.declared.session.Session.{Session}
+use Rattle.subscriptions.specs.Subscriptions.{is_under, stands, has_all, subscription_of}
+use Rattle.subscriptions.specs.Limit.{has_entered, unended, counted, limit_of, limited}
+use Rattle.subscriptions.specs.declared.subscription.Subscription.{Subscription}
+use Rattle.world.specs.World.{World, advanced}
+use Rattle.world.specs.Routing.{own_view, is_admitted, admitted, may_hear, lets_through, addressed_to}
+use Rattle.world.specs.Transition.{IsReasoned, IsRefusal, connected, subscribed, unsubscribed, published, taken, closed, in_session, in_new_session, moved, numbered, transition}
+use Rattle.hub.specs.Sound.{IsSound, user_behind, user_at, account_of, may_subscribe}
 use Rattle.hub.specs.InForce.{policy_after, epoch_after}
-use Rattle.hub.specs.History.{State, is_history_full, entry_of, answer_of, remembered, stepped, IsStep}
+use Rattle.hub.specs.History.{State, is_history_full, remembered, stepped, IsStep}
 use Rattle.hub.specs.Guarantee.{accepts, allows, may_publish, may_receive, has_echo, is_for, recipients, IsDenial, HasReason, IsDelivered, IsUntouched, IsEffect, is_connect, is_nobodys, has_session, is_fit, is_in_order, is_due, is_at_limit, IsRouted, KeepsGuarantee, IsGuarded}
-use Rattle.hub.specs.declared.ready.User.{User}
-use Rattle.hub.specs.declared.tables.Session.{Session}
-use Rattle.hub.specs.declared.tables.Subscription.{Subscription}
-use Rattle.hub.specs.declared.event.Event.{Event}
-use Rattle.hub.specs.declared.event.Command.{Command}
-use Rattle.hub.specs.declared.event.Command.TheVariants.{Connect, Sub, Unsub, Pub, Take, Close, Reload}
-use Rattle.hub.specs.declared.answer.Answer.{Answer}
-use Rattle.hub.specs.declared.answer.Delivery.{Delivery}
-use Rattle.hub.specs.declared.answer.Item.{Item}
-use Rattle.hub.specs.declared.answer.Outcome.{Outcome}
-use Rattle.hub.specs.declared.answer.Outcome.TheVariants.{Connected, AuthViolation, Subscribed, SameSid, SubLimit, Denied, Unsubscribed, Published, Taken, Closed}
-use Rattle.hub.specs.declared.answer.HubRefusal.{HubRefusal}
-use Rattle.hub.specs.declared.answer.HubRefusal.TheVariants.{HistoryFull, NoSession, SessionTaken, SessionLimit, NoMemory}
 use Rattle.std.proofs.lemmas.Bool.{eqb-true}
+use Rattle.hub.proofs.Lists.{filter_same_on}
 use Rattle.hub.proofs.Finds.{find-passes}
 use Rattle.hub.proofs.Naming.{user_named-again}
 use Rattle.hub.proofs.Soundness.{next, KeepsSession, KeepsSubscription, either, keeps-where, user_at-session, sound-same, sound-map, sound-limits, sound-open, sound-add, sound-close}
 use Rattle.hub.proofs.Reloads.{in_force, sound-reload}
 use Rattle.hub.proofs.Deliveries.{only, with_session-map, gets, items_after, outboxes, one_each, with_room}
 
--- where the tables refuse a command
-abbrev refuses : World → Command → HubRefusal → Bool
-refuses w c HistoryFull = false
-refuses w c SessionTaken = is_connect c && has_session w c
-refuses w c NoSession = not (is_connect c || is_nobodys c) && not (has_session w c)
-refuses w c SessionLimit = is_connect c && not (has_session w c) && is_at_limit w
-refuses w c NoMemory = is_fit w c
+-- where the tables turn a command away
+abbrev turns_away : World → Command → HubRefusal → Bool
+turns_away w c HistoryFull = false
+turns_away w c SessionTaken = is_connect c && has_session w c
+turns_away w c NoSession = not (is_connect c || is_nobodys c) && not (has_session w c)
+turns_away w c SessionLimit = is_connect c && not (has_session w c) && is_at_limit w
+turns_away w c NoMemory = is_fit w c
 
 -- what the guarantee says of the worlds before and after an answered step
 pub record IsMoved (w : World) (e : Event) (o : Outcome) (after : World) : Type 0 where
@@ -56,16 +62,16 @@ pub record IsMoved (w : World) (e : Event) (o : Outcome) (after : World) : Type 
 -- the guarantee of what the transition gives
 abbrev Keeps : World → Event → Result (Outcome × World) HubRefusal → Type 0
 Keeps w e (Ok r) = (is_fit w e.what ≡ true) × (IsReasoned w e.what r.0 → IsMoved w e r.0 r.1)
-Keeps w e (Err refusal) = refuses w e.what refusal ≡ true
+Keeps w e (Err refusal) = turns_away w e.what refusal ≡ true
 
 abbrev event : ℕ → Command → Event
 event now c = record { now = now; what = c }
 
 -- a command other than a reload
-routed : (w : World) (now : ℕ) (c : Command) (o : Outcome) (zs : List Session) (subs : List Subscription) →
+answered : (w : World) (now : ℕ) (c : Command) (o : Outcome) (zs : List Session) (subs : List Subscription) →
     (policy_after w c ≡ w.policy) × (epoch_after w c ≡ w.epoch) → is_fit w c ≡ true → accepts o ≡ allows w c → (IsReasoned w c o → HasReason w c o) → IsEffect w c o (next w now zs subs) → IsSound (next w now zs subs) →
     Keeps w (event now c) (Ok (o, next w now zs subs))
-routed w now c o zs subs stay fit accepted reason effect sound = (
+answered w now c o zs subs stay fit accepted reason effect sound = (
   fit,
   λ reasoned. record {
     accepted = accepted;
@@ -102,10 +108,10 @@ connect-keeps w now conn name password echo sound = by_session (session_of w.ses
   where
     by_user : (uo : Option User) → user_with_password w.policy name password ≡ uo → session_of w.sessions conn ≡ None → nat_le 4096 (length w.sessions) ≡ false → is_fit w (Connect conn name password echo) ≡ true →
         Keeps w (event now (Connect conn name password echo)) (numbered (w.number + 1) (Ok (connected (advanced w now) conn echo uo)))
-    by_user None u e room fit = routed w now (Connect conn name password echo) AuthViolation w.sessions w.subscriptions (refl, refl) fit (sym (ap is_some u)) (λ _. tt) (untouched w now) (sound-same w now sound)
+    by_user None u e room fit = answered w now (Connect conn name password echo) AuthViolation w.sessions w.subscriptions (refl, refl) fit (sym (ap is_some u)) (λ _. tt) (untouched w now) (sound-same w now sound)
     by_user (Some user) u e room fit =
         let zs : List Session = w.sessions ++ new_session conn user echo w.capacity ∷ [] in
-        routed w now (Connect conn name password echo) Connected zs w.subscriptions (refl, refl) fit (sym (ap is_some u)) (λ _. tt)
+        answered w now (Connect conn name password echo) Connected zs w.subscriptions (refl, refl) fit (sym (ap is_some u)) (λ _. tt)
         (subst (λ o. IsSomeAnd o (λ (v : User). zs ≡ w.sessions ++ new_session conn v echo w.capacity ∷ [])) (sym u) refl, refl)
         (sound-open w now conn user echo e room (user_named-again w.policy name password user sound.policy u) sound)
 
@@ -134,48 +140,80 @@ sub-keeps w now conn p sid sound = by_session (session_of w.sessions conn) refl
     allowed : (v : Verdict) (z : Session) → subscribe_verdict z.user.rules p ≡ v → user_at w conn ≡ Some z.user → may_subscribe (user_at w conn) p ≡ is_allowed v
     allowed v z e u = ap (λ o. may_subscribe o p) u ∙ ap is_allowed e
 
-    by_limit : (l : Bool) → has_all w.subscriptions conn ≡ l → stands w.subscriptions conn sid ≡ false → may_subscribe (user_at w conn) p ≡ true → is_fit w (Sub conn p sid) ≡ true →
-        Keeps w (event now (Sub conn p sid)) (numbered (w.number + 1) (Ok (cond l (SubLimit, advanced w now) (Subscribed, record (advanced w now) { subscriptions = w.subscriptions ++ subscription_of (w.number + 1) conn p sid ∷ [] }))))
-    by_limit true limit taken may fit = routed w now (Sub conn p sid) SubLimit w.sessions w.subscriptions (refl, refl) fit (sym may) (λ _. tt) (taken, limit, untouched w now) (sound-same w now sound)
-    by_limit false limit taken may fit =
-        routed w now (Sub conn p sid) Subscribed w.sessions (w.subscriptions ++ subscription_of (w.number + 1) conn p sid ∷ []) (refl, refl) fit (sym may) (λ _. tt) (taken, limit, refl, refl) (sound-add w now conn p sid may taken limit sound)
+    added : Session → List Subscription
+    added z = w.subscriptions ++ subscription_of (w.number + 1) conn z.user.account p sid ∷ []
 
-    by_sid : (t : Bool) → stands w.subscriptions conn sid ≡ t → may_subscribe (user_at w conn) p ≡ true → is_fit w (Sub conn p sid) ≡ true →
-        Keeps w (event now (Sub conn p sid)) (numbered (w.number + 1) (Ok (cond t (SameSid, advanced w now) (cond (has_all w.subscriptions conn) (SubLimit, advanced w now) (Subscribed, record (advanced w now) { subscriptions = w.subscriptions ++ subscription_of (w.number + 1) conn p sid ∷ [] })))))
-    by_sid true taken may fit = routed w now (Sub conn p sid) SameSid w.sessions w.subscriptions (refl, refl) fit (sym may) (λ _. tt) (taken, untouched w now) (sound-same w now sound)
-    by_sid false taken may fit = by_limit (has_all w.subscriptions conn) refl taken may fit
+    by_limit : (l : Bool) (z : Session) → has_all w.subscriptions conn ≡ l → stands w.subscriptions conn sid ≡ false → user_at w conn ≡ Some z.user → may_subscribe (user_at w conn) p ≡ true → is_fit w (Sub conn p sid) ≡ true →
+        Keeps w (event now (Sub conn p sid)) (numbered (w.number + 1) (Ok (cond l (SubLimit, advanced w now) (Subscribed, record (advanced w now) { subscriptions = added z }))))
+    by_limit true z limit taken u may fit = answered w now (Sub conn p sid) SubLimit w.sessions w.subscriptions (refl, refl) fit (sym may) (λ _. tt) (taken, limit, untouched w now) (sound-same w now sound)
+    by_limit false z limit taken u may fit =
+        answered w now (Sub conn p sid) Subscribed w.sessions (added z) (refl, refl) fit (sym may) (λ _. tt)
+        (taken, limit, refl, subst (λ o. IsSomeAnd o (λ (user : User). added z ≡ w.subscriptions ++ subscription_of (w.number + 1) conn user.account p sid ∷ [])) (sym u) refl)
+        (sound-add w now conn z.user.account p sid may (ap account_of u) taken limit sound)
+
+    by_sid : (t : Bool) (z : Session) → stands w.subscriptions conn sid ≡ t → user_at w conn ≡ Some z.user → may_subscribe (user_at w conn) p ≡ true → is_fit w (Sub conn p sid) ≡ true →
+        Keeps w (event now (Sub conn p sid)) (numbered (w.number + 1) (Ok (cond t (SameSid, advanced w now) (cond (has_all w.subscriptions conn) (SubLimit, advanced w now) (Subscribed, record (advanced w now) { subscriptions = added z })))))
+    by_sid true z taken u may fit = answered w now (Sub conn p sid) SameSid w.sessions w.subscriptions (refl, refl) fit (sym may) (λ _. tt) (taken, untouched w now) (sound-same w now sound)
+    by_sid false z taken u may fit = by_limit (has_all w.subscriptions conn) z refl taken u may fit
 
     by_verdict : (v : Verdict) (z : Session) → subscribe_verdict z.user.rules p ≡ v → session_of w.sessions conn ≡ Some z → user_at w conn ≡ Some z.user → is_fit w (Sub conn p sid) ≡ true →
-        Keeps w (event now (Sub conn p sid)) (numbered (w.number + 1) (Ok (subscribed (advanced w now) conn p sid v)))
-    by_verdict (Allowed by) z e at u fit = by_sid (stands w.subscriptions conn sid) refl (allowed (Allowed by) z e u) fit
-    by_verdict (DeniedBy i) z e at u fit = routed w now (Sub conn p sid) (Denied (DeniedBy i)) w.sessions w.subscriptions (refl, refl) fit (sym (allowed (DeniedBy i) z e u)) (denied (DeniedBy i) z e at u) (untouched w now) (sound-same w now sound)
-    by_verdict NoAllow z e at u fit = routed w now (Sub conn p sid) (Denied NoAllow) w.sessions w.subscriptions (refl, refl) fit (sym (allowed NoAllow z e u)) (denied NoAllow z e at u) (untouched w now) (sound-same w now sound)
+        Keeps w (event now (Sub conn p sid)) (numbered (w.number + 1) (Ok (subscribed (advanced w now) conn z.user.account p sid v)))
+    by_verdict (Allowed by) z e at u fit = by_sid (stands w.subscriptions conn sid) z refl u (allowed (Allowed by) z e u) fit
+    by_verdict (DeniedBy i) z e at u fit = answered w now (Sub conn p sid) (Denied (DeniedBy i)) w.sessions w.subscriptions (refl, refl) fit (sym (allowed (DeniedBy i) z e u)) (denied (DeniedBy i) z e at u) (untouched w now) (sound-same w now sound)
+    by_verdict NoAllow z e at u fit = answered w now (Sub conn p sid) (Denied NoAllow) w.sessions w.subscriptions (refl, refl) fit (sym (allowed NoAllow z e u)) (denied NoAllow z e at u) (untouched w now) (sound-same w now sound)
 
     by_session : (o : Option Session) → session_of w.sessions conn ≡ o →
-        Keeps w (event now (Sub conn p sid)) (numbered (w.number + 1) (in_session o (λ z. subscribed (advanced w now) conn p sid (subscribe_verdict z.user.rules p))))
+        Keeps w (event now (Sub conn p sid)) (numbered (w.number + 1) (in_session o (λ z. subscribed (advanced w now) conn z.user.account p sid (subscribe_verdict z.user.rules p))))
     by_session None e = none-due (session_of w.sessions conn) e
     by_session (Some z) e = by_verdict (subscribe_verdict z.user.rules p) z refl e (user_at-session w sound conn z e) (is_there (session_of w.sessions conn) z e)
 
 -- ---- Pub
 
--- whom the sessions let a message through to, the policy in force does
-lets-same : (doc : PolicyDoc) (account : List ℕ) (s : List Token) (o : Option Session) → ((z : Session) → o ≡ Some z → user_behind doc o ≡ Some z.user) →
-    lets_through account s o ≡ may_receive account s (user_behind doc o)
-lets-same doc account s None known = refl
-lets-same doc account s (Some z) known = sym (ap (may_receive account s) (known z refl))
+-- the same four facts in another order
+reordered : (a i h l : Bool) → ((a && i) && (h && l)) ≡ ((i && h) && (a && l))
+reordered true true h l = refl
+reordered true false h l = refl
+reordered false false h l = refl
+reordered false true true l = refl
+reordered false true false l = refl
 
-pub recipients-same : (w : World) (conn : ℕ) (z : Session) (s : List Token) → IsSound w → session_of w.sessions conn ≡ Some z → filter (is_admitted w.sessions z s) w.subscriptions ≡ recipients w conn z.user.account s
-recipients-same w conn z s sound at =
-    filter_agree (is_admitted w.sessions z s) (is_for w conn z.user.account s)
-    (λ sub. ap (λ b. in_set sub.subject s && b && lets_through z.user.account s (session_of w.sessions sub.conn)) (hears sub)
-    ∙ ap (λ b. in_set sub.subject s && (has_echo (session_of w.sessions conn) || not (sub.conn == conn)) && b) (lets-same w.policy z.user.account s (session_of w.sessions sub.conn) (λ y e. user_at-session w sound sub.conn y e)))
-    w.subscriptions
+-- A subscription is of the account that its connection's user has in the policy in force, so a message is for those
+-- that it is admitted to.
+pub admitted-same : (w : World) (conn : ℕ) (z : Session) (m : Message) (sub : Subscription) → IsSound w → session_of w.sessions conn ≡ Some z → account_of (user_at w sub.conn) ≡ Some sub.account →
+    is_admitted w.sessions z (own_view z m) sub ≡ is_for w conn z.user.account m.subject sub
+admitted-same w conn z m sub sound at owned = by_session (session_of w.sessions sub.conn) refl owned
   where
+    has : Bool
+    has = in_set sub.subject m.subject
+
+    heard : Bool
+    heard = has_echo (session_of w.sessions conn) || not (sub.conn == conn)
+
     own : z.conn ≡ conn
     own = eqb-true z.conn conn (find-passes (λ (y : Session). y.conn == conn) w.sessions z at)
 
-    hears : (sub : Subscription) → may_hear z sub ≡ (has_echo (session_of w.sessions conn) || not (sub.conn == conn))
-    hears sub = ap (λ n. z.echo || not (sub.conn == n)) own ∙ sym (ap (λ o. has_echo o || not (sub.conn == conn)) at)
+    hears : may_hear z sub.conn ≡ heard
+    hears = ap (λ n. z.echo || not (sub.conn == n)) own ∙ sym (ap (λ o. has_echo o || not (sub.conn == conn)) at)
+
+    by_session : (o : Option Session) → session_of w.sessions sub.conn ≡ o → account_of (user_behind w.policy o) ≡ Some sub.account →
+        is_admitted w.sessions z (own_view z m) sub ≡ is_for w conn z.user.account m.subject sub
+    by_session None e is = absurd (cc)
+    by_session (Some y) e is =
+        let user : user_at w sub.conn ≡ Some y.user = user_at-session w sound sub.conn y e in
+        let known : Some sub.account ≡ Some y.user.account = sym owned ∙ ap account_of user in
+        let same : sub.account ≡ y.user.account = cc in
+        let lets : Bool = is_allowed (delivery_verdict y.user.rules m.subject) in
+        ap (λ b. (pointwise nat_eq sub.account z.user.account && has) && (b && lets_through m.subject (session_of w.sessions sub.conn))) hears
+        ∙ ap (λ o. (pointwise nat_eq sub.account z.user.account && has) && (heard && lets_through m.subject o)) e
+        ∙ ap (λ (a : List ℕ). (pointwise nat_eq a z.user.account && has) && (heard && lets)) same
+        ∙ reordered (pointwise nat_eq y.user.account z.user.account) has heard lets
+        ∙ sym (ap (λ u. (has && heard) && may_receive z.user.account m.subject u) user)
+
+pub recipients-same : (w : World) (conn : ℕ) (z : Session) (m : Message) → IsSound w → session_of w.sessions conn ≡ Some z → admitted w z (own_view z m) ≡ recipients w conn z.user.account m.subject
+recipients-same w conn z m sound at =
+    filter_same_on (is_admitted w.sessions z (own_view z m)) (is_for w conn z.user.account m.subject) w.subscriptions
+    (All-weaker (λ (sub : Subscription). account_of (user_at w sub.conn) ≡ Some sub.account) (λ sub. is_admitted w.sessions z (own_view z m) sub ≡ is_for w conn z.user.account m.subject sub)
+    (λ sub owned. admitted-same w conn z m sub sound at owned) w.subscriptions sound.accounts)
 
 -- an outbox takes no more than it has room for
 bounded : (ws ds : List Delivery) (capacity bound : ℕ) → (capacity ≡ bound) × (length ws ≤ bound) → length (ws ++ take (capacity - length ws) ds) ≤ bound
@@ -192,55 +230,55 @@ gets-keeps capacity m subs = record {
 counted-keeps : (items : List Item) → KeepsSubscription (counted items)
 counted-keeps items =
     keeps-where (λ s. has_entered items s && nat_lt s.received 18446744073709551615) (λ (s : Subscription). record s { received = s.received + 1 })
-    (record { id = λ s. refl; conn = λ s. refl; subject = λ s. refl; sid = λ s. refl })
+    (record { id = λ s. refl; conn = λ s. refl; account = λ s. refl; subject = λ s. refl; sid = λ s. refl })
 
-pub-keeps : (w : World) (now conn : ℕ) (s : List Token) (reply : Option (List Token)) (head body : List ℕ) (word : ℕ) → IsSound w →
-    Keeps w (event now (Pub conn s reply head body word)) (numbered (w.number + 1) (moved (advanced w now) (Pub conn s reply head body word)))
-pub-keeps w now conn s reply head body word sound = by_session (session_of w.sessions conn) refl
+pub-keeps : (w : World) (now conn : ℕ) (m : Message) (word : ℕ) → IsSound w →
+    Keeps w (event now (Pub conn m word)) (numbered (w.number + 1) (moved (advanced w now) (Pub conn m word)))
+pub-keeps w now conn m word sound = by_session (session_of w.sessions conn) refl
   where
-    m : Message
-    m = message s reply head body
-
     command : Command
-    command = Pub conn s reply head body word
+    command = Pub conn m word
 
-    denied : (v : Verdict) (z : Session) → publish_verdict z.user.rules s ≡ v → session_of w.sessions conn ≡ Some z → user_at w conn ≡ Some z.user →
-        IsSomeAnd (session_of w.sessions conn) (λ (y : Session). IsJustifiedPublish s y.user.rules.publish v) → IsDenial w command v
+    denied : (v : Verdict) (z : Session) → publish_verdict z.user.rules m.subject ≡ v → session_of w.sessions conn ≡ Some z → user_at w conn ≡ Some z.user →
+        IsSomeAnd (session_of w.sessions conn) (λ (y : Session). IsJustifiedPublish m.subject y.user.rules.publish v) → IsDenial w command v
     denied v z e at u reasoned =
-        subst (λ o. IsSomeAnd o (λ (user : User). (v ≡ publish_verdict user.rules s) × IsJustifiedPublish s user.rules.publish v)) (sym u)
-        (sym e, subst (λ o. IsSomeAnd o (λ (y : Session). IsJustifiedPublish s y.user.rules.publish v)) at reasoned)
+        subst (λ o. IsSomeAnd o (λ (user : User). (v ≡ publish_verdict user.rules m.subject) × IsJustifiedPublish m.subject user.rules.publish v)) (sym u)
+        (sym e, subst (λ o. IsSomeAnd o (λ (y : Session). IsJustifiedPublish m.subject y.user.rules.publish v)) at reasoned)
 
-    allowed : (v : Verdict) (z : Session) → publish_verdict z.user.rules s ≡ v → user_at w conn ≡ Some z.user → may_publish (user_at w conn) s ≡ is_allowed v
-    allowed v z e u = ap (λ o. may_publish o s) u ∙ ap is_allowed e
+    allowed : (v : Verdict) (z : Session) → publish_verdict z.user.rules m.subject ≡ v → user_at w conn ≡ Some z.user → may_publish (user_at w conn) m.subject ≡ is_allowed v
+    allowed v z e u = ap (λ o. may_publish o m.subject) u ∙ ap is_allowed e
 
-    handed : (z : Session) → session_of w.sessions conn ≡ Some z → IsDelivered w m (recipients w conn z.user.account s) (items_after m (admitted w z s) w.sessions) (delivered (map (addressed_to m) (admitted w z s)) w.sessions).0
+    whom : Session → List Subscription
+    whom z = admitted w z (own_view z m)
+
+    handed : (z : Session) → session_of w.sessions conn ≡ Some z → IsDelivered w m (recipients w conn z.user.account m.subject) (items_after m (whom z) w.sessions) (delivered (map (addressed_to m) (whom z)) w.sessions).0
     handed z at =
-        subst (λ subs. IsDelivered w m subs (items_after m (admitted w z s) w.sessions) (delivered (map (addressed_to m) (admitted w z s)) w.sessions).0)
-        (recipients-same w conn z s sound at)
+        subst (λ subs. IsDelivered w m subs (items_after m (whom z) w.sessions) (delivered (map (addressed_to m) (whom z)) w.sessions).0)
+        (recipients-same w conn z m sound at)
         (record {
-          one_each = one_each m (admitted w z s) w.sessions;
-          with_room = with_room m (admitted w z s) w.sessions;
-          outboxes = outboxes m (admitted w z s) w.sessions sound.connections;
+          one_each = one_each m (whom z) w.sessions;
+          with_room = with_room m (whom z) w.sessions;
+          outboxes = outboxes m (whom z) w.sessions sound.connections;
         })
 
-    by_verdict : (v : Verdict) (z : Session) → publish_verdict z.user.rules s ≡ v → session_of w.sessions conn ≡ Some z → user_at w conn ≡ Some z.user → is_fit w command ≡ true →
+    by_verdict : (v : Verdict) (z : Session) → publish_verdict z.user.rules m.subject ≡ v → session_of w.sessions conn ≡ Some z → user_at w conn ≡ Some z.user → is_fit w command ≡ true →
         Keeps w (event now command) (numbered (w.number + 1) (Ok (published (advanced w now) z m v)))
     by_verdict (Allowed by) z e at u fit =
-        let zs : List Session = (delivered (map (addressed_to m) (admitted w z s)) w.sessions).0 in
-        let items : List Item = items_after m (admitted w z s) w.sessions in
+        let zs : List Session = (delivered (map (addressed_to m) (whom z)) w.sessions).0 in
+        let items : List Item = items_after m (whom z) w.sessions in
         let subs : List Subscription = unended (map (counted items) w.subscriptions) in
-        routed w now command (Published by items) zs subs (refl, refl) fit (sym (allowed (Allowed by) z e u)) (λ _. tt)
-        (subst (λ o. IsSomeAnd o (λ (user : User). (publish_verdict user.rules s ≡ Allowed by) × IsDelivered w m (recipients w conn user.account s) items zs)) (sym u) (e, handed z at), refl)
-        (subst (λ ys. IsSound (next w now ys subs)) (sym (outboxes m (admitted w z s) w.sessions sound.connections))
-        (sound-limits (next w now (map (gets m (admitted w z s)) w.sessions) w.subscriptions) (counted items) (counted-keeps items)
-        (sound-map w now (gets m (admitted w z s)) (gets-keeps w.capacity m (admitted w z s)) sound)))
-    by_verdict (DeniedBy i) z e at u fit = routed w now command (Denied (DeniedBy i)) w.sessions w.subscriptions (refl, refl) fit (sym (allowed (DeniedBy i) z e u)) (denied (DeniedBy i) z e at u) (untouched w now) (sound-same w now sound)
-    by_verdict NoAllow z e at u fit = routed w now command (Denied NoAllow) w.sessions w.subscriptions (refl, refl) fit (sym (allowed NoAllow z e u)) (denied NoAllow z e at u) (untouched w now) (sound-same w now sound)
+        answered w now command (Published by items) zs subs (refl, refl) fit (sym (allowed (Allowed by) z e u)) (λ _. tt)
+        (subst (λ o. IsSomeAnd o (λ (user : User). (publish_verdict user.rules m.subject ≡ Allowed by) × IsDelivered w m (recipients w conn user.account m.subject) items zs)) (sym u) (e, handed z at), refl)
+        (subst (λ ys. IsSound (next w now ys subs)) (sym (outboxes m (whom z) w.sessions sound.connections))
+        (sound-limits (next w now (map (gets m (whom z)) w.sessions) w.subscriptions) (counted items) (counted-keeps items)
+        (sound-map w now (gets m (whom z)) (gets-keeps w.capacity m (whom z)) sound)))
+    by_verdict (DeniedBy i) z e at u fit = answered w now command (Denied (DeniedBy i)) w.sessions w.subscriptions (refl, refl) fit (sym (allowed (DeniedBy i) z e u)) (denied (DeniedBy i) z e at u) (untouched w now) (sound-same w now sound)
+    by_verdict NoAllow z e at u fit = answered w now command (Denied NoAllow) w.sessions w.subscriptions (refl, refl) fit (sym (allowed NoAllow z e u)) (denied NoAllow z e at u) (untouched w now) (sound-same w now sound)
 
     by_session : (o : Option Session) → session_of w.sessions conn ≡ o →
-        Keeps w (event now command) (numbered (w.number + 1) (in_session o (λ z. published (advanced w now) z m (publish_verdict z.user.rules s))))
+        Keeps w (event now command) (numbered (w.number + 1) (in_session o (λ z. published (advanced w now) z m (publish_verdict z.user.rules m.subject))))
     by_session None e = none-due (session_of w.sessions conn) e
-    by_session (Some z) e = by_verdict (publish_verdict z.user.rules s) z refl e (user_at-session w sound conn z e) (is_there (session_of w.sessions conn) z e)
+    by_session (Some z) e = by_verdict (publish_verdict z.user.rules m.subject) z refl e (user_at-session w sound conn z e) (is_there (session_of w.sessions conn) z e)
 
 -- ---- Unsub
 
@@ -248,7 +286,7 @@ pub-keeps w now conn s reply head body word sound = by_session (session_of w.ses
 limited-keeps : (conn : ℕ) (sid : List ℕ) (most : Option ℕ) → KeepsSubscription (limited conn sid most)
 limited-keeps conn sid most =
     keeps-where (is_under conn sid) (λ (s : Subscription). record s { most = Some (limit_of most) })
-    (record { id = λ s. refl; conn = λ s. refl; subject = λ s. refl; sid = λ s. refl })
+    (record { id = λ s. refl; conn = λ s. refl; account = λ s. refl; subject = λ s. refl; sid = λ s. refl })
 
 unsub-keeps : (w : World) (now conn : ℕ) (sid : List ℕ) (most : Option ℕ) → IsSound w →
     Keeps w (event now (Unsub conn sid most)) (numbered (w.number + 1) (moved (advanced w now) (Unsub conn sid most)))
@@ -258,7 +296,7 @@ unsub-keeps w now conn sid most sound = by_session (session_of w.sessions conn) 
         Keeps w (event now (Unsub conn sid most)) (numbered (w.number + 1) (in_session o (λ z. unsubscribed (advanced w now) conn sid most)))
     by_session None e = none-due (session_of w.sessions conn) e
     by_session (Some z) e =
-        routed w now (Unsub conn sid most) Unsubscribed w.sessions (unended (map (limited conn sid most) w.subscriptions)) (refl, refl)
+        answered w now (Unsub conn sid most) Unsubscribed w.sessions (unended (map (limited conn sid most) w.subscriptions)) (refl, refl)
         (is_there (session_of w.sessions conn) z e) refl (λ _. tt) (refl, refl)
         (sound-limits (next w now w.sessions w.subscriptions) (limited conn sid most) (limited-keeps conn sid most) (sound-same w now sound))
 
@@ -283,12 +321,12 @@ take-keeps : (w : World) (now conn most : ℕ) → IsSound w →
 take-keeps w now conn most sound = by_session (session_of w.sessions conn) refl
   where
     by_session : (o : Option Session) → session_of w.sessions conn ≡ o →
-        Keeps w (event now (Take conn most)) (numbered (w.number + 1) (on_sessions (advanced w now) (in_session o (taken w.sessions conn most))))
+        Keeps w (event now (Take conn most)) (numbered (w.number + 1) (in_session o (taken (advanced w now) conn most)))
     by_session None e = none-due (session_of w.sessions conn) e
     by_session (Some z) e =
         let ds : List Delivery = take most z.outbox.waiting in
         let changed = with_session-map (drained most) conn w.sessions sound.connections in
-        routed w now (Take conn most) (Taken ds z.missed) (with_session (drained most) conn w.sessions) w.subscriptions (refl, refl)
+        answered w now (Take conn most) (Taken ds z.missed) (with_session (drained most) conn w.sessions) w.subscriptions (refl, refl)
         (is_there (session_of w.sessions conn) z e) refl (λ _. tt)
         (subst (λ o. IsSomeAnd o (λ (y : Session). (ds ≡ take most y.outbox.waiting) × (z.missed ≡ y.missed))) (sym e) (refl, refl), changed, refl)
         (subst (λ zs. IsSound (next w now zs w.subscriptions)) (sym changed) (sound-map w now (only (drained most) conn) (drained-keeps w.capacity most conn) sound))
@@ -301,7 +339,7 @@ close-keeps w now conn sound = by_session (session_of w.sessions conn) refl
         Keeps w (event now (Close conn)) (numbered (w.number + 1) (in_session o (λ z. closed (advanced w now) conn)))
     by_session None e = none-due (session_of w.sessions conn) e
     by_session (Some z) e =
-        routed w now (Close conn) Closed (filter (λ (y : Session). not (y.conn == conn)) w.sessions) (filter (λ (sub : Subscription). not (sub.conn == conn)) w.subscriptions) (refl, refl)
+        answered w now (Close conn) Closed (filter (λ (y : Session). not (y.conn == conn)) w.sessions) (filter (λ (sub : Subscription). not (sub.conn == conn)) w.subscriptions) (refl, refl)
         (is_there (session_of w.sessions conn) z e) refl (λ _. tt) (refl, refl) (sound-close w now conn sound)
 
 -- ---- Reload
@@ -325,7 +363,7 @@ moves : (w : World) (now : ℕ) (c : Command) → IsSound w → Keeps w (event n
 moves w now (Connect conn name password echo) = connect-keeps w now conn name password echo
 moves w now (Sub conn p sid) = sub-keeps w now conn p sid
 moves w now (Unsub conn sid most) = unsub-keeps w now conn sid most
-moves w now (Pub conn s reply head body word) = pub-keeps w now conn s reply head body word
+moves w now (Pub conn m word) = pub-keeps w now conn m word
 moves w now (Take conn most) = take-keeps w now conn most
 moves w now (Close conn) = close-keeps w now conn
 moves w now (Reload doc) = reload-keeps w now doc
@@ -335,13 +373,12 @@ pub moved-by : (w : World) (e : Event) (o : Outcome) (after : World) → IsSound
 moved-by w e o after sound step reasoned = (subst (Keeps w e) step (moves w e.now e.what sound)).1 reasoned
 
 -- the guarantee of what a state comes to
-abbrev KeepsState : State → Event → Result (Outcome × State) HubRefusal → Type 0
-KeepsState s e (Ok r) =
-    (is_in_order s e.what ≡ true) × (IsReasoned s.world e.what r.0 → IsRouted s e (answer_of r.0 r.1.world) r.1)
+abbrev KeepsState : State → Event → Result (Entry × State) HubRefusal → Type 0
+KeepsState s e (Ok r) = (is_in_order s e.what ≡ true) × (IsReasoned s.world e.what r.0.outcome → IsRouted s e r.0 r.1)
 KeepsState s e (Err refusal) = is_due s e.what refusal ≡ true
 
 -- where the history is not full, the tables' refusals are due
-tables-due : (s : State) (c : Command) (refusal : HubRefusal) → is_history_full s ≡ false → refuses s.world c refusal ≡ true → is_due s c refusal ≡ true
+tables-due : (s : State) (c : Command) (refusal : HubRefusal) → is_history_full s ≡ false → turns_away s.world c refusal ≡ true → is_due s c refusal ≡ true
 tables-due s c HistoryFull room due = absurd (cc)
 tables-due s c SessionTaken room due = ap (λ b. not b && is_connect c && has_session s.world c) room ∙ due
 tables-due s c NoSession room due = ap (λ b. not b && not (is_connect c || is_nobodys c) && not (has_session s.world c)) room ∙ due
@@ -363,6 +400,7 @@ keeps s e sound = by_room (is_history_full s) refl
         others = m.others;
         number = ap (λ (w : World). w.number) m.others;
         epoch = ap (λ (w : World). w.epoch) m.others;
+        event = refl;
         history = refl;
         sound = m.sound;
       },
@@ -373,42 +411,22 @@ keeps s e sound = by_room (is_history_full s) refl
     by_room false is = by_tables (transition s.world e) (moves s.world e.now e.what sound) is
 
 -- a refusal is due, want of memory too
-due : (s : State) (e : Event) (t : Result (Outcome × State) HubRefusal) (refusal : HubRefusal) → KeepsState s e t → IsRefusal t refusal → is_due s e.what refusal ≡ true
+due : (s : State) (e : Event) (t : Result (Entry × State) HubRefusal) (refusal : HubRefusal) → KeepsState s e t → IsRefusal t refusal → is_due s e.what refusal ≡ true
 due s e (Ok r) refusal kept is = ap (is_due s e.what) is ∙ kept.0
 due s e (Err cause) refusal kept is = ap (is_due s e.what) is ∙ kept
 
--- an entry is made of its parts
-entered-same : (s after : State) (e : Event) (a : Answer) → after ≡ record s { world = after.world; entries = s.entries ++ entry_of (answer_of a.outcome after.world) e ∷ [] } → a.number ≡ after.world.number → a.epoch ≡ after.world.epoch →
-    after ≡ record s { world = after.world; entries = s.entries ++ entry_of a e ∷ [] }
-entered-same s after e a is number epoch =
-    is
-    ∙ ap (λ (n : ℕ). record s { world = after.world; entries = s.entries ++ entry_of (record { number = n; epoch = after.world.epoch; outcome = a.outcome }) e ∷ [] }) (sym number)
-    ∙ ap (λ (n : ℕ). record s { world = after.world; entries = s.entries ++ entry_of (record { number = a.number; epoch = n; outcome = a.outcome }) e ∷ [] }) (sym epoch)
-
 -- a step is the transition's, and what it denies has its reason
-pub guaranteed : (s : State) (e : Event) (r : Result Answer (Event × HubRefusal)) (after : State) → IsSound s.world → IsStep s e r after → IfOk r (λ (a : Answer). IsReasoned s.world e.what a.outcome) → KeepsGuarantee s e r after
-guaranteed s e (Ok a) after sound step reasoned =
-    let kept = (subst (KeepsState s e) step.0 (keeps s e sound)).1 reasoned in
-    record {
-      in_order = kept.in_order;
-      accepted = kept.accepted;
-      reason = kept.reason;
-      effect = kept.effect;
-      others = kept.others;
-      number = step.1 ∙ kept.number;
-      epoch = step.2 ∙ kept.epoch;
-      history = entered-same s after e a kept.history step.1 step.2;
-      sound = kept.sound;
-    }
+pub guaranteed : (s : State) (e : Event) (r : Result Entry (Event × HubRefusal)) (after : State) → IsSound s.world → IsStep s e r after → IfOk r (λ (a : Entry). IsReasoned s.world e.what a.outcome) → KeepsGuarantee s e r after
+guaranteed s e (Ok a) after sound step reasoned = (subst (KeepsState s e) step (keeps s e sound)).1 reasoned
 guaranteed s e (Err refused) after sound step reasoned =
     record { back = step.0; same = step.1; due = due s e (stepped s e) refused.1 (keeps s e sound) step.2 }
 
 -- so what every hub keeps, stays
-sound-step : (s : State) (e : Event) (r : Result Answer (Event × HubRefusal)) (after : State) → IsSound s.world → KeepsGuarantee s e r after → IsSound after.world
+sound-step : (s : State) (e : Event) (r : Result Entry (Event × HubRefusal)) (after : State) → IsSound s.world → KeepsGuarantee s e r after → IsSound after.world
 sound-step s e (Ok a) after sound kept = kept.sound
 sound-step s e (Err refused) after sound kept = subst (λ (x : State). IsSound x.world) (sym kept.same) sound
 
-pub sound-run : (s : State) (es : List Event) (rs : List (Result Answer (Event × HubRefusal))) (after : State) → IsSound s.world → IsGuarded s es rs after → IsSound after.world
+pub sound-run : (s : State) (es : List Event) (rs : List (Result Entry (Event × HubRefusal))) (after : State) → IsSound s.world → IsGuarded s es rs after → IsSound after.world
 sound-run s [] [] after sound run = subst (λ (x : State). IsSound x.world) (sym run) sound
 sound-run s [] (r ∷ rs) after sound run = absurd run
 sound-run s (e ∷ es) [] after sound run = absurd run

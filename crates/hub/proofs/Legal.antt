@@ -4,17 +4,16 @@ use Rattle.std.specs.Prelude.{nat_le}
 use Rattle.std.proofs.lemmas.Bool.{leb-false}
 use Rattle.std.proofs.lemmas.List.{length-append}
 use Rattle.policy_doc.specs.declared.document.PolicyDoc.{PolicyDoc}
-use Rattle.hub.specs.World.{World, opening_world}
+use Rattle.events.specs.declared.event.Event.{Event}
+use Rattle.events.specs.declared.answer.Entry.{Entry}
+use Rattle.events.specs.declared.answer.Outcome.{Outcome}
+use Rattle.events.specs.declared.refusal.HubRefusal.{HubRefusal}
+use Rattle.events.specs.declared.refusal.HubRefusal.TheVariants.{HistoryFull}
+use Rattle.world.specs.World.{World, opening_world}
+use Rattle.world.specs.Transition.{transition, entry_of, IsReasoned, IsRefusal}
 use Rattle.hub.specs.Sound.{IsSound}
-use Rattle.hub.specs.Transition.{transition, IsReasoned, IsRefusal}
-use Rattle.hub.specs.History.{State, is_history_full, entry_of, answer_of, remembered, IsStep, IsEntry, IsLegalRun}
+use Rattle.hub.specs.History.{State, is_history_full, remembered, IsStep, IsEntry, IsLegalRun}
 use Rattle.hub.specs.Guarantee.{KeepsGuarantee}
-use Rattle.hub.specs.declared.event.Event.{Event}
-use Rattle.hub.specs.declared.history.Entry.{Entry}
-use Rattle.hub.specs.declared.answer.Answer.{Answer}
-use Rattle.hub.specs.declared.answer.Outcome.{Outcome}
-use Rattle.hub.specs.declared.answer.HubRefusal.{HubRefusal}
-use Rattle.hub.specs.declared.answer.HubRefusal.TheVariants.{HistoryFull}
 use Rattle.hub.proofs.Guaranteed.{IsMoved, moved-by, guaranteed}
 
 -- one more entry
@@ -23,32 +22,34 @@ unfolding IsLegalRun
 legal-push w [] mid e next run is = (next, subst (λ (v : World). IsEntry v e next) run is, refl)
 legal-push w (x ∷ es) mid e next run is = (run.0, run.1, legal-push run.0 es mid e next run.2 is)
 
--- the entry of a step
-entry-is : (w : World) (e : Event) (o : Outcome) (after : World) → IsMoved w e o after → transition w e ≡ Ok (o, after) → IsEntry w (entry_of (answer_of o after) e) after
-entry-is w e o after m step = record { outcome = step; number = ap (λ (v : World). v.number) m.others; epoch = refl }
-
 -- a hub by its parts
 abbrev pub state_of : PolicyDoc → World → ℕ → List Entry → State
 state_of policy w most es = record { world = w; opening = opening_world policy w.capacity; most = most; entries = es }
 
 -- an answered step, by what it was made of
-pub record IsEntered (policy : PolicyDoc) (w : World) (most : ℕ) (es : List Entry) (e : Event) (o : Outcome) (a : Answer) (after : World) (entries : List Entry) : Type 0 where
+pub record IsEntered (policy : PolicyDoc) (w : World) (most : ℕ) (es : List Entry) (e : Event) (a : Entry) (after : World) (entries : List Entry) : Type 0 where
   pub sound : IsSound w
   pub run : IsLegalRun (opening_world policy w.capacity) es w
   pub room : is_history_full (state_of policy w most es) ≡ false
-  pub step : transition w e ≡ Ok (o, after)
-  pub reason : IsReasoned w e.what o
-  pub answer : a ≡ answer_of o after
-  pub entered : entries ≡ es ++ entry_of a e ∷ []
+  pub step : transition w e ≡ Ok (a.outcome, after)
+  pub answer : a ≡ entry_of a.outcome after e
+  pub reason : IsReasoned w e.what a.outcome
+  pub entered : entries ≡ es ++ a ∷ []
+
+moved-is : (policy : PolicyDoc) (w : World) (most : ℕ) (es : List Entry) (e : Event) (a : Entry) (after : World) (entries : List Entry) → IsEntered policy w most es e a after entries → IsMoved w e a.outcome after
+moved-is policy w most es e a after entries is = moved-by w e a.outcome after is.sound is.step is.reason
 
 -- no step changes the capacity
 capacity-stays : (w : World) (e : Event) (o : Outcome) (after : World) → IsMoved w e o after → after.capacity ≡ w.capacity
 capacity-stays w e o after m = ap (λ (v : World). v.capacity) m.others
 
--- the entry that was added
-entries-are : (policy : PolicyDoc) (w : World) (most : ℕ) (es : List Entry) (e : Event) (o : Outcome) (a : Answer) (after : World) (entries : List Entry) → IsEntered policy w most es e o a after entries →
-    entries ≡ es ++ entry_of (answer_of o after) e ∷ []
-entries-are policy w most es e o a after entries is = is.entered ∙ ap (λ (b : Answer). es ++ entry_of b e ∷ []) is.answer
+-- the answer is an entry from the world before to the world after
+entry-is : (w : World) (e : Event) (a : Entry) (after : World) → IsMoved w e a.outcome after → transition w e ≡ Ok (a.outcome, after) → a ≡ entry_of a.outcome after e → IsEntry w a after
+entry-is w e a after m step answer = record {
+  outcome = ap (λ (b : Entry). transition w b.event) answer ∙ step;
+  number = ap (λ (b : Entry). b.number) answer ∙ ap (λ (v : World). v.number) m.others;
+  epoch = ap (λ (b : Entry). b.epoch) answer;
+}
 
 -- where the history is not full there is room for one more
 no-or : (a b : Bool) → (a || b) ≡ false → a ≡ false
@@ -59,41 +60,34 @@ room-left : (most : ℕ) (es : List Entry) (x : Entry) → nat_le most (length e
 room-left most es x room = omega (arith, length-append es (x ∷ []), leb-false most (length es) room)
 
 -- what every hub keeps, stays
-pub kept-step : (policy : PolicyDoc) (w : World) (most : ℕ) (es : List Entry) (e : Event) (o : Outcome) (a : Answer) (after : World) (entries : List Entry) → IsEntered policy w most es e o a after entries →
+pub kept-step : (policy : PolicyDoc) (w : World) (most : ℕ) (es : List Entry) (e : Event) (a : Entry) (after : World) (entries : List Entry) → IsEntered policy w most es e a after entries →
     IsSound after × IsLegalRun (opening_world policy after.capacity) entries after × (length entries ≤ most)
-kept-step policy w most es e o a after entries is =
-    let m = moved-by w e o after is.sound is.step is.reason in
-    let x = entry_of (answer_of o after) e in
-    let all = entries-are policy w most es e o a after entries is in (
+kept-step policy w most es e a after entries is =
+    let m = moved-is policy w most es e a after entries is in (
       m.sound,
-      subst (λ (n : ℕ). IsLegalRun (opening_world policy n) entries after) (sym (capacity-stays w e o after m))
-          (subst (λ (l : List Entry). IsLegalRun (opening_world policy w.capacity) l after) (sym all)
-          (legal-push (opening_world policy w.capacity) es w x after is.run (entry-is w e o after m is.step))),
-      subst (λ (l : List Entry). length l ≤ most) (sym all) (room-left most es x (no-or _ _ is.room)),
+      subst (λ (n : ℕ). IsLegalRun (opening_world policy n) entries after) (sym (capacity-stays w e a.outcome after m))
+          (subst (λ (l : List Entry). IsLegalRun (opening_world policy w.capacity) l after) (sym is.entered)
+          (legal-push (opening_world policy w.capacity) es w a after is.run (entry-is w e a after m is.step is.answer))),
+      subst (λ (l : List Entry). length l ≤ most) (sym is.entered) (room-left most es a (no-or _ _ is.room)),
     )
 
 -- it is the step of the state
-pub entered-step : (policy : PolicyDoc) (w : World) (most : ℕ) (es : List Entry) (e : Event) (o : Outcome) (a : Answer) (after : World) (entries : List Entry) → IsEntered policy w most es e o a after entries →
+pub entered-step : (policy : PolicyDoc) (w : World) (most : ℕ) (es : List Entry) (e : Event) (a : Entry) (after : World) (entries : List Entry) → IsEntered policy w most es e a after entries →
     IsStep (state_of policy w most es) e (Ok a) (state_of policy after most entries)
-entered-step policy w most es e o a after entries is =
+entered-step policy w most es e a after entries is =
     let s = state_of policy w most es in
-    let m = moved-by w e o after is.sound is.step is.reason in (
-      ap (λ (b : Bool). cond b (Err HistoryFull) (remembered s e (transition w e))) is.room
-          ∙ ap (remembered s e) is.step
-          ∙ ap (λ (n : ℕ). Ok (o, record { world = after; opening = opening_world policy n; most = most; entries = es ++ entry_of (answer_of o after) e ∷ [] })) (sym (capacity-stays w e o after m))
-          ∙ ap (λ (l : List Entry). Ok (o, state_of policy after most l)) (sym (entries-are policy w most es e o a after entries is))
-          ∙ ap (λ (b : Answer). Ok (b.outcome, state_of policy after most entries)) (sym is.answer),
-      ap (λ (b : Answer). b.number) is.answer,
-      ap (λ (b : Answer). b.epoch) is.answer,
-    )
+    let m = moved-is policy w most es e a after entries is in
+    ap (λ (b : Bool). cond b (Err HistoryFull) (remembered s e (transition w e))) is.room
+    ∙ ap (remembered s e) is.step
+    ∙ ap (λ (b : Entry). Ok (b, record s { world = after; entries = es ++ b ∷ [] })) (sym is.answer)
+    ∙ ap (λ (n : ℕ). Ok (a, record { world = after; opening = opening_world policy n; most = most; entries = es ++ a ∷ [] })) (sym (capacity-stays w e a.outcome after m))
+    ∙ ap (λ (l : List Entry). Ok (a, state_of policy after most l)) (sym is.entered)
 
 -- and keeps the guarantee
-pub entered-guaranteed : (policy : PolicyDoc) (w : World) (most : ℕ) (es : List Entry) (e : Event) (o : Outcome) (a : Answer) (after : World) (entries : List Entry) → IsEntered policy w most es e o a after entries →
+pub entered-guaranteed : (policy : PolicyDoc) (w : World) (most : ℕ) (es : List Entry) (e : Event) (a : Entry) (after : World) (entries : List Entry) → IsEntered policy w most es e a after entries →
     KeepsGuarantee (state_of policy w most es) e (Ok a) (state_of policy after most entries)
-entered-guaranteed policy w most es e o a after entries is =
-    guaranteed (state_of policy w most es) e (Ok a) (state_of policy after most entries) is.sound
-    (entered-step policy w most es e o a after entries is)
-    (subst (λ (b : Answer). IsReasoned w e.what b.outcome) (sym is.answer) is.reason)
+entered-guaranteed policy w most es e a after entries is =
+    guaranteed (state_of policy w most es) e (Ok a) (state_of policy after most entries) is.sound (entered-step policy w most es e a after entries is) is.reason
 
 -- ---- a refused step
 

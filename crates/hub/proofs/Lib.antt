@@ -1,13 +1,10 @@
 pub mod Lists
-pub mod Ascending
-pub mod Remaining
-pub mod Places
-pub mod Runs
 pub mod Finds
+pub mod Ascending
+pub mod Naming
 pub mod Soundness
 pub mod Deliveries
-pub mod Naming
 pub mod Reloads
 pub mod Guaranteed
 pub mod Legal
-pub mod Refusals
+pub mod Runs

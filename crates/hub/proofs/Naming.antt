@@ -12,9 +12,8 @@ use Rattle.policy_doc.specs.Document.{users_of as users_of_accounts, user_name, 
 use Rattle.policy_doc.specs.declared.document.PolicyDoc.{PolicyDoc}
 use Rattle.policy_doc.specs.declared.document.NamedAccount.{NamedAccount}
 use Rattle.policy_doc.specs.declared.document.UserDoc.{UserDoc}
-use Rattle.hub.specs.Users.{user_in, users_in, users_of, user_with_password}
-use Rattle.hub.specs.Sound.{user_named}
-use Rattle.hub.specs.declared.ready.User.{User}
+use Rattle.ready.specs.Users.{user_in, users_in, users_of, user_with_password, user_named}
+use Rattle.ready.specs.declared.ready.User.{User}
 use Rattle.hub.proofs.Finds.{find-All}
 
 abbrev pub name_of : User → List ℕ

@@ -15,20 +15,21 @@ use Rattle.std.proofs.lemmas.Slice.Eq.{bytes_eq-Decides}
 use Rattle.policy_doc.specs.Document.{IsValidPolicy}
 use Rattle.policy_doc.specs.declared.document.PolicyDoc.{PolicyDoc}
 use Rattle.permissions.specs.Verdicts.{subscribe_verdict, IsJustifiedSubscribe}
-use Rattle.hub.specs.Users.{users_of}
-use Rattle.hub.specs.Limit.{has_ended}
-use Rattle.hub.specs.World.{World, session_of}
-use Rattle.hub.specs.Sound.{IsSound, has_same_sid, user_named, user_behind, may_subscribe}
-use Rattle.hub.specs.Reload.{is_same_user, user_again, user_again_of, stays, goes, with_user, renewed, remaining, connection_of, closed_conns, user_after, verdict_for, may_stand, stands_on, removal, removal_after, IsReasonedVerdict, IsReasonedReload}
+use Rattle.ready.specs.Users.{users_of, user_named, is_same_user, user_again}
+use Rattle.ready.specs.declared.ready.User.{User}
+use Rattle.sessions.specs.Sessions.{session_of}
+use Rattle.sessions.specs.Renewal.{user_again_of, stays, goes, with_user, renewed, remaining, connection_of, closed_conns}
+use Rattle.sessions.specs.declared.session.Session.{Session}
+use Rattle.subscriptions.specs.Limit.{has_ended}
+use Rattle.subscriptions.specs.declared.subscription.Subscription.{Subscription}
+use Rattle.world.specs.World.{World}
+use Rattle.world.specs.Reload.{user_after, verdict_for, may_stand, stands_on, removal, removal_after, IsReasonedVerdict, IsReasonedReload}
+use Rattle.hub.specs.Sound.{IsSound, has_same_sid, user_behind, account_of, may_subscribe}
 use Rattle.hub.specs.InForce.{goes_on_for, goes_on, under, removal_for, IsInForce}
-use Rattle.hub.specs.declared.ready.User.{User}
-use Rattle.hub.specs.declared.tables.Session.{Session}
-use Rattle.hub.specs.declared.tables.Subscription.{Subscription}
-use Rattle.hub.proofs.Finds.{find-map, AllPairs-head, AllPairs-tail, AllPairs-map}
-use Rattle.hub.proofs.Places.{session_of-none}
+use Rattle.hub.proofs.Finds.{find-map, find-passes, find-All, find-nothing, AllPairs-head, AllPairs-tail, AllPairs-map}
 use Rattle.hub.proofs.Naming.{name_of, are_named_once, unlike, named_again}
 use Rattle.hub.proofs.Ascending.{AreApart, among-ascending, ascending-rises}
-use Rattle.hub.proofs.Soundness.{IsOfPolicy, HasBound, IsApart, quotas-filter}
+use Rattle.hub.proofs.Soundness.{IsOfPolicy, HasBound, IsApart, IsOwned, quotas-filter}
 
 -- ---- the same user, found by its name
 
@@ -36,11 +37,6 @@ use Rattle.hub.proofs.Soundness.{IsOfPolicy, HasBound, IsApart, quotas-filter}
 abbrev same_login : User → Option User → Option User
 same_login v None = None
 same_login v (Some u) = cond (pointwise nat_eq u.password v.password && pointwise nat_eq u.account v.account) (Some u) None
-
-find-nothing : {X : Type 0} (t : X → Bool) (xs : List X) → All (λ x. t x ≡ false) xs → find t xs ≡ None
-find-nothing t [] none = refl
-find-nothing t (x ∷ xs) none =
-    ap (λ b. cond b (Some x) (find t xs)) (All-head (λ y. t y ≡ false) x xs none) ∙ find-nothing t xs (All-tail (λ y. t y ≡ false) x xs none)
 
 -- who is named otherwise is another
 another : (u v x : User) → pointwise nat_eq u.user v.user ≡ true → bytes_eq u.user x.user ≡ false → is_same_user x v ≡ false
@@ -127,7 +123,7 @@ session_of-filter p conn [] apart = refl
 session_of-filter p conn (z ∷ zs) apart = here (p z) (z.conn == conn) refl refl (session_of-filter p conn zs (AllPairs-tail IsApart z zs apart))
   where
     nobody : (z.conn == conn) ≡ true → session_of zs conn ≡ None
-    nobody is = session_of-none conn zs (λ k d h. ne_eqb _ _ (λ same. AllPairs-head IsApart z zs apart k d h (eqb-true z.conn conn is ∙ sym same)))
+    nobody is = find-nothing (λ (y : Session). y.conn == conn) zs (λ k d h. ne_eqb _ _ (λ same. AllPairs-head IsApart z zs apart k d h (eqb-true z.conn conn is ∙ sym same)))
 
     here : (b c : Bool) → p z ≡ b → (z.conn == conn) ≡ c → session_of (filter p zs) conn ≡ passing p (session_of zs conn) →
         session_of (cond b (z ∷ filter p zs) (filter p zs)) conn ≡ passing p (cond c (Some z) (session_of zs conn))
@@ -225,6 +221,31 @@ stands-same : (doc : PolicyDoc) (zs : List Session) (sub : Subscription) → IsV
 stands-same doc zs sub valid apart =
     stand-same (user_after doc (session_of zs sub.conn)) sub ∙ ap (λ u. may_subscribe u sub.subject) (sym (user_behind-remaining doc sub.conn zs valid apart))
 
+-- ---- accounts
+
+and-last : (a b : Bool) → (a && b) ≡ true → b ≡ true
+and-last true b h = h
+and-last false b h = absurd (cc)
+
+same-account : (doc : PolicyDoc) (z : Session) (u : User) → user_again_of doc z ≡ Some u → u.account ≡ z.user.account
+same-account doc z u is = (bytes_eq-Decides u.account z.user.account).0
+    (and-last _ (pointwise nat_eq u.account z.user.account) (find-passes (λ x. is_same_user x z.user) (users_of doc) u is))
+
+-- what stands on is of the account that its user has in the new policy too
+owned-after : (old doc : PolicyDoc) (zs : List Session) (sub : Subscription) → IsValidPolicy doc → AllPairs IsApart zs → All (IsOfPolicy old) zs → IsOwned old zs sub → stands_on doc zs sub ≡ true → IsOwned doc (remaining doc zs) sub
+owned-after old doc zs sub valid apart users owned stand =
+    ap account_of (user_behind-remaining doc sub.conn zs valid apart) ∙ by_session (session_of zs sub.conn) refl owned stand
+  where
+    by_user : (z : Session) (o : Option User) → user_again_of doc z ≡ o → z.user.account ≡ sub.account → may_stand (verdict_for o sub) ≡ true → account_of o ≡ Some sub.account
+    by_user z None is same may = absurd (cc)
+    by_user z (Some u) is same may = ap (λ (a : List ℕ). Some a) (same-account doc z u is ∙ same)
+
+    by_session : (o : Option Session) → session_of zs sub.conn ≡ o → account_of (user_behind old o) ≡ Some sub.account → may_stand (verdict_for (user_after doc o) sub) ≡ true → account_of (user_after doc o) ≡ Some sub.account
+    by_session None e is may = absurd (cc)
+    by_session (Some z) e is may =
+        let known : Some z.user.account ≡ Some sub.account = sym (ap account_of (find-All (IsOfPolicy old) (λ (y : Session). y.conn == sub.conn) zs z users e)) ∙ is in
+        by_user z (user_again_of doc z) refl (let same : z.user.account ≡ sub.account = cc in same) may
+
 pub sound-reload : (w : World) (now : ℕ) (doc : PolicyDoc) → IsSound w → IsValidPolicy doc → IsSound (after_reload w now doc)
 sound-reload w now doc sound valid = record {
   policy = valid;
@@ -238,6 +259,8 @@ sound-reload w now doc sound valid = record {
       (λ k d h. with_user-bound w.capacity _ _ (All-filter (stays doc) (HasBound w.capacity) w.sessions sound.outboxes k d h));
   subscriptions = λ k d h. sym (stands-same doc w.sessions (get_or (filter (stands_on doc w.sessions) w.subscriptions) k d) valid sound.connections)
       ∙ filter_passes (stands_on doc w.sessions) w.subscriptions k d h;
+  accounts = λ k d h. owned-after w.policy doc w.sessions (get_or (filter (stands_on doc w.sessions) w.subscriptions) k d) valid sound.connections sound.users
+      (All-filter (stands_on doc w.sessions) (IsOwned w.policy w.sessions) w.subscriptions sound.accounts k d h) (filter_passes (stands_on doc w.sessions) w.subscriptions k d h);
   limits = All-filter (stands_on doc w.sessions) (λ (s : Subscription). has_ended s ≡ false) w.subscriptions sound.limits;
   sids = AllPairs-filter (λ (s t : Subscription). has_same_sid s t ≡ false) (stands_on doc w.sessions) w.subscriptions sound.sids;
   quotas = quotas-filter (stands_on doc w.sessions) w.subscriptions sound.quotas;

@@ -1,5 +1,5 @@
 -- What every hub keeps is kept by each kind of change.
-use Rattle.std.proofs.Common.{◌≡◌, ◌∙◌, ◌==◌, ◌&&◌, ℕ, ◌+◌, ◌<◌, ◌≤◌, Bool, true, false, not, cond, List, [], ◌∷◌, ◌++◌, map, filter, length, get_or, Option, Some, None, ap, sym, refl, arith, max}
+use Rattle.std.proofs.Common.{◌≡◌, ◌∙◌, ◌==◌, ◌&&◌, ℕ, ◌+◌, ◌<◌, ◌≤◌, Bool, true, false, not, cond, List, [], ◌∷◌, ◌++◌, map, filter, length, get_or, Option, Some, None, ap, sym, refl, subst, arith, max}
 use Rattle.std.specs.Prelude.{All, ◌≢◌, nat_le, nat_eq}
 use Rattle.std.specs.Option.{option_map, option_or}
 use Rattle.std.specs.Cmp.Lexicographic.{pointwise}
@@ -13,13 +13,15 @@ use Rattle.std.proofs.lemmas.List.Kept.{AllPairs-filter}
 use Rattle.std.proofs.lemmas.List.Quantifiers.{all_pairs_push}
 use Rattle.subjects.specs.Subject.{Token}
 use Rattle.policy_doc.specs.declared.document.PolicyDoc.{PolicyDoc}
-use Rattle.hub.specs.World.{World, session_of}
-use Rattle.hub.specs.Limit.{has_ended, unended}
-use Rattle.hub.specs.Sound.{IsSound, has_same_sid, user_named, user_behind, user_at, may_subscribe}
-use Rattle.hub.specs.Transition.{new_session, subscription_of, stands, of_connection, has_all}
-use Rattle.hub.specs.declared.ready.User.{User}
-use Rattle.hub.specs.declared.tables.Session.{Session}
-use Rattle.hub.specs.declared.tables.Subscription.{Subscription}
+use Rattle.ready.specs.Users.{user_named}
+use Rattle.ready.specs.declared.ready.User.{User}
+use Rattle.sessions.specs.Sessions.{session_of, new_session}
+use Rattle.sessions.specs.declared.session.Session.{Session}
+use Rattle.subscriptions.specs.Subscriptions.{subscription_of, stands, of_connection, has_all}
+use Rattle.subscriptions.specs.Limit.{has_ended, unended}
+use Rattle.subscriptions.specs.declared.subscription.Subscription.{Subscription}
+use Rattle.world.specs.World.{World}
+use Rattle.hub.specs.Sound.{IsSound, has_same_sid, user_behind, user_at, account_of, may_subscribe}
 use Rattle.hub.proofs.Lists.{length-filter_twice, length-filter_map}
 use Rattle.hub.proofs.Finds.{find-All, find-none, find-filter, find-map, any-none, AllPairs-map}
 
@@ -37,8 +39,12 @@ HasBound capacity z = (z.outbox.capacity ≡ capacity) × (length z.outbox.waiti
 abbrev pub IsApart : Session → Session → Type 0
 IsApart y z = y.conn ≢ z.conn
 
+-- the facts of a subscription that its connection's user decides
 abbrev IsAllowed : PolicyDoc → List Session → Subscription → Type 0
 IsAllowed doc zs s = may_subscribe (user_behind doc (session_of zs s.conn)) s.subject ≡ true
+
+abbrev pub IsOwned : PolicyDoc → List Session → Subscription → Type 0
+IsOwned doc zs s = account_of (user_behind doc (session_of zs s.conn)) ≡ Some s.account
 
 -- no connection has more than 4,096 of the subscriptions
 abbrev HasQuotas : List Subscription → Type 0
@@ -66,6 +72,7 @@ sound-same w now sound = record {
   users = sound.users;
   outboxes = sound.outboxes;
   subscriptions = sound.subscriptions;
+  accounts = sound.accounts;
   limits = sound.limits;
   sids = sound.sids;
   quotas = sound.quotas;
@@ -84,11 +91,11 @@ user_behind-map : (doc : PolicyDoc) (f : Session → Session) → ((z : Session)
 user_behind-map doc f same None = refl
 user_behind-map doc f same (Some z) = ap (λ (u : User). user_named doc u.user) (same z)
 
-allowed-map : (doc : PolicyDoc) (f : Session → Session) (zs : List Session) → ((z : Session) → (f z).conn ≡ z.conn) → ((z : Session) → (f z).user ≡ z.user) → (s : Subscription) → IsAllowed doc zs s → IsAllowed doc (map f zs) s
-allowed-map doc f zs conn user s is =
-    ap (λ o. may_subscribe (user_behind doc o) s.subject) (find-map (λ (z : Session). z.conn == s.conn) f zs (λ z. ap (λ n. n == s.conn) (conn z)))
-    ∙ ap (λ u. may_subscribe u s.subject) (user_behind-map doc f user (session_of zs s.conn))
-    ∙ is
+user-map : (doc : PolicyDoc) (f : Session → Session) (zs : List Session) → ((z : Session) → (f z).conn ≡ z.conn) → ((z : Session) → (f z).user ≡ z.user) → (conn : ℕ) →
+    user_behind doc (session_of (map f zs) conn) ≡ user_behind doc (session_of zs conn)
+user-map doc f zs same_conn same_user conn =
+    ap (user_behind doc) (find-map (λ (z : Session). z.conn == conn) f zs (λ z. ap (λ n. n == conn) (same_conn z)))
+    ∙ user_behind-map doc f same_user (session_of zs conn)
 
 pub sound-map : (w : World) (now : ℕ) (f : Session → Session) → KeepsSession w.capacity f → IsSound w → IsSound (next w now (map f w.sessions) w.subscriptions)
 sound-map w now f keeps sound = record {
@@ -97,7 +104,8 @@ sound-map w now f keeps sound = record {
   connections = AllPairs-map IsApart f w.sessions (λ y z apart same. apart (sym (keeps.conn y) ∙ same ∙ keeps.conn z)) sound.connections;
   users = All-map (IsOfPolicy w.policy) f w.sessions (λ k d h. of_policy (get_or w.sessions k d) (sound.users k d h));
   outboxes = All-map (HasBound w.capacity) f w.sessions (λ k d h. keeps.outbox _ (sound.outboxes k d h));
-  subscriptions = λ k d h. allowed-map w.policy f w.sessions keeps.conn keeps.user (get_or w.subscriptions k d) (sound.subscriptions k d h);
+  subscriptions = λ k d h. ap (λ u. may_subscribe u (get_or w.subscriptions k d).subject) (user_is (get_or w.subscriptions k d)) ∙ sound.subscriptions k d h;
+  accounts = λ k d h. ap account_of (user_is (get_or w.subscriptions k d)) ∙ sound.accounts k d h;
   limits = sound.limits;
   sids = sound.sids;
   quotas = sound.quotas;
@@ -109,13 +117,24 @@ sound-map w now f keeps sound = record {
     of_policy : (z : Session) → IsOfPolicy w.policy z → IsOfPolicy w.policy (f z)
     of_policy z is = ap (λ (u : User). user_named w.policy u.user) (keeps.user z) ∙ is ∙ ap (λ (u : User). Some u) (sym (keeps.user z))
 
+    user_is : (s : Subscription) → user_behind w.policy (session_of (map f w.sessions) s.conn) ≡ user_behind w.policy (session_of w.sessions s.conn)
+    user_is s = user-map w.policy f w.sessions keeps.conn keeps.user s.conn
+
 -- a session is opened
-allowed-open : (doc : PolicyDoc) (zs : List Session) (y : Session) (s : Subscription) → IsAllowed doc zs s → IsAllowed doc (zs ++ y ∷ []) s
-allowed-open doc zs y s is = by_session (session_of zs s.conn) refl is
+none-allowed : (p : List Token) → may_subscribe None p ≡ true → ⊥
+none-allowed p h = absurd (cc)
+
+none-owned : (account : List ℕ) → account_of None ≡ Some account → ⊥
+none-owned account h = absurd (cc)
+
+-- what is known of a connection's user is known of it still
+known-open : (P : Option User → Type 0) → (P None → ⊥) → (doc : PolicyDoc) (zs : List Session) (y : Session) (conn : ℕ) → P (user_behind doc (session_of zs conn)) → P (user_behind doc (session_of (zs ++ y ∷ []) conn))
+known-open P never doc zs y conn is = by_session (session_of zs conn) refl is
   where
-    by_session : (o : Option Session) → session_of zs s.conn ≡ o → may_subscribe (user_behind doc o) s.subject ≡ true → IsAllowed doc (zs ++ y ∷ []) s
-    by_session None e h = absurd (cc)
-    by_session (Some z) e h = ap (λ o. may_subscribe (user_behind doc o) s.subject) (find-append (λ (z : Session). z.conn == s.conn) zs (y ∷ []) ∙ ap (λ o. option_or o (session_of (y ∷ []) s.conn)) e) ∙ h
+    by_session : (o : Option Session) → session_of zs conn ≡ o → P (user_behind doc o) → P (user_behind doc (session_of (zs ++ y ∷ []) conn))
+    by_session None e h = absurd (never h)
+    by_session (Some z) e h =
+        subst (λ o. P (user_behind doc o)) (sym (find-append (λ (x : Session). x.conn == conn) zs (y ∷ []) ∙ ap (λ o. option_or o (session_of (y ∷ []) conn)) e)) h
 
 pub sound-open : (w : World) (now conn : ℕ) (u : User) (echo : Bool) → session_of w.sessions conn ≡ None → nat_le 4096 (length w.sessions) ≡ false → user_named w.policy u.user ≡ Some u → IsSound w → IsSound (next w now (w.sessions ++ new_session conn u echo w.capacity ∷ []) w.subscriptions)
 sound-open w now conn u echo free room is sound = record {
@@ -124,7 +143,8 @@ sound-open w now conn u echo free room is sound = record {
   connections = all_pairs_push IsApart w.sessions (new_session conn u echo w.capacity) sound.connections (λ k d h same. eqb-false _ _ (find-none (λ (z : Session). z.conn == conn) w.sessions free k d h) same);
   users = All-push (IsOfPolicy w.policy) w.sessions (new_session conn u echo w.capacity) sound.users is;
   outboxes = All-push (HasBound w.capacity) w.sessions (new_session conn u echo w.capacity) sound.outboxes (refl, omega arith);
-  subscriptions = λ k d h. allowed-open w.policy w.sessions (new_session conn u echo w.capacity) (get_or w.subscriptions k d) (sound.subscriptions k d h);
+  subscriptions = λ k d h. known-open (λ v. may_subscribe v (get_or w.subscriptions k d).subject ≡ true) (none-allowed (get_or w.subscriptions k d).subject) w.policy w.sessions (new_session conn u echo w.capacity) (get_or w.subscriptions k d).conn (sound.subscriptions k d h);
+  accounts = λ k d h. known-open (λ v. account_of v ≡ Some (get_or w.subscriptions k d).account) (none-owned (get_or w.subscriptions k d).account) w.policy w.sessions (new_session conn u echo w.capacity) (get_or w.subscriptions k d).conn (sound.accounts k d h);
   limits = sound.limits;
   sids = sound.sids;
   quotas = sound.quotas;
@@ -142,22 +162,26 @@ quotas-add subs s room quotas conn =
     here true is = omega (arith, leb-false 4096 (length (of_connection s.conn subs)) room, ap (λ n. length (of_connection n subs)) (eqb-true s.conn conn is))
     here false is = omega (arith, quotas conn)
 
-pub sound-add : (w : World) (now conn : ℕ) (p : List Token) (sid : List ℕ) → may_subscribe (user_at w conn) p ≡ true → stands w.subscriptions conn sid ≡ false → has_all w.subscriptions conn ≡ false → IsSound w →
-    IsSound (next w now w.sessions (w.subscriptions ++ subscription_of (w.number + 1) conn p sid ∷ []))
-sound-add w now conn p sid may free room sound = record {
+pub sound-add : (w : World) (now conn : ℕ) (account : List ℕ) (p : List Token) (sid : List ℕ) → may_subscribe (user_at w conn) p ≡ true → account_of (user_at w conn) ≡ Some account → stands w.subscriptions conn sid ≡ false → has_all w.subscriptions conn ≡ false → IsSound w →
+    IsSound (next w now w.sessions (w.subscriptions ++ subscription_of (w.number + 1) conn account p sid ∷ []))
+sound-add w now conn account p sid may owned free room sound = record {
   policy = sound.policy;
   limit = sound.limit;
   connections = sound.connections;
   users = sound.users;
   outboxes = sound.outboxes;
-  subscriptions = All-push (IsAllowed w.policy w.sessions) w.subscriptions (subscription_of (w.number + 1) conn p sid) sound.subscriptions may;
-  limits = All-push (λ (s : Subscription). has_ended s ≡ false) w.subscriptions (subscription_of (w.number + 1) conn p sid) sound.limits refl;
-  sids = all_pairs_push (λ (s t : Subscription). has_same_sid s t ≡ false) w.subscriptions (subscription_of (w.number + 1) conn p sid) sound.sids (any-none (λ (s : Subscription). has_same_sid s (subscription_of (w.number + 1) conn p sid)) w.subscriptions free);
-  quotas = quotas-add w.subscriptions (subscription_of (w.number + 1) conn p sid) room sound.quotas;
-  ids = all_pairs_push (λ (s t : Subscription). s.id < t.id) w.subscriptions (subscription_of (w.number + 1) conn p sid) sound.ids (λ k d h. let n = sound.numbers k d h in omega arith);
-  numbers = All-push (λ (s : Subscription). s.id ≤ w.number + 1) w.subscriptions (subscription_of (w.number + 1) conn p sid) (numbers-next w sound) (omega arith);
+  subscriptions = All-push (IsAllowed w.policy w.sessions) w.subscriptions added sound.subscriptions may;
+  accounts = All-push (IsOwned w.policy w.sessions) w.subscriptions added sound.accounts owned;
+  limits = All-push (λ (s : Subscription). has_ended s ≡ false) w.subscriptions added sound.limits refl;
+  sids = all_pairs_push (λ (s t : Subscription). has_same_sid s t ≡ false) w.subscriptions added sound.sids (any-none (λ (s : Subscription). has_same_sid s added) w.subscriptions free);
+  quotas = quotas-add w.subscriptions added room sound.quotas;
+  ids = all_pairs_push (λ (s t : Subscription). s.id < t.id) w.subscriptions added sound.ids (λ k d h. let n = sound.numbers k d h in omega arith);
+  numbers = All-push (λ (s : Subscription). s.id ≤ w.number + 1) w.subscriptions added (numbers-next w sound) (omega arith);
   epoch = epoch-next w sound;
 }
+  where
+    added : Subscription
+    added = subscription_of (w.number + 1) conn account p sid
 
 -- no connection has more of those that stay than of all
 pub quotas-filter : (p : Subscription → Bool) (subs : List Subscription) → HasQuotas subs → HasQuotas (filter p subs)
@@ -167,10 +191,9 @@ quotas-filter p subs quotas conn = omega (arith, length-filter_twice (λ (s : Su
 not_of : (c conn : ℕ) → not (c == conn) ≡ true → (n : ℕ) → (n == c) ≡ true → not (n == conn) ≡ true
 not_of c conn other n is = ap (λ m. not (m == conn)) (eqb-true n c is) ∙ other
 
-allowed-close : (doc : PolicyDoc) (zs : List Session) (conn : ℕ) (s : Subscription) → not (s.conn == conn) ≡ true → IsAllowed doc zs s → IsAllowed doc (filter (λ (z : Session). not (z.conn == conn)) zs) s
-allowed-close doc zs conn s other is =
-    ap (λ o. may_subscribe (user_behind doc o) s.subject) (find-filter (λ (z : Session). z.conn == s.conn) (λ (z : Session). not (z.conn == conn)) zs (λ z. not_of s.conn conn other z.conn))
-    ∙ is
+user-close : (doc : PolicyDoc) (zs : List Session) (conn c : ℕ) → not (c == conn) ≡ true → user_behind doc (session_of (filter (λ (z : Session). not (z.conn == conn)) zs) c) ≡ user_behind doc (session_of zs c)
+user-close doc zs conn c other =
+    ap (user_behind doc) (find-filter (λ (z : Session). z.conn == c) (λ (z : Session). not (z.conn == conn)) zs (λ z. not_of c conn other z.conn))
 
 pub sound-close : (w : World) (now conn : ℕ) → IsSound w →
     IsSound (next w now (filter (λ (z : Session). not (z.conn == conn)) w.sessions) (filter (λ (s : Subscription). not (s.conn == conn)) w.subscriptions))
@@ -180,19 +203,30 @@ sound-close w now conn sound = record {
   connections = AllPairs-filter IsApart (λ (z : Session). not (z.conn == conn)) w.sessions sound.connections;
   users = All-filter (λ (z : Session). not (z.conn == conn)) (IsOfPolicy w.policy) w.sessions sound.users;
   outboxes = All-filter (λ (z : Session). not (z.conn == conn)) (HasBound w.capacity) w.sessions sound.outboxes;
-  subscriptions = λ k d h. allowed-close w.policy w.sessions conn (get_or (filter (λ (s : Subscription). not (s.conn == conn)) w.subscriptions) k d) (filter_passes (λ (s : Subscription). not (s.conn == conn)) w.subscriptions k d h) (All-filter (λ (s : Subscription). not (s.conn == conn)) (IsAllowed w.policy w.sessions) w.subscriptions sound.subscriptions k d h);
-  limits = All-filter (λ (s : Subscription). not (s.conn == conn)) (λ (s : Subscription). has_ended s ≡ false) w.subscriptions sound.limits;
-  sids = AllPairs-filter (λ (s t : Subscription). has_same_sid s t ≡ false) (λ (s : Subscription). not (s.conn == conn)) w.subscriptions sound.sids;
-  quotas = quotas-filter (λ (s : Subscription). not (s.conn == conn)) w.subscriptions sound.quotas;
-  ids = AllPairs-filter (λ (s t : Subscription). s.id < t.id) (λ (s : Subscription). not (s.conn == conn)) w.subscriptions sound.ids;
-  numbers = All-filter (λ (s : Subscription). not (s.conn == conn)) (λ (s : Subscription). s.id ≤ w.number + 1) w.subscriptions (numbers-next w sound);
+  subscriptions = λ k d h. ap (λ u. may_subscribe u (get_or left k d).subject) (user_is k d h) ∙ All-filter stay (IsAllowed w.policy w.sessions) w.subscriptions sound.subscriptions k d h;
+  accounts = λ k d h. ap account_of (user_is k d h) ∙ All-filter stay (IsOwned w.policy w.sessions) w.subscriptions sound.accounts k d h;
+  limits = All-filter stay (λ (s : Subscription). has_ended s ≡ false) w.subscriptions sound.limits;
+  sids = AllPairs-filter (λ (s t : Subscription). has_same_sid s t ≡ false) stay w.subscriptions sound.sids;
+  quotas = quotas-filter stay w.subscriptions sound.quotas;
+  ids = AllPairs-filter (λ (s t : Subscription). s.id < t.id) stay w.subscriptions sound.ids;
+  numbers = All-filter stay (λ (s : Subscription). s.id ≤ w.number + 1) w.subscriptions (numbers-next w sound);
   epoch = epoch-next w sound;
 }
+  where
+    stay : Subscription → Bool
+    stay s = not (s.conn == conn)
+
+    left : List Subscription
+    left = filter stay w.subscriptions
+
+    user_is : (k : ℕ) (d : Subscription) → k < length left → user_behind w.policy (session_of (filter (λ (z : Session). not (z.conn == conn)) w.sessions) (get_or left k d).conn) ≡ user_behind w.policy (session_of w.sessions (get_or left k d).conn)
+    user_is k d h = user-close w.policy w.sessions conn (get_or left k d).conn (filter_passes stay w.subscriptions k d h)
 
 -- subscriptions have counted a message or taken a limit, and those that have ended are gone
 pub record KeepsSubscription (f : Subscription → Subscription) : Type 0 where
   pub id : (s : Subscription) → (f s).id ≡ s.id
   pub conn : (s : Subscription) → (f s).conn ≡ s.conn
+  pub account : (s : Subscription) → (f s).account ≡ s.account
   pub subject : (s : Subscription) → (f s).subject ≡ s.subject
   pub sid : (s : Subscription) → (f s).sid ≡ s.sid
 
@@ -206,6 +240,7 @@ pub keeps-where : (test : Subscription → Bool) (f : Subscription → Subscript
 keeps-where test f keeps = record {
   id = λ s. either (λ (t : Subscription). t.id) (test s) (f s) s (keeps.id s);
   conn = λ s. either (λ (t : Subscription). t.conn) (test s) (f s) s (keeps.conn s);
+  account = λ s. either (λ (t : Subscription). t.account) (test s) (f s) s (keeps.account s);
   subject = λ s. either (λ (t : Subscription). t.subject) (test s) (f s) s (keeps.subject s);
   sid = λ s. either (λ (t : Subscription). t.sid) (test s) (f s) s (keeps.sid s);
 }
@@ -215,6 +250,10 @@ allowed-again doc zs f keeps s is =
     ap (λ n. may_subscribe (user_behind doc (session_of zs n)) (f s).subject) (keeps.conn s)
     ∙ ap (λ p. may_subscribe (user_behind doc (session_of zs s.conn)) p) (keeps.subject s)
     ∙ is
+
+owned-again : (doc : PolicyDoc) (zs : List Session) (f : Subscription → Subscription) → KeepsSubscription f → (s : Subscription) → IsOwned doc zs s → IsOwned doc zs (f s)
+owned-again doc zs f keeps s is =
+    ap (λ n. account_of (user_behind doc (session_of zs n))) (keeps.conn s) ∙ is ∙ ap (λ (a : List ℕ). Some a) (sym (keeps.account s))
 
 apart-again : (f : Subscription → Subscription) → KeepsSubscription f → (s t : Subscription) → has_same_sid s t ≡ false → has_same_sid (f s) (f t) ≡ false
 apart-again f keeps s t is =
@@ -242,6 +281,7 @@ sound-limits w f keeps sound = record {
   users = sound.users;
   outboxes = sound.outboxes;
   subscriptions = All-filter IsOpen (IsAllowed w.policy w.sessions) subs (All-map (IsAllowed w.policy w.sessions) f w.subscriptions (λ k d h. allowed-again w.policy w.sessions f keeps (get_or w.subscriptions k d) (sound.subscriptions k d h)));
+  accounts = All-filter IsOpen (IsOwned w.policy w.sessions) subs (All-map (IsOwned w.policy w.sessions) f w.subscriptions (λ k d h. owned-again w.policy w.sessions f keeps (get_or w.subscriptions k d) (sound.accounts k d h)));
   limits = λ k d h. not-true (has_ended (get_or (unended subs) k d)) (filter_passes IsOpen subs k d h);
   sids = AllPairs-filter (λ (s t : Subscription). has_same_sid s t ≡ false) IsOpen subs (AllPairs-map (λ (s t : Subscription). has_same_sid s t ≡ false) f w.subscriptions (apart-again f keeps) sound.sids);
   quotas = quotas-filter IsOpen subs (quotas-again f keeps w.subscriptions sound.quotas);

@@ -7,29 +7,31 @@ use Rattle.subjects.specs.Subject.{Token, in_set}
 use Rattle.permissions.specs.Verdicts.{publish_verdict, subscribe_verdict, delivery_verdict, is_allowed, IsJustifiedPublish, IsJustifiedSubscribe}
 use Rattle.permissions.specs.declared.verdict.Verdict.{Verdict}
 use Rattle.permissions.specs.declared.verdict.Verdict.TheVariants.{Allowed}
-use Rattle.hub.specs.Users.{user_with_password}
-use Rattle.hub.specs.World.{World, session_of}
+use Rattle.ready.specs.Users.{user_with_password}
+use Rattle.ready.specs.declared.ready.User.{User}
+use Rattle.events.specs.Messages.{Message}
+use Rattle.events.specs.declared.event.Event.{Event}
+use Rattle.events.specs.declared.event.Command.{Command}
+use Rattle.events.specs.declared.event.Command.TheVariants.{Connect, Sub, Unsub, Pub, Take, Close, Reload}
+use Rattle.events.specs.declared.answer.Delivery.{Delivery}
+use Rattle.events.specs.declared.answer.Item.{Item}
+use Rattle.events.specs.declared.answer.Item.TheVariants.{Entered, Full}
+use Rattle.events.specs.declared.answer.Outcome.{Outcome}
+use Rattle.events.specs.declared.answer.Outcome.TheVariants.{Connected, AuthViolation, Subscribed, SameSid, SubLimit, Denied, Unsubscribed, Published, Taken, Closed, Reloaded}
+use Rattle.events.specs.declared.answer.Entry.{Entry}
+use Rattle.events.specs.declared.refusal.HubRefusal.{HubRefusal}
+use Rattle.events.specs.declared.refusal.HubRefusal.TheVariants.{HistoryFull, NoSession, SessionTaken, SessionLimit, NoMemory}
+use Rattle.sessions.specs.Sessions.{session_of, new_session, drained}
+use Rattle.sessions.specs.declared.session.Session.{Session}
+use Rattle.subscriptions.specs.Subscriptions.{stands, of_connection, has_all, subscription_of}
+use Rattle.subscriptions.specs.Limit.{unended, counted, limited}
+use Rattle.subscriptions.specs.declared.subscription.Subscription.{Subscription}
+use Rattle.world.specs.World.{World}
+use Rattle.world.specs.Routing.{delivery_to}
 use Rattle.hub.specs.Sound.{IsSound, user_at, may_subscribe}
-use Rattle.hub.specs.History.{State, is_history_full, entry_of}
+use Rattle.hub.specs.History.{State, is_history_full}
 use Rattle.hub.specs.InForce.{IsInForce, policy_after, epoch_after}
 use Rattle.hub.specs.Run.{EachStep}
-use Rattle.hub.specs.Routing.{Message, message, delivery_to}
-use Rattle.hub.specs.Limit.{unended, counted, limited}
-use Rattle.hub.specs.Transition.{new_session, of_connection, has_all, subscription_of, stands, drained}
-use Rattle.hub.specs.declared.ready.User.{User}
-use Rattle.hub.specs.declared.tables.Session.{Session}
-use Rattle.hub.specs.declared.tables.Subscription.{Subscription}
-use Rattle.hub.specs.declared.event.Event.{Event}
-use Rattle.hub.specs.declared.event.Command.{Command}
-use Rattle.hub.specs.declared.event.Command.TheVariants.{Connect, Sub, Unsub, Pub, Take, Close, Reload}
-use Rattle.hub.specs.declared.answer.Answer.{Answer}
-use Rattle.hub.specs.declared.answer.Delivery.{Delivery}
-use Rattle.hub.specs.declared.answer.Item.{Item}
-use Rattle.hub.specs.declared.answer.Item.TheVariants.{Entered, Full}
-use Rattle.hub.specs.declared.answer.Outcome.{Outcome}
-use Rattle.hub.specs.declared.answer.Outcome.TheVariants.{Connected, AuthViolation, Subscribed, SameSid, SubLimit, Denied, Unsubscribed, Published, Taken, Closed, Reloaded}
-use Rattle.hub.specs.declared.answer.HubRefusal.{HubRefusal}
-use Rattle.hub.specs.declared.answer.HubRefusal.TheVariants.{HistoryFull, NoSession, SessionTaken, SessionLimit, NoMemory}
 
 -- ---- accepted and allowed
 
@@ -58,7 +60,7 @@ abbrev pub allows : World → Command → Bool
 allows w (Connect conn name password echo) = is_some (user_with_password w.policy name password)
 allows w (Sub conn p sid) = may_subscribe (user_at w conn) p
 allows w (Unsub conn sid most) = true
-allows w (Pub conn s reply head body word) = may_publish (user_at w conn) s
+allows w (Pub conn m word) = may_publish (user_at w conn) m.subject
 allows w (Take conn most) = true
 allows w (Close conn) = true
 allows w (Reload doc) = true
@@ -74,9 +76,9 @@ IsDenial w (Sub conn p sid) v =
     IsSomeAnd (user_at w conn) (λ (u : User). (v ≡ subscribe_verdict u.rules p)
     × IsJustifiedSubscribe p u.rules.subscribe v)
 IsDenial w (Unsub conn sid most) v = ⊥
-IsDenial w (Pub conn s reply head body word) v =
-    IsSomeAnd (user_at w conn) (λ (u : User). (v ≡ publish_verdict u.rules s)
-    × IsJustifiedPublish s u.rules.publish v)
+IsDenial w (Pub conn m word) v =
+    IsSomeAnd (user_at w conn) (λ (u : User). (v ≡ publish_verdict u.rules m.subject)
+    × IsJustifiedPublish m.subject u.rules.publish v)
 IsDenial w (Take conn most) v = ⊥
 IsDenial w (Close conn) v = ⊥
 IsDenial w (Reload doc) v = ⊥
@@ -168,11 +170,11 @@ IsEffect w (Connect conn name password echo) Connected after =
     IsSomeAnd (user_with_password w.policy name password) (λ (u : User). after.sessions ≡ w.sessions ++ new_session conn u echo w.capacity ∷ [])
     × (after.subscriptions ≡ w.subscriptions)
 IsEffect w (Connect conn name password echo) AuthViolation after = IsUntouched w after
--- the subscription stands, the youngest, where none of that id stood and fewer than 4,096 of the connection's; else
--- nothing changes
+-- the subscription stands, the youngest, of the user's account, where none of that id stood and fewer than 4,096 of the
+-- connection's; else nothing changes
 IsEffect w (Sub conn p sid) Subscribed after =
     (stands w.subscriptions conn sid ≡ false) × (has_all w.subscriptions conn ≡ false) × (after.sessions ≡ w.sessions)
-    × (after.subscriptions ≡ w.subscriptions ++ subscription_of after.number conn p sid ∷ [])
+    × IsSomeAnd (user_at w conn) (λ (u : User). after.subscriptions ≡ w.subscriptions ++ subscription_of after.number conn u.account p sid ∷ [])
 IsEffect w (Sub conn p sid) SameSid after = (stands w.subscriptions conn sid ≡ true) × IsUntouched w after
 IsEffect w (Sub conn p sid) SubLimit after =
     (stands w.subscriptions conn sid ≡ false) × (has_all w.subscriptions conn ≡ true) × IsUntouched w after
@@ -183,11 +185,11 @@ IsEffect w (Unsub conn sid most) Unsubscribed after =
     (after.sessions ≡ w.sessions) × (after.subscriptions ≡ unended (map (limited conn sid most) w.subscriptions))
 -- the message, by the rule that allows it, to those of the user's account that it is for, and to nobody else; each
 -- subscription that it has entered for counts it, and ends where that was the last that it was to receive
-IsEffect w (Pub conn s reply head body word) (Published by items) after =
-    IsSomeAnd (user_at w conn) (λ (u : User). (publish_verdict u.rules s ≡ Allowed by)
-    × IsDelivered w (message s reply head body) (recipients w conn u.account s) items after.sessions)
+IsEffect w (Pub conn m word) (Published by items) after =
+    IsSomeAnd (user_at w conn) (λ (u : User). (publish_verdict u.rules m.subject ≡ Allowed by)
+    × IsDelivered w m (recipients w conn u.account m.subject) items after.sessions)
     × (after.subscriptions ≡ unended (map (counted items) w.subscriptions))
-IsEffect w (Pub conn s reply head body word) (Denied v) after = IsUntouched w after
+IsEffect w (Pub conn m word) (Denied v) after = IsUntouched w after
 -- the oldest deliveries of the connection's session leave its outbox, and what was missed has been told
 IsEffect w (Take conn most) (Taken deliveries missed) after =
     IsSomeAnd (session_of w.sessions conn) (λ (z : Session). (deliveries ≡ take most z.outbox.waiting) × (missed ≡ z.missed))
@@ -210,7 +212,7 @@ abbrev pub connection : Command → Option ℕ
 connection (Connect conn name password echo) = Some conn
 connection (Sub conn p sid) = Some conn
 connection (Unsub conn sid most) = Some conn
-connection (Pub conn s reply head body word) = Some conn
+connection (Pub conn m word) = Some conn
 connection (Take conn most) = Some conn
 connection (Close conn) = Some conn
 connection (Reload doc) = None
@@ -219,7 +221,7 @@ abbrev pub is_connect : Command → Bool
 is_connect (Connect conn name password echo) = true
 is_connect (Sub conn p sid) = false
 is_connect (Unsub conn sid most) = false
-is_connect (Pub conn s reply head body word) = false
+is_connect (Pub conn m word) = false
 is_connect (Take conn most) = false
 is_connect (Close conn) = false
 is_connect (Reload doc) = false
@@ -255,8 +257,8 @@ is_due s c NoMemory = is_in_order s c
 
 -- ---- the guarantee
 
--- An answered step.
-pub record IsRouted (s : State) (e : Event) (a : Answer) (after : State) : Type 0 where
+-- An answered step, whose answer is the event's entry.
+pub record IsRouted (s : State) (e : Event) (a : Entry) (after : State) : Type 0 where
   -- no refusal was due
   pub in_order : is_in_order s e.what ≡ true
   -- a command is accepted exactly where the policy in force allows it
@@ -270,8 +272,9 @@ pub record IsRouted (s : State) (e : Event) (a : Answer) (after : State) : Type 
   pub others : (after.world ≡ record s.world { policy = policy_after s.world e.what; epoch = epoch_after s.world e.what; moment = max s.world.moment e.now; number = s.world.number + 1; sessions = after.world.sessions; subscriptions = after.world.subscriptions })
   pub number : a.number ≡ s.world.number + 1
   pub epoch : a.epoch ≡ epoch_after s.world e.what
-  -- the answer is entered with its event, behind all others, and nothing is forgotten
-  pub history : after ≡ record s { world = after.world; entries = s.entries ++ entry_of a e ∷ [] }
+  -- the answer has the event, and is entered behind all others, and nothing is forgotten
+  pub event : a.event ≡ e
+  pub history : after ≡ record s { world = after.world; entries = s.entries ++ a ∷ [] }
   -- no standing subscription is refused by the policy in force
   pub sound : IsSound after.world
 
@@ -282,10 +285,10 @@ pub record IsRefused (s : State) (e : Event) (refused : Event × HubRefusal) (af
   pub due : is_due s e.what refused.1 ≡ true
 
 -- one step keeps the guarantee
-abbrev pub KeepsGuarantee : State → Event → Result Answer (Event × HubRefusal) → State → Type 0
+abbrev pub KeepsGuarantee : State → Event → Result Entry (Event × HubRefusal) → State → Type 0
 KeepsGuarantee s e (Ok a) after = IsRouted s e a after
 KeepsGuarantee s e (Err refused) after = IsRefused s e refused after
 
 -- Each step of a run keeps the guarantee, whatever the events.
-abbrev pub IsGuarded : State → List Event → List (Result Answer (Event × HubRefusal)) → State → Type 0
+abbrev pub IsGuarded : State → List Event → List (Result Entry (Event × HubRefusal)) → State → Type 0
 IsGuarded = EachStep KeepsGuarantee

@@ -4,22 +4,25 @@ use Rattle.std.specs.List.{filter_map, list_any}
 use Rattle.std.specs.Cmp.Lexicographic.{pointwise}
 use Rattle.policy_doc.specs.declared.document.PolicyDoc.{PolicyDoc}
 use Rattle.permissions.specs.Verdicts.{subscribe_verdict, is_allowed, IsJustifiedSubscribe}
-use Rattle.hub.specs.World.{World, session_of}
-use Rattle.hub.specs.Reload.{with_user, removed_by}
-use Rattle.hub.specs.Sound.{user_named, user_at, may_subscribe}
-use Rattle.hub.specs.declared.ready.User.{User}
-use Rattle.hub.specs.declared.tables.Session.{Session}
-use Rattle.hub.specs.declared.tables.Subscription.{Subscription}
-use Rattle.hub.specs.declared.event.Command.{Command}
-use Rattle.hub.specs.declared.event.Command.TheVariants.{Connect, Sub, Unsub, Pub, Take, Close, Reload}
-use Rattle.hub.specs.declared.answer.Removed.{Removed}
+use Rattle.ready.specs.Users.{user_named}
+use Rattle.ready.specs.declared.ready.User.{User}
+use Rattle.events.specs.declared.event.Command.{Command}
+use Rattle.events.specs.declared.event.Command.TheVariants.{Connect, Sub, Unsub, Pub, Take, Close, Reload}
+use Rattle.events.specs.declared.answer.Removed.{Removed}
+use Rattle.sessions.specs.Sessions.{session_of}
+use Rattle.sessions.specs.Renewal.{with_user}
+use Rattle.sessions.specs.declared.session.Session.{Session}
+use Rattle.subscriptions.specs.declared.subscription.Subscription.{Subscription}
+use Rattle.world.specs.World.{World}
+use Rattle.world.specs.Reload.{removed_by}
+use Rattle.hub.specs.Sound.{user_at, may_subscribe}
 
 -- the policy in force after a command: a reload brings its own, and nothing else changes it
 abbrev pub policy_after : World → Command → PolicyDoc
 policy_after w (Connect conn name password echo) = w.policy
 policy_after w (Sub conn p sid) = w.policy
 policy_after w (Unsub conn sid most) = w.policy
-policy_after w (Pub conn s reply head body word) = w.policy
+policy_after w (Pub conn m word) = w.policy
 policy_after w (Take conn most) = w.policy
 policy_after w (Close conn) = w.policy
 policy_after w (Reload doc) = doc
@@ -29,7 +32,7 @@ abbrev pub epoch_after : World → Command → ℕ
 epoch_after w (Connect conn name password echo) = w.epoch
 epoch_after w (Sub conn p sid) = w.epoch
 epoch_after w (Unsub conn sid most) = w.epoch
-epoch_after w (Pub conn s reply head body word) = w.epoch
+epoch_after w (Pub conn m word) = w.epoch
 epoch_after w (Take conn most) = w.epoch
 epoch_after w (Close conn) = w.epoch
 epoch_after w (Reload doc) = w.epoch + 1

@@ -1,12 +1,5 @@
-pub mod Users
-pub mod World
-pub mod Routing
-pub mod Limit
-pub mod Reload
-pub mod Transition
+pub mod Sound
 pub mod History
 pub mod Run
-pub mod Shown
-pub mod Sound
 pub mod InForce
 pub mod Guarantee

@@ -1,22 +1,18 @@
 -- What holds of the world of every hub (docs/GUARANTEE.md, "What always holds").
-use Rattle.std.specs.Prelude.{◌≡◌, ◌≢◌, ◌+◌, ◌<◌, ◌≤◌, ℕ, List, Bool, true, false, Option, Some, None, find, length, All, AllPairs}
-use Rattle.std.specs.Cmp.Lexicographic.{pointwise}
-use Rattle.std.specs.Prelude.{nat_eq}
+use Rattle.std.specs.Prelude.{◌≡◌, ◌≢◌, ◌+◌, ◌<◌, ◌≤◌, ℕ, List, Bool, true, false, Option, Some, None, length, All, AllPairs}
+use Rattle.std.specs.Option.{option_map}
 use Rattle.subjects.specs.Subject.{Token}
 use Rattle.policy_doc.specs.Document.{IsValidPolicy}
 use Rattle.policy_doc.specs.declared.document.PolicyDoc.{PolicyDoc}
 use Rattle.permissions.specs.Verdicts.{subscribe_verdict, is_allowed}
-use Rattle.hub.specs.Users.{users_of}
-use Rattle.hub.specs.World.{World, session_of}
-use Rattle.hub.specs.Limit.{has_ended, is_under}
-use Rattle.hub.specs.Transition.{of_connection}
-use Rattle.hub.specs.declared.ready.User.{User}
-use Rattle.hub.specs.declared.tables.Session.{Session}
-use Rattle.hub.specs.declared.tables.Subscription.{Subscription}
-
--- the user of that name
-abbrev pub user_named : PolicyDoc → List ℕ → Option User
-user_named doc name = find (λ (u : User). pointwise nat_eq u.user name) (users_of doc)
+use Rattle.ready.specs.Users.{user_named}
+use Rattle.ready.specs.declared.ready.User.{User}
+use Rattle.sessions.specs.Sessions.{session_of}
+use Rattle.sessions.specs.declared.session.Session.{Session}
+use Rattle.subscriptions.specs.Subscriptions.{is_under, of_connection}
+use Rattle.subscriptions.specs.Limit.{has_ended}
+use Rattle.subscriptions.specs.declared.subscription.Subscription.{Subscription}
+use Rattle.world.specs.World.{World}
 
 -- the user that a session acts for: whom the policy has under the name of the session's user
 abbrev pub user_behind : PolicyDoc → Option Session → Option User
@@ -26,6 +22,10 @@ user_behind doc (Some z) = user_named doc z.user.user
 -- the user that a connection acts for, as the policy in force has it
 abbrev pub user_at : World → ℕ → Option User
 user_at w conn = user_behind w.policy (session_of w.sessions conn)
+
+-- the account of a user, if there is one
+abbrev pub account_of : Option User → Option (List ℕ)
+account_of u = option_map (λ (v : User). v.account) u
 
 -- whether a user may subscribe to a pattern
 abbrev pub may_subscribe : Option User → List Token → Bool
@@ -50,6 +50,8 @@ pub record IsSound (w : World) : Type 0 where
   pub outboxes : All (λ (z : Session). (z.outbox.capacity ≡ w.capacity) × (length z.outbox.waiting ≤ w.capacity)) w.sessions
   -- the policy in force refuses no standing subscription: its connection has a session, whose user may have it
   pub subscriptions : All (λ (s : Subscription). may_subscribe (user_at w s.conn) s.subject ≡ true) w.subscriptions
+  -- each is of the account that its connection's user has in the policy in force
+  pub accounts : All (λ (s : Subscription). account_of (user_at w s.conn) ≡ Some s.account) w.subscriptions
   -- each is still to receive: none has received as many messages as it was to
   pub limits : All (λ (s : Subscription). has_ended s ≡ false) w.subscriptions
   -- no connection has two of one sid

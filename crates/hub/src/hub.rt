@@ -1,19 +1,12 @@
-//! The hub: one step of its tables, which it remembers, and a run of steps.
-use crate::answer::{Answer, HubRefusal, Outcome};
-use crate::event::Event;
-use crate::history::Entry;
-use crate::ready::Ready;
-use crate::router::Router;
-use crate::session::find_session;
-use crate::tables::Subscription;
-use crate::twice::Twice;
-use bytes::Bytes;
+//! One step of the world, which is remembered, and a run of steps.
+use events::{Answer, Event, HubRefusal};
 use lists::{Copying, Items, NoMemory};
 use policy_doc::Policy;
+use ready::Ready;
 use std::alloc::Global;
 use std::collections::VecDeque;
 use std::marker::Model;
-use subjects::Pattern;
+use world::{Standing, World};
 
 /// What a hub is given once, at its opening.
 #[derive(Clone, Copy, Debug)]
@@ -24,58 +17,42 @@ pub struct Caps {
     pub history: usize,
 }
 
-/// A standing subscription, as it is shown.
-#[derive(Drop)]
-pub struct Standing {
-    /// The number of the entry that made it.
-    pub id: u64,
-    /// The connection whose session has it.
-    pub conn: u64,
-    /// What it asks for.
-    pub subject: Pattern,
-    /// The client's own id for it.
-    pub sid: Bytes,
-    /// How many messages it has received since its SUB. It stays at 2^64 - 1.
-    pub received: u64,
-    /// How many it is to receive in all, where an UNSUB has said so.
-    pub most: Option<u64>,
-}
-
-/// The router, and the history of its steps. A clause sees the world that its tables show, the one that it opened
-/// with, and the entries. Of every hub it holds that the policy in force refuses no standing subscription, that the
-/// entries are a legal run, and what else `known` tells.
+/// The world, and the history of its steps. A clause sees the world, the one that it opened with, and the entries. Of
+/// every hub it holds that the policy in force refuses no standing subscription, that the entries are a legal run, and
+/// what else `known` tells.
 #[derive(Drop)]
 pub struct Hub {
-    router: Router,
+    alloc: Global,
+    world: World,
     /// The policy that the hub opened with.
     opening: Ready,
     most: usize,
-    entries: Vec<Entry>,
+    entries: Vec<Answer>,
 }
 
 impl Model for Hub {
     ghost use Rattle.std.specs.Prelude.{◌≤◌, length};
-    ghost use Rattle.hub.specs.World.{opening_world};
+    ghost use Rattle.world.specs.World.{opening_world};
     ghost use Rattle.hub.specs.Sound.{IsSound};
     ghost use Rattle.hub.specs.History.{State, IsLegalRun};
 
     ghost Value = { State };
 
     ghost view = { λ h. record {
-      world = h.router;
-      opening = opening_world h.opening h.router.capacity;
+      world = h.world;
+      opening = opening_world h.opening h.world.capacity;
       most = h.most;
       entries = h.entries.items;
     } };
 
-    ghost invariant = { λ h. IsSound h.router
-        × IsLegalRun (opening_world h.opening h.router.capacity) h.entries.items h.router
+    ghost invariant = { λ h. IsSound h.world
+        × IsLegalRun (opening_world h.opening h.world.capacity) h.entries.items h.world
         × (length h.entries.items ≤ h.most) };
 }
 
 impl Hub {
     ghost use Rattle.std.specs.Prelude.{◌≡◌, ◌≤◌, IfOk, IfErr, length};
-    ghost use Rattle.hub.specs.World.{opening_world};
+    ghost use Rattle.world.specs.World.{opening_world};
     ghost use Rattle.hub.specs.Sound.{IsSound};
     ghost use Rattle.hub.specs.History.{opening_state, is_history_full, IsLegalRun, IsStep};
 
@@ -91,31 +68,25 @@ impl Hub {
             Ok(opening) => opening,
             Err(refused) => return Err((ready, refused)),
         };
+        let world = World::new(alloc, ready, caps.outbox)?;
         Ok(Hub {
-            router: Router {
-                alloc,
-                ready,
-                capacity: caps.outbox,
-                epoch: 1,
-                moment: 0,
-                number: 0,
-                sessions: Vec::new(alloc),
-                subscriptions: Vec::new(alloc),
-            },
+            alloc,
+            world,
             opening,
             most: caps.history,
             entries: Vec::new(alloc),
         })
     }
 
+    ghost use Rattle.world.specs.Transition.{transition, IsRefusal};
     ghost use Rattle.hub.specs.Guarantee.{KeepsGuarantee, IsGuarded};
 
     /// Tells what holds of every hub (docs/GUARANTEE.md, "What always holds"): the policy in force is valid and
-    /// refuses no standing subscription; at most 4,096 sessions stand, each of a user of that policy; no connection
-    /// has two sessions, two subscriptions of one sid, or more than 4,096 subscriptions; no outbox holds more than
-    /// the hub's capacity; the ids of subscriptions rise, and none is above the last number. And the history is
-    /// legal: its entries lead, one by one, from the world that the hub opened with to the present one. They are no
-    /// more than it may hold.
+    /// refuses no standing subscription, each of which is of its user's account; at most 4,096 sessions stand, each of
+    /// a user of that policy; no connection has two sessions, two subscriptions of one sid, or more than 4,096
+    /// subscriptions; no outbox holds more than the hub's capacity; the ids of subscriptions rise, and none is above
+    /// the last number. And the history is legal: its entries lead, one by one, from the world that the hub opened
+    /// with to the present one. They are no more than it may hold.
     pub fn known(&self)
         ensures sound { IsSound self.now.world }
         ensures opening { self.now.opening ≡ opening_world self.now.opening.policy self.now.world.capacity }
@@ -123,11 +94,11 @@ impl Hub {
         ensures room { length self.now.entries ≤ self.now.most }
     {
         // The loan tells the prover what the type keeps.
-        let _ = &self.router;
+        let _ = &self.world;
     }
 
-    /// One event, whole: the outcome and the world after it are the transition's, and the answer is entered with
-    /// its event, behind all entries. A refusal changes nothing and hands the event back: `HistoryFull` where the
+    /// One event, whole: the outcome and the world after it are the transition's, and the answer is the event's entry,
+    /// which stands behind all others. A refusal changes nothing and hands the event back: `HistoryFull` where the
     /// history holds as many entries as it may, or number 2^64 - 1 has been given, `SessionTaken` to a Connect of a
     /// connection with a session, `NoSession` to any other command of one without, `SessionLimit` to a Connect
     /// while 4,096 sessions stand, `NoMemory` where memory could not be had. The step keeps the routing guarantee.
@@ -139,11 +110,15 @@ impl Hub {
             return Err((event, HubRefusal::HistoryFull));
         }
         if self.entries.reserve(1).is_err() {
-            let refusal = self.router.refusal_of(&event);
+            let refusal = self.refusal_of(&event);
             return Err((event, refusal));
         }
-        match self.router.step(&event) {
-            Ok(outcome) => Ok(enter(&mut self.entries, &self.router, outcome, event)),
+        match self.world.apply(&event) {
+            Ok((told, kept)) => {
+                // The entry has all that the event has.
+                drop(event);
+                Ok(enter(&mut self.entries, told, kept))
+            }
             Err(refusal) => Err((event, refusal)),
         }
     }
@@ -152,12 +127,22 @@ impl Hub {
     fn is_full(&self) -> bool
         ensures { result ≡ is_history_full self.now }
     {
-        self.entries.len() >= self.most || self.router.number == u64::MAX
+        self.entries.len() >= self.most || self.world.number() == u64::MAX
+    }
+
+    /// Why an event is refused that there is no memory to enter: the world's refusal, or want of memory.
+    fn refusal_of(&self, event: &Event) -> HubRefusal
+        ensures { IsRefusal (transition self.now.world event.entry.now) result }
+    {
+        match self.world.refuses(event) {
+            Some(refusal) => refusal,
+            None => HubRefusal::NoMemory,
+        }
     }
 
     ghost use Rattle.std.specs.Prelude.{[], map, vec_capacity};
     ghost use Rattle.hub.specs.Run.{IsRun};
-    ghost use Rattle.hub.specs.Shown.{standing_of, waiting_of};
+    ghost use Rattle.world.specs.Shown.{standing_of, waiting_of};
 
     /// Steps of the events in order: the answer or the refusal of each. Where the list of answers finds no
     /// memory, the events are handed back before the first step.
@@ -176,7 +161,7 @@ impl Hub {
         ensures sound { IsSound self.new.world }
         ensures err { IfErr result (λ refused. (refused.0 ≡ events) × (self.new ≡ self.old)) }
     {
-        match Vec::with_capacity(self.router.alloc, events.len()) {
+        match Vec::with_capacity(self.alloc, events.len()) {
             Ok(answers) => Ok(self.run_each(VecDeque::from(events), answers)),
             Err(_) => Err((events, NoMemory)),
         }
@@ -200,9 +185,11 @@ impl Hub {
         answers
     }
 
-    /// The entries, oldest first: one for each event that was answered.
-    pub fn history(&self) -> &[Entry]
-        ensures { result.now ≡ self.now.entries }
+    /// The entries, oldest first: one for each event that was answered. They lead, one by one, from the world that the
+    /// hub opened with to the present one.
+    pub fn history(&self) -> &[Answer]
+        ensures entries { result.now ≡ self.now.entries }
+        ensures legal { IsLegalRun self.now.opening result.now self.now.world }
     {
         self.entries.as_slice()
     }
@@ -211,28 +198,28 @@ impl Hub {
     pub fn ready(&self) -> &Ready
         ensures { result.now ≡ self.now.world.policy }
     {
-        &self.router.ready
+        self.world.ready()
     }
 
     /// The policy in force.
     pub fn policy(&self) -> &Policy
         ensures { result.now ≡ self.now.world.policy }
     {
-        self.router.ready.policy()
+        self.world.ready().policy()
     }
 
     /// The epoch in force: which policy it is, counted from 1.
     pub fn epoch(&self) -> u128
         ensures { result ≡ self.now.world.epoch }
     {
-        self.router.epoch
+        self.world.epoch()
     }
 
     /// The standing subscriptions, oldest first. `NoMemory` where memory could not be had.
     pub fn standing(&self) -> Result<Items<Standing>, NoMemory>
         ensures { IfOk result (λ all. all ≡ map standing_of self.now.world.subscriptions) }
     {
-        standing_all(self.router.alloc, &self.router.subscriptions)
+        self.world.standing()
     }
 
     /// How many deliveries wait for the connection's session, and whether one was missed since its Connect or
@@ -240,58 +227,19 @@ impl Hub {
     pub fn waiting(&self, conn: u64) -> Option<(usize, bool)>
         ensures { result ≡ waiting_of self.now.world conn }
     {
-        match find_session(&self.router.sessions, conn) {
-            None => None,
-            Some(session) => Some((session.outbox.len(), session.missed)),
-        }
+        self.world.waiting(conn)
     }
 }
 
-ghost use Rattle.std.specs.Prelude.{◌≡◌, ◌<◌, ◌++◌, ◌∷◌, [], IfOk, map, vec_len, vec_capacity};
-ghost use Rattle.hub.specs.Shown.{standing_of};
-ghost use Rattle.hub.specs.History.{answer_of, entry_of};
+ghost use Rattle.std.specs.Prelude.{◌≡◌, ◌<◌, ◌++◌, ◌∷◌, [], vec_len, vec_capacity};
 
-/// Enters an outcome with its event, behind all entries, and gives the answer.
-fn enter(entries: &mut Vec<Entry>, router: &Router, outcome: Twice<Outcome>, event: Event) -> Answer
-    requires { vec_len entries.old < vec_capacity entries.old }
-    ensures answer { result ≡ answer_of outcome router.now }
-    ensures entered { entries.new.items ≡ entries.old.items ++ entry_of result event ∷ [] }
+/// Enters what is kept of an event behind all entries, in the place that it has there, and gives what is told.
+fn enter(entries: &mut Vec<Answer>, told: Answer, kept: Answer) -> Answer
+    requires room { vec_len entries.old < vec_capacity entries.old }
+    requires same { kept ≡ told }
+    ensures answer { result ≡ told }
+    ensures entered { entries.new.items ≡ entries.old.items ++ told ∷ [] }
 {
-    let (told, kept) = outcome.into_both();
-    let number = router.number;
-    let epoch = router.epoch;
-    entries.push_reserved(Entry {
-        number,
-        epoch,
-        outcome: kept,
-        event,
-    });
-    Answer {
-        number,
-        epoch,
-        outcome: told,
-    }
-}
-
-fn standing_all(alloc: Global, subscriptions: &[Subscription]) -> Result<Items<Standing>, NoMemory>
-    ensures { IfOk result (λ all. all ≡ map standing_of subscriptions.now) }
-{
-    let mut all = Vec::with_capacity(alloc, subscriptions.len())?;
-    for subscription in subscriptions {
-        all.push(show_standing(alloc, subscription)?)?;
-    }
-    Ok(Items::from_vec(all))
-}
-
-fn show_standing(alloc: Global, subscription: &Subscription) -> Result<Standing, NoMemory>
-    ensures { IfOk result (λ shown. shown ≡ standing_of subscription.now) }
-{
-    Ok(Standing {
-        id: subscription.id,
-        conn: subscription.conn,
-        subject: subscription.subject.copy(alloc)?,
-        sid: subscription.sid.clone()?,
-        received: subscription.received,
-        most: subscription.most,
-    })
+    entries.push_reserved(kept);
+    told
 }

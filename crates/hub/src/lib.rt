@@ -1,27 +1,11 @@
-//! The tables of the router, their transition and its history: one event in, one outcome out, and everything
-//! handed in.
+//! The hub: the world with its history, one step, and runs of steps. Its contract is the routing guarantee.
 #![tactic(auto)]
 
-mod answer;
-mod copy;
-mod deliver;
-mod event;
-mod history;
 mod hub;
-mod limit;
-mod ready;
-mod reload;
-mod router;
-mod session;
-mod subscribe;
-mod tables;
-mod twice;
 
-pub use answer::{Answer, Delivery, HubRefusal, Item, Outcome, Removed};
-pub use deliver::Addressed;
-pub use event::{Command, Event};
-pub use history::Entry;
-pub use hub::{Caps, Hub, Standing};
+pub use events::{
+    Answer, Command, Delivery, Entry, Event, HubRefusal, Item, Message, Outcome, Port, Removed, Sid,
+};
+pub use hub::{Caps, Hub};
 pub use ready::{Ready, User};
-pub use tables::{Session, Subscription};
-pub use twice::Twice;
+pub use world::Standing;

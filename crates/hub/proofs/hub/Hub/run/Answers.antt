@@ -3,7 +3,7 @@ use Rattle.std.proofs.Common.{List, subst}
 use Rattle.hub.specs.Sound.{IsSound}
 use Rattle.hub.specs.History.{State}
 use Rattle.hub.specs.Guarantee.{IsGuarded}
-use Rattle.hub.specs.declared.event.Event.{Event}
+use Rattle.events.specs.declared.event.Event.{Event}
 use Rattle.hub.proofs.Guaranteed.{sound-run}
 use Rattle.hub.proofs.hub.Hub.run.Goals as goal
 

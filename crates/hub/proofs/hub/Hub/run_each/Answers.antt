@@ -3,7 +3,7 @@ use Rattle.std.proofs.Common.{◌≡◌, List, [], subst, arith}
 use Rattle.std.proofs.lemmas.Grind.{common_steps}
 use Rattle.hub.specs.History.{IsStep}
 use Rattle.hub.specs.Guarantee.{KeepsGuarantee}
-use Rattle.hub.specs.declared.event.Event.{Event}
+use Rattle.events.specs.declared.event.Event.{Event}
 use Rattle.hub.proofs.Runs.{Completes, Completes-end}
 use Rattle.hub.proofs.hub.Hub.run_each.Goals as goal
 
