@@ -18,7 +18,7 @@ use Rattle.conn.specs.declared.text.Text.{Text}
 use Rattle.conn.specs.declared.text.Text.TheVariants as text
 use Rattle.conn.specs.declared.plan.Plan.{Plan}
 use Rattle.conn.specs.declared.plan.Plan.TheVariants.{Tells, Asks, Publishes}
-use Rattle.conn.specs.Replies.{closed_from, after_error, fault_text}
+use Rattle.conn.specs.Replies.{closed_from, fault_text, reply_of_text, reply_of_error}
 
 -- ---- texts that are parsed
 
@@ -40,17 +40,16 @@ reply_subject_if (Some text) = reply_subject_from (subject_if text)
 
 -- ---- plans
 
--- a text alone
+-- it is answered as it is: by a text, or by an error
 abbrev pub text_plan : Text → Stage → Plan
-text_plan t s = Tells (record { text = t; stage = s })
+text_plan t s = Tells (reply_of_text t s)
 
--- an error, which closes the connection or leaves it open
 abbrev pub error_plan : ServerError → Stage → Plan
-error_plan e s = text_plan (text.Error e) (after_error e s)
+error_plan e s = Tells (reply_of_error e s)
 
 -- a CONNECT, by its options
 abbrev pub connect_plan : ℕ → Read ConnectOpts → Plan
-connect_plan conn (Ok o) = Asks (command.Connect conn o.user o.pass o.echo) (stage.Connected o.verbose o.headers)
+connect_plan conn (Ok o) = Asks (command.Connect conn o.user o.password o.echo) (stage.Connected o.verbose o.headers)
 connect_plan conn (Err _) = error_plan error.ParserError stage.Fresh
 
 -- a message, by its subject and the one to answer on
@@ -75,10 +74,6 @@ abbrev pub subscribe_plan : ℕ → Stage → List ℕ → Option (List ℕ) →
 subscribe_plan conn s subject queue sid =
     if is_some queue then error_plan error.InvalidSubject s else pattern_plan conn s (pattern_if subject) sid
 
--- the end of a subscription, at once or after so many messages
-abbrev pub unsubscribe_plan : ℕ → Stage → List ℕ → Option ℕ → Plan
-unsubscribe_plan conn s sid most = Asks (command.Unsub conn sid most) s
-
 -- before CONNECT: nothing but CONNECT, PING, PONG and a fault is looked at
 abbrev pub fresh_plan : ℕ → Frame → Plan
 fresh_plan conn (frame.Connect t) = connect_plan conn (opts_of t)
@@ -94,7 +89,7 @@ connected_plan conn s headers (frame.Connect _) = error_plan error.InvalidProtoc
 connected_plan conn s headers (frame.Pub subject reply payload) = publish_plan s subject reply [] payload
 connected_plan conn s headers (frame.Hpub subject reply head payload) = headed_plan s headers subject reply head payload
 connected_plan conn s headers (frame.Sub subject queue sid) = subscribe_plan conn s subject queue sid
-connected_plan conn s headers (frame.Unsub sid most) = unsubscribe_plan conn s sid most
+connected_plan conn s headers (frame.Unsub sid most) = Asks (command.Unsub conn sid most) s
 connected_plan conn s headers frame.Ping = text_plan text.Pong s
 connected_plan conn s headers frame.Pong = text_plan text.Nothing s
 connected_plan conn s headers (frame.Fault f) = text_plan (fault_text f) (closed_from s)

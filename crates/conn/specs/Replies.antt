@@ -86,6 +86,14 @@ room_of _ = 64
 
 -- ---- replies
 
+-- a text alone
+abbrev pub reply_of_text : Text → Stage → Reply
+reply_of_text t s = record { text = t; stage = s }
+
+-- an error, which closes the connection or leaves it open
+abbrev pub reply_of_error : ServerError → Stage → Reply
+reply_of_error e s = reply_of_text (text.Error e) (after_error e s)
+
 -- what a client is told, and where its connection is then
 pub record Told : Type 0 where
   pub text : List ℕ

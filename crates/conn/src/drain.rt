@@ -125,9 +125,9 @@ fn drained_by_answer(
         }
         Err(HubRefusal::HistoryFull) => Drained::new(bytes, stage, Some(Stall::HistoryFull)),
         Err(HubRefusal::NoMemory) => Drained::new(bytes, stage, Some(Stall::Memory)),
-        Err(HubRefusal::SessionTaken) | Err(HubRefusal::SessionLimit) => Drained::new(
-            bytes, stage, None,
-        ),
+        Err(HubRefusal::SessionTaken | HubRefusal::SessionLimit) => {
+            Drained::new(bytes, stage, None)
+        }
     }
 }
 

@@ -1,6 +1,6 @@
 // What a Take gave and is not written yet.
-ghost use Rattle.std.specs.Prelude.{◌≡◌, ◌∷◌, [], drop, MatchOption};
-ghost use Rattle.conn.specs.Owing.{deliveries_of, taken_in, missed_in};
+ghost use Rattle.std.specs.Prelude.{◌≡◌};
+ghost use Rattle.conn.specs.Owing.{deliveries_of, missed_in};
 
 use events::{Answer, Delivery, Outcome};
 use std::marker::Model;
@@ -61,36 +61,24 @@ impl Owed {
     }
 
     /// The delivery that is written next.
+    #[tactic(auto, using(crate::proofs::Lists::first_left, crate::proofs::Lists::none_left))]
     pub fn first(&self) -> Option<&Delivery>
         ensures { MatchOption result (self.now.deliveries ≡ []) (λ delivery. self.now.deliveries ≡ delivery.now ∷ drop 1 self.now.deliveries) }
     {
-        first_from(deliveries_of(&self.answer), self.written)
+        match deliveries_of(&self.answer).get(self.written) {
+            Some(delivery) => Some(delivery),
+            None => None,
+        }
     }
 
     /// Drops the delivery that was written.
+    #[tactic(auto, using(crate::proofs::Lists::drop_one_more, crate::proofs::Lists::drop_past))]
     pub fn drop_first(&mut self)
         ensures { self.new ≡ record self.old { deliveries = drop 1 self.old.deliveries } }
     {
-        self.written = with_one_more(deliveries_of(&self.answer), self.written);
-    }
-}
-
-/// The deliveries of an outcome: those of a Take, and no others have any.
-fn taken_in(outcome: &Outcome) -> &[Delivery]
-    ensures { result.now ≡ taken_in outcome.now }
-{
-    match outcome {
-        Outcome::Taken(deliveries, _) => deliveries.as_slice(),
-        Outcome::Connected
-        | Outcome::AuthViolation
-        | Outcome::Subscribed
-        | Outcome::SameSid
-        | Outcome::SubLimit
-        | Outcome::Unsubscribed
-        | Outcome::Closed => &[],
-        Outcome::Denied(_) => &[],
-        Outcome::Published(_, _) => &[],
-        Outcome::Reloaded { .. } => &[],
+        if self.written < deliveries_of(&self.answer).len() {
+            self.written += 1;
+        }
     }
 }
 
@@ -113,35 +101,24 @@ fn missed_in(outcome: &Outcome) -> Option<bool>
     }
 }
 
-/// The deliveries of an answer, if there is one.
+/// The deliveries of an answer, if there is one: those of a Take, and no others have any.
 fn deliveries_of(answer: &Option<Answer>) -> &[Delivery]
     ensures { result.now ≡ deliveries_of answer.now }
 {
     match answer {
         None => &[],
-        Some(answer) => taken_in(&answer.get().outcome),
-    }
-}
-
-/// The first behind those that are written.
-#[tactic(auto, using(crate::proofs::Lists::first_left, crate::proofs::Lists::none_left))]
-fn first_from(deliveries: &[Delivery], written: usize) -> Option<&Delivery>
-    ensures { MatchOption result (drop written deliveries.now ≡ []) (λ delivery. drop written deliveries.now ≡ delivery.now ∷ drop 1 (drop written deliveries.now)) }
-{
-    match deliveries.get(written) {
-        Some(delivery) => Some(delivery),
-        None => None,
-    }
-}
-
-/// How many are written once the next is too, if there is one.
-#[tactic(auto, using(crate::proofs::Lists::drop_one_more, crate::proofs::Lists::drop_past))]
-fn with_one_more(deliveries: &[Delivery], written: usize) -> usize
-    ensures { drop result deliveries.now ≡ drop 1 (drop written deliveries.now) }
-{
-    if written < deliveries.len() {
-        written + 1
-    } else {
-        written
+        Some(answer) => match &answer.get().outcome {
+            Outcome::Taken(deliveries, _) => deliveries.as_slice(),
+            Outcome::Connected
+            | Outcome::AuthViolation
+            | Outcome::Subscribed
+            | Outcome::SameSid
+            | Outcome::SubLimit
+            | Outcome::Unsubscribed
+            | Outcome::Closed => &[],
+            Outcome::Denied(_) => &[],
+            Outcome::Published(_, _) => &[],
+            Outcome::Reloaded { .. } => &[],
+        },
     }
 }

@@ -1,9 +1,9 @@
 // What a frame comes to before the hub is asked.
 ghost use Rattle.std.specs.Prelude.{◌≡◌, IfOk};
 ghost use Rattle.connect_opts.specs.Opts.{opts_of};
-ghost use Rattle.conn.specs.Plans.{plan_of, fresh_plan, connected_plan, connect_plan, publish_plan, headed_plan, subscribe_plan, unsubscribe_plan, subject_if, pattern_if, reply_subject_if};
+ghost use Rattle.conn.specs.Plans.{plan_of, fresh_plan, connected_plan, connect_plan, publish_plan, headed_plan, subscribe_plan, error_plan, subject_if, pattern_if, reply_subject_if};
 
-use crate::reply::{Reply, fault_text};
+use crate::reply::{Reply, fault_text, reply_of_error, reply_of_text};
 use crate::stage::Stage;
 use crate::text::Text;
 use bytes::Bytes;
@@ -74,21 +74,11 @@ fn reply_subject_of(
     }
 }
 
-/// A text alone.
-fn plan_of_text(text: Text<'static>, stage: Stage) -> Plan
-    ensures { result ≡ text_plan text.entry stage }
-{
-    Plan::Tells(Reply { text, stage })
-}
-
-ghost use Rattle.conn.specs.Plans.{text_plan, error_plan};
-
 /// An error, which closes the connection or leaves it open.
 fn plan_of_error(error: ServerError<'static>, stage: Stage) -> Plan
     ensures { result ≡ error_plan error.entry stage }
 {
-    let after = stage.after_error(&error);
-    plan_of_text(Text::Error(error), after)
+    Plan::Tells(reply_of_error(error, stage))
 }
 
 /// A text of its own bytes. It may stand for long, and would keep all that was read with it.
@@ -117,7 +107,7 @@ fn plan_connect(alloc: Global, conn: u64, text: &[u8]) -> Result<Plan, NoMemory>
         Ok(opts) => {
             let ConnectOpts {
                 user,
-                pass,
+                password,
                 verbose,
                 echo,
                 headers,
@@ -125,7 +115,7 @@ fn plan_connect(alloc: Global, conn: u64, text: &[u8]) -> Result<Plan, NoMemory>
             let command = Command::Connect {
                 conn,
                 user: own_text_if(alloc, &user)?,
-                password: own_text(alloc, &pass)?,
+                password: own_text(alloc, &password)?,
                 echo,
             };
             Ok(Plan::Asks(command, Stage::Connected { verbose, headers }))
@@ -204,32 +194,18 @@ fn plan_subscribe(
     }
 }
 
-/// An UNSUB of a client whose CONNECT was accepted.
-fn plan_unsubscribe(
-    alloc: Global,
-    conn: u64,
-    stage: Stage,
-    sid: &Bytes,
-    most: Option<u64>,
-) -> Result<Plan, NoMemory>
-    ensures { IfOk result (λ plan. plan ≡ unsubscribe_plan conn stage sid.now most) }
-{
-    let sid = own_text(alloc, sid)?;
-    Ok(Plan::Asks(Command::Unsub { conn, sid, most }, stage))
-}
-
 /// A frame of a client that has not shown who it is.
 fn plan_fresh(alloc: Global, conn: u64, frame: &Frame) -> Result<Plan, NoMemory>
     ensures { IfOk result (λ plan. plan ≡ fresh_plan conn frame.now) }
 {
     match frame {
         Frame::Connect(text) => plan_connect(alloc, conn, text.as_slice()),
-        Frame::Ping => Ok(plan_of_text(Text::Pong, Stage::Fresh)),
-        Frame::Pong => Ok(plan_of_text(Text::Nothing, Stage::Fresh)),
-        Frame::Fault(fault) => Ok(plan_of_text(
+        Frame::Ping => Ok(Plan::Tells(reply_of_text(Text::Pong, Stage::Fresh))),
+        Frame::Pong => Ok(Plan::Tells(reply_of_text(Text::Nothing, Stage::Fresh))),
+        Frame::Fault(fault) => Ok(Plan::Tells(reply_of_text(
             fault_text(*fault),
             Stage::Closed { session: false },
-        )),
+        ))),
         Frame::Pub { .. } => Ok(plan_of_error(ServerError::Authorization, Stage::Fresh)),
         Frame::Hpub { .. } => Ok(plan_of_error(ServerError::Authorization, Stage::Fresh)),
         Frame::Sub { .. } => Ok(plan_of_error(ServerError::Authorization, Stage::Fresh)),
@@ -265,10 +241,14 @@ fn plan_connected(
             queue,
             sid,
         } => plan_subscribe(alloc, conn, stage, subject, queue, sid),
-        Frame::Unsub { sid, most } => plan_unsubscribe(alloc, conn, stage, sid, *most),
-        Frame::Ping => Ok(plan_of_text(Text::Pong, stage)),
-        Frame::Pong => Ok(plan_of_text(Text::Nothing, stage)),
-        Frame::Fault(fault) => Ok(plan_of_text(fault_text(*fault), stage.closed())),
+        Frame::Unsub { sid, most } => {
+            let sid = own_text(alloc, sid)?;
+            let most = *most;
+            Ok(Plan::Asks(Command::Unsub { conn, sid, most }, stage))
+        }
+        Frame::Ping => Ok(Plan::Tells(reply_of_text(Text::Pong, stage))),
+        Frame::Pong => Ok(Plan::Tells(reply_of_text(Text::Nothing, stage))),
+        Frame::Fault(fault) => Ok(Plan::Tells(reply_of_text(fault_text(*fault), stage.closed()))),
     }
 }
 
@@ -285,6 +265,9 @@ pub fn plan_of(alloc: Global, conn: u64, stage: Stage, frame: &Frame) -> Result<
             headers,
             frame,
         ),
-        Stage::Closed { session } => Ok(plan_of_text(Text::Nothing, Stage::Closed { session })),
+        Stage::Closed { session } => Ok(Plan::Tells(reply_of_text(
+            Text::Nothing,
+            Stage::Closed { session },
+        ))),
     }
 }

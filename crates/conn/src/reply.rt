@@ -1,12 +1,10 @@
 // What a client is told of an answer.
 ghost use Rattle.std.specs.Prelude.{◌≡◌, ◌≤◌, length};
-ghost use Rattle.conn.specs.Replies.{text_line, told, denied_line, fault_text, reply_to, reply_to_outcome, reply_to_refusal, ok_if, room_of, after_error};
-ghost use Rattle.conn.specs.Turns.{outcome_of};
-ghost use Rattle.wire_write.specs.Errors.{err_line};
+ghost use Rattle.conn.specs.Replies.{text_line, told, denied_line, fault_text, reply_to_outcome, reply_to_refusal, reply_of_text, reply_of_error, ok_if, room_of};
 
 use crate::stage::Stage;
 use crate::text::Text;
-use events::{Answer, HubRefusal, Outcome};
+use events::{HubRefusal, Outcome};
 use wire_read::{Frame, WireFault};
 use wire_write::ServerError;
 
@@ -83,18 +81,16 @@ pub fn fault_text(fault: WireFault) -> Text<'static>
     }
 }
 
-/// A reply of that text.
-fn reply_of_text(text: Text<'static>, stage: Stage) -> Reply<'static>
-    ensures text { result.text ≡ text.entry }
-    ensures stage { result.stage ≡ stage }
+/// A text alone.
+pub fn reply_of_text(text: Text<'static>, stage: Stage) -> Reply<'static>
+    ensures { result ≡ reply_of_text text.entry stage }
 {
     Reply { text, stage }
 }
 
 /// An error, which closes the connection or leaves it open.
-fn reply_of_error(error: ServerError<'static>, stage: Stage) -> Reply<'static>
-    ensures text { text_line result.text ≡ err_line error.entry }
-    ensures stage { result.stage ≡ after_error error.entry stage }
+pub fn reply_of_error(error: ServerError<'static>, stage: Stage) -> Reply<'static>
+    ensures { result ≡ reply_of_error error.entry stage }
 {
     let after = stage.after_error(&error);
     Reply {
@@ -104,7 +100,7 @@ fn reply_of_error(error: ServerError<'static>, stage: Stage) -> Reply<'static>
 }
 
 /// The reply to what came of a frame's event. `accepted` is where an accepted CONNECT leads.
-fn reply_to_outcome<'a>(
+pub fn reply_to_outcome<'a>(
     stage: Stage,
     accepted: Stage,
     frame: &'a Frame,
@@ -132,7 +128,7 @@ fn reply_to_outcome<'a>(
 }
 
 /// The reply to why a frame's event was refused.
-fn reply_to_refusal(stage: Stage, refusal: HubRefusal) -> Reply<'static>
+pub fn reply_to_refusal(stage: Stage, refusal: HubRefusal) -> Reply<'static>
     ensures told { told result ≡ reply_to_refusal stage refusal }
     ensures short { length (text_line result.text) ≤ 64 }
 {
@@ -144,21 +140,5 @@ fn reply_to_refusal(stage: Stage, refusal: HubRefusal) -> Reply<'static>
             Stage::Closed { session: false },
         ),
         HubRefusal::HistoryFull | HubRefusal::NoMemory => reply_of_text(Text::Nothing, stage),
-    }
-}
-
-/// The reply to what the hub answered to a frame's event. `accepted` is where an accepted CONNECT leads.
-pub fn reply_to<'a>(
-    stage: Stage,
-    accepted: Stage,
-    frame: &'a Frame,
-    answer: &Result<Answer, HubRefusal>,
-) -> Reply<'a>
-    ensures told { told result ≡ reply_to stage accepted frame.now (outcome_of answer.now) }
-    ensures short { length (text_line result.text) ≤ room_of frame.now }
-{
-    match answer {
-        Ok(answer) => reply_to_outcome(stage, accepted, frame, &answer.get().outcome),
-        Err(refusal) => reply_to_refusal(stage, *refusal),
     }
 }

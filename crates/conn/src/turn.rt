@@ -8,7 +8,7 @@ ghost use Rattle.conn.specs.Serving.{spot, served, Serves};
 use crate::frames::Frames;
 use crate::output::Stall;
 use crate::plan::{Plan, plan_of};
-use crate::reply::{Reply, reply_to, room_of};
+use crate::reply::{Reply, reply_to_outcome, reply_to_refusal, room_of};
 use crate::stage::Stage;
 use crate::submit::submit;
 use crate::text::put_text;
@@ -38,12 +38,19 @@ fn turn_of_answer<'a>(
     ensures short { length (line_of result) ≤ room_of frame.now }
 {
     match answer {
+        Ok(answer) => {
+            let outcome = &answer.get().outcome;
+            Turn::Goes(reply_to_outcome(stage, accepted, frame, outcome))
+        }
         Err(HubRefusal::NoMemory) => Turn::Stalls(Stall::Memory, word),
         Err(HubRefusal::HistoryFull) => Turn::Stalls(Stall::HistoryFull, word),
-        Err(HubRefusal::NoSession)
-        | Err(HubRefusal::SessionTaken)
-        | Err(HubRefusal::SessionLimit) => { Turn::Goes(reply_to(stage, accepted, frame, answer)) }
-        Ok(_) => Turn::Goes(reply_to(stage, accepted, frame, answer)),
+        Err(HubRefusal::NoSession) => { Turn::Goes(reply_to_refusal(stage, HubRefusal::NoSession)) }
+        Err(HubRefusal::SessionTaken) => {
+            Turn::Goes(reply_to_refusal(stage, HubRefusal::SessionTaken))
+        }
+        Err(HubRefusal::SessionLimit) => {
+            Turn::Goes(reply_to_refusal(stage, HubRefusal::SessionLimit))
+        }
     }
 }
 
