@@ -20,3 +20,6 @@ pub use conn::Conn;
 pub use output::{Output, Stall};
 pub use stage::Stage;
 pub use words::Words;
+
+#[cfg(test)]
+mod tests;
