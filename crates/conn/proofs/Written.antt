@@ -1,12 +1,8 @@
 -- How deliveries are written, one after the other.
-use Rattle.std.proofs.Common.{◌≡◌, ◌∙◌, ◌∷◌, ◌++◌, [], ℕ, List, Bool, drop, refl, sym, ap}
-use Rattle.std.proofs.lemmas.List.{append_assoc, append-nil, flat_map_more}
+use Rattle.std.proofs.Common.{◌≡◌, ◌∙◌, ◌∷◌, ◌++◌, [], ℕ, List, Bool, drop, sym, ap}
+use Rattle.std.proofs.lemmas.List.{append_assoc, flat_map_more}
 use Rattle.events.specs.declared.answer.Delivery.{Delivery}
-use Rattle.conn.specs.Drains.{IsWritten, delivery_text, texts}
-
--- nothing is written yet
-pub written_none : (headers : Bool) (before : List ℕ) (all : List Delivery) → IsWritten headers before all before all
-written_none headers before all = record { written = []; is_front = refl; text = sym (append-nil before) }
+use Rattle.conn.specs.Drains.{IsWritten, delivery_text}
 
 -- one more
 pub written_more : (headers : Bool) (before : List ℕ) (all : List Delivery) (mid : List ℕ) (left : List Delivery) (d : Delivery) (after : List ℕ) (rest : List Delivery) →
@@ -17,9 +13,3 @@ written_more headers before all mid left d after rest i is after_is rest_is = re
   is_front = i.is_front ∙ ap (λ (l : List Delivery). i.written ++ l) (is ∙ ap (λ (l : List Delivery). d ∷ l) (sym rest_is)) ∙ sym (append_assoc i.written (d ∷ []) rest);
   text = after_is ∙ ap (λ (t : List ℕ). t ++ delivery_text headers d) i.text ∙ flat_map_more (delivery_text headers) before i.written d;
 }
-
--- all of them
-pub written_all : (headers : Bool) (before : List ℕ) (all : List Delivery) (after : List ℕ) (left : List Delivery) →
-    IsWritten headers before all after left → left ≡ [] → after ≡ before ++ texts headers all
-written_all headers before all after left i none =
-    i.text ∙ ap (λ (ds : List Delivery). before ++ texts headers ds) (sym (i.is_front ∙ ap (λ (l : List Delivery). i.written ++ l) none ∙ append-nil i.written))

@@ -87,25 +87,25 @@ IsDrainEnd s before all missed d =
     × (d.stage ≡ stage_after s written) × (d.stall ≡ stall_after written)
 
 -- nothing but this is written, and nothing is owed
-abbrev pub ends_with : List ℕ → Stage → Option Stall → Bool → Drain
-ends_with text s stall missed = record { text = text; stage = s; stall = stall; owed = []; missed = missed }
+abbrev pub drain_owing_nothing : List ℕ → Stage → Option Stall → Bool → Drain
+drain_owing_nothing text s stall missed = record { text = text; stage = s; stall = stall; owed = []; missed = missed }
 
--- what a Take gave is written as far as it goes; no others come to a Take
+-- what came of a Take: what it gave is written as far as it goes. No other outcome comes to a Take.
 abbrev pub IsOutcomeTold : Stage → List ℕ → Bool → Option Owed → Drain → Type 0
 IsOutcomeTold s before missed (Some owed) d = IsDrainEnd s before owed.deliveries owed.missed d
-IsOutcomeTold s before missed None d = d ≡ ends_with before s None missed
+IsOutcomeTold s before missed None d = d ≡ drain_owing_nothing before s None missed
 
 -- what a Take's answer comes to
 abbrev pub IsTakeTold : Stage → List ℕ → Bool → Result Outcome HubRefusal → Drain → Type 0
 IsTakeTold s before missed (Ok outcome) d = IsOutcomeTold s before missed (owed_by outcome) d
-IsTakeTold s before missed (Err refusal.NoSession) d = d ≡ ends_with (before ++ err_line error.Authorization) (stage.Closed false) None missed
-IsTakeTold s before missed (Err refusal.HistoryFull) d = d ≡ ends_with before s (Some stall.HistoryFull) missed
-IsTakeTold s before missed (Err refusal.NoMemory) d = d ≡ ends_with before s (Some stall.Memory) missed
-IsTakeTold s before missed _ d = d ≡ ends_with before s None missed
+IsTakeTold s before missed (Err refusal.NoSession) d = d ≡ drain_owing_nothing (before ++ err_line error.Authorization) (stage.Closed false) None missed
+IsTakeTold s before missed (Err refusal.HistoryFull) d = d ≡ drain_owing_nothing before s (Some stall.HistoryFull) missed
+IsTakeTold s before missed (Err refusal.NoMemory) d = d ≡ drain_owing_nothing before s (Some stall.Memory) missed
+IsTakeTold s before missed _ d = d ≡ drain_owing_nothing before s None missed
 
 -- memory lacked before the Take was made
 pub record IsNotTaken {P : Type 0} (s : Stage) (before : List ℕ) (missed : Bool) (p : P) (d : Drain) (p' : P) : Type 0 where
-  pub drain : d ≡ ends_with before s (Some stall.Memory) missed
+  pub drain : d ≡ drain_owing_nothing before s (Some stall.Memory) missed
   pub port : p' ≡ p
 
 -- one Take was made
