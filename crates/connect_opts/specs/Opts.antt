@@ -57,13 +57,13 @@ unfoldable pub opts_of : List ℕ → Read ConnectOpts
 opts_of text = do
   d ← object_at text
   user ← text_field (codes "user") d
-  pass ← text_field (codes "pass") d
+  password ← text_field (codes "pass") d
   verbose ← truth_field (codes "verbose") d
   echo ← truth_field (codes "echo") d
   headers ← truth_field (codes "headers") d
   Ok (record {
     user = user;
-    pass = unwrap_or pass [];
+    password = unwrap_or password [];
     verbose = unwrap_or verbose true;
     echo = unwrap_or echo true;
     headers = unwrap_or headers false;

@@ -16,7 +16,7 @@ pub struct ConnectOpts {
     /// The user's name, if the client gave one.
     pub user: Option<Bytes>,
     /// The user's password, empty if the client gave none.
-    pub pass: Bytes,
+    pub password: Bytes,
     /// Whether each accepted message is answered by `+OK`, as it is if the client doesn't say.
     pub verbose: bool,
     /// Whether the client's own messages come to its own subscriptions, as they do if the client doesn't say.
@@ -41,13 +41,13 @@ impl ConnectOpts {
     {
         let value = read_object(alloc, text)?;
         let user = text_field(&value, "user")?;
-        let pass = text_field(&value, "pass")?;
+        let password = text_field(&value, "pass")?;
         let verbose = truth_field(&value, "verbose")?;
         let echo = truth_field(&value, "echo")?;
         let headers = truth_field(&value, "headers")?;
         Ok(ConnectOpts {
             user: keep_option(alloc, user)?,
-            pass: keep(alloc, pass.unwrap_or(""))?,
+            password: keep(alloc, password.unwrap_or(""))?,
             verbose: verbose.unwrap_or(true),
             echo: echo.unwrap_or(true),
             headers: headers.unwrap_or(false),

@@ -7,7 +7,7 @@ fn each_field_is_read(rt: HostRuntime) -> Result<(), Fail> {
     let opts = ConnectOpts::read(rt.alloc(), text.as_bytes())?;
     let user = opts.user.as_ref().ok_or("no user")?;
     assert_eq!(rt; user.as_slice(), b"demo".as_slice());
-    assert_eq!(rt; opts.pass.as_slice(), b"secret".as_slice());
+    assert_eq!(rt; opts.password.as_slice(), b"secret".as_slice());
     assert!(rt; !opts.verbose);
     assert!(rt; !opts.echo);
     assert!(rt; opts.headers);
@@ -24,7 +24,7 @@ fn absent_fields_have_their_values(rt: HostRuntime) -> Result<(), Fail> {
     ] {
         let opts = ConnectOpts::read(rt.alloc(), text.as_bytes())?;
         assert!(rt; opts.user.is_none(), "{text}");
-        assert!(rt; opts.pass.is_empty(), "{text}");
+        assert!(rt; opts.password.is_empty(), "{text}");
         assert!(rt; opts.verbose, "{text}");
         assert!(rt; opts.echo, "{text}");
         assert!(rt; !opts.headers, "{text}");
@@ -34,7 +34,7 @@ fn absent_fields_have_their_values(rt: HostRuntime) -> Result<(), Fail> {
 
 #[test]
 fn users_and_passwords(rt: HostRuntime) -> Result<(), Fail> {
-    for (text, user, pass) in [
+    for (text, user, password) in [
         (r#"{"user":""}"#, "", ""),
         (r#"{"user":"demo"}"#, "demo", ""),
         (r#"{"pass":"p","user":"u"}"#, "u", "p"),
@@ -45,7 +45,7 @@ fn users_and_passwords(rt: HostRuntime) -> Result<(), Fail> {
         let opts = ConnectOpts::read(rt.alloc(), text.as_bytes())?;
         let read = opts.user.as_ref().ok_or("no user")?;
         assert_eq!(rt; read.as_slice(), user.as_bytes(), "{text}");
-        assert_eq!(rt; opts.pass.as_slice(), pass.as_bytes(), "{text}");
+        assert_eq!(rt; opts.password.as_slice(), password.as_bytes(), "{text}");
     }
     Ok(())
 }

@@ -16,7 +16,7 @@ use Rattle.sessions.specs.Delivered.{offered, after_offer, item_of, delivered, h
 use Rattle.sessions.specs.declared.session.Session.{Session}
 use Rattle.subscriptions.specs.Subscriptions.{of_connection}
 use Rattle.subscriptions.specs.declared.subscription.Subscription.{Subscription}
-use Rattle.world.specs.Routing.{delivery_to, addressed_to}
+use Rattle.subscriptions.specs.Addressing.{delivery_to, addressed_to}
 use Rattle.hub.specs.Guarantee.{receives, room_in, items_of, items_with_room, item_names, names_of}
 use Rattle.hub.proofs.Finds.{AllPairs-head, AllPairs-tail, AllPairs-map}
 use Rattle.hub.proofs.Soundness.{IsApart, either}

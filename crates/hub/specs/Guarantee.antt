@@ -27,7 +27,7 @@ use Rattle.subscriptions.specs.Subscriptions.{stands, of_connection, has_all, su
 use Rattle.subscriptions.specs.Limit.{unended, counted, limited}
 use Rattle.subscriptions.specs.declared.subscription.Subscription.{Subscription}
 use Rattle.world.specs.World.{World}
-use Rattle.world.specs.Routing.{delivery_to}
+use Rattle.subscriptions.specs.Addressing.{delivery_to}
 use Rattle.hub.specs.Sound.{IsSound, user_at, may_subscribe}
 use Rattle.hub.specs.History.{State, is_history_full}
 use Rattle.hub.specs.InForce.{IsInForce, policy_after, epoch_after}

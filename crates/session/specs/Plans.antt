@@ -49,7 +49,7 @@ fails e s = tells (text.Error e) (after_error e s)
 
 -- a CONNECT, by its options
 abbrev pub connect_plan : ℕ → Read ConnectOpts → Plan
-connect_plan conn (Ok o) = Asks (command.Connect conn o.user o.pass o.echo) (stage.Connected o.verbose o.headers)
+connect_plan conn (Ok o) = Asks (command.Connect conn o.user o.password o.echo) (stage.Connected o.verbose o.headers)
 connect_plan conn (Err _) = fails error.ParserError stage.Fresh
 
 -- a message, by its subject and the one to answer on

@@ -101,7 +101,7 @@ fn plan_connect(alloc: Global, conn: u64, text: &[u8]) -> Result<Plan, NoMemory>
         Ok(opts) => {
             let ConnectOpts {
                 user,
-                pass,
+                password,
                 verbose,
                 echo,
                 headers,
@@ -109,7 +109,7 @@ fn plan_connect(alloc: Global, conn: u64, text: &[u8]) -> Result<Plan, NoMemory>
             let command = Command::Connect {
                 conn,
                 user,
-                pass,
+                pass: password,
                 echo,
             };
             Ok(Plan::Asks(command, Stage::Connected { verbose, headers }))

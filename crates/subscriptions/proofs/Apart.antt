@@ -12,7 +12,7 @@ use Rattle.events.specs.declared.answer.Addressed.{Addressed}
 use Rattle.subscriptions.specs.Addressing.{addressed_to}
 use Rattle.events.specs.declared.answer.Item.{Item}
 use Rattle.events.specs.declared.answer.Item.TheVariants.{Entered, Full}
-use Rattle.subscriptions.specs.Turns.{in_turn, entered_ids, Tells, TellEach}
+use Rattle.subscriptions.specs.Turns.{in_turn, entered_ids, TellEach}
 use Rattle.subscriptions.specs.Kept.{NoneLike, Apart}
 use Rattle.subscriptions.specs.Changes.{only, bumped, capped}
 use Rattle.subscriptions.specs.Subscriptions.{is_under, stands}

@@ -1,5 +1,5 @@
 -- What a change by id left, with whether it has ended.
-use Rattle.std.proofs.Common.{◌≡◌, ◌∙◌, ℕ, Bool, true, false, true≢false, List, Option, Some, None, map, ap, sym, refl, subst, MatchOption, cond, nat_lt, ◌+◌}
+use Rattle.std.proofs.Common.{◌≡◌, ◌∙◌, ℕ, Bool, true, false, true≢false, Option, Some, None, map, ap, sym, refl, subst, MatchOption, cond, nat_lt, ◌+◌}
 use Rattle.std.specs.Map.{lookup, set_value, remove_entry, values_of}
 use Rattle.subscriptions.specs.Limit.{has_ended, unended}
 use Rattle.subscriptions.specs.declared.subscription.Subscription.{Subscription}

@@ -1,5 +1,5 @@
 -- Deliveries, subscription by subscription.
-use Rattle.std.proofs.Common.{◌≡◌, ◌∙◌, ℕ, Bool, true, false, cond, List, [], ◌∷◌, ◌++◌, map, filter, refl}
+use Rattle.std.proofs.Common.{◌≡◌, ℕ, Bool, true, false, cond, List, [], ◌∷◌, ◌++◌, map, refl}
 use Rattle.subjects.specs.Subject.{Token}
 use Rattle.subscriptions.specs.Subscriptions.{has_subject, having}
 use Rattle.subscriptions.specs.declared.subscription.Subscription.{Subscription}

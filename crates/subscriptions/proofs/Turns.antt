@@ -1,9 +1,9 @@
 -- What items count at once is counted by ids in turn.
-use Rattle.std.proofs.Common.{◌≡◌, ◌∙◌, ◌==◌, ◌<◌, ◌≤◌, ◌+◌, ◌&&◌, ◌||◌, ℕ, Bool, true, false, cond, not, true≢false, List, [], ◌∷◌, map, filter, Option, Some, None, ap, sym, refl, subst, arith, nat_lt, nat_le, ◌⊎◌, inl, inr}
+use Rattle.std.proofs.Common.{◌≡◌, ◌∙◌, ◌==◌, ◌+◌, ◌&&◌, ◌||◌, ℕ, Bool, true, false, cond, not, List, [], ◌∷◌, map, Option, Some, None, ap, sym, refl, arith, nat_lt, nat_le, ◌⊎◌, inl, inr}
 use Rattle.std.specs.List.{list_any}
-use Rattle.std.proofs.lemmas.Bool.{eqb-true, eq-eqb, ne_eqb}
+use Rattle.std.proofs.lemmas.Bool.{eqb-true}
 use Rattle.std.proofs.lemmas.Bool.Decides.{nat_tests}
-use Rattle.subscriptions.specs.Limit.{has_ended, is_reached, unended, is_entry_for, has_entered, counted}
+use Rattle.subscriptions.specs.Limit.{has_ended, is_reached, unended, has_entered, counted}
 use Rattle.subscriptions.specs.Subscriptions.{is_under}
 use Rattle.subscriptions.specs.declared.subscription.Subscription.{Subscription}
 use Rattle.events.specs.Messages.{Message}
@@ -12,7 +12,7 @@ use Rattle.subscriptions.specs.Addressing.{addressed_to}
 use Rattle.events.specs.declared.answer.Item.{Item}
 use Rattle.events.specs.declared.answer.Item.TheVariants.{Entered, Full}
 use Rattle.subscriptions.specs.Changes.{only, bumped}
-use Rattle.subscriptions.specs.Turns.{in_turn, entered_ids, Tells, TellEach, is_one_of, counted_by}
+use Rattle.subscriptions.specs.Turns.{in_turn, entered_ids, TellEach, is_one_of, counted_by}
 use Rattle.std.proofs.lemmas.List.{map-id}
 use Rattle.subscriptions.proofs.Ends.{bumped-id}
 

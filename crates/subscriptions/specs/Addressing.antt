@@ -1,5 +1,4 @@
 -- A message addressed to subscriptions (docs/GUARANTEE.md, "Delivery").
-use Rattle.std.specs.Prelude.{List, map}
 use Rattle.events.specs.Messages.{Message}
 use Rattle.events.specs.declared.answer.Delivery.{Delivery}
 use Rattle.events.specs.declared.answer.Addressed.{Addressed}

@@ -1,5 +1,5 @@
 -- A change of one subscription, by its id.
-use Rattle.std.specs.Prelude.{◌==◌, ◌+◌, ℕ, List, Bool, Option, Some, if◌then◌else◌, nat_lt}
+use Rattle.std.specs.Prelude.{◌==◌, ◌+◌, ℕ, Bool, Option, Some, if◌then◌else◌, nat_lt}
 use Rattle.std.specs.Ordering.{nat_cmp}
 use Rattle.std.specs.BTreeMap.{is_at}
 use Rattle.subscriptions.specs.Limit.{limit_of}

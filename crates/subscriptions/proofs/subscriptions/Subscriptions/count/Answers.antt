@@ -1,4 +1,4 @@
-use Rattle.std.proofs.Common.{◌≡◌, ◌∙◌}
+use Rattle.std.proofs.Common.{◌∙◌}
 use Rattle.subscriptions.proofs.Apart.{counted_for}
 use Rattle.subscriptions.proofs.subscriptions.Subscriptions.count.Goals as goal
 

@@ -1,13 +1,13 @@
 -- a change of the entry of that id, which goes where it has ended
-use Rattle.std.proofs.Common.{◌≡◌, ◌∙◌, ap, sym, refl, subst, List, map}
+use Rattle.std.proofs.Common.{◌∙◌, ap, sym, subst, List, map}
 use Rattle.std.specs.Map.{values_of}
 use Rattle.subscriptions.specs.Limit.{unended}
 use Rattle.subscriptions.specs.declared.subscription.Subscription.{Subscription}
-use Rattle.subscriptions.specs.Changes.{only, bumped, capped}
+use Rattle.subscriptions.specs.Changes.{only, bumped}
 use Rattle.subscriptions.specs.Kept.{IsKept, Apart}
 use Rattle.subscriptions.proofs.Entries.{Entries}
 use Rattle.subscriptions.proofs.Ends.{ended_at, on_at, kept_on, kept_over}
-use Rattle.subscriptions.proofs.Apart.{Leaves, apart_changed, bumped-leaves, capped-leaves}
+use Rattle.subscriptions.proofs.Apart.{apart_changed, bumped-leaves}
 use Rattle.subscriptions.proofs.subscriptions.Subscriptions.count_one.Goals as goal
 
 pub invariant_of-self : goal.invariant_of-self

@@ -1,5 +1,5 @@
 -- what is kept is what passes the test
-use Rattle.std.proofs.Common.{◌≡◌, ◌∙◌, ℕ, Bool, filter, ap, sym, subst, List, rules}
+use Rattle.std.proofs.Common.{◌≡◌, ◌∙◌, ℕ, Bool, filter, ap, sym, subst, rules}
 use Rattle.std.specs.Map.{values_of}
 use Rattle.std.proofs.lemmas.Map.Made.{filter_same_pairs}
 use Rattle.subscriptions.specs.declared.subscription.Subscription.{Subscription}

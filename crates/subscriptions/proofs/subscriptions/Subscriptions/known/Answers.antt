@@ -1,6 +1,5 @@
-use Rattle.std.proofs.Common.{◌≡◌, ◌<◌, subst, List, false, All, AllPairs}
+use Rattle.std.proofs.Common.{◌≡◌, subst, List, false, All}
 use Rattle.subscriptions.specs.Limit.{unended, has_ended}
-use Rattle.subscriptions.specs.Subscriptions.{has_same_sid}
 use Rattle.subscriptions.specs.Kept.{Apart}
 use Rattle.subscriptions.specs.declared.subscription.Subscription.{Subscription}
 use Rattle.subscriptions.proofs.Entries.{going}

@@ -1,6 +1,5 @@
-use Rattle.std.proofs.Common.{◌≡◌, ◌∙◌, ap, sym, List, map}
+use Rattle.std.proofs.Common.{◌∙◌, ap, sym}
 use Rattle.subscriptions.specs.Limit.{unended}
-use Rattle.subscriptions.specs.declared.subscription.Subscription.{Subscription}
 use Rattle.subscriptions.proofs.Apart.{limited-is, limited-none}
 use Rattle.subscriptions.proofs.subscriptions.Subscriptions.limit.Goals as goal
 

@@ -1,4 +1,4 @@
-use Rattle.std.proofs.Common.{◌≡◌, ◌∙◌, ◌==◌, ℕ, Bool, not, filter, ap, sym, subst, List, rules}
+use Rattle.std.proofs.Common.{◌≡◌, ◌∙◌, ◌==◌, ℕ, Bool, not, filter, ap, sym, subst, rules}
 use Rattle.std.specs.Map.{values_of}
 use Rattle.std.proofs.lemmas.Map.Made.{filter_same_pairs}
 use Rattle.subscriptions.specs.declared.subscription.Subscription.{Subscription}

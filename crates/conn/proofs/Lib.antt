@@ -1,0 +1,6 @@
+mod Lists
+mod Parsing
+mod Reading
+mod Runs
+mod Short
+mod Written

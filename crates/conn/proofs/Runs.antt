@@ -1,0 +1,109 @@
+-- How the turns of frames go on.
+use Rattle.std.proofs.Common.{◌≡◌, ◌∷◌, ◌++◌, [], ℕ, List, Bool, Option, Some, None, true, false, refl, sym, subst}
+use Rattle.std.proofs.lemmas.List.{append_assoc, append-nil}
+use Rattle.wire_read.specs.declared.frame.Frame.{Frame}
+use Rattle.conn.specs.declared.output.Stall.{Stall}
+use Rattle.conn.specs.Replies.{Told, is_closed}
+use Rattle.conn.specs.Turns.{Steps, Draws, Turned, Goes, Stalls, IsTurn}
+use Rattle.conn.specs.Serving.{Spot, spot, Served, served, rests, behind, UnlessClosed, IsFollowed, Serves}
+
+-- what is left, once it has had its turns, completes the whole
+abbrev pub Completes : {P W : Type 0} → Steps P → Draws W → ℕ → ℕ → List Frame → Spot P W → List ℕ → List Frame → Spot P W → Type 0
+Completes {P} {W} steps draws now conn all start text left at =
+    (r : Served P W) → Serves steps draws now conn left at r → Serves steps draws now conn all start (behind text r)
+
+-- nothing had its turn yet
+pub completes_start : {P W : Type 0} (steps : Steps P) (draws : Draws W) (now conn : ℕ) (all : List Frame) (at : Spot P W) →
+    Completes steps draws now conn all at [] all at
+completes_start steps draws now conn all at r h = h
+
+-- before a closing text, and after it
+while_open : {P W : Type 0} (b : Bool) (at : Spot P W) (r : Served P W) (X : Type 0) → b ≡ false → X → UnlessClosed b at r X
+while_open true at r X h x = absurd (cc)
+while_open false at r X h x = x
+
+once_closed : {P W : Type 0} (b : Bool) (at : Spot P W) (X : Type 0) → b ≡ true → UnlessClosed b at (rests at) X
+once_closed true at X h = refl
+once_closed false at X h = absurd (cc)
+
+-- the next frame had its turn
+goes_on : {P W : Type 0} (steps : Steps P) (draws : Draws W) (now conn : ℕ) (all : List Frame) (start : Spot P W) (text : List ℕ) (at : Spot P W)
+    (f : Frame) (fs : List Frame) (t : Told) (p : P) (w : W) →
+    Completes steps draws now conn all start text (f ∷ fs) at → is_closed at.stage ≡ false →
+    IsTurn steps draws now conn at.stage at.word f at.port at.words (Goes t) p w →
+    Completes steps draws now conn all start (text ++ t.text) fs (spot p w t.stage None)
+unfolding Serves
+goes_on {P} {W} steps draws now conn all start text at f fs t p w done still turn r h =
+    let whole = done (behind t.text r) (while_open (is_closed at.stage) at (behind t.text r)
+    ((t' : Turned) × (p' : P) × (w' : W) × IsTurn steps draws now conn at.stage at.word f at.port at.words t' p' w'
+    × IsFollowed (Serves steps draws now conn fs) (f ∷ fs) at.stage t' p' w' (behind t.text r))
+    still (Goes t, p, w, turn, (r, h, refl))) in
+    subst (λ (x : List ℕ). Serves steps draws now conn all start (served x r.frames r.stall r.at)) (sym (append_assoc text t.text r.text)) whole
+
+pub completes_goes : {P W : Type 0} (steps : Steps P) (draws : Draws W) (now conn : ℕ) (all : List Frame) (start : Spot P W) (text : List ℕ) (at : Spot P W)
+    (left : List Frame) (f : Frame) (fs : List Frame) (t : Told) (p : P) (w : W) → left ≡ f ∷ fs →
+    Completes steps draws now conn all start text left at → is_closed at.stage ≡ false →
+    IsTurn steps draws now conn at.stage at.word f at.port at.words (Goes t) p w →
+    Completes steps draws now conn all start (text ++ t.text) fs (spot p w t.stage None)
+completes_goes steps draws now conn all start text at left f fs t p w is done =
+    goes_on steps draws now conn all start text at f fs t p w (subst (λ (x : List Frame). Completes steps draws now conn all start text x at) is done)
+
+-- the next frame stalled, and all is left
+stalled : {P W : Type 0} (steps : Steps P) (draws : Draws W) (now conn : ℕ) (all : List Frame) (start : Spot P W) (text : List ℕ) (at : Spot P W)
+    (f : Frame) (fs : List Frame) (stall : Stall) (word : Option ℕ) (p : P) (w : W) →
+    Completes steps draws now conn all start text (f ∷ fs) at → is_closed at.stage ≡ false →
+    IsTurn steps draws now conn at.stage at.word f at.port at.words (Stalls stall word) p w →
+    Serves steps draws now conn all start (served text (f ∷ fs) (Some stall) (spot p w at.stage word))
+unfolding Serves
+stalled {P} {W} steps draws now conn all start text at f fs stall word p w done still turn =
+    let r : Served P W = served [] (f ∷ fs) (Some stall) (spot p w at.stage word) in
+    let whole = done r (while_open (is_closed at.stage) at r
+    ((t' : Turned) × (p' : P) × (w' : W) × IsTurn steps draws now conn at.stage at.word f at.port at.words t' p' w'
+    × IsFollowed (Serves steps draws now conn fs) (f ∷ fs) at.stage t' p' w' r)
+    still (Stalls stall word, p, w, turn, refl)) in
+    subst (λ (x : List ℕ). Serves steps draws now conn all start (served x (f ∷ fs) (Some stall) (spot p w at.stage word))) (append-nil text) whole
+
+pub completes_stalls : {P W : Type 0} (steps : Steps P) (draws : Draws W) (now conn : ℕ) (all : List Frame) (start : Spot P W) (text : List ℕ) (at : Spot P W)
+    (left : List Frame) (f : Frame) (fs : List Frame) (stall : Stall) (word : Option ℕ) (p : P) (w : W) → left ≡ f ∷ fs →
+    Completes steps draws now conn all start text left at → is_closed at.stage ≡ false →
+    IsTurn steps draws now conn at.stage at.word f at.port at.words (Stalls stall word) p w →
+    Serves steps draws now conn all start (served text left (Some stall) (spot p w at.stage word))
+completes_stalls steps draws now conn all start text at left f fs stall word p w is done still turn =
+    subst (λ (x : List Frame). Serves steps draws now conn all start (served text x (Some stall) (spot p w at.stage word))) (sym is)
+    (stalled steps draws now conn all start text at f fs stall word p w (subst (λ (x : List Frame). Completes steps draws now conn all start text x at) is done) still turn)
+
+-- the connection has closed, or no frame is left
+rested : {P W : Type 0} (steps : Steps P) (draws : Draws W) (now conn : ℕ) (all : List Frame) (start : Spot P W) (text : List ℕ) (at : Spot P W) →
+    Serves steps draws now conn all start (behind text (rests at)) → Serves steps draws now conn all start (served text [] None at)
+rested steps draws now conn all start text at whole =
+    subst (λ (x : List ℕ). Serves steps draws now conn all start (served x [] None at)) (append-nil text) whole
+
+closed_with : {P W : Type 0} (steps : Steps P) (draws : Draws W) (now conn : ℕ) (all : List Frame) (start : Spot P W) (text : List ℕ) (at : Spot P W)
+    (f : Frame) (fs : List Frame) → Completes steps draws now conn all start text (f ∷ fs) at → is_closed at.stage ≡ true →
+    Serves steps draws now conn all start (behind text (rests at))
+unfolding Serves
+closed_with {P} {W} steps draws now conn all start text at f fs done closed =
+    done (rests at) (once_closed (is_closed at.stage) at
+    ((t' : Turned) × (p' : P) × (w' : W) × IsTurn steps draws now conn at.stage at.word f at.port at.words t' p' w'
+    × IsFollowed (Serves steps draws now conn fs) (f ∷ fs) at.stage t' p' w' (rests at))
+    closed)
+
+pub completes_closed : {P W : Type 0} (steps : Steps P) (draws : Draws W) (now conn : ℕ) (all : List Frame) (start : Spot P W) (text : List ℕ) (at : Spot P W)
+    (left : List Frame) (f : Frame) (fs : List Frame) → left ≡ f ∷ fs → Completes steps draws now conn all start text left at → is_closed at.stage ≡ true →
+    Serves steps draws now conn all start (served text [] None at)
+completes_closed steps draws now conn all start text at left f fs is done closed =
+    rested steps draws now conn all start text at
+    (closed_with steps draws now conn all start text at f fs (subst (λ (x : List Frame). Completes steps draws now conn all start text x at) is done) closed)
+
+none_left : {P W : Type 0} (steps : Steps P) (draws : Draws W) (now conn : ℕ) (all : List Frame) (start : Spot P W) (text : List ℕ) (at : Spot P W) →
+    Completes steps draws now conn all start text [] at → Serves steps draws now conn all start (behind text (rests at))
+unfolding Serves
+none_left steps draws now conn all start text at done = done (rests at) refl
+
+pub completes_end : {P W : Type 0} (steps : Steps P) (draws : Draws W) (now conn : ℕ) (all : List Frame) (start : Spot P W) (text : List ℕ) (at : Spot P W)
+    (left : List Frame) → left ≡ [] → Completes steps draws now conn all start text left at →
+    Serves steps draws now conn all start (served text left None at)
+completes_end steps draws now conn all start text at left is done =
+    subst (λ (x : List Frame). Serves steps draws now conn all start (served text x None at)) (sym is)
+    (rested steps draws now conn all start text at
+    (none_left steps draws now conn all start text at (subst (λ (x : List Frame). Completes steps draws now conn all start text x at) is done)))

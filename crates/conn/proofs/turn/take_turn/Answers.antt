@@ -1,0 +1,11 @@
+-- what is told without the hub is short, and there is room for it
+use Rattle.std.proofs.Common.{rules, ◌∙◌, ◌≤◌, sym, subst}
+use Rattle.conn.specs.Replies.{room_of}
+use Rattle.conn.proofs.Short.{IsShort, plan_short, room_enough}
+use Rattle.conn.proofs.turn.take_turn.Goals as goal
+
+pub returns-in-Tells-clause-room : goal.returns-in-Tells-clause-room
+returns-in-Tells-clause-room g c =
+    let short = subst IsShort (sym c.in-Ok.ensures.plan ∙ c.in-Tells.is) (plan_short c.args.conn c.args.stage c.args.frame.now) in
+    let enough : 64 ≤ room_of c.args.frame.now = room_enough c.args.frame.now in
+    search rules

@@ -1,0 +1,7 @@
+pub mod Replies
+pub mod Plans
+pub mod Turns
+pub mod Serving
+pub mod Owing
+pub mod Drains
+pub mod Calls

@@ -1,0 +1,34 @@
+// The text of a delivery.
+ghost use Rattle.std.specs.Prelude.{◌≡◌, ◌++◌, OnOk, OnErr, option_copied};
+ghost use Rattle.conn.specs.Drains.{delivery_text, reply_subject_text};
+
+use events::{Delivery, Message};
+use lists::NoMemory;
+use wire_write::{write_hmsg, write_msg};
+
+/// The text of the subject to answer on, if a message has one.
+fn reply_subject_text(message: &Message) -> Option<&[u8]>
+    ensures { option_copied result ≡ reply_subject_text message.now.reply }
+{
+    match message.reply() {
+        None => None,
+        Some(subject) => Some(subject.bytes()),
+    }
+}
+
+/// The text of a delivery. A client that has not declared headers is sent the payload alone.
+pub fn write_delivery(out: &mut Vec<u8>, headers: bool, delivery: &Delivery) -> Result<(), NoMemory>
+    ensures ok { OnOk result (out.new.items ≡ out.old.items ++ delivery_text headers delivery.now) }
+    ensures err { OnErr result (out.new.items ≡ out.old.items) }
+{
+    let message = delivery.message.get();
+    let subject = message.subject().bytes();
+    let sid = delivery.sid.as_slice();
+    let reply_subject = reply_subject_text(message);
+    let head = message.head();
+    let payload = message.payload();
+    if headers && !head.is_empty() {
+        return write_hmsg(out, subject, sid, reply_subject, head, payload);
+    }
+    write_msg(out, subject, sid, reply_subject, payload)
+}

@@ -1,0 +1,273 @@
+// What a frame comes to before the hub is asked.
+ghost use Rattle.std.specs.Prelude.{◌≡◌, IfOk};
+ghost use Rattle.connect_opts.specs.Opts.{opts_of};
+ghost use Rattle.conn.specs.Plans.{plan_of, fresh_plan, connected_plan, connect_plan, publish_plan, headed_plan, subscribe_plan, error_plan, subject_if, pattern_if, reply_subject_if};
+
+use crate::reply::{Reply, fault_text, reply_of_error, reply_of_text};
+use crate::stage::Stage;
+use crate::text::Text;
+use bytes::Bytes;
+use connect_opts::{ConnectError, ConnectOpts};
+use events::{Command, Message};
+use lists::{NoMemory, Shared, SharedText};
+use std::alloc::Global;
+use subjects::{Pattern, Subject};
+use wire_read::Frame;
+use wire_write::ServerError;
+
+/// What a frame comes to before the hub is asked.
+#[derive(Drop)]
+pub enum Plan {
+    /// It is answered as it is.
+    Tells(Reply<'static>),
+    /// The hub is asked. Where a CONNECT is accepted the connection is then at this stage.
+    Asks(Command, Stage),
+    /// The hub is asked to publish a message, with a word.
+    Publishes(Shared<Message>),
+}
+
+/// The subject of a text, if it is one.
+fn subject_of(alloc: Global, text: &[u8]) -> Result<Option<Subject>, NoMemory>
+    ensures { IfOk result (λ subject. subject ≡ subject_if text.now) }
+{
+    match Subject::parse(alloc, text) {
+        Ok(subject) => Ok(Some(subject)),
+        Err(error) => {
+            if error.is_no_memory() {
+                Err(NoMemory)
+            } else {
+                Ok(None)
+            }
+        }
+    }
+}
+
+/// The pattern of a text, if it is one.
+fn pattern_of(alloc: Global, text: &[u8]) -> Result<Option<Pattern>, NoMemory>
+    ensures { IfOk result (λ pattern. pattern ≡ pattern_if text.now) }
+{
+    match Pattern::parse(alloc, text) {
+        Ok(pattern) => Ok(Some(pattern)),
+        Err(error) => {
+            if error.is_no_memory() {
+                Err(NoMemory)
+            } else {
+                Ok(None)
+            }
+        }
+    }
+}
+
+/// The subject to answer on: none where a message names none, and where it names no subject there is no answer.
+fn reply_subject_of(
+    alloc: Global,
+    text: &Option<Bytes>,
+) -> Result<Option<Option<Subject>>, NoMemory>
+    ensures { IfOk result (λ reply. reply ≡ reply_subject_if text.now) }
+{
+    match text {
+        None => Ok(Some(None)),
+        Some(text) => match subject_of(alloc, text.as_slice())? {
+            None => Ok(None),
+            Some(subject) => Ok(Some(Some(subject))),
+        },
+    }
+}
+
+/// An error, which closes the connection or leaves it open.
+fn plan_of_error(error: ServerError<'static>, stage: Stage) -> Plan
+    ensures { result ≡ error_plan error.entry stage }
+{
+    Plan::Tells(reply_of_error(error, stage))
+}
+
+/// A text of its own bytes. It may stand for long, and would keep all that was read with it.
+fn own_text(alloc: Global, text: &Bytes) -> Result<SharedText, NoMemory>
+    ensures { IfOk result (λ own. own ≡ text.now) }
+{
+    let own = SharedText::of(alloc, text.as_slice())?;
+    Ok(own)
+}
+
+/// The same of a text that may be there.
+fn own_text_if(alloc: Global, text: &Option<Bytes>) -> Result<Option<SharedText>, NoMemory>
+    ensures { IfOk result (λ own. own ≡ text.now) }
+{
+    match text {
+        None => Ok(None),
+        Some(text) => Ok(Some(own_text(alloc, text)?)),
+    }
+}
+
+/// A CONNECT of a client that has not shown who it is.
+fn plan_connect(alloc: Global, conn: u64, text: &[u8]) -> Result<Plan, NoMemory>
+    ensures { IfOk result (λ plan. plan ≡ connect_plan conn (opts_of text.now)) }
+{
+    match ConnectOpts::read(alloc, text) {
+        Ok(opts) => {
+            let ConnectOpts {
+                user,
+                password,
+                verbose,
+                echo,
+                headers,
+            } = opts;
+            let command = Command::Connect {
+                conn,
+                user: own_text_if(alloc, &user)?,
+                password: own_text(alloc, &password)?,
+                echo,
+            };
+            Ok(Plan::Asks(command, Stage::Connected { verbose, headers }))
+        }
+        Err(ConnectError::NoMemory) => Err(NoMemory),
+        Err(ConnectError::NotJson | ConnectError::NotObject | ConnectError::FieldType) => {
+            Ok(plan_of_error(ServerError::ParserError, Stage::Fresh))
+        }
+    }
+}
+
+/// A message of a client whose CONNECT was accepted. The block and the payload are shared, not copied.
+fn plan_publish(
+    alloc: Global,
+    stage: Stage,
+    subject: &Bytes,
+    reply: &Option<Bytes>,
+    head: Bytes,
+    payload: &Bytes,
+) -> Result<Plan, NoMemory>
+    ensures { IfOk result (λ plan. plan ≡ publish_plan stage subject.now reply.now head payload.now) }
+{
+    match subject_of(alloc, subject.as_slice())? {
+        None => Ok(plan_of_error(ServerError::InvalidSubject, stage)),
+        Some(subject) => match reply_subject_of(alloc, reply)? {
+            None => Ok(plan_of_error(ServerError::InvalidSubject, stage)),
+            Some(reply) => {
+                let message = Message::new(subject, reply, head, payload.clone()?);
+                Ok(Plan::Publishes(Shared::new(alloc, message)?))
+            }
+        },
+    }
+}
+
+/// A message with a header block. A client that has not declared headers may send none.
+fn plan_headed(
+    alloc: Global,
+    stage: Stage,
+    headers: bool,
+    subject: &Bytes,
+    reply: &Option<Bytes>,
+    head: &Bytes,
+    payload: &Bytes,
+) -> Result<Plan, NoMemory>
+    ensures { IfOk result (λ plan. plan ≡ headed_plan stage headers subject.now reply.now head.now payload.now) }
+{
+    if headers {
+        let head = head.clone()?;
+        plan_publish(alloc, stage, subject, reply, head, payload)
+    } else {
+        Ok(plan_of_error(ServerError::ParserError, stage))
+    }
+}
+
+/// A SUB of a client whose CONNECT was accepted. There are no queues yet.
+fn plan_subscribe(
+    alloc: Global,
+    conn: u64,
+    stage: Stage,
+    subject: &Bytes,
+    queue: &Option<Bytes>,
+    sid: &Bytes,
+) -> Result<Plan, NoMemory>
+    ensures { IfOk result (λ plan. plan ≡ subscribe_plan conn stage subject.now queue.now sid.now) }
+{
+    if queue.is_some() {
+        return Ok(plan_of_error(ServerError::InvalidSubject, stage));
+    }
+    match pattern_of(alloc, subject.as_slice())? {
+        None => Ok(plan_of_error(ServerError::InvalidSubject, stage)),
+        Some(pattern) => {
+            let subject = Shared::new(alloc, pattern)?;
+            let sid = own_text(alloc, sid)?;
+            Ok(Plan::Asks(Command::Sub { conn, subject, sid }, stage))
+        }
+    }
+}
+
+/// A frame of a client that has not shown who it is.
+fn plan_fresh(alloc: Global, conn: u64, frame: &Frame) -> Result<Plan, NoMemory>
+    ensures { IfOk result (λ plan. plan ≡ fresh_plan conn frame.now) }
+{
+    match frame {
+        Frame::Connect(text) => plan_connect(alloc, conn, text.as_slice()),
+        Frame::Ping => Ok(Plan::Tells(reply_of_text(Text::Pong, Stage::Fresh))),
+        Frame::Pong => Ok(Plan::Tells(reply_of_text(Text::Nothing, Stage::Fresh))),
+        Frame::Fault(fault) => Ok(Plan::Tells(reply_of_text(
+            fault_text(*fault),
+            Stage::Closed { session: false },
+        ))),
+        Frame::Pub { .. } => Ok(plan_of_error(ServerError::Authorization, Stage::Fresh)),
+        Frame::Hpub { .. } => Ok(plan_of_error(ServerError::Authorization, Stage::Fresh)),
+        Frame::Sub { .. } => Ok(plan_of_error(ServerError::Authorization, Stage::Fresh)),
+        Frame::Unsub { .. } => Ok(plan_of_error(ServerError::Authorization, Stage::Fresh)),
+    }
+}
+
+/// A frame of a client whose CONNECT was accepted, and which may have declared headers.
+fn plan_connected(
+    alloc: Global,
+    conn: u64,
+    stage: Stage,
+    headers: bool,
+    frame: &Frame,
+) -> Result<Plan, NoMemory>
+    ensures { IfOk result (λ plan. plan ≡ connected_plan conn stage headers frame.now) }
+{
+    match frame {
+        Frame::Connect(_) => Ok(plan_of_error(ServerError::InvalidProtocol, stage)),
+        Frame::Pub {
+            subject,
+            reply,
+            payload,
+        } => plan_publish(alloc, stage, subject, reply, Bytes::new(), payload),
+        Frame::Hpub {
+            subject,
+            reply,
+            head,
+            payload,
+        } => plan_headed(alloc, stage, headers, subject, reply, head, payload),
+        Frame::Sub {
+            subject,
+            queue,
+            sid,
+        } => plan_subscribe(alloc, conn, stage, subject, queue, sid),
+        Frame::Unsub { sid, most } => {
+            let sid = own_text(alloc, sid)?;
+            let most = *most;
+            Ok(Plan::Asks(Command::Unsub { conn, sid, most }, stage))
+        }
+        Frame::Ping => Ok(Plan::Tells(reply_of_text(Text::Pong, stage))),
+        Frame::Pong => Ok(Plan::Tells(reply_of_text(Text::Nothing, stage))),
+        Frame::Fault(fault) => Ok(Plan::Tells(reply_of_text(fault_text(*fault), stage.closed()))),
+    }
+}
+
+/// What a frame comes to before the hub is asked. After a closing text nothing is looked at.
+pub fn plan_of(alloc: Global, conn: u64, stage: Stage, frame: &Frame) -> Result<Plan, NoMemory>
+    ensures plan { IfOk result (λ plan. plan ≡ plan_of conn stage frame.now) }
+{
+    match stage {
+        Stage::Fresh => plan_fresh(alloc, conn, frame),
+        Stage::Connected { verbose, headers } => plan_connected(
+            alloc,
+            conn,
+            Stage::Connected { verbose, headers },
+            headers,
+            frame,
+        ),
+        Stage::Closed { session } => Ok(Plan::Tells(reply_of_text(
+            Text::Nothing,
+            Stage::Closed { session },
+        ))),
+    }
+}

@@ -1,0 +1,144 @@
+// What a client is told of an answer.
+ghost use Rattle.std.specs.Prelude.{◌≡◌, ◌≤◌, length};
+ghost use Rattle.conn.specs.Replies.{text_line, told, denied_line, fault_text, reply_to_outcome, reply_to_refusal, reply_of_text, reply_of_error, ok_if, room_of};
+
+use crate::stage::Stage;
+use crate::text::Text;
+use events::{HubRefusal, Outcome};
+use wire_read::{Frame, WireFault};
+use wire_write::ServerError;
+
+/// What a client is told, and where its connection is then.
+#[derive(Clone, Copy, Debug)]
+pub struct Reply<'a> {
+    pub text: Text<'a>,
+    pub stage: Stage,
+}
+
+/// Room enough for any text about a frame.
+pub fn room_of(frame: &Frame) -> usize
+    ensures { result ≡ room_of frame.now }
+{
+    match frame {
+        Frame::Connect(_) => 64,
+        Frame::Pub { subject, .. } => subject.len() + 64,
+        Frame::Hpub { subject, .. } => subject.len() + 64,
+        Frame::Sub { subject, .. } => subject.len() + 64,
+        Frame::Unsub { .. } => 64,
+        Frame::Ping => 64,
+        Frame::Pong => 64,
+        Frame::Fault(_) => 64,
+    }
+}
+
+/// `+OK` to a client that asked for it.
+fn ok_if(stage: Stage) -> Text<'static>
+    ensures line { text_line result ≡ ok_if stage }
+    ensures short { length (text_line result) ≤ 64 }
+{
+    match stage {
+        Stage::Connected { verbose, .. } => {
+            if verbose {
+                Text::Accepted
+            } else {
+                Text::Nothing
+            }
+        }
+        Stage::Fresh => Text::Nothing,
+        Stage::Closed { .. } => Text::Nothing,
+    }
+}
+
+/// That the user may not do what a frame asks.
+fn denied(frame: &Frame) -> Text<'_>
+    ensures line { text_line result ≡ denied_line frame.now }
+    ensures short { length (text_line result) ≤ room_of frame.now }
+{
+    match frame {
+        Frame::Pub { subject, .. } => Text::Error(ServerError::PublishDenied(subject.as_slice())),
+        Frame::Hpub { subject, .. } => Text::Error(ServerError::PublishDenied(subject.as_slice())),
+        Frame::Sub { subject, .. } => Text::Error(ServerError::SubscriptionDenied {
+            subject: subject.as_slice(),
+            queue: None,
+        }),
+        Frame::Connect(_) => Text::Nothing,
+        Frame::Unsub { .. } => Text::Nothing,
+        Frame::Ping => Text::Nothing,
+        Frame::Pong => Text::Nothing,
+        Frame::Fault(_) => Text::Nothing,
+    }
+}
+
+/// The text of a fault of the stream.
+pub fn fault_text(fault: WireFault) -> Text<'static>
+    ensures { result ≡ fault_text fault }
+{
+    match fault {
+        WireFault::UnknownOperation => Text::Error(ServerError::UnknownOperation),
+        WireFault::ParserError => Text::Error(ServerError::ParserError),
+        WireFault::ControlLine => Text::Error(ServerError::ControlLine),
+        WireFault::Payload => Text::Error(ServerError::PayloadViolation),
+    }
+}
+
+/// A text alone.
+pub fn reply_of_text(text: Text<'static>, stage: Stage) -> Reply<'static>
+    ensures { result ≡ reply_of_text text.entry stage }
+{
+    Reply { text, stage }
+}
+
+/// An error, which closes the connection or leaves it open.
+pub fn reply_of_error(error: ServerError<'static>, stage: Stage) -> Reply<'static>
+    ensures { result ≡ reply_of_error error.entry stage }
+{
+    let after = stage.after_error(&error);
+    Reply {
+        text: Text::Error(error),
+        stage: after,
+    }
+}
+
+/// The reply to what came of a frame's event. `accepted` is where an accepted CONNECT leads.
+pub fn reply_to_outcome<'a>(
+    stage: Stage,
+    accepted: Stage,
+    frame: &'a Frame,
+    outcome: &Outcome,
+) -> Reply<'a>
+    ensures told { told result ≡ reply_to_outcome stage accepted frame.now outcome.now }
+    ensures short { length (text_line result.text) ≤ room_of frame.now }
+{
+    match outcome {
+        Outcome::Connected => reply_of_text(ok_if(accepted), accepted),
+        Outcome::Subscribed => reply_of_text(ok_if(stage), stage),
+        Outcome::SameSid => reply_of_text(ok_if(stage), stage),
+        Outcome::Unsubscribed => reply_of_text(ok_if(stage), stage),
+        Outcome::Published(_, _) => reply_of_text(ok_if(stage), stage),
+        Outcome::Denied(_) => Reply {
+            text: denied(frame),
+            stage,
+        },
+        Outcome::SubLimit => reply_of_error(ServerError::SubscriptionsExceeded, stage),
+        Outcome::AuthViolation => reply_of_error(ServerError::Authorization, stage),
+        Outcome::Taken(_, _) => reply_of_text(Text::Nothing, stage),
+        Outcome::Closed => reply_of_text(Text::Nothing, stage),
+        Outcome::Reloaded { .. } => reply_of_text(Text::Nothing, stage),
+    }
+}
+
+/// The reply to why a frame's event was refused.
+pub fn reply_to_refusal(stage: Stage, refusal: HubRefusal) -> Reply<'static>
+    ensures told { told result ≡ reply_to_refusal stage refusal }
+    ensures short { length (text_line result.text) ≤ 64 }
+{
+    match refusal {
+        HubRefusal::SessionTaken => reply_of_error(ServerError::InvalidProtocol, stage),
+        HubRefusal::SessionLimit => reply_of_error(ServerError::ConnectionsExceeded, stage),
+        HubRefusal::NoSession => reply_of_text(
+            Text::Error(ServerError::Authorization),
+            Stage::Closed { session: false },
+        ),
+        HubRefusal::HistoryFull | HubRefusal::NoMemory => reply_of_text(Text::Nothing, stage),
+    }
+}
