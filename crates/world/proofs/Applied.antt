@@ -1,5 +1,5 @@
 -- A step whose number has risen.
-use Rattle.std.proofs.Common.{◌≡◌, ◌+◌, Ok, ap}
+use Rattle.std.proofs.Common.{◌+◌, Ok, ap}
 use Rattle.events.specs.declared.event.Event.{Event}
 use Rattle.events.specs.declared.answer.Entry.{Entry}
 use Rattle.world.specs.World.{World, advanced}

@@ -1,11 +1,10 @@
 -- Deliveries that are handed over and counted.
-use Rattle.std.proofs.Common.{◌≡◌, ◌∙◌, Bool, true, false, cond, List, [], ◌∷◌, map, Option, ap, sym, refl, subst}
+use Rattle.std.proofs.Common.{◌≡◌, ◌∙◌, Bool, true, false, cond, List, [], ◌∷◌, map, ap, sym, refl}
 use Rattle.events.specs.declared.answer.Addressed.{Addressed}
-use Rattle.events.specs.declared.answer.Item.{Item}
 use Rattle.events.specs.declared.answer.Item.TheVariants.{Entered, Full}
 use Rattle.events.specs.declared.answer.Outcome.{Outcome}
 use Rattle.sessions.specs.Sessions.{session_of}
-use Rattle.sessions.specs.Delivered.{delivered, after_offer, item_of, has_room}
+use Rattle.sessions.specs.Delivered.{delivered, after_offer, has_room}
 use Rattle.sessions.specs.declared.session.Session.{Session}
 use Rattle.subscriptions.specs.Limit.{unended, counted}
 use Rattle.subscriptions.specs.Turns.{Tells, TellEach}

@@ -1,5 +1,5 @@
 -- A message that is published.
-use Rattle.std.proofs.Common.{◌≡◌, ◌∙◌, ℕ, List, Option, Some, Result, Ok, Err, map, filter, ap, sym, refl, subst}
+use Rattle.std.proofs.Common.{◌≡◌, ◌∙◌, ℕ, List, Option, Some, Result, Ok, Err, map, filter, ap, sym, subst}
 use Rattle.std.specs.Prelude.{IfOk}
 use Rattle.subjects.specs.Subject.{Token}
 use Rattle.permissions.specs.Verdicts.{publish_verdict}
@@ -11,7 +11,6 @@ use Rattle.events.specs.declared.event.Command.{Command}
 use Rattle.events.specs.declared.event.Command.TheVariants.{Pub}
 use Rattle.events.specs.declared.answer.Addressed.{Addressed}
 use Rattle.events.specs.declared.answer.Item.{Item}
-use Rattle.events.specs.declared.answer.Outcome.{Outcome}
 use Rattle.events.specs.declared.answer.Outcome.TheVariants.{Published}
 use Rattle.events.specs.declared.refusal.HubRefusal.{HubRefusal}
 use Rattle.sessions.specs.Delivered.{delivered}
@@ -19,7 +18,7 @@ use Rattle.sessions.specs.declared.session.Session.{Session}
 use Rattle.subscriptions.specs.Addressing.{addressed_to}
 use Rattle.subscriptions.specs.Limit.{unended, counted}
 use Rattle.world.specs.World.{World}
-use Rattle.world.specs.Routing.{own_view, is_admitted, deliveries}
+use Rattle.world.specs.Routing.{own_view, is_admitted}
 use Rattle.world.specs.Transition.{in_session, published, IsReasoned}
 use Rattle.world.specs.Changes.{IsDecided}
 use Rattle.world.specs.declared.change.Change.TheVariants.{Deliver}

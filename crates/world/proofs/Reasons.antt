@@ -1,5 +1,5 @@
 -- A verdict of a session's user has its reason, by whatever name its subject goes.
-use Rattle.std.proofs.Common.{◌≡◌, ◌∙◌, List, Option, Some, None, ap, sym, subst}
+use Rattle.std.proofs.Common.{◌≡◌, List, Option, Some, subst}
 use Rattle.std.specs.Prelude.{IsSomeAnd, IfSome}
 use Rattle.subjects.specs.Subject.{Token}
 use Rattle.permissions.specs.Verdicts.{subscribe_verdict, IsJustifiedPublish, IsJustifiedSubscribe}

@@ -1,8 +1,6 @@
 -- Whom a message is addressed to.
 use Rattle.std.proofs.Common.{◌≡◌, ◌∙◌, ◌&&◌, Bool, true, false, cond, List, [], ◌∷◌, map, filter, ap, refl}
-use Rattle.subjects.specs.Subject.{Token}
 use Rattle.events.specs.Messages.{Message}
-use Rattle.events.specs.declared.answer.Addressed.{Addressed}
 use Rattle.sessions.specs.declared.session.Session.{Session}
 use Rattle.subscriptions.specs.Subscriptions.{has_subject, having}
 use Rattle.subscriptions.specs.Addressing.{addressed_to}

@@ -1,6 +1,6 @@
 -- A reload: what becomes of the sessions and the subscriptions when another policy comes into force
 -- (docs/GUARANTEE.md, "A reload").
-use Rattle.std.specs.Prelude.{◌+◌, ℕ, List, Bool, false, Option, Some, None, if◌then◌else◌, filter, All, IfSome}
+use Rattle.std.specs.Prelude.{◌+◌, List, Bool, false, Option, Some, None, if◌then◌else◌, filter, All, IfSome}
 use Rattle.std.specs.List.{filter_map}
 use Rattle.policy_doc.specs.Document.{IsValidPolicy}
 use Rattle.policy_doc.specs.declared.document.PolicyDoc.{PolicyDoc}

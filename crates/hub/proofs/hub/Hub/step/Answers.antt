@@ -17,8 +17,8 @@ is_entered c =
       sound = c.self.invariant.0;
       run = c.self.invariant.1;
       room = subst P (sym c.self.view_is) room;
-      step = c.in-Ok.ensures.applied.0;
-      answer = c.in-Ok.ensures.applied.1;
+      step = c.in-Ok.ensures.step.0;
+      answer = c.in-Ok.ensures.step.1;
       reason = c.in-Ok.ensures.reason;
       entered = c.enter.ensures.entered ∙ ap (λ (l : List Entry). l ++ c.in-Ok.told ∷ []) c.reserve.ensures.items;
     })
@@ -49,4 +49,4 @@ returns-in-Err-clause-guarantee c =
     let room : is_history_full c.args.self.now ≡ false = sym c.is_full.ensures ∙ c.if-is_full.false in
     let P : State → Type 0 = λ s. is_history_full s ≡ false in
     let Q : State → Type 0 = λ s. KeepsGuarantee s c.args.event (Err (c.args.event, c.in-Err.refusal)) (state_of c.self.inside.opening c.apply.new.self c.self.inside.most c.reserve.new.self.items) in
-    subst Q c.self.view_is (refused-guaranteed _ _ _ _ _ _ _ _ c.self.invariant.0 (subst P (sym c.self.view_is) room) c.in-Err.ensures.applied.1 c.in-Err.ensures.applied.0 c.reserve.ensures.items)
+    subst Q c.self.view_is (refused-guaranteed _ _ _ _ _ _ _ _ c.self.invariant.0 (subst P (sym c.self.view_is) room) c.in-Err.ensures.step.1 c.in-Err.ensures.step.0 c.reserve.ensures.items)

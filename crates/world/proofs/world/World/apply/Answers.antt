@@ -1,5 +1,5 @@
 -- the number has risen
-use Rattle.std.proofs.Common.{◌≡◌, ◌+◌, ℕ, Ok, sym, subst}
+use Rattle.std.proofs.Common.{◌+◌, ℕ, Ok, sym, subst}
 use Rattle.world.specs.World.{World, advanced}
 use Rattle.world.specs.Transition.{IsMoved, IsApplied}
 use Rattle.world.proofs.Applied.{applied_is}

@@ -6,7 +6,7 @@ use Rattle.sessions.specs.Delivered.{delivered}
 use Rattle.subscriptions.specs.Limit.{unended, counted}
 use Rattle.subscriptions.specs.Turns.{TellEach}
 use Rattle.world.specs.World.{World}
-use Rattle.world.specs.Changes.{done, items_in, IsFit}
+use Rattle.world.specs.Changes.{done, IsFit}
 use Rattle.world.specs.declared.change.Change.{Change}
 use Rattle.world.specs.declared.change.Change.TheVariants.{Deliver}
 use Rattle.world.proofs.Delivering.{tell_each, delivered_is}
