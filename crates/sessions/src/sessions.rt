@@ -105,7 +105,7 @@ impl Sessions {
         ensures err { OnErr result (self.new ≡ self.old) }
     {
         self.list.reserve(1)?;
-        self.rooms.push(0)?;
+        add_room(&mut self.rooms, self.list.as_slice().len())?;
         self.conns.insert(session.conn)?;
         self.list.push_reserved(session);
         Ok(())
@@ -194,7 +194,19 @@ impl Sessions {
     }
 }
 
-ghost use Rattle.std.specs.Prelude.{◌≡◌, ◌==◌, filter, not};
+ghost use Rattle.std.specs.Prelude.{◌≡◌, ◌==◌, ◌≤◌, ◌<◌, OnOk, filter, length, not};
+
+/// Makes sure that a room can be noted beside one more session. Places of sessions that have gone serve again.
+fn add_room(rooms: &mut Vec<usize>, count: usize) -> Result<(), NoMemory>
+    requires { count ≤ length rooms.old.items }
+    ensures kept { count ≤ length rooms.new.items }
+    ensures more { OnOk result (count < length rooms.new.items) }
+{
+    if rooms.len() == count {
+        rooms.push(0)?;
+    }
+    Ok(())
+}
 
 /// Removes a connection from those that are noted.
 fn forget_conn(conns: &mut IndexSet<u64>, conn: u64)

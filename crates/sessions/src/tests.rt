@@ -83,6 +83,16 @@ fn in_words(alloc: Global, sessions: &Sessions) -> Result<String, Fail> {
     Ok(words)
 }
 
+/// Whether the oldest delivery that waits for a connection is for its subscription of that id.
+fn sid_in_front(sessions: &Sessions, conn: u64, sid: &[u8]) -> Result<bool, Fail> {
+    let session = sessions.find(conn).ok_or("no session")?;
+    let front = session.outbox.front(1)?;
+    match front.first() {
+        None => Ok(false),
+        Some(delivery) => Ok(delivery.sid.as_slice() == sid),
+    }
+}
+
 /// The items, as in `7 entered`.
 fn items_in_words(alloc: Global, items: &[Item]) -> Result<String, Fail> {
     let mut words = String::new(alloc);
@@ -126,9 +136,7 @@ fn sessions_come_and_go(rt: HostRuntime) -> Result<(), Fail> {
     sessions.hand_over(addressed(alloc, 3, b"1")?);
     sessions.hand_over(addressed(alloc, 3, b"2")?);
     sessions.hand_over(addressed(alloc, 3, b"3")?);
-    let found = sessions.find(3).ok_or("no session")?;
-    let front = found.outbox.front(1)?;
-    assert_eq!(rt; front[0].sid.as_slice(), b"1".as_slice());
+    assert!(rt; sid_in_front(&sessions, 3, b"1")?);
     sessions.drain(3, 1);
     sessions.remove(7);
     assert!(rt; sessions.find(7).is_none());

@@ -18,5 +18,5 @@ invariant_of-self-2 c =
     ∙ ap (λ (ks : List ℕ). cond (list_any (λ k. n == k) ks) ks (ks ++ n ∷ [])) c.self.invariant.0
     ∙ ap (λ (b : Bool). cond b (map connection_of zs) (map connection_of zs ++ n ∷ [])) (no_key n zs none) in (
       keys ∙ sym (map-append connection_of zs (c.args.session ∷ [])) ∙ sym (ap (map connection_of) all),
-      omega (arith, ap length all, length-append zs (c.args.session ∷ []), c.self.invariant.1, ap length c.in_ok-push.ensures.items, length-append c.self.inside.rooms.items (0 ∷ [])),
+      omega (arith, ap length all, length-append zs (c.args.session ∷ []), ap length c.as_slice.ensures.value, ap length c.in_ok-reserve.ensures.items, c.in_ok-add_room.ensures.more),
     )
