@@ -15,14 +15,8 @@ use subjects::{Pattern, Subject};
 pub enum Ask {
     /// The connection, the user and the password.
     Connect(u64, &'static str, &'static str),
-    /// The same, without echo.
-    ConnectUnheard(u64, &'static str, &'static str),
     /// A Connect of no user.
     ConnectNobody(u64),
-    /// A Connect of user demo on each of these connections, the last one left out. Nothing is told of it.
-    ConnectAll(u64, u64),
-    /// A Sub of the connection to foo under each of these numbers as sid, the last one left out. Nothing is told.
-    SubAll(u64, u64, u64),
     /// The connection, the subject and the sid.
     Sub(u64, &'static str, &'static str),
     /// The connection, the sid and the limit, if there is one.
@@ -104,8 +98,6 @@ impl Talk {
 
     fn ask(&mut self, ask: Ask) -> Result<(), Fail> {
         match ask {
-            Ask::ConnectAll(from, to) => self.connect_all(from, to),
-            Ask::SubAll(conn, from, to) => self.sub_all(conn, from, to),
             Ask::At(now) => {
                 self.now = now;
                 Ok(())
@@ -157,35 +149,6 @@ impl Talk {
         Ok(())
     }
 
-    fn connect_all(&mut self, from: u64, to: u64) -> Result<(), Fail> {
-        for conn in from..to {
-            let what = command(self.alloc, Ask::Connect(conn, "demo", "demo"))?;
-            self.step_untold(what)?;
-        }
-        Ok(())
-    }
-
-    fn sub_all(&mut self, conn: u64, from: u64, to: u64) -> Result<(), Fail> {
-        for number in from..to {
-            let sid = format!(in self.alloc; "{number}")?;
-            let what = subscribe(self.alloc, conn, "foo", sid.as_str())?;
-            self.step_untold(what)?;
-        }
-        Ok(())
-    }
-
-    // A step that is answered, of which nothing is told.
-    fn step_untold(&mut self, what: Command) -> Result<(), Fail> {
-        let event = Event {
-            now: self.now,
-            what,
-        };
-        match step(&mut self.hub, event) {
-            Ok(_) => Ok(()),
-            Err(_) => Err("refused".into()),
-        }
-    }
-
     fn tell_waiting(&mut self, conn: u64) -> Result<(), Fail> {
         let line = waiting_in_words(self.alloc, &self.hub, conn)?;
         self.told.push_str(line.as_str())?;
@@ -220,12 +183,12 @@ fn subscribe(alloc: Global, conn: u64, subject: &str, sid: &str) -> Result<Comma
     })
 }
 
-fn connect(alloc: Global, conn: u64, user: &str, pass: &str, echo: bool) -> Result<Command, Fail> {
+fn connect(alloc: Global, conn: u64, user: &str, pass: &str) -> Result<Command, Fail> {
     Ok(Command::Connect {
         conn,
         user: Some(bytes(alloc, user)?),
         pass: bytes(alloc, pass)?,
-        echo,
+        echo: true,
     })
 }
 
@@ -253,8 +216,7 @@ fn publish(
 /// The command that is asked for.
 pub(crate) fn command(alloc: Global, ask: Ask) -> Result<Command, Fail> {
     match ask {
-        Ask::Connect(conn, user, pass) => connect(alloc, conn, user, pass, true),
-        Ask::ConnectUnheard(conn, user, pass) => connect(alloc, conn, user, pass, false),
+        Ask::Connect(conn, user, pass) => connect(alloc, conn, user, pass),
         Ask::ConnectNobody(conn) => Ok(Command::Connect {
             conn,
             user: None,

@@ -57,15 +57,6 @@ fn deny_filters_delivery(rt: HostRuntime) -> Result<(), Fail> {
     Ok(())
 }
 
-#[test]
-fn the_demo_user_may_do_everything(rt: HostRuntime) -> Result<(), Fail> {
-    let own = of_builtin(&rt, b"demo")?.ok_or("no user demo")?;
-    assert_eq!(rt; own.publish(&subject(&rt, "foo.bar")?), ALL);
-    assert_eq!(rt; own.subscribe(&pattern(&rt, ">")?), ALL);
-    assert_eq!(rt; own.admits(&subject(&rt, "foo.bar")?), ALL);
-    Ok(())
-}
-
 fn entries(rt: &HostRuntime, texts: &[&str]) -> Result<Items<PermEntry>, Fail> {
     let mut entries = Vec::new(rt.alloc());
     for text in texts {
@@ -82,26 +73,6 @@ fn user(publish: Direction, subscribe: Direction) -> UserDoc {
         password: Bytes::from_static(b"s"),
         permissions: Some(PermDoc { publish, subscribe }),
     }
-}
-
-#[test]
-fn joined_entries_do_not_cover(rt: HostRuntime) -> Result<(), Fail> {
-    let open = Direction {
-        allow: None,
-        deny: entries(&rt, &[])?,
-    };
-    let two = Direction {
-        allow: Some(entries(&rt, &["*", "*.>"])?),
-        deny: entries(&rt, &[])?,
-    };
-    let own = Compiled::of(rt.alloc(), &user(open, two))?;
-    assert_eq!(rt; own.subscribe(&pattern(&rt, ">")?), Verdict::NoAllow);
-    assert_eq!(rt;
-        own.subscribe(&pattern(&rt, "*.a")?),
-        Verdict::Allowed(By::Index(1))
-    );
-    assert_eq!(rt; own.publish(&subject(&rt, "a.b")?), ALL);
-    Ok(())
 }
 
 #[test]
@@ -125,12 +96,4 @@ fn the_least_entry_decides(rt: HostRuntime) -> Result<(), Fail> {
     assert_eq!(rt; copy.subscribe(&pattern(&rt, "a")?), Verdict::NoAllow);
     assert_eq!(rt; copy.admits(&subject(&rt, "a")?), ALL);
     Ok(())
-}
-
-#[test]
-fn allowed_is_neither_denial(rt: HostRuntime) {
-    assert!(rt; ALL.is_allowed());
-    assert!(rt; FIRST.is_allowed());
-    assert!(rt; !Verdict::DeniedBy(0).is_allowed());
-    assert!(rt; !Verdict::NoAllow.is_allowed());
 }

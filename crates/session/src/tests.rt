@@ -1,5 +1,4 @@
 mod drains;
-mod frames;
 mod hub_refusals;
 mod life;
 mod port;

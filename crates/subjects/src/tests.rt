@@ -1,6 +1,5 @@
 use crate::{Pattern, Subject, SubjectError};
 use lists::Copying;
-use std::alloc::{AllocError, Global};
 
 fn pattern(rt: &HostRuntime, text: &str) -> Result<Pattern, SubjectError> {
     Pattern::parse(rt.alloc(), text.as_bytes())
@@ -34,72 +33,12 @@ fn both_grammars_name_the_first_fault(rt: HostRuntime) {
 }
 
 #[test]
-fn a_subject_has_no_wildcard(rt: HostRuntime) {
-    for text in ["foo.*", "r.>", "*", ">", "*.foo"] {
-        assert_eq!(rt; pattern(&rt, text).err(), None, "pattern {text}");
-        assert_eq!(rt;
-            subject(&rt, text).err(),
-            Some(SubjectError::Wildcard),
-            "subject {text}"
-        );
-    }
-}
-
-#[test]
 fn a_text_is_given_back(rt: HostRuntime) -> Result<(), SubjectError> {
     for text in ["foo", "foo.bar", "a*b", "foo>", "Foo.\u{e9}.x-1", "$JS.API"] {
         let own = pattern(&rt, text)?;
         assert_eq!(rt; own.bytes(), text.as_bytes(), "pattern {text}");
         let own = subject(&rt, text)?;
         assert_eq!(rt; own.bytes(), text.as_bytes(), "subject {text}");
-    }
-    Ok(())
-}
-
-fn many_tokens(alloc: Global, token: u8, count: usize) -> Result<Vec<u8>, AllocError> {
-    let mut text = Vec::new(alloc);
-    for i in 0..count {
-        if 0 < i {
-            text.push(b'.')?;
-        }
-        text.push(token)?;
-    }
-    Ok(text)
-}
-
-#[test]
-fn at_most_512_tokens(rt: HostRuntime) -> Result<(), AllocError> {
-    for (count, want) in [(512, None), (513, Some(SubjectError::TooManyTokens))] {
-        let letters = many_tokens(rt.alloc(), b'a', count)?;
-        assert_eq!(rt; Subject::parse(rt.alloc(), letters.as_slice()).err(), want);
-        let stars = many_tokens(rt.alloc(), b'*', count)?;
-        assert_eq!(rt; Pattern::parse(rt.alloc(), stars.as_slice()).err(), want);
-    }
-    let stars = many_tokens(rt.alloc(), b'*', 513)?;
-    assert_eq!(rt;
-        Subject::parse(rt.alloc(), stars.as_slice()).err(),
-        Some(SubjectError::TooManyTokens)
-    );
-    Ok(())
-}
-
-#[test]
-fn wildcards_stand_for_tokens(rt: HostRuntime) -> Result<(), SubjectError> {
-    for (own, other, want) in [
-        ("foo.*", "foo.bar", true),
-        ("foo.*", "foo", false),
-        ("foo.*", "foo.bar.baz", false),
-        ("foo.>", "foo.bar.baz", true),
-        ("foo.>", "foo", false),
-        (">", "foo", true),
-        ("*", "foo", true),
-        ("a*b", "a*b", true),
-        ("a*b", "axb", false),
-        ("foo", "Foo", false),
-        ("foo", "foobar", false),
-    ] {
-        let found = pattern(&rt, own)?.matches(&subject(&rt, other)?);
-        assert_eq!(rt; found, want, "{own} of {other}");
     }
     Ok(())
 }
@@ -120,33 +59,6 @@ fn coverage_is_by_every_subject(rt: HostRuntime) -> Result<(), SubjectError> {
     ] {
         let found = pattern(&rt, own)?.covers(&pattern(&rt, other)?);
         assert_eq!(rt; found, want, "{own} of {other}");
-    }
-    Ok(())
-}
-
-#[test]
-fn overlap_is_a_common_subject(rt: HostRuntime) -> Result<(), SubjectError> {
-    for (own, other, want) in [
-        ("foo.*", "*.bar", true),
-        ("foo.*", "foo", false),
-        ("foo.*", "bar.*", false),
-        ("foo.>", "*.*.baz", true),
-        ("foo.>", "foo", false),
-        (">", "*", true),
-        ("*", "a.>", false),
-        ("a.b", "a.b", true),
-    ] {
-        let (own_pattern, other_pattern) = (pattern(&rt, own)?, pattern(&rt, other)?);
-        assert_eq!(rt;
-            own_pattern.overlaps(&other_pattern),
-            want,
-            "{own} and {other}"
-        );
-        assert_eq!(rt;
-            other_pattern.overlaps(&own_pattern),
-            want,
-            "{other} and {own}"
-        );
     }
     Ok(())
 }

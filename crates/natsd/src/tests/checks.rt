@@ -7,62 +7,6 @@ use crate::words::{Task, run_task};
 use std::alloc::Global;
 use std::test::Fail;
 
-// What `natsd check` prints of a text, and its status.
-fn checked(alloc: Global, text: &[u8]) -> Result<(u8, Vec<u8>), PlayFault> {
-    let mut sink = WriteSink::new(Vec::new(alloc));
-    let status = run_task(alloc, &Task::Check, &mut ReadSource::new(text), &mut sink)?;
-    Ok((status, sink.into_writer()))
-}
-
-#[test]
-fn policies_and_their_faults(rt: HostRuntime) -> Result<(), Fail> {
-    for (text, line, status) in [
-        (r#""#, "config NotJson\n", 1),
-        (r#"{"version":1}"#, "config WrongType /accounts\n", 1),
-        (
-            r#"{"accounts":{"A/b":{"user":[]}}}"#,
-            "config UnknownKey /accounts/A~1b/user\n",
-            1,
-        ),
-        (
-            r#"{"accounts":{"A":{"users":[{"user":"u","password":"$2a"}]}}}"#,
-            "config HashedPassword /accounts/A/users/0/password\n",
-            1,
-        ),
-        (
-            r#"{"accounts":{"A":{"users":[{"user":"","password":"u"}]}}}"#,
-            "config BadName /accounts/A/users/0/user\n",
-            1,
-        ),
-        (
-            r#"{"accounts":{"A":{"users":[{"user":"u","password":"u","permissions":{"subscribe":{"allow":["a","b..c"]}}}]}}}"#,
-            "config BadSubject /accounts/A/users/0/permissions/subscribe/allow/1\n",
-            1,
-        ),
-        (
-            r#"{"accounts":{"B":{"users":[{"user":"x","password":"2"}]},"A":{"users":[{"user":"x","password":"1"}]}}}"#,
-            "policy DuplicateUser B 0\n",
-            1,
-        ),
-        (
-            r#"{"accounts":{"A":{"users":[{"user":"x","password":"1"},{"user":"y","password":"1"},{"user":"x","password":"1"}]}}}"#,
-            "policy DuplicateUser A 2\n",
-            1,
-        ),
-        (r#"{"accounts":{}}"#, "ok 0 0 0 0\n", 0),
-        (
-            r#"{"accounts":{"A":{"users":[{"user":"x","password":"1"},{"user":"y","password":"1"}]},"B":{},"C":{"users":[{"user":"z","password":""}]}}}"#,
-            "ok 3 3 0 0\n",
-            0,
-        ),
-    ] {
-        let (answer, printed) = checked(rt.alloc(), text.as_bytes())?;
-        assert_eq!(rt; printed.as_slice(), line.as_bytes(), "{text}");
-        assert_eq!(rt; answer, status, "{text}");
-    }
-    Ok(())
-}
-
 // Spaces, so many in a read.
 #[derive(Drop)]
 struct Spaces {

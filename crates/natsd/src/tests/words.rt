@@ -1,7 +1,7 @@
 use crate::device::{ReadSource, WriteSink};
 use crate::fail_at::FailAt;
 use crate::fault::PlayFault;
-use crate::words::{Task, WordsFault, read_words, run_task};
+use crate::words::{Task, read_words, run_task};
 use std::test::Fail;
 
 #[test]
@@ -21,26 +21,6 @@ fn tasks(rt: HostRuntime) {
         match read_words(rt.alloc(), words) {
             Ok(Task::Help(text)) => assert!(rt; text.as_str().contains("Usage: natsd")),
             _ => panic!(rt; "no help"),
-        }
-    }
-}
-
-#[test]
-fn wrong_lines(rt: HostRuntime) {
-    for words in [
-        &["natsd", "dance"][..],
-        &["natsd"],
-        &[],
-        &["natsd", "play", "x"],
-        &["natsd", "check", "x"],
-        &["natsd", "help"],
-        &["natsd", "--listen", "127.0.0.1:4222"],
-    ] {
-        match read_words(rt.alloc(), words) {
-            Err(WordsFault::WrongLine(text)) => {
-                assert!(rt; text.as_str().starts_with("error: "));
-            }
-            _ => panic!(rt; "a wrong line was taken"),
         }
     }
 }

@@ -1,4 +1,4 @@
-use crate::tests::talk::{Ask, CAPS, DEMO, HEADERS, VERBOSE, assert_told};
+use crate::tests::talk::{Ask, CAPS, DEMO, VERBOSE, assert_told};
 use hub::Caps;
 use std::test::Fail;
 
@@ -9,16 +9,6 @@ fn the_opening_writes_info(rt: HostRuntime) -> Result<(), Fail> {
         CAPS,
         &[Ask::Open],
         b"INFO {\"auth_required\":true,\"client_id\":1,\"headers\":true,\"max_payload\":1048576,\"proto\":1,\"server_id\":\"natsd\",\"version\":\"0.1.0\"}\r\n",
-    )
-}
-
-#[test]
-fn before_connect_nothing_else_is_looked_at(rt: HostRuntime) -> Result<(), Fail> {
-    assert_told(
-        &rt,
-        CAPS,
-        &[Ask::Bytes(b"PONG\r\nPING\r\nUNSUB 1\r\n"), Ask::End],
-        b"PONG\r\n-ERR 'Authorization Violation'\r\n[closed]",
     )
 }
 
@@ -36,22 +26,6 @@ fn a_message_comes_in_a_drain(rt: HostRuntime) -> Result<(), Fail> {
         ],
         b"+OK\r\n+OK\r\n+OK\r\nPONG\r\nMSG foo 1 reply 2\r\nhi\r\n",
     )
-}
-
-#[test]
-fn a_stream_may_be_cut_anywhere(rt: HostRuntime) -> Result<(), Fail> {
-    let rest = b"SUB foo 1\r\nPUB foo re.1 2\r\nhi\r\n\
-        HPUB foo 12 14\r\nNATS/1.0\r\n\r\nho\r\nPING\r\n"
-        .as_slice();
-    let whole = [Ask::Bytes(HEADERS), Ask::Bytes(rest), Ask::Drain];
-    let cut = [Ask::EachByte(HEADERS), Ask::EachByte(rest), Ask::Drain];
-    let answers = b"+OK\r\n+OK\r\n+OK\r\n+OK\r\nPONG\r\n\
-        MSG foo 1 re.1 2\r\nhi\r\nHMSG foo 1 12 14\r\nNATS/1.0\r\n\r\nho\r\n[session]"
-        .as_slice();
-    for asks in [whole, cut] {
-        assert_told(&rt, CAPS, asks.as_slice(), answers)?;
-    }
-    Ok(())
 }
 
 const TWO_ENTRIES: Caps = Caps {

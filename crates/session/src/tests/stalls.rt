@@ -4,42 +4,6 @@ use hub::HubRefusal;
 use std::test::Fail;
 
 #[test]
-fn a_quiet_sub_that_stalls_is_submitted_once(rt: HostRuntime) -> Result<(), Fail> {
-    assert_told(
-        &rt,
-        CAPS,
-        &[
-            Ask::Bytes(DEMO),
-            Ask::Refuse(HubRefusal::HistoryFull),
-            Ask::Bytes(b"SUB foo 1\r\n"),
-            Ask::History,
-            Ask::Bytes(b""),
-            Ask::Bytes(b""),
-            Ask::History,
-            Ask::Bytes(b"PUB foo 1\r\na\r\n"),
-            Ask::Drain,
-        ],
-        b"[history full][entries connect][entries connect sub]MSG foo 1 1\r\na\r\n[session]",
-    )
-}
-
-#[test]
-fn a_sub_that_stalls_is_accepted_once(rt: HostRuntime) -> Result<(), Fail> {
-    assert_told(
-        &rt,
-        CAPS,
-        &[
-            Ask::Bytes(VERBOSE),
-            Ask::Refuse(HubRefusal::HistoryFull),
-            Ask::Bytes(b"SUB foo 1\r\nPING\r\n"),
-            Ask::Bytes(b""),
-            Ask::History,
-        ],
-        b"+OK\r\n[history full]+OK\r\nPONG\r\n[entries connect sub][session]",
-    )
-}
-
-#[test]
 fn a_message_that_stalls_keeps_its_word(rt: HostRuntime) -> Result<(), Fail> {
     assert_told(
         &rt,

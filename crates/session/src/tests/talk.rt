@@ -36,10 +36,6 @@ pub enum Ask<'a> {
     Open,
     /// A piece of the stream.
     Bytes(&'a [u8]),
-    /// The same, a byte at a time.
-    EachByte(&'a [u8]),
-    /// A SUB to foo under each sid of four digits below this number.
-    SubEach(u64),
     /// A piece. Where memory lacks nothing goes on, and `[stalled]` is told.
     BytesOnce(&'a [u8]),
     /// Goes on after `BytesOnce` of this piece, if it stalled.
@@ -222,8 +218,6 @@ impl Talk {
             Ask::Second => self.turn_to(true),
             Ask::Open => self.finish(Call::Open),
             Ask::Bytes(piece) => self.finish(Call::Bytes(piece)),
-            Ask::EachByte(text) => self.each_byte(text),
-            Ask::SubEach(end) => self.sub_each(end),
             Ask::BytesOnce(piece) => self.try_bytes(piece),
             Ask::GoOn(piece) => self.go_on(piece),
             Ask::Drain => self.finish(Call::Drain),
@@ -292,28 +286,6 @@ impl Talk {
             }
         }
         Err("memory lacked again and again".into())
-    }
-
-    fn each_byte(&mut self, text: &[u8]) -> Result<(), Fail> {
-        for piece in text.chunks(1) {
-            self.finish(Call::Bytes(piece))?;
-        }
-        Ok(())
-    }
-
-    fn sub_each(&mut self, end: u64) -> Result<(), Fail> {
-        for number in 0..end {
-            let sid = [
-                digit_of(number / 1000),
-                digit_of(number / 100),
-                digit_of(number / 10),
-                digit_of(number),
-            ];
-            self.finish(Call::Bytes(b"SUB foo "))?;
-            self.finish(Call::Bytes(sid.as_slice()))?;
-            self.finish(Call::Bytes(b"\r\n"))?;
-        }
-        Ok(())
     }
 
     fn try_bytes(&mut self, piece: &[u8]) -> Result<(), Fail> {

@@ -1,0 +1,1 @@
+printf '{"accounts":{}}%1048561s' ''

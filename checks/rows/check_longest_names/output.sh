@@ -1,0 +1,1 @@
+printf 'config BadName /accounts/%s\n' "$(printf '%257s' '' | tr ' ' a)"

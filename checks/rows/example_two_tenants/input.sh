@@ -1,0 +1,1 @@
+cat ../../../examples/two_tenants.script

@@ -1,0 +1,5 @@
+printf '%s\n' 'open 1' 'send 1 CONNECT {"user":"demo","pass":"demo","verbose":false}\r\n'
+printf 'send 1 '
+head -c 99999 /dev/zero | tr '\0' x | sed 's/x/PUB foo 0\\r\\n\\r\\n/g'
+printf '\n'
+printf '%s\n' 'send 1 PING\r\nPUB foo 0\r\n\r\n'
