@@ -57,19 +57,44 @@ abbrev pub IsFirst : (Entry → Type 0) → (Entry → Type 0) → List Entry �
 IsFirst Has Lacks entries None = EachLacks Lacks entries
 IsFirst Has Lacks entries (Some i) = IsLeast Has Lacks entries i
 
--- A denial has its reason: the entry it names is the least deny entry that has all that was asked; or each deny
--- entry lacks some of it, an allow list is given, and each of its entries lacks some of it.
+-- A verdict has its reason. What is denied by an entry: it is the least deny entry that has all that was asked. Else
+-- each deny entry lacks some of it, and what is allowed is so because no allow list is given, or by the least allow
+-- entry that has all of it; and where each entry of an allow list that is given lacks some of it, there is no allow.
 abbrev pub IsJustified : (Entry → Type 0) → (Entry → Type 0) → Rules → Verdict → Type 0
-IsJustified Has Lacks rules (Allowed by) = Unit {0}
+IsJustified Has Lacks rules (Allowed AllowsAll) = EachLacks Lacks rules.deny × (rules.allow ≡ None)
+IsJustified Has Lacks rules (Allowed (Index i)) =
+    EachLacks Lacks rules.deny × IsSomeAnd rules.allow (λ entries. IsLeast Has Lacks entries i)
 IsJustified Has Lacks rules (DeniedBy i) = IsLeast Has Lacks rules.deny i
 IsJustified Has Lacks rules NoAllow = EachLacks Lacks rules.deny × IsSomeAnd rules.allow (EachLacks Lacks)
 
--- a denied publish: an entry has the subject or lacks it
+-- a publish: an entry has the subject or lacks it
 abbrev pub IsJustifiedPublish : List Token → Rules → Verdict → Type 0
 IsJustifiedPublish subject rules verdict =
     IsJustified (λ entry. IsTrue (in_set entry subject)) (λ entry. in_set entry subject ≡ false) rules verdict
 
--- a denied subscription: an entry has all subjects of the pattern, or lacks one of them
+-- a subscription: an entry has all subjects of the pattern, or lacks one of them
 abbrev pub IsJustifiedSubscribe : List Token → Rules → Verdict → Type 0
 IsJustifiedSubscribe pattern rules verdict =
     IsJustified (λ entry. Covers entry pattern) (λ entry. Lacks entry pattern) rules verdict
+
+-- A delivery: the deny entry that is named is the least that has the subject, or each lacks it. Allow lists aren't
+-- looked at.
+abbrev pub IsJustifiedDelivery : List Token → Rules → Verdict → Type 0
+IsJustifiedDelivery subject rules verdict =
+    IsJustified (λ entry. IsTrue (in_set entry subject)) (λ entry. in_set entry subject ≡ false) record { allow = None; deny = rules.deny } verdict
+
+-- ---- one verdict
+
+-- no entry has all of what it lacks some of
+abbrev pub AreApart : (Entry → Type 0) → (Entry → Type 0) → Type 0
+AreApart Has Lacks = (entry : Entry) → Has entry → Lacks entry → ⊥
+
+-- At most one verdict on a publish has its reason, and one on a subscription: what is allowed can't be denied too.
+abbrev pub HasOnePublishVerdict : Type 0
+HasOnePublishVerdict = (subject : List Token) (rules : Rules) (v w : Verdict) → IsJustifiedPublish subject rules v → IsJustifiedPublish subject rules w → v ≡ w
+
+abbrev pub HasOneSubscribeVerdict : Type 0
+HasOneSubscribeVerdict = (pattern : List Token) (rules : Rules) (v w : Verdict) → IsJustifiedSubscribe pattern rules v → IsJustifiedSubscribe pattern rules w → v ≡ w
+
+abbrev pub HasOneDeliveryVerdict : Type 0
+HasOneDeliveryVerdict = (subject : List Token) (rules : Rules) (v w : Verdict) → IsJustifiedDelivery subject rules v → IsJustifiedDelivery subject rules w → v ≡ w

@@ -26,7 +26,7 @@ impl Model for Compiled {
 impl Compiled {
     ghost use Rattle.std.specs.Prelude.{◌≡◌, IfOk};
     ghost use Rattle.permissions.specs.Lists.{lists_of};
-    ghost use Rattle.permissions.specs.Verdicts.{publish_verdict, subscribe_verdict, delivery_verdict, IsJustifiedPublish, IsJustifiedSubscribe};
+    ghost use Rattle.permissions.specs.Verdicts.{publish_verdict, subscribe_verdict, delivery_verdict, IsJustifiedPublish, IsJustifiedSubscribe, IsJustifiedDelivery};
 
     /// The lists of a user's permissions; a user without permissions may do everything.
     /// `NoMemory` where memory could not be had.
@@ -75,6 +75,7 @@ impl Compiled {
     /// `Allowed(All)`.
     pub fn admits(&self, subject: &Subject) -> Verdict
         ensures verdict { result ≡ delivery_verdict self.now subject.now }
+        ensures justified { IsJustifiedDelivery subject.now self.now.subscribe result }
     {
         match &self.permissions {
             None => Verdict::Allowed(By::All),

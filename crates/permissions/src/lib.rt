@@ -4,9 +4,11 @@
 mod asked;
 mod compiled;
 mod decision;
+mod laws;
 #[cfg(test)]
 mod tests;
 mod verdict;
 
 pub use compiled::Compiled;
+pub use laws::one_verdict;
 pub use verdict::{By, Verdict};
