@@ -98,8 +98,11 @@ fn wildcards_stand_for_tokens(rt: HostRuntime) -> Result<(), SubjectError> {
         ("foo", "Foo", false),
         ("foo", "foobar", false),
     ] {
-        let found = pattern(&rt, own)?.matches(&subject(&rt, other)?);
+        let own_pattern = pattern(&rt, own)?;
+        let found = own_pattern.matches(&subject(&rt, other)?);
         assert_eq!(rt; found, want, "{own} of {other}");
+        let found = own_pattern.matches_text(other.as_bytes());
+        assert_eq!(rt; found, want, "{own} of the text {other}");
     }
     Ok(())
 }
