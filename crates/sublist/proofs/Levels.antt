@@ -1,5 +1,5 @@
 -- How a change of one level changes what a tree has.
-use Rattle.std.proofs.Common.{◌≡◌, ◌==◌, ℕ, length, Bool, true, false, not, ◌&&◌, cond, List, [], ◌∷◌, Option, Some, None, Vec, Box, refl, sym, ap, subst, ◌∙◌, IsTrue, inl, inr, arith}
+use Rattle.std.proofs.Common.{◌≡◌, ◌==◌, ℕ, length, Bool, true, false, not, ◌&&◌, cond, List, [], ◌∷◌, Option, Some, None, Vec, Box, refl, sym, ap, subst, ◌∙◌, inl, inr, arith}
 use Rattle.std.specs.List.{filter}
 use Rattle.std.specs.Map.{lookup, KeepsOthers, IsKeyTest, AreApart}
 use Rattle.std.specs.Cmp.Lexicographic.{nat_list_eq_equiv}

@@ -1,5 +1,5 @@
 -- The ids that a walk over the tree finds are those that the subject reaches.
-use Rattle.std.proofs.Common.{◌≡◌, ◌==◌, ℕ, Bool, true, false, ◌&&◌, ◌||◌, List, [], ◌∷◌, ◌++◌, Option, Some, None, Box, refl, sym, ap, subst, ◌∙◌, inl, inr, arith, eqb, leb, length, IsTrue}
+use Rattle.std.proofs.Common.{◌≡◌, ◌==◌, ℕ, true, false, ◌||◌, List, [], ◌∷◌, ◌++◌, Option, Some, None, Box, refl, sym, ap, subst, ◌∙◌, inl, inr, arith, eqb, leb, length, IsTrue}
 use Rattle.std.specs.List.{list_all, dedup}
 use Rattle.std.specs.List.Sorted.{IsSorted, IsPermutation}
 use Rattle.std.specs.Map.{lookup}

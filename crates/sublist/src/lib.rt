@@ -1,9 +1,11 @@
-//! The subscriptions of an account by the tokens of their patterns: which of them a subject reaches.
+//! The subscriptions that a subject reaches, found by the tokens of their patterns.
 #![tactic(auto)]
 
 mod error;
 mod node;
 mod step;
+#[cfg(test)]
+mod tests;
 mod tree;
 
 pub use error::{Absent, InsertError};

@@ -8,7 +8,10 @@ use std::alloc::Global;
 use std::hash::RandomState;
 use subjects::{Pattern, Subject};
 
-/// Pairs of a pattern and an id, found by subject.
+/// Pairs of a pattern and an id, found by subject. An id may stand with several patterns.
+///
+/// A clause sees which pairs stand. Whoever keeps a list of subscriptions, whose ids rise, says in its own
+/// invariant that the tree is the index of the list (`IsIndexOf`): then `matching` is the list's filter.
 #[derive(Drop)]
 pub struct Sublist {
     alloc: Global,
@@ -19,7 +22,8 @@ pub struct Sublist {
 impl Sublist {
     ghost use Rattle.sublist.specs.Pairs.{stands, Pairs, matching_ids, IsEmpty, IsSame, IsWith, IsWithout, IsMatching, IsIndexOf};
 
-    /// The tree without a pair.
+    /// The tree without a pair. Clients choose the tokens, so the tables of tokens are hashed under keys that
+    /// they can't know. It takes no memory.
     pub fn new(alloc: Global, keys: RandomState) -> Sublist
         ensures { IsEmpty result }
     {
@@ -30,7 +34,8 @@ impl Sublist {
         }
     }
 
-    /// Adds a pair.
+    /// Adds a pair. `Present` where it stands already; `NoMemory` where it doesn't and memory could not be had.
+    /// After either the same pairs stand.
     pub fn insert(&mut self, pattern: &Pattern, id: u64) -> Result<(), InsertError>
         ensures added { OnOk result (IsWith self.old pattern.now id self.new) }
         ensures present { (result ≡ Err Present) ↔ IsTrue (stands self.old pattern.now id) }
@@ -48,7 +53,8 @@ impl Sublist {
         }
     }
 
-    /// Removes a pair.
+    /// Removes a pair, and every branch that then has nothing left. `Absent` where it doesn't stand, and then
+    /// the same pairs stand. It takes no memory.
     pub fn remove(&mut self, pattern: &Pattern, id: u64) -> Result<(), Absent>
         ensures removed { OnOk result (IsWithout self.old pattern.now id self.new) }
         ensures stood { IsOk result ↔ IsTrue (stands self.old pattern.now id) }
@@ -61,7 +67,7 @@ impl Sublist {
         Ok(())
     }
 
-    /// Whether a pair stands.
+    /// Whether a pair stands. It takes no memory.
     pub fn contains(&self, pattern: &Pattern, id: u64) -> bool
         ensures { result ≡ stands self.now pattern.now id }
     {
@@ -69,7 +75,8 @@ impl Sublist {
         found
     }
 
-    /// The ids of the pairs whose pattern has the subject.
+    /// The ids of the pairs whose pattern has the subject, each once, in rising order. `NoMemory` where memory
+    /// could not be had for them.
     pub fn matching(&self, subject: &Subject) -> Result<Vec<u64>, NoMemory>
         ensures pairs { IfOk result (λ found. IsMatching self.now subject.now found.items) }
         ensures index { IfOk result (λ found. (pairs : Pairs) → IsIndexOf pairs self.now → found.items ≡ matching_ids pairs subject.now) }
@@ -79,7 +86,7 @@ impl Sublist {
         Ok(found)
     }
 
-    /// As `matching`, in place of what was in `found`.
+    /// Puts the ids of `matching` in the place of what was in `found`. `NoMemory` leaves it empty.
     pub fn matching_into(&self, subject: &Subject, found: &mut Vec<u64>) -> Result<(), NoMemory>
         ensures pairs { OnOk result (IsMatching self.now subject.now found.new.items) }
         ensures index { OnOk result ((pairs : Pairs) → IsIndexOf pairs self.now → found.new.items ≡ matching_ids pairs subject.now) }
