@@ -44,13 +44,8 @@ impl Sublist {
         if self.contains(pattern, id) {
             return Err(InsertError::Present);
         }
-        match self
-            .root
-            .insert(self.alloc, self.keys, pattern.tokens(), id)
-        {
-            Ok(()) => Ok(()),
-            Err(NoMemory) => Err(InsertError::NoMemory),
-        }
+        self.root.insert(self.alloc, self.keys, pattern.tokens(), id)?;
+        Ok(())
     }
 
     /// Removes a pair, and every branch that then has nothing left. `Absent` where it doesn't stand, and then
@@ -71,8 +66,7 @@ impl Sublist {
     pub fn contains(&self, pattern: &Pattern, id: u64) -> bool
         ensures { result ≡ stands self.now pattern.now id }
     {
-        let found = self.root.contains(pattern.tokens(), id);
-        found
+        self.root.contains(pattern.tokens(), id)
     }
 
     /// The ids of the pairs whose pattern has the subject, each once, in rising order. `NoMemory` where memory
