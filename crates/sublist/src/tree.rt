@@ -44,7 +44,8 @@ impl Sublist {
         if self.contains(pattern, id) {
             return Err(InsertError::Present);
         }
-        self.root.insert(self.alloc, self.keys, pattern.tokens(), id)?;
+        self.root
+            .insert(self.alloc, self.keys, pattern.tokens(), id)?;
         Ok(())
     }
 
