@@ -32,6 +32,16 @@ impl<'a> Pieces<'a> {
         }
     }
 
+    /// The pieces that are left once more, for a walk of their own.
+    pub fn again(&self) -> Pieces<'a>
+        ensures { result ≡ self.now }
+    {
+        Pieces {
+            separator: self.separator,
+            rest: self.rest,
+        }
+    }
+
     /// Takes the first of the pieces that are left, if one is.
     pub fn next_piece(&mut self) -> Option<&'a [u8]>
         ensures { MatchOption result ((self.old ≡ []) × (self.new ≡ [])) (λ piece. self.old ≡ piece.now ∷ self.new) }

@@ -39,6 +39,7 @@ fn want_of_memory_has_a_text(rt: HostRuntime) -> Result<(), Fail> {
 fn pieces_of_a_text(rt: HostRuntime) {
     let mut pieces = Pieces::of(b"a..b.", b'.');
     assert_eq!(rt; pieces.next_piece(), Some(b"a".as_slice()));
+    assert_eq!(rt; pieces.again().next_piece(), Some(b"".as_slice()));
     assert_eq!(rt; pieces.next_piece(), Some(b"".as_slice()));
     assert_eq!(rt; pieces.next_piece(), Some(b"b".as_slice()));
     assert_eq!(rt; pieces.next_piece(), Some(b"".as_slice()));

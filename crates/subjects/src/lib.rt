@@ -13,3 +13,4 @@ mod tokens;
 pub use error::SubjectError;
 pub use pattern::Pattern;
 pub use subject::Subject;
+pub use tokens::{is_star, is_tail};

@@ -59,6 +59,14 @@ impl Pattern {
         compare::in_set(self.tokens(), subject.tokens())
     }
 
+    /// Whether the subject with this text is one of the pattern's. A text that is no subject is judged by its
+    /// tokens all the same.
+    pub fn matches_text(&self, text: &[u8]) -> bool
+        ensures { result ≡ in_set self.now (tokens_of text.now) }
+    {
+        compare::in_set(self.tokens(), tokens_in(text))
+    }
+
     /// Whether every subject of `other` is one of this pattern's. Where not, this one lacks a subject of `other`.
     pub fn covers(&self, other: &Pattern) -> bool
         ensures test { result ≡ covers self.now other.now }
@@ -81,8 +89,10 @@ impl Pattern {
         compare::overlaps(self.tokens(), other.tokens())
     }
 
-    fn tokens(&self) -> Pieces<'_>
-        ensures { result ≡ self.now }
+    /// The tokens in order.
+    pub fn tokens(&self) -> Pieces<'_>
+        ensures tokens { result ≡ self.now }
+        ensures grammar { IsPattern self.now }
     {
         tokens_in(self.text.as_slice())
     }

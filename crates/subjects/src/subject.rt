@@ -49,8 +49,10 @@ impl Subject {
         self.text.as_slice()
     }
 
-    pub(crate) fn tokens(&self) -> Pieces<'_>
-        ensures { result ≡ self.now }
+    /// The tokens in order.
+    pub fn tokens(&self) -> Pieces<'_>
+        ensures tokens { result ≡ self.now }
+        ensures grammar { IsSubject self.now }
     {
         tokens_in(self.text.as_slice())
     }

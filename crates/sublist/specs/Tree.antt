@@ -1,0 +1,74 @@
+-- What stands where in a tree of nodes.
+use Rattle.std.specs.Prelude.{◌≡◌, ◌==◌, ℕ, Bool, false, not, cond, List, [], ◌∷◌, ◌++◌, Option, Some, None, Box}
+use Rattle.std.specs.List.{list_any, filter}
+use Rattle.std.specs.Map.{lookup}
+use Rattle.std.specs.Cmp.Lexicographic.{pointwise}
+use Rattle.std.specs.declared.alloc.Global.{Global}
+use Rattle.subjects.specs.Subject.{Token, is_star, is_tail, same_token}
+use Rattle.sublist.specs.declared.node.Node.{Node}
+use Rattle.sublist.specs.declared.node.Node.TheViews.{out-Node}
+use Rattle.sublist.specs.declared.step.Step.{Step}
+use Rattle.sublist.specs.declared.step.Step.TheVariants.{End, Tail, Star, Literal}
+
+-- what f gives of a node that may be missing
+abbrev pub below : (Node → List ℕ) → Option (Box Node Global) → List ℕ
+below f None = []
+below f (Some n) = f n.value
+
+-- the ids whose patterns have the subject with these tokens left, in the order of the walk
+unfoldable pub matched : List Token → Node → List ℕ
+matched [] n = (out-Node n).ids.items
+matched (t ∷ ts) n = (out-Node n).tail.items ++ (below (matched ts) (out-Node n).star ++ below (matched ts) (lookup (λ k. same_token t k.items) (out-Node n).children.entries))
+
+-- what stands at a path that ends here
+abbrev pub at_end : List Token → List ℕ → List ℕ
+at_end [] ids = ids
+at_end (t ∷ ts) ids = []
+
+-- the ids at the path of a pattern
+unfoldable pub ids_at : List Token → Node → List ℕ
+ids_at [] n = (out-Node n).ids.items
+ids_at (t ∷ ts) n =
+    cond (is_tail t) (at_end ts (out-Node n).tail.items)
+    (cond (is_star t) (below (ids_at ts) (out-Node n).star)
+    (below (ids_at ts) (lookup (λ k. same_token t k.items) (out-Node n).children.entries)))
+
+abbrev pub same_path : List Token → List Token → Bool
+same_path = pointwise same_token
+
+abbrev pub contains : List ℕ → ℕ → Bool
+contains ids id = list_any (λ i. i == id) ids
+
+-- the new tree has at each path what the old one has
+abbrev pub IsSame : Node → Node → Type 0
+IsSame old new = (q : List Token) → ids_at q new ≡ ids_at q old
+
+-- the new tree has at the path p what f gives of the old one's ids there, and at each other path what the old one has
+abbrev pub IsChanged : (List ℕ → List ℕ) → List Token → Node → Node → Type 0
+IsChanged f p old new = (q : List Token) → ids_at q new ≡ cond (same_path p q) (f (ids_at q old)) (ids_at q old)
+
+-- the new tree has the id at the path p besides
+abbrev pub IsAdded : List Token → ℕ → Node → Node → Type 0
+IsAdded p id old new = IsChanged (λ ids. ids ++ (id ∷ [])) p old new
+
+-- the tree has this id at the path p, and no other anywhere
+abbrev pub HasOnly : List Token → ℕ → Node → Type 0
+HasOnly p id n = (q : List Token) → ids_at q n ≡ cond (same_path p q) (id ∷ []) []
+
+-- the new tree has every id but this one at the path p
+abbrev pub IsRemoved : List Token → ℕ → Node → Node → Type 0
+IsRemoved p id old new = IsChanged (filter (λ i. not (i == id))) p old new
+
+-- where a token leads
+abbrev pub IsStepOf : Token → Step → Type 0
+IsStepOf t End = ⊥
+IsStepOf t Tail = t ≡ 62 ∷ []
+IsStepOf t Star = t ≡ 42 ∷ []
+IsStepOf t (Literal u) = (t ≡ u.now) × (is_tail t ≡ false) × (is_star t ≡ false)
+
+-- the first step of a path, and what is left behind it
+abbrev pub IsStep : List Token → Step → List Token → Type 0
+IsStep path End rest = path ≡ []
+IsStep path Tail rest = path ≡ (62 ∷ []) ∷ rest
+IsStep path Star rest = path ≡ (42 ∷ []) ∷ rest
+IsStep path (Literal t) rest = (path ≡ t.now ∷ rest) × (is_tail t.now ≡ false) × (is_star t.now ≡ false)

@@ -1,0 +1,193 @@
+ghost use Rattle.std.specs.Bool.{OnTrue};
+ghost use Rattle.std.specs.List.{filter};
+ghost use Rattle.std.specs.Prelude.{◌≡◌, ◌==◌, not, ◌++◌, ◌∷◌, [], IfOk, OnOk, OnErr, IsTrue};
+ghost use Rattle.subjects.specs.Subject.{Token, tail_is_last};
+ghost use Rattle.sublist.specs.Tree.{matched, ids_at, contains, IsSame, IsAdded, IsRemoved, HasOnly};
+
+use crate::step::{Step, next_step};
+use lists::{NoMemory, Pieces};
+use std::alloc::Global;
+use std::collections::HashMap;
+use std::hash::RandomState;
+
+/// What stands at one path of the tree, and below it. A path is the tokens of a pattern.
+#[derive(Drop)]
+pub struct Node {
+    ids: Vec<u64>,
+    tail: Vec<u64>,
+    star: Option<Box<Node>>,
+    children: HashMap<Vec<u8>, Box<Node>, RandomState>,
+}
+
+impl Node {
+    ghost use Rattle.std.specs.Prelude.{List};
+
+    /// A node with nothing below it.
+    #[tactic(auto, unfolding(crate::specs::Tree::ids_at))]
+    pub fn new(alloc: Global, keys: RandomState) -> Node
+        ensures { (path : List Token) → ids_at path result ≡ [] }
+    {
+        Node {
+            ids: Vec::new(alloc),
+            tail: Vec::new(alloc),
+            star: None,
+            children: HashMap::with_hasher(alloc, keys),
+        }
+    }
+
+    /// Appends the ids of the patterns that have a subject with these tokens.
+    #[tactic(auto, unfolding(crate::specs::Tree::matched))]
+    pub fn matching(&self, mut tokens: Pieces<'_>, found: &mut Vec<u64>) -> Result<(), NoMemory>
+        ensures { OnOk result (found.new.items ≡ found.old.items ++ matched tokens.entry self.now) }
+    {
+        let Some(token) = tokens.next_piece() else {
+            found.extend_from_slice(&self.ids)?;
+            return Ok(());
+        };
+        found.extend_from_slice(&self.tail)?;
+        if let Some(star) = &self.star {
+            star.matching(tokens.again(), found)?;
+        }
+        match self.children.get(token) {
+            Some(child) => child.matching(tokens, found),
+            None => Ok(()),
+        }
+    }
+
+    /// Adds an id at the path of a pattern.
+    #[cycle(insert)]
+    pub fn insert(
+        &mut self,
+        alloc: Global,
+        keys: RandomState,
+        mut path: Pieces<'_>,
+        id: u64,
+    ) -> Result<(), NoMemory>
+        requires { IsTrue (tail_is_last path) }
+        ensures ok { OnOk result (IsAdded path.entry id self.old self.new) }
+        ensures err { OnErr result (IsSame self.old self.new) }
+    {
+        match next_step(&mut path) {
+            Step::End => match self.ids.push(id) {
+                Ok(()) => Ok(()),
+                Err(_) => Err(NoMemory),
+            },
+            Step::Tail => match self.tail.push(id) {
+                Ok(()) => Ok(()),
+                Err(_) => Err(NoMemory),
+            },
+            Step::Star => match &mut self.star {
+                Some(star) => match star.insert(alloc, keys, path, id) {
+                    Ok(()) => Ok(()),
+                    Err(refused) => Err(refused),
+                },
+                None => {
+                    self.star = Some(Node::grown(alloc, keys, path, id)?);
+                    Ok(())
+                }
+            },
+            Step::Literal(token) => match self.children.get_mut(token) {
+                Some(child) => match child.insert(alloc, keys, path, id) {
+                    Ok(()) => Ok(()),
+                    Err(refused) => Err(refused),
+                },
+                None => {
+                    let key = Vec::from_slice(alloc, token)?;
+                    let child = Node::grown(alloc, keys, path, id)?;
+                    match self.children.insert(key, child) {
+                        Ok(_) => Ok(()),
+                        Err(_) => Err(NoMemory),
+                    }
+                }
+            },
+        }
+    }
+
+    /// A node that has an id at the path of a pattern, and nothing else.
+    #[cycle(insert)]
+    fn grown(
+        alloc: Global,
+        keys: RandomState,
+        path: Pieces<'_>,
+        id: u64,
+    ) -> Result<Box<Node>, NoMemory>
+        requires { IsTrue (tail_is_last path) }
+        ensures { IfOk result (λ node. HasOnly path.entry id node.value) }
+    {
+        let mut node = Node::new(alloc, keys);
+        node.insert(alloc, keys, path, id)?;
+        let node = Box::new(alloc, node)?;
+        Ok(node)
+    }
+
+    /// Takes an id out at the path of a pattern, and then each node on the way that has nothing left.
+    pub fn remove(&mut self, mut path: Pieces<'_>, id: u64)
+        requires { IsTrue (tail_is_last path) }
+        ensures { IsRemoved path.entry id self.old self.new }
+    {
+        match next_step(&mut path) {
+            Step::End => take_out(&mut self.ids, id),
+            Step::Tail => take_out(&mut self.tail, id),
+            Step::Star => match &mut self.star {
+                None => (),
+                Some(star) => {
+                    star.remove(path, id);
+                    if star.is_bare() {
+                        self.star = None;
+                    }
+                }
+            },
+            Step::Literal(token) => match self.children.get_mut(token) {
+                None => (),
+                Some(child) => {
+                    child.remove(path, id);
+                    if child.is_bare() {
+                        self.children.remove(token);
+                    }
+                }
+            },
+        }
+    }
+
+    /// Whether the id stands at the path of a pattern.
+    pub fn contains(&self, mut path: Pieces<'_>, id: u64) -> bool
+        requires { IsTrue (tail_is_last path) }
+        ensures { result ≡ contains (ids_at path.entry self.now) id }
+    {
+        match next_step(&mut path) {
+            Step::End => self.ids.contains(&id),
+            Step::Tail => self.tail.contains(&id),
+            Step::Star => match &self.star {
+                Some(star) => star.contains(path, id),
+                None => false,
+            },
+            Step::Literal(token) => match self.children.get(token) {
+                Some(child) => child.contains(path, id),
+                None => false,
+            },
+        }
+    }
+
+    /// Whether nothing stands here or below.
+    fn is_bare(&self) -> bool
+        ensures { OnTrue result ((path : List Token) → ids_at path self.now ≡ []) }
+    {
+        if !self.ids.as_slice().is_empty() {
+            return false;
+        }
+        if !self.tail.as_slice().is_empty() {
+            return false;
+        }
+        match &self.star {
+            Some(_) => false,
+            None => self.children.is_empty(),
+        }
+    }
+}
+
+/// Takes an id out of a list.
+fn take_out(ids: &mut Vec<u64>, id: u64)
+    ensures { ids.new.items ≡ filter (λ i. not (i == id)) ids.old.items }
+{
+    ids.retain(|i| *i != id);
+}
