@@ -1,5 +1,5 @@
 -- What a line is read as, from what clap says of it.
-use Rattle.std.proofs.Common.{refl, sym, ap, subst, Bool, true, false, not, List, codes, [], ◌∷◌, ◌≡◌, ◌∙◌, ◌⊎◌, inl, inr, Option, Some, None, Ok, Err, Result, ◌&&◌}
+use Rattle.std.proofs.Common.{refl, sym, ap, subst, Bool, true, false, not, List, codes, [], ◌∷◌, ◌≡◌, ◌==◌, ◌∙◌, ◌⊎◌, ℕ, inl, inr, Option, Some, None, Ok, Err, Result, ◌&&◌}
 use Rattle.std.specs.Prelude.{option_map, is_some, find, if◌then◌else◌}
 use Rattle.clap.specs.Words.{App, HasKind, IsAmong, Kinds, Row, Shape, Text, HasMatchesOf, built, fault_of, is_simple, is_simple_and_free, kind_of, subcommand_name_of, subcommand_of, subcommand_rows_of}
 use Rattle.clap.specs.Simple.{entered, rows_at, label_of, argument_words, names_of, subcommand_rows}
@@ -11,7 +11,7 @@ use Rattle.std.specs.List.{list_any}
 use Rattle.clap.specs.Kinds.{or_else, check_kinds}
 use Rattle.clap.specs.declared.error.Error.{Error}
 use Rattle.clap.specs.declared.error.kind.ErrorKind.{ErrorKind}
-use Rattle.clap.specs.declared.error.kind.ErrorKind.TheVariants.{DisplayHelp, DisplayVersion, OutOfMemory}
+use Rattle.clap.specs.declared.error.kind.ErrorKind.TheVariants.{DisplayHelp, DisplayVersion, InvalidSubcommand, MissingSubcommand, OutOfMemory, UnknownArgument}
 use Rattle.clap.specs.declared.parser.matches.ArgMatches.{ArgMatches}
 use Rattle.clap.specs.declared.parser.matches.ArgMatches.TheViews.{out-ArgMatches, out-SubCommand}
 use Rattle.clap.specs.declared.parser.matches.SubCommand.{SubCommand}
@@ -22,7 +22,9 @@ use Rattle.natsd.specs.declared.words.Task.{Task}
 use Rattle.natsd.specs.declared.words.Task.TheVariants.{Play, Check, Help, Version}
 use Rattle.natsd.specs.declared.words.WordsFault.{WordsFault}
 use Rattle.natsd.specs.declared.words.WordsFault.TheVariants.{WrongLine, NoMemory}
-use Rattle.natsd.specs.Words.{natsd_app, kinds_of, name_in, task_named, is_mistake, IsReading, IsRefusal, IsTaskOrMemory}
+use Rattle.std.specs.Str.{bytes_eq}
+use Rattle.clap.specs.Lexer.{strip_byte}
+use Rattle.natsd.specs.Words.{natsd_app, kinds_of, name_in, task_named, is_mistake, IsReading, IsRefusal, IsTaskOrMemory, IsUnknown, IsWrongOrMemory}
 
 simple_and_free : is_simple_and_free natsd_app ≡ true
 unfolding clap_on_literals
@@ -186,3 +188,58 @@ play_is_right words name r e p = play_if r (read_as words _ _ _ r e (plays name)
 -- the words of `natsd check`
 pub check_is_right : (words : List Text) (name : Text) (r : Result Task WordsFault) → words ≡ name ∷ codes "check" ∷ [] → IsReading (kinds_of words) (name_in words) r → IsTaskOrMemory Check r
 check_is_right words name r e p = check_if r (read_as words _ _ _ r e (checks name).0 (checks name).1 p)
+
+-- ---- words that name no task
+
+abbrev stray : Kinds
+stray = UnknownArgument ∷ InvalidSubcommand ∷ []
+
+other_word : (name : Text) (c : ℕ) (cs : Text) → (c == 45) ≡ false → bytes_eq (codes "play") (c ∷ cs) ≡ false → bytes_eq (codes "check") (c ∷ cs) ≡ false →
+    kinds_of (name ∷ (c ∷ cs) ∷ []) ≡ stray
+unfolding clap_on_literals
+other_word name c cs hyphen play check = rw (play, check, hyphen) (rw hyphen refl)
+
+no_hyphen : (c : ℕ) (cs : Text) → strip_byte 45 (c ∷ cs) ≡ None → (c == 45) ≡ false
+no_hyphen c cs e = by_test (c == 45) e
+  where
+    by_test : (b : Bool) → (if b then Some cs else None) ≡ None → b ≡ false
+    by_test true e = absurd (cc)
+    by_test false e = refl
+
+others : (name word : Text) → IsUnknown word → kinds_of (name ∷ word ∷ []) ≡ stray
+unfolding clap_on_literals
+others name [] h = refl
+others name (c ∷ cs) h = other_word name c cs (no_hyphen c cs h.0) h.1 h.2
+
+nothing : (name : Text) → kinds_of (name ∷ []) ≡ MissingSubcommand ∷ []
+unfolding clap_on_literals
+nothing name = refl
+
+-- a request is none of these mistakes
+wrong_if : (kinds : Kinds) (name : Option Text) (r : Result Task WordsFault) → (kinds ≡ [] → ⊥) → (IsAmong DisplayHelp kinds → ⊥) → (IsAmong DisplayVersion kinds → ⊥) →
+    IsReading kinds name r → IsWrongOrMemory r
+wrong_if kinds name (Ok Play) some help version h = absurd (some h.0)
+wrong_if kinds name (Ok Check) some help version h = absurd (some h.0)
+wrong_if kinds name (Ok (Help text)) some help version h = absurd (help h)
+wrong_if kinds name (Ok (Version text)) some help version h = absurd (version h)
+wrong_if kinds name (Err (WrongLine text)) some help version h = tt
+wrong_if kinds name (Err NoMemory) some help version h = tt
+
+is_stray : (asked : ErrorKind) → is_mistake asked ≡ false → IsAmong asked stray → ⊥
+is_stray asked request (inl e) = let bad : is_mistake UnknownArgument ≡ false = ap is_mistake (sym e) ∙ request in absurd (cc)
+is_stray asked request (inr (inl e)) = let bad : is_mistake InvalidSubcommand ≡ false = ap is_mistake (sym e) ∙ request in absurd (cc)
+is_stray asked request (inr (inr bad)) = absurd bad
+
+is_missing : (asked : ErrorKind) → is_mistake asked ≡ false → IsAmong asked (MissingSubcommand ∷ []) → ⊥
+is_missing asked request (inl e) = let bad : is_mistake MissingSubcommand ≡ false = ap is_mistake (sym e) ∙ request in absurd (cc)
+is_missing asked request (inr bad) = absurd bad
+
+-- the words of `natsd WORD`, where WORD is no task
+pub unknown_is_wrong : (words : List Text) (name word : Text) (r : Result Task WordsFault) → words ≡ name ∷ word ∷ [] → IsUnknown word → IsReading (kinds_of words) (name_in words) r → IsWrongOrMemory r
+unknown_is_wrong words name word r e unknown p =
+    wrong_if stray _ r (λ none. absurd (cc)) (is_stray DisplayHelp refl) (is_stray DisplayVersion refl) (read_as words _ _ _ r e (others name word unknown) refl p)
+
+-- the words of `natsd` alone
+pub none_is_wrong : (words : List Text) (name : Text) (r : Result Task WordsFault) → words ≡ name ∷ [] → IsReading (kinds_of words) (name_in words) r → IsWrongOrMemory r
+none_is_wrong words name r e p =
+    wrong_if (MissingSubcommand ∷ []) _ r (λ none. absurd (cc)) (is_missing DisplayHelp refl) (is_missing DisplayVersion refl) (read_as words _ _ _ r e (nothing name) refl p)

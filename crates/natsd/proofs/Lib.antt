@@ -1,11 +1,3 @@
-pub mod Numbers
-pub mod Writes
-pub mod Answering
-pub mod Turning
-pub mod Calls
-pub mod Takes
-pub mod Enough
-pub mod Drains
-pub mod Plays
 pub mod Asked
 pub mod Checks
+pub mod Runs

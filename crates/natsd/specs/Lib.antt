@@ -1,10 +1,4 @@
-pub mod Script
-pub mod Output
-pub mod Device
-pub mod Input
-pub mod Server
-pub mod Session
-pub mod Policies
-pub mod Play
 pub mod Check
 pub mod Words
+pub mod Tasks
+pub mod Run

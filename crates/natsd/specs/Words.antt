@@ -1,7 +1,7 @@
 -- The command line of `natsd` (docs/SCRIPT.md, "Statuses"), in the words of clap's contracts.
-use Rattle.std.specs.Prelude.{◌≡◌, ◌≤◌, ℕ, List, [], length, Bool, true, false, if◌then◌else◌, codes, Option, Some, None, option_map, IfSome, Result, Ok, Err}
+use Rattle.std.specs.Prelude.{◌≡◌, ℕ, List, [], Bool, true, false, if◌then◌else◌, codes, Option, Some, None, option_map, Result, Ok, Err}
 use Rattle.std.specs.Str.{bytes_eq}
-use Rattle.std.specs.String.{string_bytes}
+use Rattle.clap.specs.Lexer.{strip_byte}
 use Rattle.clap.specs.Words.{App, IsAmong, Kinds, fault_of, new_app, subcommand_of, with_subcommand}
 use Rattle.clap.specs.declared.error.kind.ErrorKind.{ErrorKind}
 use Rattle.clap.specs.declared.error.kind.ErrorKind.TheVariants.{DisplayHelp, DisplayVersion, OutOfMemory}
@@ -9,8 +9,6 @@ use Rattle.natsd.specs.declared.words.Task.{Task}
 use Rattle.natsd.specs.declared.words.Task.TheVariants.{Play, Check, Help, Version}
 use Rattle.natsd.specs.declared.words.WordsFault.{WordsFault}
 use Rattle.natsd.specs.declared.words.WordsFault.TheVariants.{WrongLine, NoMemory}
-use Rattle.natsd.specs.Check.{report_of}
-use Rattle.natsd.specs.Play.{Played, output_of}
 
 -- `play` and `check` take nothing of their own
 abbrev pub play_app : App
@@ -71,30 +69,12 @@ IsTaskOrMemory task (Ok read) = read ≡ task
 IsTaskOrMemory task (Err (WrongLine text)) = ⊥
 IsTaskOrMemory task (Err NoMemory) = Unit {0}
 
--- the bytes that a task reads, where they are known: a text to be shown needs none
-abbrev pub input_of : Task → Option (List ℕ) → Option (List ℕ)
-input_of Play input = input
-input_of Check input = input
-input_of (Help text) input = Some []
-input_of (Version text) input = Some []
+-- the line is wrong, or want of memory
+abbrev pub IsWrongOrMemory : Result Task WordsFault → Type 0
+IsWrongOrMemory (Ok task) = ⊥
+IsWrongOrMemory (Err (WrongLine text)) = Unit {0}
+IsWrongOrMemory (Err NoMemory) = Unit {0}
 
--- what a task writes, and its status
-abbrev pub done_by : Task → List ℕ → Played
-done_by Play script = output_of script
-done_by Check text = report_of text
-done_by (Help text) script = record { text = string_bytes text; status = 0 }
-done_by (Version text) script = record { text = string_bytes text; status = 0 }
-
--- a script that was played is no longer than scripts may be, and one that is too long has many bytes or many reads
-abbrev pub IsShortScript : Task → Option (List ℕ) → Type 0
-IsShortScript Play input = IfSome input (λ script. length script ≤ 16777216)
-IsShortScript Check input = Unit {0}
-IsShortScript (Help text) input = Unit {0}
-IsShortScript (Version text) input = Unit {0}
-
--- only a script is too long
-abbrev pub IsLongScript : Task → Option (List ℕ) → Type 0
-IsLongScript Play input = IfSome input (λ script. 1000000 ≤ length script)
-IsLongScript Check input = ⊥
-IsLongScript (Help text) input = ⊥
-IsLongScript (Version text) input = ⊥
+-- a word that begins with no hyphen and names no task
+abbrev pub IsUnknown : List ℕ → Type 0
+IsUnknown word = (strip_byte 45 word ≡ None) × (bytes_eq (codes "play") word ≡ false) × (bytes_eq (codes "check") word ≡ false)

@@ -1,16 +1,17 @@
 // `natsd check`: what a policy comes to (docs/POLICY.md, "Checking a policy").
-ghost use Rattle.std.specs.Prelude.{◌≡◌, ◌≢◌, ◌<◌, ◌||◌, Err, List, ℕ, length, IfOk, OnErr, IfSome};
+ghost use Rattle.std.specs.Prelude.{◌≡◌, ◌<◌, ◌||◌, ◌++◌, false, codes, List, ℕ, length, IfOk, OnErr, IfSome};
 ghost use Rattle.std.specs.Io.KnownBytes.{Appends};
-ghost use Rattle.natsd.specs.Device.{AppendsFront};
-ghost use Rattle.natsd.specs.Input.{is_read_failed, is_write_failed};
-ghost use Rattle.natsd.specs.Check.{report_of};
+ghost use Rattle.devices.specs.Device.{AppendsFront};
+ghost use Rattle.reload.specs.Fault.{fault_line, is_memory};
+ghost use Rattle.natsd.specs.Check.{counts_line, is_read_failed, is_write_failed, report_of};
 
-use crate::device::{Sink, Source, write_all};
-use crate::fault::PlayFault;
-use crate::input::read_within;
-use crate::policy::{config_line, counts_line, policy_or_line};
+use crate::fault::CheckFault;
 use account_config::{ConfigFault, MOST_BYTES};
+use devices::{Sink, Source, read_within, write_all};
+use itoa::Buffer;
 use lists::{Items, NoMemory};
+use policy_doc::Policy;
+use reload::{ReloadFault, read_valid_policy};
 use std::alloc::Global;
 
 /// The most reads that bring a policy, with the one that finds its end.
@@ -18,11 +19,11 @@ const MOST_READS: usize = MOST_BYTES + 1;
 
 /// What is said of a policy.
 #[derive(Debug, Drop)]
-pub struct Report {
+struct Report {
     /// The line that is printed.
-    pub text: Items<u8>,
+    text: Items<u8>,
     /// 0 where it is a policy, else 1.
-    pub status: u8,
+    status: u8,
 }
 
 /// The report on the text of a policy.
@@ -30,13 +31,13 @@ fn report_of(alloc: Global, text: &[u8]) -> Result<Report, NoMemory>
     ensures text { IfOk result (λ report. report.text ≡ (report_of text.now).text) }
     ensures status { IfOk result (λ report. report.status ≡ (report_of text.now).status) }
 {
-    match policy_or_line(alloc, text)? {
+    match read_valid_policy(alloc, text) {
         Ok(policy) => Ok(Report {
             text: counts_line(alloc, &policy)?,
             status: 0,
         }),
-        Err(line) => Ok(Report {
-            text: line,
+        Err(fault) => Ok(Report {
+            text: fault_line(alloc, &fault)?,
             status: 1,
         }),
     }
@@ -48,9 +49,41 @@ fn report_too_large(alloc: Global) -> Result<Report, NoMemory>
     ensures status { (text : List ℕ) → 1048576 < length text → IfOk result (λ report. report.status ≡ (report_of text).status) }
 {
     Ok(Report {
-        text: config_line(alloc, &ConfigFault::TooLarge)?,
+        text: fault_line(alloc, &ReloadFault::Config(ConfigFault::TooLarge))?,
         status: 1,
     })
+}
+
+/// The line that says how much a policy has, with its LF: `ok`, then how many accounts, users, exports and imports.
+/// There are no exports and imports.
+fn counts_line(alloc: Global, policy: &Policy) -> Result<Items<u8>, NoMemory>
+    ensures { IfOk result (λ line. line ≡ counts_line policy.now) }
+{
+    let doc = policy.doc();
+    let mut line = Vec::from_slice(alloc, b"ok ")?;
+    line.extend_from_slice(
+        Buffer::new()
+            .format(doc.accounts.as_slice().len())
+            .as_bytes(),
+    )?;
+    line.extend_from_slice(b" ")?;
+    line.extend_from_slice(Buffer::new().format(doc.count_users()).as_bytes())?;
+    line.extend_from_slice(b" 0 0\n")?;
+    Ok(Items::from_vec(line))
+}
+
+/// The line of a fault of a text, with its LF. `NoMemory` comes also where that is the fault, which says nothing of
+/// the text.
+fn fault_line(alloc: Global, fault: &ReloadFault) -> Result<Items<u8>, NoMemory>
+    ensures told { IfOk result (λ line. line ≡ fault_line fault.now ++ codes "\n") }
+    ensures fault { IfOk result (λ line. is_memory fault.now ≡ false) }
+{
+    if fault.is_memory() {
+        return Err(NoMemory);
+    }
+    let mut line = fault.line(alloc)?;
+    line.extend_from_slice(b"\n")?;
+    Ok(Items::from_vec(line))
 }
 
 /// Checks a policy: reads the source to its end, or until the text is too large for a policy, and writes a line,
@@ -63,7 +96,7 @@ pub fn check<R: Source, W: Sink>(
     alloc: Global,
     source: &mut R,
     sink: &mut W,
-) -> Result<u8, PlayFault>
+) -> Result<u8, CheckFault>
     ensures meaning { IfOk result (λ status. IfSome (R.remaining source.old) (λ text.
         Appends (W.contents sink.old) (W.contents sink.new) (report_of text).text
         × (status ≡ (report_of text).status))) }
@@ -71,7 +104,6 @@ pub fn check<R: Source, W: Sink>(
         AppendsFront (W.contents sink.old) (W.contents sink.new) (report_of text).text)) }
     ensures read_failed { R.failed source.new ≡ (R.failed source.old || is_read_failed result) }
     ensures write_failed { W.failed sink.new ≡ (W.failed sink.old || is_write_failed result) }
-    ensures long { result ≢ Err PlayFault.ScriptTooLong }
 {
     let report = match read_within(alloc, source, MOST_BYTES, MOST_READS)? {
         Some(text) => report_of(alloc, text.as_slice())?,
@@ -79,6 +111,6 @@ pub fn check<R: Source, W: Sink>(
     };
     match write_all(sink, report.text.as_slice()) {
         Ok(()) => Ok(report.status),
-        Err(_) => Err(PlayFault::WriteFailed),
+        Err(_) => Err(CheckFault::WriteFailed),
     }
 }

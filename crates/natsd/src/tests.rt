@@ -1,51 +1,81 @@
-mod checks;
-mod plays;
-mod words;
+use crate::status::{UnreadWords, run};
+use devices::{FailAt, ReadSource, WriteSink};
+use std::alloc::{AllocError, Global};
+use std::test::Fail;
 
-use crate::device::{ReadSource, Source, WriteSink, write_all};
-use crate::fail_at::FailAt;
-use crate::fault::PlayFault;
-use crate::input::{MOST_BYTES, read_to_end};
-use std::io;
-use std::io::Read;
+const SCRIPT: &[u8] = b"# nothing\nplay\n";
 
-#[test]
-fn whole_scripts(rt: HostRuntime) {
-    let text = b"open 1\nsend 1 PING\\r\\n";
-    match read_to_end(rt.alloc(), &mut ReadSource::new(text.as_slice())) {
-        Ok(read) => assert_eq!(rt; read.as_slice(), text.as_slice()),
-        Err(_) => panic!(rt; "a short script was refused"),
+/// The words of a command line, behind the program's name.
+fn words_of(alloc: Global, line: &str) -> Result<Vec<String>, AllocError> {
+    let mut words = Vec::new(alloc);
+    words.push(String::from_str(alloc, "natsd")?)?;
+    for word in line.split(' ') {
+        if !word.is_empty() {
+            words.push(String::from_str(alloc, word)?)?;
+        }
     }
-    let mut source = FailAt::new(ReadSource::new(text.as_slice()), 1);
-    assert!(rt;
-        matches!(
-            read_to_end(rt.alloc(), &mut source),
-            Err(PlayFault::ReadFailed)
-        )
-    );
-    let mut source = ReadSource::new(io::repeat(b'#').take(MOST_BYTES as u64));
-    assert!(rt; read_to_end(rt.alloc(), &mut source).is_ok());
-    let mut source = ReadSource::new(io::repeat(b'#'));
-    assert!(rt;
-        matches!(
-            read_to_end(rt.alloc(), &mut source),
-            Err(PlayFault::ScriptTooLong)
-        )
-    );
+    Ok(words)
 }
 
 #[test]
-fn devices_that_fail(rt: HostRuntime) {
-    let mut buf = [0; 2];
-    let mut source = FailAt::new(ReadSource::new(&b"abc"[..]), 1);
-    assert!(rt; source.read(&mut buf) == Ok(2));
-    assert!(rt; source.read(&mut buf).is_err());
-    assert!(rt; source.read(&mut buf) == Ok(1));
-    assert!(rt; source.read(&mut buf) == Ok(0));
-    let mut sink = WriteSink::new(Vec::new(rt.alloc()));
-    assert!(rt; write_all(&mut sink, b"hi\n").is_ok());
-    assert_eq!(rt; sink.into_writer().as_slice(), b"hi\n".as_slice());
-    let mut sink = FailAt::new(WriteSink::new(Vec::new(rt.alloc())), 0);
-    assert!(rt; write_all(&mut sink, b"hi\n").is_err());
-    assert!(rt; write_all(&mut sink, b"hi\n").is_ok());
+fn statuses(rt: HostRuntime) -> Result<(), Fail> {
+    for (line, printed, told, status) in [
+        ("play", "script line 2\n", "", 1),
+        ("check", "config NotJson\n", "", 1),
+        ("--version", "natsd 0.1.0\n", "", 0),
+        ("-h", "The routing core", "", 0),
+        ("check --help", "Checks a policy", "", 0),
+        ("dance", "", "error: ", 2),
+        ("", "", "error: ", 2),
+        ("play x", "", "error: ", 2),
+        ("help", "", "error: ", 2),
+    ] {
+        let words = Ok(words_of(rt.alloc(), line)?);
+        let mut out = Vec::new(rt.alloc());
+        let mut errors = Vec::new(rt.alloc());
+        let mut source = ReadSource::new(SCRIPT);
+        let mut sink = WriteSink::new(&mut out);
+        let mut error_sink = WriteSink::new(&mut errors);
+        let ended = run(rt.alloc(), &words, &mut source, &mut sink, &mut error_sink);
+        assert_eq!(rt; ended, status, "{line}");
+        assert!(rt; out.as_slice().starts_with(printed.as_bytes()), "{line}");
+        assert_eq!(rt; out.is_empty(), printed.is_empty(), "{line}");
+        assert!(rt; errors.as_slice().starts_with(told.as_bytes()), "{line}");
+        assert_eq!(rt; errors.is_empty(), told.is_empty(), "{line}");
+    }
+    Ok(())
+}
+
+#[test]
+fn faults(rt: HostRuntime) -> Result<(), Fail> {
+    for (words, read, write, told, status) in [
+        (Ok(words_of(rt.alloc(), "play")?), 0, 9, "read failed\n", 1),
+        (Ok(words_of(rt.alloc(), "play")?), 9, 0, "write failed\n", 1),
+        (Ok(words_of(rt.alloc(), "check")?), 1, 9, "read failed\n", 1),
+        (
+            Ok(words_of(rt.alloc(), "check")?),
+            9,
+            0,
+            "write failed\n",
+            1,
+        ),
+        (Ok(words_of(rt.alloc(), "-V")?), 0, 0, "write failed\n", 1),
+        (Err(UnreadWords::NoMemory), 9, 9, "no memory\n", 1),
+        (
+            Err(UnreadWords::NotUtf8),
+            9,
+            9,
+            "error: a word of the command line isn't UTF-8\n",
+            2,
+        ),
+    ] {
+        let mut errors = Vec::new(rt.alloc());
+        let mut source = FailAt::new(ReadSource::new(SCRIPT), read);
+        let mut sink = FailAt::new(WriteSink::new(Vec::new(rt.alloc())), write);
+        let mut error_sink = WriteSink::new(&mut errors);
+        let ended = run(rt.alloc(), &words, &mut source, &mut sink, &mut error_sink);
+        assert_eq!(rt; ended, status);
+        assert_eq!(rt; errors.as_slice(), told.as_bytes());
+    }
+    Ok(())
 }

@@ -1,15 +1,8 @@
 // The command line of `natsd` (docs/SCRIPT.md, "Statuses").
-ghost use Rattle.std.specs.Prelude.{◌≡◌, ◌≢◌, Err, false, ◌||◌, ◌∷◌, [], ℕ, List, IfOk, OnOk, OnErr, IfSome, codes, map};
-ghost use Rattle.std.specs.Io.KnownBytes.{Appends};
+ghost use Rattle.std.specs.Prelude.{◌≡◌, ◌∷◌, [], ℕ, List, IfOk, codes, map};
 ghost use Rattle.clap.specs.Words.{app_of, kind_of};
 ghost use Rattle.clap.specs.declared.error.kind.ErrorKind.TheVariants.{OutOfMemory};
-ghost use Rattle.natsd.specs.Device.{AppendsFront};
-ghost use Rattle.natsd.specs.Input.{is_read_failed, is_write_failed};
 
-use crate::check::check;
-use crate::device::{Sink, Source, write_all};
-use crate::fault::PlayFault;
-use crate::play::play;
 use clap::error::ErrorKind;
 use clap::{ArgMatches, Command, Error};
 use std::alloc::{AllocError, Global};
@@ -70,7 +63,7 @@ fn natsd_command<'a>(alloc: Global) -> Result<Command<'a>, AllocError>
 }
 
 ghost use Rattle.clap.specs.Words.{subcommand_name_of};
-ghost use Rattle.natsd.specs.Words.{IsReading, IsRefusal, IsTaskOrMemory, kinds_of, name_in, task_named};
+ghost use Rattle.natsd.specs.Words.{IsReading, IsRefusal, IsTaskOrMemory, IsUnknown, IsWrongOrMemory, kinds_of, name_in, task_named};
 
 /// What is made of a line for which clap gives no matches.
 fn read_refusal(alloc: Global, error: &Error) -> Result<Task, WordsFault>
@@ -104,60 +97,18 @@ fn task_named(matches: &ArgMatches<'_>) -> Task
 ///
 /// The words are judged by clap: `play` asks for a script to be played, `check` for a policy to be checked,
 /// `--help`, `-h` and `play --help` for help, `--version` for the version. `WrongLine` comes with clap's text where
-/// the line is another; `NoMemory` where memory could not be had. No clause says what the texts are.
+/// the line is another, such as one with no word behind the name or with one that is none of these; `NoMemory` where
+/// memory could not be had. No clause says what the texts are.
 pub fn read_words<S: AsStr>(alloc: Global, words: &[S]) -> Result<Task, WordsFault>
     ensures reading { IsReading (kinds_of (map S.text words.now)) (name_in (map S.text words.now)) result }
     ensures play { (name : List ℕ) → map S.text words.now ≡ name ∷ codes "play" ∷ [] → IsTaskOrMemory Task.Play result }
     ensures check { (name : List ℕ) → map S.text words.now ≡ name ∷ codes "check" ∷ [] → IsTaskOrMemory Task.Check result }
+    ensures unknown { (name word : List ℕ) → map S.text words.now ≡ name ∷ word ∷ [] → IsUnknown word → IsWrongOrMemory result }
+    ensures none { (name : List ℕ) → map S.text words.now ≡ name ∷ [] → IsWrongOrMemory result }
 {
     let command = natsd_command(alloc)?;
     match command.try_get_matches_from(words) {
         Ok(matches) => Ok(task_named(&matches)),
         Err(error) => read_refusal(alloc, &error),
-    }
-}
-
-ghost use Rattle.natsd.specs.Words.{done_by, input_of, IsLongScript, IsShortScript};
-
-/// Writes a text.
-fn show<W: Sink>(text: &str, sink: &mut W) -> Result<u8, PlayFault>
-    ensures shown { IfOk result (λ status. Appends (W.contents sink.old) (W.contents sink.new) text.now × (status ≡ 0)) }
-    ensures prefix { OnErr result (AppendsFront (W.contents sink.old) (W.contents sink.new) text.now) }
-    ensures failed { W.failed sink.new ≡ (W.failed sink.old || is_write_failed result) }
-    ensures read { is_read_failed result ≡ false }
-    ensures long { result ≢ Err PlayFault.ScriptTooLong }
-{
-    match write_all(sink, text.as_bytes()) {
-        Ok(()) => Ok(0),
-        Err(_) => Err(PlayFault::WriteFailed),
-    }
-}
-
-/// Does a task: plays the script that the source holds, as `play` does, or checks the policy, as `check` does, or
-/// writes the text that was asked for. Answers the status, 0 or 1.
-///
-/// The faults are those of `play` and `check`; `ScriptTooLong` is of scripts alone. What was written then is a front
-/// of what the task writes.
-pub fn run_task<R: Source, W: Sink>(
-    alloc: Global,
-    task: &Task,
-    source: &mut R,
-    sink: &mut W,
-) -> Result<u8, PlayFault>
-    ensures meaning { IfOk result (λ status. IfSome (input_of task.now (R.remaining source.old)) (λ input.
-        Appends (W.contents sink.old) (W.contents sink.new) (done_by task.now input).text
-        × (status ≡ (done_by task.now input).status))) }
-    ensures prefix { OnErr result (IfSome (input_of task.now (R.remaining source.old)) (λ input.
-        AppendsFront (W.contents sink.old) (W.contents sink.new) (done_by task.now input).text)) }
-    ensures read_failed { R.failed source.new ≡ (R.failed source.old || is_read_failed result) }
-    ensures write_failed { W.failed sink.new ≡ (W.failed sink.old || is_write_failed result) }
-    ensures small { OnOk result (IsShortScript task.now (R.remaining source.old)) }
-    ensures too_long { result ≡ Err PlayFault.ScriptTooLong → IsLongScript task.now (R.remaining source.old) }
-{
-    match task {
-        Task::Play => play(alloc, source, sink),
-        Task::Check => check(alloc, source, sink),
-        Task::Help(text) => show(text.as_str(), sink),
-        Task::Version(text) => show(text.as_str(), sink),
     }
 }

@@ -1,0 +1,58 @@
+ghost use Rattle.std.specs.Prelude.{◌≡◌, ◌||◌, false};
+
+use crate::device::{DeviceFailed, Sink, Source};
+
+/// A device of which one call fails without reaching what is behind it. The others do.
+#[derive(Debug, Drop)]
+pub struct FailAt<D> {
+    device: D,
+    calls_before: u64,
+    has_failed: bool,
+}
+
+impl<D> FailAt<D> {
+    /// A device whose call with this number, counted from 0, fails.
+    pub fn new(device: D, call: u64) -> FailAt<D>
+        ensures device { result.device ≡ device }
+        ensures call { result.calls_before ≡ call }
+        ensures fresh { result.has_failed ≡ false }
+    {
+        FailAt {
+            device,
+            calls_before: call,
+            has_failed: false,
+        }
+    }
+}
+
+impl<S: Source> Source for FailAt<S> {
+    ghost remaining = { λ source. S.remaining source.device };
+
+    ghost reads = { λ source. S.reads source.device };
+
+    ghost failed = { λ source. source.has_failed || S.failed source.device };
+
+    fn read(&mut self, buf: &mut [u8]) -> Result<usize, DeviceFailed> {
+        if self.calls_before == 0 && !self.has_failed {
+            self.has_failed = true;
+            return Err(DeviceFailed);
+        }
+        self.calls_before = self.calls_before.saturating_sub(1);
+        self.device.read(buf)
+    }
+}
+
+impl<S: Sink> Sink for FailAt<S> {
+    ghost contents = { λ sink. S.contents sink.device };
+
+    ghost failed = { λ sink. sink.has_failed || S.failed sink.device };
+
+    fn write(&mut self, bytes: &[u8]) -> Result<usize, DeviceFailed> {
+        if self.calls_before == 0 && !self.has_failed {
+            self.has_failed = true;
+            return Err(DeviceFailed);
+        }
+        self.calls_before = self.calls_before.saturating_sub(1);
+        self.device.write(bytes)
+    }
+}

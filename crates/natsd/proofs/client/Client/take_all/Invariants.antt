@@ -1,9 +1,0 @@
--- what the Takes that are left come to, behind what is printed, is what all come to
-use Rattle.std.proofs.Common.{◌-◌}
-use Rattle.natsd.specs.Play.{takes}
-use Rattle.natsd.proofs.Takes.{Completes}
-use Rattle.natsd.proofs.client.Client.take_all.Given as goal
-
-abbrev pub invariant-taking : goal.invariant-taking
-invariant-taking l =
-    Completes l.out.items (takes (l.most - l.counter) l.server l.self) l.initial.out.items (takes l.most l.initial.server l.initial.self)

@@ -1,0 +1,26 @@
+-- What is said of a text that is no policy (docs/POLICY.md, "Faults").
+use Rattle.std.specs.Prelude.{◌++◌, ℕ, List, [], Bool, true, false, codes, decimal}
+use Rattle.policy_doc.specs.declared.fault.PolicyFault.{PolicyFault}
+use Rattle.policy_doc.specs.declared.fault.PolicyFault.TheVariants as policy
+use Rattle.account_config.specs.Fault as config
+use Rattle.reload.specs.declared.fault.ReloadFault.{ReloadFault}
+use Rattle.reload.specs.declared.fault.ReloadFault.TheVariants.{Config, Policy}
+
+-- whether a fault is want of memory, which says nothing of the text
+abbrev pub is_memory_of_policy : PolicyFault → Bool
+is_memory_of_policy (policy.DuplicateUser place) = false
+is_memory_of_policy policy.NoMemory = true
+
+abbrev pub is_memory : ReloadFault → Bool
+is_memory (Config fault) = config.is_memory fault
+is_memory (Policy fault account) = is_memory_of_policy fault
+
+-- the line of a fault of the document: its name, the account and the row
+abbrev pub policy_line : PolicyFault → List ℕ → List ℕ
+policy_line (policy.DuplicateUser place) account = codes "policy DuplicateUser " ++ account ++ codes " " ++ decimal place.row
+policy_line policy.NoMemory account = codes "no memory"
+
+-- the line that tells an operator of a fault
+abbrev pub fault_line : ReloadFault → List ℕ
+fault_line (Config fault) = config.fault_line fault
+fault_line (Policy fault account) = policy_line fault account

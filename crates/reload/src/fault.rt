@@ -1,0 +1,83 @@
+use account_config::ConfigFault;
+use bytes::Bytes;
+use itoa::Buffer;
+use lists::NoMemory;
+use policy_doc::PolicyFault;
+use std::alloc::Global;
+use std::error::Error;
+use std::fmt;
+
+/// Why a text gives no policy.
+#[derive(Debug, Drop)]
+pub enum ReloadFault {
+    /// The text is no document, or memory was lacking while it was read.
+    Config(ConfigFault),
+    /// The document is no policy; `account` is the name of the account whose row has the fault. Or memory was
+    /// lacking for more than reading the text; no account is named then.
+    Policy { fault: PolicyFault, account: Bytes },
+}
+
+impl ReloadFault {
+    ghost use Rattle.std.specs.Prelude.{◌≡◌, IfOk};
+    ghost use Rattle.reload.specs.Fault.{fault_line, is_memory};
+
+    /// The line that tells an operator of the fault, without the line's end. `NoMemory` where memory could not be
+    /// had.
+    pub fn line(&self, alloc: Global) -> Result<Vec<u8>, NoMemory>
+        ensures { IfOk result (λ line. line.items ≡ fault_line self.now) }
+    {
+        match self {
+            ReloadFault::Config(fault) => {
+                let line = fault.line(alloc)?;
+                Ok(line)
+            }
+            ReloadFault::Policy { fault, account } => {
+                let line = policy_line(alloc, *fault, account.as_slice())?;
+                Ok(line)
+            }
+        }
+    }
+
+    /// Whether memory was lacking, which says nothing of the text.
+    pub fn is_memory(&self) -> bool
+        ensures { result ≡ is_memory self.now }
+    {
+        match self {
+            ReloadFault::Config(fault) => fault.is_memory(),
+            ReloadFault::Policy { fault, .. } => match fault {
+                PolicyFault::DuplicateUser(_) => false,
+                PolicyFault::NoMemory => true,
+            },
+        }
+    }
+}
+
+ghost use Rattle.std.specs.Prelude.{◌≡◌, IfOk};
+ghost use Rattle.reload.specs.Fault.{policy_line};
+
+/// The line of a fault of a document, of which the row is in this account.
+fn policy_line(alloc: Global, fault: PolicyFault, account: &[u8]) -> Result<Vec<u8>, NoMemory>
+    ensures { IfOk result (λ line. line.items ≡ policy_line fault account.now) }
+{
+    match fault {
+        PolicyFault::DuplicateUser(place) => {
+            let mut line = Vec::from_slice(alloc, b"policy DuplicateUser ")?;
+            line.extend_from_slice(account)?;
+            line.extend_from_slice(b" ")?;
+            line.extend_from_slice(Buffer::new().format(place.row).as_bytes())?;
+            Ok(line)
+        }
+        PolicyFault::NoMemory => Ok(Vec::from_slice(alloc, b"no memory")?),
+    }
+}
+
+impl fmt::Display for ReloadFault {
+    fn fmt<W: fmt::Write>(&self, f: &mut fmt::Formatter<W>) -> fmt::Result {
+        match self {
+            ReloadFault::Config(fault) => fault.fmt(f),
+            ReloadFault::Policy { fault, .. } => fault.fmt(f),
+        }
+    }
+}
+
+impl Error for ReloadFault {}

@@ -1,0 +1,8 @@
+pub mod Numbers
+pub mod Answering
+pub mod Turning
+pub mod Calls
+pub mod Takes
+pub mod Enough
+pub mod Drains
+pub mod Plays

@@ -1,0 +1,7 @@
+pub mod Escapes
+pub mod Script
+pub mod Output
+pub mod Fault
+pub mod Server
+pub mod Session
+pub mod Play

@@ -1,0 +1,350 @@
+// `natsd play`: a script over one hub (docs/SCRIPT.md).
+ghost use Rattle.std.specs.Prelude.{◌≡◌, ◌≤◌, List, IfOk, OnOk, nat_lt, length, ◌||◌, OnErr, ◌≢◌, false, IfSome};
+ghost use Rattle.std.specs.List.{position_or_len};
+ghost use Rattle.std.specs.Io.KnownBytes.{Appends, IsAtEnd};
+ghost use Rattle.script.specs.declared.client.Client.{Client};
+ghost use Rattle.script.specs.declared.lines.Part.{Part};
+ghost use Rattle.reload.specs.Reload.{prepared};
+ghost use Rattle.script.specs.Play.{drained, done_in, is_open, with_client, caps_effect, policy_effect, policy_line_effect, line_effect, still_open, line_and_drains, IsEffect, output_of};
+ghost use Rattle.script.specs.Server.{Serving};
+ghost use Rattle.devices.specs.Device.{AppendsFront};
+ghost use Rattle.script.specs.Fault.{is_read_failed, is_write_failed, IsShort, IsTooLong};
+
+use crate::client::Client;
+use crate::fault::PlayFault;
+use crate::lines::{ClientLine, Line, Part, read_line};
+use crate::output::{write_fault, write_refused, write_shown};
+use crate::server::Server;
+use devices::{Sink, Source, read_within, write_all};
+use hub::Caps;
+use lists::{NoMemory, Pieces};
+use policy_doc::Policy;
+use reload::read_valid_policy;
+use std::alloc::Global;
+
+/// Drains every connection, in ascending order.
+fn drain_all(
+    alloc: Global,
+    server: &mut Server,
+    clients: &mut [Client],
+    out: &mut Vec<u8>,
+) -> Result<bool, NoMemory>
+    ensures { IfOk result (λ stops. IsEffect (drained clients.old server.old) out.old.items out.new.items clients.new server.new stops) }
+{
+    'draining: for client in clients.iter_mut() {
+        if client.drain(alloc, server, out)? {
+            return Ok(true);
+        }
+    }
+    Ok(false)
+}
+
+/// Does what a line says to the connection of that number, if it is open.
+fn on_client(
+    alloc: Global,
+    server: &mut Server,
+    clients: &mut [Client],
+    conn: u64,
+    said: &ClientLine,
+    out: &mut Vec<u8>,
+) -> Result<bool, NoMemory>
+    ensures { IfOk result (λ stops. IsEffect (done_in conn said.now server.old clients.old) out.old.items out.new.items clients.new server.new stops) }
+{
+    'looking: for client in clients.iter_mut() {
+        if client.conn.number() == conn {
+            let full = client.on_client_line(alloc, server, said, out)?;
+            return Ok(full);
+        }
+    }
+    Ok(false)
+}
+
+/// How many connections have no greater number.
+fn place_for(clients: &[Client], conn: u64) -> usize
+    ensures place { result ≡ position_or_len (λ x. nat_lt conn x.conn.conn) clients.now }
+    ensures within { result ≤ length clients.now }
+{
+    clients
+        .iter()
+        .take_while(|client| client.conn.number() <= conn)
+        .count()
+}
+
+/// Adds a connection, before the first of a greater number.
+fn add_client(clients: &mut Vec<Client>, client: Client) -> Result<(), NoMemory>
+    ensures { OnOk result (clients.new.items ≡ with_client client clients.old.items) }
+{
+    let place = place_for(clients.as_slice(), client.conn.number());
+    clients.insert(place, client)?;
+    Ok(())
+}
+
+/// Whether a connection of that number is open.
+fn is_open(clients: &[Client], conn: u64) -> bool
+    ensures { result ≡ is_open clients.now conn }
+{
+    clients.iter().any(|client| client.conn.number() == conn)
+}
+
+/// Forgets the connections that have closed.
+fn remove_closed(clients: &mut Vec<Client>)
+    ensures { clients.new.items ≡ still_open clients.old.items }
+{
+    clients.retain(|client| !client.conn.stage().is_closed());
+}
+
+/// A new connection, unless one of that number is open.
+fn open(
+    alloc: Global,
+    clients: &mut Vec<Client>,
+    number: u64,
+    conn: u64,
+    out: &mut Vec<u8>,
+) -> Result<bool, NoMemory>
+    ensures { (part : Part) (w : Serving) → IfOk result (λ stops. IsEffect (line_effect number part (Line.Open conn) w clients.old.items) out.old.items out.new.items clients.new.items w stops) }
+{
+    if is_open(clients.as_slice(), conn) {
+        write_refused(out, number)?;
+        return Ok(true);
+    }
+    let client = Client::new(alloc, conn);
+    let opened = client.conn.opened(alloc);
+    if opened.stall.is_some() {
+        return Err(NoMemory);
+    }
+    write_shown(out, conn, opened.bytes.as_slice())?;
+    add_client(clients, client)?;
+    Ok(false)
+}
+
+/// Caps in the place of the usual ones, or the line that refuses them. Only the first of a script's lines may give
+/// caps.
+fn set_caps(
+    alloc: Global,
+    server: &mut Server,
+    number: u64,
+    part: Part,
+    caps: Caps,
+    out: &mut Vec<u8>,
+) -> Result<bool, NoMemory>
+    ensures { (clients : List Client) → IfOk result (λ stops. IsEffect (caps_effect number part caps server.old clients) out.old.items out.new.items clients server.new stops) }
+{
+    match part {
+        Part::Head => {
+            if 1 <= caps.outbox && caps.outbox <= 65_536 {
+                server.set_caps(alloc, caps)?;
+                return Ok(false);
+            }
+            write_refused(out, number)?;
+            Ok(true)
+        }
+        Part::Capped => {
+            write_refused(out, number)?;
+            Ok(true)
+        }
+        Part::Body => {
+            write_refused(out, number)?;
+            Ok(true)
+        }
+    }
+}
+
+/// A policy in the place of the built-in one, or the line of its fault.
+fn set_policy(
+    alloc: Global,
+    server: &mut Server,
+    text: &[u8],
+    out: &mut Vec<u8>,
+) -> Result<bool, NoMemory>
+    ensures { (clients : List Client) → IfOk result (λ stops. IsEffect (policy_effect (prepared text.now) server.old clients) out.old.items out.new.items clients server.new stops) }
+{
+    match read_valid_policy(alloc, text) {
+        Ok(policy) => {
+            server.set_policy(alloc, policy)?;
+            Ok(false)
+        }
+        Err(fault) => {
+            write_fault(alloc, out, &fault)?;
+            Ok(true)
+        }
+    }
+}
+
+/// A policy, which comes before all lines but caps.
+fn on_policy(
+    alloc: Global,
+    server: &mut Server,
+    number: u64,
+    part: Part,
+    text: &[u8],
+    out: &mut Vec<u8>,
+) -> Result<bool, NoMemory>
+    ensures { (clients : List Client) → IfOk result (λ stops. IsEffect (policy_line_effect number part text.now server.old clients) out.old.items out.new.items clients server.new stops) }
+{
+    match part {
+        Part::Head => {
+            let stops = set_policy(alloc, server, text, out)?;
+            Ok(stops)
+        }
+        Part::Capped => {
+            let stops = set_policy(alloc, server, text, out)?;
+            Ok(stops)
+        }
+        Part::Body => {
+            write_refused(out, number)?;
+            Ok(true)
+        }
+    }
+}
+
+/// What a line itself does.
+fn on_line(
+    alloc: Global,
+    server: &mut Server,
+    clients: &mut Vec<Client>,
+    number: u64,
+    part: Part,
+    line: Line,
+    out: &mut Vec<u8>,
+) -> Result<bool, NoMemory>
+    ensures { IfOk result (λ stops. IsEffect (line_effect number part line server.old clients.old.items) out.old.items out.new.items clients.new.items server.new stops) }
+{
+    match line {
+        Line::Skip => Ok(false),
+        Line::Caps { outbox, history } => {
+            let caps = Caps {
+                outbox: outbox as usize,
+                history: history as usize,
+            };
+            let stops = set_caps(alloc, server, number, part, caps, out)?;
+            Ok(stops)
+        }
+        Line::Policy(text) => {
+            let stops = on_policy(alloc, server, number, part, text.as_slice(), out)?;
+            Ok(stops)
+        }
+        Line::Open(conn) => {
+            let stops = open(alloc, clients, number, conn, out)?;
+            Ok(stops)
+        }
+        Line::Client(conn, said) => {
+            let stops = on_client(alloc, server, clients.as_mut_slice(), conn, &said, out)?;
+            Ok(stops)
+        }
+        Line::Now(moment) => {
+            server.set_moment(moment);
+            Ok(false)
+        }
+        Line::Word(word) => {
+            server.add_word(word)?;
+            Ok(false)
+        }
+        Line::Other => {
+            write_refused(out, number)?;
+            Ok(true)
+        }
+    }
+}
+
+/// A line, and then the drains.
+#[tactic(auto, unfolding(crate::specs::Play::line_and_drains))]
+fn on_line_and_drain(
+    alloc: Global,
+    server: &mut Server,
+    clients: &mut Vec<Client>,
+    number: u64,
+    part: Part,
+    line: Line,
+    out: &mut Vec<u8>,
+) -> Result<bool, NoMemory>
+    ensures { IfOk result (λ stops. IsEffect (line_and_drains number part line server.old clients.old.items) out.old.items out.new.items clients.new.items server.new stops) }
+{
+    if on_line(alloc, server, clients, number, part, line, out)? {
+        return Ok(true);
+    }
+    let stops = drain_all(alloc, server, clients.as_mut_slice(), out)?;
+    remove_closed(clients);
+    Ok(stops)
+}
+
+/// Plays the lines of a script.
+fn play_lines<W: Sink>(alloc: Global, script: &[u8], sink: &mut W) -> Result<u8, PlayFault>
+    requires { length script.now ≤ 16777216 }
+    ensures meaning { IfOk result (λ status. Appends (W.contents sink.old) (W.contents sink.new) (output_of script.now).text
+        × (status ≡ (output_of script.now).status)) }
+    ensures prefix { OnErr result (AppendsFront (W.contents sink.old) (W.contents sink.new) (output_of script.now).text) }
+    ensures failed { W.failed sink.new ≡ (W.failed sink.old || is_write_failed result) }
+    ensures read { is_read_failed result ≡ false }
+    ensures long { result ≢ Err PlayFault.ScriptTooLong }
+{
+    let policy = Policy::builtin(alloc)?;
+    let mut server = Server::new(alloc, policy)?;
+    let mut clients = Vec::new(alloc);
+    let mut lines = Pieces::of(script, b'\n');
+    let mut number = 0u64;
+    let mut part = Part::Head;
+    'playing: while let Some(text) = lines.next_piece() {
+        number += 1;
+        let line = read_line(alloc, text)?;
+        let next = part.after(&line);
+        let mut out = Vec::new(alloc);
+        let stops = on_line_and_drain(
+            alloc,
+            &mut server,
+            &mut clients,
+            number,
+            part,
+            line,
+            &mut out,
+        )?;
+        part = next;
+        match write_all(sink, out.as_slice()) {
+            Err(_) => return Err(PlayFault::WriteFailed),
+            Ok(()) => {
+                if stops {
+                    return Ok(1);
+                }
+            }
+        }
+    }
+    Ok(0)
+}
+
+/// The most bytes that a script may have.
+const MOST_BYTES: usize = 16_777_216;
+
+/// The most reads that may bring a script, the one that finds its end included.
+const MOST_READS: usize = 1_000_000;
+
+/// Plays a script: reads the source to its end, and writes what the script prints to the sink, line by line
+/// (docs/SCRIPT.md). Answers the status, 0 or 1.
+///
+/// `ReadFailed` and `WriteFailed` come where the device failed in this call, which the clauses tell of a device
+/// that had not failed before; `ScriptTooLong` where the script has more than 16,777,216 bytes, or 1,000,000 reads
+/// have given bytes and not found its end; `NoMemory` where memory could not be had. What was written then is a
+/// front of what the script prints.
+pub fn play<R: Source, W: Sink>(
+    alloc: Global,
+    source: &mut R,
+    sink: &mut W,
+) -> Result<u8, PlayFault>
+    // The source's bytes are the script, where it tells them.
+    ensures meaning { IfOk result (λ status. IfSome (R.remaining source.old) (λ script.
+        Appends (W.contents sink.old) (W.contents sink.new) (output_of script).text
+        × (status ≡ (output_of script).status))) }
+    ensures prefix { OnErr result (IfSome (R.remaining source.old) (λ script.
+        AppendsFront (W.contents sink.old) (W.contents sink.new) (output_of script).text)) }
+    ensures read_failed { R.failed source.new ≡ (R.failed source.old || is_read_failed result) }
+    ensures write_failed { W.failed sink.new ≡ (W.failed sink.old || is_write_failed result) }
+    ensures end { OnOk result (IsAtEnd (R.remaining source.new)) }
+    ensures short { OnOk result (IsShort (R.remaining source.old) (R.reads source.old) (R.reads source.new)) }
+    ensures too_long { result ≡ Err PlayFault.ScriptTooLong → IsTooLong (R.remaining source.old) (R.reads source.old) (R.reads source.new) }
+{
+    match read_within(alloc, source, MOST_BYTES, MOST_READS)? {
+        Some(script) => {
+            let status = play_lines(alloc, script.as_slice(), sink)?;
+            Ok(status)
+        }
+        None => Err(PlayFault::ScriptTooLong),
+    }
+}

@@ -1,0 +1,77 @@
+use crate::{PlayFault, play};
+use devices::{FailAt, ReadSource, WriteSink};
+use std::io;
+use std::io::Read;
+
+const SCRIPT: &[u8] = br#"open 1
+send 1 CONNECT {"user":"demo","pass":"demo","verbose":false}\r\n
+send 1 SUB foo 1\r\nPUB foo 2\r\nhi\r\nPING\r\n
+"#;
+
+const INFO: &[u8] =
+    br#"1< INFO {"auth_required":true,"client_id":1,"headers":true,"max_payload":1048576,"proto":1,"server_id":"natsd","version":"0.1.0"}\r\n
+"#;
+
+const PRINTS: &[u8] =
+    br#"1< INFO {"auth_required":true,"client_id":1,"headers":true,"max_payload":1048576,"proto":1,"server_id":"natsd","version":"0.1.0"}\r\n
+1< PONG\r\n
+1< MSG foo 1 2\r\nhi\r\n
+"#;
+
+/// Bytes `#`, one a read, so many of them.
+#[derive(Drop)]
+struct Bytewise {
+    left: usize,
+}
+
+impl Read for Bytewise {
+    fn read(&mut self, buf: &mut [u8]) -> io::Result<usize> {
+        if self.left == 0 || buf.is_empty() {
+            return Ok(0);
+        }
+        buf[0] = b'#';
+        self.left -= 1;
+        Ok(1)
+    }
+}
+
+#[test]
+fn devices_that_fail(rt: HostRuntime) {
+    for (read, write, answer, written) in [
+        (9, 9, Ok(0), PRINTS.len()),
+        (0, 9, Err(PlayFault::ReadFailed), 0),
+        (1, 9, Err(PlayFault::ReadFailed), 0),
+        (9, 0, Err(PlayFault::WriteFailed), 0),
+        (9, 1, Err(PlayFault::WriteFailed), INFO.len()),
+    ] {
+        let mut printed = Vec::new(rt.alloc());
+        let mut source = FailAt::new(ReadSource::new(SCRIPT), read);
+        let mut sink = FailAt::new(WriteSink::new(&mut printed), write);
+        assert!(rt; play(rt.alloc(), &mut source, &mut sink) == answer);
+        assert_eq!(rt; printed.as_slice(), &PRINTS[..written]);
+    }
+    // A sink that takes nothing more has failed.
+    let mut room = [0; 9];
+    let mut sink = WriteSink::new(&mut room[..]);
+    let answer = play(rt.alloc(), &mut ReadSource::new(SCRIPT), &mut sink);
+    assert!(rt; answer == Err(PlayFault::WriteFailed));
+    assert_eq!(rt; room.as_slice(), b"1< INFO {".as_slice());
+}
+
+#[test]
+fn scripts_that_are_too_long(rt: HostRuntime) {
+    for (bytes, answer) in [
+        (16_777_216, Ok(0)),
+        (16_777_217, Err(PlayFault::ScriptTooLong)),
+    ] {
+        let mut source = ReadSource::new(io::repeat(b'#').take(bytes));
+        let mut sink = WriteSink::new(Vec::new(rt.alloc()));
+        assert!(rt; play(rt.alloc(), &mut source, &mut sink) == answer);
+    }
+    // The read that finds the end is the 1,000,000th, or would be the next.
+    for (left, answer) in [(999_999, Ok(0)), (1_000_000, Err(PlayFault::ScriptTooLong))] {
+        let mut source = ReadSource::new(Bytewise { left });
+        let mut sink = WriteSink::new(Vec::new(rt.alloc()));
+        assert!(rt; play(rt.alloc(), &mut source, &mut sink) == answer);
+    }
+}
