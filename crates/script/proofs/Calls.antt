@@ -2,27 +2,27 @@
 use Rattle.std.proofs.Common.{◌≡◌, ◌∙◌, ◌++◌, [], ℕ, List, Bool, true, false, Option, Some, None, Result, Ok, Err, inl, inr, cond, ap, sym, refl}
 use Rattle.wire_read.specs.Framing.{Reader}
 use Rattle.hub.specs.History.{State, IsStep}
-use Rattle.hub.specs.declared.event.Command.TheVariants as command
-use Rattle.hub.specs.declared.answer.Delivery.{Delivery}
-use Rattle.hub.specs.declared.answer.Outcome.{Outcome}
-use Rattle.hub.specs.declared.answer.Outcome.TheVariants as outcome
-use Rattle.hub.specs.declared.answer.HubRefusal.{HubRefusal}
-use Rattle.hub.specs.declared.answer.HubRefusal.TheVariants as refusal
+use Rattle.events.specs.declared.event.Command.TheVariants as command
+use Rattle.events.specs.declared.answer.Delivery.{Delivery}
+use Rattle.events.specs.declared.answer.Outcome.{Outcome}
+use Rattle.events.specs.declared.answer.Outcome.TheVariants as outcome
+use Rattle.events.specs.declared.refusal.HubRefusal.{HubRefusal}
+use Rattle.events.specs.declared.refusal.HubRefusal.TheVariants as refusal
 use Rattle.wire_write.specs.Errors.{err_line}
 use Rattle.wire_write.specs.declared.error.ServerError.TheVariants as error
-use Rattle.session.specs.declared.output.Output.{Output}
-use Rattle.session.specs.declared.output.Stall.{Stall}
-use Rattle.session.specs.declared.stage.Stage.{Stage}
-use Rattle.session.specs.declared.stage.Stage.TheVariants as stage
+use Rattle.conn.specs.declared.output.Output.{Output}
+use Rattle.conn.specs.declared.output.Stall.{Stall}
+use Rattle.conn.specs.declared.stage.Stage.{Stage}
+use Rattle.conn.specs.declared.stage.Stage.TheVariants as stage
 use Rattle.session.specs.declared.direct.Direct.{Direct}
-use Rattle.session.specs.declared.drain.Written.{Written}
-use Rattle.session.specs.declared.drain.Written.TheVariants.{All, Closes, Short}
+use Rattle.conn.specs.declared.drain.Written.{Written}
+use Rattle.conn.specs.declared.drain.Written.TheVariants.{All, Closes, Short}
 use Rattle.session.specs.Accounts.{IsPortTo}
-use Rattle.session.specs.Calls.{Connection, IsNothing, IsRead, IsServedAt, IsServed, IsDrain, IsDrainIf, IsDrainedAt, IsDrained, IsQuiet, IsClosing, IsEnded, Given, nothing, stage_closed, stall_closed}
-use Rattle.session.specs.Drains.{Drain, Drains, ends, texts, IsTold, IsTakeTold, stage_after, stall_after}
-use Rattle.session.specs.Replies.{is_closed, closed_from, takes_headers}
-use Rattle.session.specs.Serving.{Served, spot, served, frames_after, reader_after}
-use Rattle.session.specs.Turns.{Steps, event}
+use Rattle.conn.specs.Calls.{Connection, IsNothing, IsRead, IsServedAt, IsServed, IsDrain, IsDrainIf, IsDrainedAt, IsDrained, IsQuiet, IsClosing, IsEnded, Given, nothing, stage_closed, stall_closed}
+use Rattle.conn.specs.Drains.{Drain, Drains, drain_owing_nothing, texts, IsTold, IsTakeTold, stage_after, stall_after}
+use Rattle.conn.specs.Replies.{is_closed, closed_from, takes_headers}
+use Rattle.conn.specs.Serving.{Served, spot, served, frames_after, reader_after}
+use Rattle.conn.specs.Turns.{Steps, event}
 use Rattle.script.specs.Server.{Serving, heard, IsNextWord}
 use Rattle.script.specs.Session.{Here, Closing, turns, after_turns, unchanged, bytes_call, delivered, take_answered, drain_of, after_drain, drain_if, drain_call, closed_by, closing, end_call, is_memory_stall, IsCall}
 use Rattle.script.proofs.Answering.{is_memory_answer, answered_is}
@@ -98,13 +98,13 @@ bytes_is steps hub_of over w piece c p o c' p' words h enough at = bytes_at step
 
 -- what a drain left
 drain_is : (d : Drain) (text : List ℕ) (s : Stage) (o : Option Stall) (missed : Bool) → d.text ≡ text → d.stage ≡ s → d.stall ≡ o → d.owed ≡ [] → d.missed ≡ missed →
-    d ≡ ends text s o missed
+    d ≡ drain_owing_nothing text s o missed
 drain_is d text s o missed is_text is_stage is_stall is_owed is_missed =
     ap (λ (x : List ℕ). record d { text = x }) is_text
     ∙ ap (λ (x : Stage). record d { text = text; stage = x }) is_stage
     ∙ ap (λ (x : Option Stall). record d { text = text; stage = s; stall = x }) is_stall
     ∙ ap (λ (x : List Delivery). record d { text = text; stage = s; stall = o; owed = x }) is_owed
-    ∙ ap (λ (x : Bool). ends text s o x) is_missed
+    ∙ ap (λ (x : Bool). drain_owing_nothing text s o x) is_missed
 
 -- what was taken is written
 written_is : (s : Stage) (before : List ℕ) (all : List Delivery) (missed : Bool) (written : Written) (d : Drain) →
@@ -113,11 +113,11 @@ written_is : (s : Stage) (before : List ℕ) (all : List Delivery) (missed : Boo
 written_is s before all missed All d told is_stage is_stall enough =
     let text = before ++ texts (takes_headers s) all in
     drain_is d text s None false told.0 is_stage is_stall told.1 told.3
-    ∙ ap (λ (b : Bool). cond b (ends (text ++ err_line error.SlowConsumer) (closed_from s) None false) (ends text s None false)) (sym told.2)
+    ∙ ap (λ (b : Bool). cond b (drain_owing_nothing (text ++ err_line error.SlowConsumer) (closed_from s) None false) (drain_owing_nothing text s None false)) (sym told.2)
 written_is s before all missed Closes d told is_stage is_stall enough =
     let text = before ++ texts (takes_headers s) all in
     drain_is d (text ++ err_line error.SlowConsumer) (closed_from s) None false told.0 is_stage is_stall told.1 told.3
-    ∙ ap (λ (b : Bool). cond b (ends (text ++ err_line error.SlowConsumer) (closed_from s) None false) (ends text s None false)) (sym told.2)
+    ∙ ap (λ (b : Bool). cond b (drain_owing_nothing (text ++ err_line error.SlowConsumer) (closed_from s) None false) (drain_owing_nothing text s None false)) (sym told.2)
 written_is s before all missed Short d told is_stage is_stall enough = let lacked : is_memory_stall d.stall ≡ true = ap is_memory_stall is_stall in absurd (cc)
 
 -- memory did not lack for a Take whose drain did not stall for it

@@ -3,22 +3,23 @@ use Rattle.std.proofs.Common.{◌≡◌, ◌∙◌, ◌≤◌, ◌+◌, ◌-◌,
 use Rattle.std.specs.Prelude.{is_some}
 use Rattle.std.specs.Option.{option_map}
 use Rattle.std.proofs.lemmas.List.{length-drop}
-use Rattle.hub.specs.World.{World, session_of, with_session, advanced}
-use Rattle.hub.specs.Transition.{transition, drained, taken, in_session, on_sessions, numbered}
+use Rattle.world.specs.World.{World, advanced}
+use Rattle.sessions.specs.Sessions.{session_of, with_session, drained}
+use Rattle.world.specs.Transition.{transition, taken, in_session, numbered}
 use Rattle.hub.specs.History.{State, is_history_full, remembered}
-use Rattle.hub.specs.Shown.{waiting_in, waiting_of}
-use Rattle.hub.specs.declared.tables.Session.{Session}
-use Rattle.hub.specs.declared.event.Command.TheVariants as command
-use Rattle.hub.specs.declared.answer.Outcome.{Outcome}
-use Rattle.hub.specs.declared.answer.HubRefusal.{HubRefusal}
-use Rattle.hub.specs.declared.answer.HubRefusal.TheVariants as refusal
-use Rattle.session.specs.declared.output.Stall.{Stall}
-use Rattle.session.specs.declared.stage.Stage.{Stage}
-use Rattle.session.specs.declared.stage.Stage.TheVariants as stage
-use Rattle.session.specs.Calls.{Connection, stage_closed}
-use Rattle.session.specs.Drains.{Drain, texts}
-use Rattle.session.specs.Replies.{is_closed, is_connected, closed_from, takes_headers}
-use Rattle.session.specs.Turns.{event}
+use Rattle.world.specs.Shown.{waiting_in, waiting_of}
+use Rattle.sessions.specs.declared.session.Session.{Session}
+use Rattle.events.specs.declared.event.Command.TheVariants as command
+use Rattle.events.specs.declared.answer.Outcome.{Outcome}
+use Rattle.events.specs.declared.refusal.HubRefusal.{HubRefusal}
+use Rattle.events.specs.declared.refusal.HubRefusal.TheVariants as refusal
+use Rattle.conn.specs.declared.output.Stall.{Stall}
+use Rattle.conn.specs.declared.stage.Stage.{Stage}
+use Rattle.conn.specs.declared.stage.Stage.TheVariants as stage
+use Rattle.conn.specs.Calls.{Connection, stage_closed}
+use Rattle.conn.specs.Drains.{Drain, texts}
+use Rattle.conn.specs.Replies.{is_closed, is_connected, closed_from, takes_headers}
+use Rattle.conn.specs.Turns.{event}
 use Rattle.script.specs.Server.{Serving, heard, by_step}
 use Rattle.script.specs.Session.{Call, unchanged, delivered, take_answered, drain_of, drain_if, drain_call, closing, end_call}
 use Rattle.script.specs.Play.{ClientEffect, goes_on, printed, printed_by, is_pending, pending_effect, takes, enough_takes, IsClientEffect}
@@ -80,7 +81,7 @@ answer_leaves s before h now conn = by_history (is_history_full h)
   where
     by_session : (o : Option Session) → session_of h.world.sessions conn ≡ o →
         DrainLeaves (option_map waiting_in o) conn (answered s before (by_step h (remembered h (event now (command.Take conn 64))
-        (numbered (h.world.number + 1) (on_sessions (advanced h.world now) (in_session o (taken h.world.sessions conn 64)))))))
+        (numbered (h.world.number + 1) (in_session o (taken (advanced h.world now) conn 64))))))
     by_session None stands = inr (inl refl)
     by_session (Some z) stands =
         taken_leaves s before h.world.sessions (record (advanced h.world now) { sessions = with_session (drained 64) conn h.world.sessions; number = h.world.number + 1 })

@@ -2,20 +2,20 @@
 use Rattle.std.proofs.Common.{◌≡◌, ◌∙◌, ◌∷◌, [], ℕ, List, Bool, true, false, Option, Some, None, Result, Ok, Err, inl, inr, cond, ap, sym, refl}
 use Rattle.wire_read.specs.declared.frame.Frame.{Frame}
 use Rattle.hub.specs.History.{State, IsStep}
-use Rattle.hub.specs.declared.event.Event.{Event}
-use Rattle.hub.specs.declared.event.Command.TheVariants as command
-use Rattle.hub.specs.declared.answer.Answer.{Answer}
-use Rattle.hub.specs.declared.answer.Outcome.{Outcome}
-use Rattle.hub.specs.declared.answer.HubRefusal.{HubRefusal}
-use Rattle.hub.specs.declared.answer.HubRefusal.TheVariants as refusal
-use Rattle.session.specs.declared.plan.Plan.{Plan}
-use Rattle.session.specs.declared.plan.Plan.TheVariants.{Tells, Asks, Publishes}
-use Rattle.session.specs.declared.stage.Stage.{Stage}
+use Rattle.events.specs.declared.event.Event.{Event}
+use Rattle.events.specs.declared.event.Command.TheVariants as command
+use Rattle.events.specs.declared.answer.Entry.{Entry}
+use Rattle.events.specs.declared.answer.Outcome.{Outcome}
+use Rattle.events.specs.declared.refusal.HubRefusal.{HubRefusal}
+use Rattle.events.specs.declared.refusal.HubRefusal.TheVariants as refusal
+use Rattle.conn.specs.declared.plan.Plan.{Plan}
+use Rattle.conn.specs.declared.plan.Plan.TheVariants.{Tells, Asks, Publishes}
+use Rattle.conn.specs.declared.stage.Stage.{Stage}
 use Rattle.session.specs.Accounts.{IsPortTo}
-use Rattle.session.specs.Plans.{plan_of}
-use Rattle.session.specs.Replies.{told, is_closed}
-use Rattle.session.specs.Serving.{Spot, spot, Served, served, rests, behind, UnlessClosed, IsFollowed, Serves}
-use Rattle.session.specs.Turns.{Steps, Turned, Goes, Stalls, turn_after, event, IsAnswered, IsWord, IsPlanned, IsTurn}
+use Rattle.conn.specs.Plans.{plan_of}
+use Rattle.conn.specs.Replies.{told, is_closed}
+use Rattle.conn.specs.Serving.{Spot, spot, Served, served, rests, behind, UnlessClosed, IsFollowed, Serves}
+use Rattle.conn.specs.Turns.{Steps, Turned, Goes, Stalls, turn_after, event, IsAnswered, IsWord, IsPlanned, IsTurn}
 use Rattle.script.specs.Server.{heard, IsNextWord}
 use Rattle.script.specs.Session.{Here, FrameTurn, frame_turn, word_of, words_after, answered_turn, planned, goes_on, turns, is_memory_stall}
 use Rattle.script.proofs.Answering.{is_memory_answer, answered_is}
@@ -66,11 +66,11 @@ planned_is steps hub_of over now conn at f t p w (Tells r) h enough =
 planned_is steps hub_of over now conn at f t p w (Asks what accepted) h enough =
     ap (λ (x : List ℕ). frame_turn t (hub_of p) x) h.3
     ∙ asked_is steps hub_of over at.stage accepted f at.word at.words (event now what) at.port p h.0 t h.1 h.2 enough
-planned_is steps hub_of over now conn at f t p w (Publishes subject reply head body) h enough =
+planned_is steps hub_of over now conn at f t p w (Publishes message) h enough =
     let word = word_is at.word at.words w h.1 h.2 in
-    asked_is steps hub_of over at.stage at.stage f (Some h.1) w (event now (command.Pub conn subject reply head body h.1)) at.port p h.0 t h.3 h.4 enough
-    ∙ ap (λ (x : ℕ). answered_turn at.stage at.stage f (Some x) w (heard (hub_of at.port) (event now (command.Pub conn subject reply head body x)))) word.0
-    ∙ ap (λ (x : List ℕ). answered_turn at.stage at.stage f (Some (word_of at.word at.words)) x (heard (hub_of at.port) (event now (command.Pub conn subject reply head body (word_of at.word at.words))))) word.1
+    asked_is steps hub_of over at.stage at.stage f (Some h.1) w (event now (command.Pub conn message h.1)) at.port p h.0 t h.3 h.4 enough
+    ∙ ap (λ (x : ℕ). answered_turn at.stage at.stage f (Some x) w (heard (hub_of at.port) (event now (command.Pub conn message x)))) word.0
+    ∙ ap (λ (x : List ℕ). answered_turn at.stage at.stage f (Some (word_of at.word at.words)) x (heard (hub_of at.port) (event now (command.Pub conn message (word_of at.word at.words))))) word.1
 
 -- ---- turns
 

@@ -6,11 +6,11 @@ use Rattle.policy_doc.specs.Document.{builtin_doc}
 use Rattle.policy_doc.specs.declared.document.PolicyDoc.{PolicyDoc}
 use Rattle.wire_write.specs.Texts.{info_line}
 use Rattle.connect_opts.specs.Info.{info_text}
-use Rattle.hub.specs.Shown.{waiting_of}
+use Rattle.world.specs.Shown.{waiting_of}
 use Rattle.hub.specs.declared.hub.Caps.{Caps}
-use Rattle.session.specs.declared.output.Stall.{Stall}
-use Rattle.session.specs.Calls.{new_connection}
-use Rattle.session.specs.Replies.{is_closed, is_connected}
+use Rattle.conn.specs.declared.output.Stall.{Stall}
+use Rattle.conn.specs.Calls.{new_connection}
+use Rattle.conn.specs.Replies.{is_closed, is_connected}
 use Rattle.script.specs.Server.{Serving, opening, with_policy, with_caps}
 use Rattle.script.specs.Session.{Call, bytes_call, drain_call, end_call}
 use Rattle.reload.specs.Reload.{prepared}

@@ -4,9 +4,10 @@ use Rattle.policy_doc.specs.declared.document.PolicyDoc.{PolicyDoc}
 use Rattle.policy_doc.specs.Document.{builtin_doc}
 use Rattle.hub.specs.History.{State, opening_state, stepped}
 use Rattle.hub.specs.declared.hub.Caps.{Caps}
-use Rattle.hub.specs.declared.event.Event.{Event}
-use Rattle.hub.specs.declared.answer.Outcome.{Outcome}
-use Rattle.hub.specs.declared.answer.HubRefusal.{HubRefusal}
+use Rattle.events.specs.declared.event.Event.{Event}
+use Rattle.events.specs.declared.answer.Entry.{Entry}
+use Rattle.events.specs.declared.answer.Outcome.{Outcome}
+use Rattle.events.specs.declared.refusal.HubRefusal.{HubRefusal}
 
 -- the hub, what it was given at its opening, the moment of the next event, and the words that messages still take
 pub record Serving : Type 0 where
@@ -34,8 +35,8 @@ abbrev pub with_caps : Caps → Serving → Serving
 with_caps caps w = record w { hub = opened caps builtin_doc; caps = caps }
 
 -- what a hub answers to an event, and what it is after it; a refusal leaves it as it is
-abbrev pub by_step : State → Result (Outcome × State) HubRefusal → Result Outcome HubRefusal × State
-by_step s (Ok r) = (Ok r.0, r.1)
+abbrev pub by_step : State → Result (Entry × State) HubRefusal → Result Outcome HubRefusal × State
+by_step s (Ok r) = (Ok r.0.outcome, r.1)
 by_step s (Err e) = (Err e, s)
 
 unfoldable pub heard : State → Event → Result Outcome HubRefusal × State

@@ -5,25 +5,25 @@ use Rattle.wire_read.specs.declared.frame.Frame.{Frame}
 use Rattle.wire_write.specs.Errors.{err_line}
 use Rattle.wire_write.specs.declared.error.ServerError.TheVariants as error
 use Rattle.hub.specs.History.{State}
-use Rattle.hub.specs.declared.event.Command.TheVariants as command
-use Rattle.hub.specs.declared.answer.Delivery.{Delivery}
-use Rattle.hub.specs.declared.answer.Outcome.{Outcome}
-use Rattle.hub.specs.declared.answer.Outcome.TheVariants as outcome
-use Rattle.hub.specs.declared.answer.HubRefusal.{HubRefusal}
-use Rattle.hub.specs.declared.answer.HubRefusal.TheVariants as refusal
-use Rattle.session.specs.declared.output.Output.{Output}
-use Rattle.session.specs.declared.output.Stall.{Stall}
-use Rattle.session.specs.declared.output.Stall.TheVariants as stall
-use Rattle.session.specs.declared.plan.Plan.{Plan}
-use Rattle.session.specs.declared.plan.Plan.TheVariants.{Tells, Asks, Publishes}
-use Rattle.session.specs.declared.stage.Stage.{Stage}
-use Rattle.session.specs.declared.stage.Stage.TheVariants as stage
-use Rattle.session.specs.Calls.{Connection, stage_closed, stall_closed}
-use Rattle.session.specs.Drains.{Drain, ends, texts}
-use Rattle.session.specs.Plans.{plan_of}
-use Rattle.session.specs.Replies.{told, is_closed, closed_from, takes_headers}
-use Rattle.session.specs.Serving.{Spot, spot, Served, served, rests, behind, frames_after, reader_after}
-use Rattle.session.specs.Turns.{Turned, Goes, Stalls, turn_after, event}
+use Rattle.events.specs.declared.event.Command.TheVariants as command
+use Rattle.events.specs.declared.answer.Delivery.{Delivery}
+use Rattle.events.specs.declared.answer.Outcome.{Outcome}
+use Rattle.events.specs.declared.answer.Outcome.TheVariants as outcome
+use Rattle.events.specs.declared.refusal.HubRefusal.{HubRefusal}
+use Rattle.events.specs.declared.refusal.HubRefusal.TheVariants as refusal
+use Rattle.conn.specs.declared.output.Output.{Output}
+use Rattle.conn.specs.declared.output.Stall.{Stall}
+use Rattle.conn.specs.declared.output.Stall.TheVariants as stall
+use Rattle.conn.specs.declared.plan.Plan.{Plan}
+use Rattle.conn.specs.declared.plan.Plan.TheVariants.{Tells, Asks, Publishes}
+use Rattle.conn.specs.declared.stage.Stage.{Stage}
+use Rattle.conn.specs.declared.stage.Stage.TheVariants as stage
+use Rattle.conn.specs.Calls.{Connection, stage_closed, stall_closed}
+use Rattle.conn.specs.Drains.{Drain, drain_owing_nothing, texts}
+use Rattle.conn.specs.Plans.{plan_of}
+use Rattle.conn.specs.Replies.{told, is_closed, closed_from, takes_headers}
+use Rattle.conn.specs.Serving.{Spot, spot, Served, served, rests, behind, frames_after, reader_after}
+use Rattle.conn.specs.Turns.{Turned, Goes, Stalls, turn_after, event}
 use Rattle.script.specs.Server.{Serving, heard, first_word, later_words}
 
 -- ---- frames
@@ -58,10 +58,10 @@ answered_turn s accepted f word words a = frame_turn (turn_after s accepted f wo
 abbrev pub planned : ℕ → ℕ → Here → Frame → Plan → FrameTurn
 planned now conn at f (Tells r) = frame_turn (Goes (told r)) at.port at.words
 planned now conn at f (Asks what accepted) = answered_turn at.stage accepted f at.word at.words (heard at.port (event now what))
-planned now conn at f (Publishes subject reply head body) =
+planned now conn at f (Publishes message) =
     let word = word_of at.word at.words in
     answered_turn at.stage at.stage f (Some word) (words_after at.word at.words)
-    (heard at.port (event now (command.Pub conn subject reply head body word)))
+    (heard at.port (event now (command.Pub conn message word)))
 
 -- a turn, and then the others; where the history is full the frame is left with all behind it
 abbrev pub goes_on : (Here → Served State (List ℕ)) → List Frame → Stage → FrameTurn → Turned → Served State (List ℕ)
@@ -107,15 +107,15 @@ bytes_call w c bytes =
 abbrev pub delivered : Stage → List ℕ → List Delivery → Bool → Drain
 delivered s before deliveries missed =
     let text = before ++ texts (takes_headers s) deliveries in
-    if missed then ends (text ++ err_line error.SlowConsumer) (closed_from s) None false else ends text s None false
+    if missed then drain_owing_nothing (text ++ err_line error.SlowConsumer) (closed_from s) None false else drain_owing_nothing text s None false
 
 -- what a Take's answer comes to. No others come to a Take.
 abbrev pub take_answered : Stage → List ℕ → Result Outcome HubRefusal → Drain
 take_answered s before (Ok (outcome.Taken deliveries missed)) = delivered s before deliveries missed
-take_answered s before (Err refusal.NoSession) = ends (before ++ err_line error.Authorization) (stage.Closed false) None false
-take_answered s before (Err refusal.HistoryFull) = ends before s (Some stall.HistoryFull) false
-take_answered s before (Err refusal.NoMemory) = ends before s (Some stall.Memory) false
-take_answered s before _ = ends before s None false
+take_answered s before (Err refusal.NoSession) = drain_owing_nothing (before ++ err_line error.Authorization) (stage.Closed false) None false
+take_answered s before (Err refusal.HistoryFull) = drain_owing_nothing before s (Some stall.HistoryFull) false
+take_answered s before (Err refusal.NoMemory) = drain_owing_nothing before s (Some stall.Memory) false
+take_answered s before _ = drain_owing_nothing before s None false
 
 -- what is owed is written first; where a delivery was missed with it that is the end, else one Take is made
 abbrev pub drain_of : Serving → Connection → ℕ → Drain × State

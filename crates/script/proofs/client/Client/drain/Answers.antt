@@ -1,7 +1,7 @@
 -- the Takes are enough for what waits
 use Rattle.std.proofs.Common.{◌≡◌, ◌∙◌, false, None, ap}
 use Rattle.std.proofs.lemmas.Result.{IfOk-weaker}
-use Rattle.hub.specs.Shown.{waiting_of}
+use Rattle.world.specs.Shown.{waiting_of}
 use Rattle.script.specs.Play.{enough_takes, pending_effect, takes, IsClientEffect}
 use Rattle.script.proofs.Enough.{enough}
 use Rattle.script.proofs.client.Client.drain.Goals as goal
