@@ -6,12 +6,12 @@ use Rattle.std.proofs.lemmas.List.{append_assoc}
 use Rattle.wire_read.specs.declared.frame.Frame.{Frame}
 use Rattle.wire_read.specs.Framing.{framing, first_frames, frames_of, CutAnywhere}
 use Rattle.hub.specs.History.{State}
-use Rattle.session.specs.declared.stage.Stage.{Stage}
-use Rattle.session.specs.declared.stage.Stage.TheVariants.{Fresh}
-use Rattle.session.specs.Replies.{is_closed}
-use Rattle.session.specs.Turns.{Steps, Draws}
-use Rattle.session.specs.Calls.{Given, given, new_connection}
-use Rattle.session.specs.Heard.{Heard, Came, comes}
+use Rattle.conn.specs.declared.stage.Stage.{Stage}
+use Rattle.conn.specs.declared.stage.Stage.TheVariants.{Fresh}
+use Rattle.conn.specs.Replies.{is_closed}
+use Rattle.conn.specs.Turns.{Steps, Draws}
+use Rattle.conn.specs.Calls.{Given, given, new_connection}
+use Rattle.session.specs.Happenings.{Happening, Came, comes}
 use Rattle.session.specs.Accounts.{Call, Moment, moment, Made, written_by, taken_by, closes_by, IsPortTo, IsCall, AreCalls, HasParts, IsStepped, AreDrawn, IsAccounted, AccountsForCalls}
 use Rattle.session.proofs.Leading.{Leads, leads_on, idles}
 use Rattle.session.proofs.Calling.{place_of, IsBetween, ReadsOn, reads_none, IsCallTo, opens_to, drained_to}
@@ -38,22 +38,22 @@ call_to steps draws hub_of port cut conn (Call.Others e) m left spare g m' betwe
 
 -- where calls lead
 record AreCallsTo {W : Type 0} (draws : Draws W) (conn : ℕ) (calls : List (Made W)) (m : Moment) (left : List Frame) (spare : Option ℕ) (taken : List ℕ) (m' : Moment) : Type 0 where
-  heard : List Heard
+  happened : List Happening
   arrived : List Frame
   left' : List Frame
   spare' : Option ℕ
   drawn : List ℕ
-  leads : Leads conn (place_of m left spare) heard (flat_map written_by calls) arrived drawn (place_of m' left' spare')
+  leads : Leads conn (place_of m left spare) happened (flat_map written_by calls) arrived drawn (place_of m' left' spare')
   words : AreDrawn draws calls drawn
   between : IsBetween conn m'.at left' spare'
-  parts : HasParts conn m.at.stage calls heard
+  parts : HasParts conn m.at.stage calls happened
   reads : ReadsOn m.at.reader taken arrived m'.at.reader
 
 none_called : {W : Type 0} (draws : Draws W) (conn : ℕ) (m : Moment) (left : List Frame) (spare : Option ℕ) → IsBetween conn m.at left spare →
     AreCallsTo draws conn [] m left spare [] m
 unfolding HasParts AreDrawn
 none_called draws conn m left spare between = record {
-  heard = [];
+  happened = [];
   arrived = [];
   left' = left;
   spare' = spare;
@@ -70,10 +70,10 @@ one_more : {W : Type 0} (draws : Draws W) (conn : ℕ) (made : Made W) (more : L
     AreCallsTo draws conn (made ∷ more) m left spare (taken_by made.0 m.at made.1 ++ taken) m'
 unfolding HasParts AreDrawn
 one_more draws conn made more m left spare next taken m' h k =
-    let is : h.leads.came ≡ comes conn m.at.stage h.heard = sym h.leads.comes_so in
-    let at : next.at.stage ≡ (comes conn m.at.stage h.heard).stage = h.leads.stage_so ∙ ap (λ (c : Came). c.stage) is in
+    let is : h.leads.came ≡ comes conn m.at.stage h.happened = sym h.leads.comes_so in
+    let at : next.at.stage ≡ (comes conn m.at.stage h.happened).stage = h.leads.stage_so ∙ ap (λ (c : Came). c.stage) is in
     record {
-      heard = h.heard ++ k.heard;
+      happened = h.happened ++ k.happened;
       arrived = h.arrived ++ k.arrived;
       left' = k.left';
       spare' = k.spare';
@@ -82,13 +82,13 @@ one_more draws conn made more m left spare next taken m' h k =
       words = (h.drawn, k.drawn, refl, h.words, k.words);
       between = k.between;
       parts = (
-        h.heard,
-        k.heard,
+        h.happened,
+        k.happened,
         refl,
         h.part,
         h.leads.text_so ∙ ap (λ (c : Came). c.text) is,
         h.closes ∙ ap (closes_by made.0) at,
-        subst (λ (s : Stage). HasParts conn s more k.heard) at k.parts,
+        subst (λ (s : Stage). HasParts conn s more k.happened) at k.parts,
       );
       reads = λ fs bytes so_far.
           ap (λ (l : List Frame). framing l m'.at.reader.rest m'.at.reader.failed) (sym (append_assoc fs h.arrived k.arrived))
@@ -122,9 +122,9 @@ accounted : {W : Type 0} (draws : Draws W) (conn : ℕ) (s : State) (calls : Lis
     AreCallsTo draws conn calls (moment (new_connection conn) s) [] None taken m → IsAccounted draws conn s calls taken m
 accounted draws conn s calls taken m h =
     let l = h.leads in
-    let is : l.came ≡ comes conn Fresh h.heard = sym l.comes_so in
+    let is : l.came ≡ comes conn Fresh h.happened = sym l.comes_so in
     record {
-      heard = h.heard;
+      happened = h.happened;
       left = h.left';
       spare = h.spare';
       parts = h.parts;

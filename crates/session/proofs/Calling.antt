@@ -6,16 +6,16 @@ use Rattle.wire_read.specs.declared.frame.Frame.{Frame}
 use Rattle.wire_read.specs.Framing.{Reader, framing, frames_of}
 use Rattle.wire_write.specs.Texts.{info_line}
 use Rattle.hub.specs.History.{State}
-use Rattle.session.specs.declared.stage.Stage.{Stage}
-use Rattle.session.specs.declared.output.Output.{Output}
-use Rattle.session.specs.declared.output.Stall.{Stall}
-use Rattle.session.specs.Replies.{is_closed}
-use Rattle.session.specs.Turns.{Steps, Draws}
-use Rattle.session.specs.Drains.{Drain, Drains}
-use Rattle.session.specs.Calls.{Connection, Given, given, IsOpenedBy, IsDrain, IsDrainIf, IsDrainedAt}
-use Rattle.session.specs.Heard.{Heard, Opened}
+use Rattle.conn.specs.declared.stage.Stage.{Stage}
+use Rattle.conn.specs.declared.output.Output.{Output}
+use Rattle.conn.specs.declared.output.Stall.{Stall}
+use Rattle.conn.specs.Replies.{is_closed}
+use Rattle.conn.specs.Turns.{Steps, Draws}
+use Rattle.conn.specs.Drains.{Drain, Drains}
+use Rattle.conn.specs.Calls.{Connection, Given, given, IsOpenedBy, IsDrain, IsDrainIf, IsDrainedAt}
+use Rattle.session.specs.Happenings.{Happening, Opened}
 use Rattle.session.specs.Accounts.{Call, Moment, IsDrawnBy, IsPortTo, taken_by, closes_by, IsPart, IsLeft}
-use Rattle.session.proofs.Leading.{Place, Leads, leads_as, stepped-nil, or_false, idles, one_heard}
+use Rattle.session.proofs.Leading.{Place, Leads, leads_as, stepped-nil, or_false, idles, one_happening}
 use Rattle.session.proofs.Serving.{HasFirst, IsStanding}
 use Rattle.session.proofs.Draining.{IsDrainedTo, drains_to}
 
@@ -37,15 +37,15 @@ reads_none r fs bytes h = ap (λ (l : List Frame). framing l r.rest r.failed) (a
 
 -- where a call leads
 pub record IsCallTo {W : Type 0} (draws : Draws W) (conn : ℕ) (call : Call W) (m : Moment) (left : List Frame) (spare : Option ℕ) (g : Given) (m' : Moment) : Type 0 where
-  pub heard : List Heard
+  pub happened : List Happening
   pub arrived : List Frame
   pub left' : List Frame
   pub spare' : Option ℕ
   pub drawn : List ℕ
-  pub leads : Leads conn (place_of m left spare) heard g.bytes arrived drawn (place_of m' left' spare')
+  pub leads : Leads conn (place_of m left spare) happened g.bytes arrived drawn (place_of m' left' spare')
   pub words : IsDrawnBy draws call drawn
   pub between : IsBetween conn m'.at left' spare'
-  pub part : IsPart call heard
+  pub part : IsPart call happened
   pub closes : g.close ≡ closes_by call m'.at.stage
   pub reads : ReadsOn m.at.reader (taken_by call m.at g) arrived m'.at.reader
 
@@ -54,7 +54,7 @@ pub idle : {W : Type 0} (draws : Draws W) (conn : ℕ) (call : Call W) (m : Mome
     IsBetween conn m.at left spare → g.bytes ≡ [] → g.close ≡ closes_by call m.at.stage → taken_by call m.at g ≡ [] → IsPart call [] → IsDrawnBy draws call [] → m'.at ≡ m.at → m'.hub ≡ m.hub →
     IsCallTo draws conn call m left spare g m'
 idle draws conn call m left spare g m' between none closes untaken part undrawn at hub = record {
-  heard = [];
+  happened = [];
   arrived = [];
   left' = left;
   spare' = spare;
@@ -73,14 +73,14 @@ idle draws conn call m left spare g m' between none closes untaken part undrawn 
 pub opens_to : {W : Type 0} (draws : Draws W) (conn : ℕ) (m : Moment) (left : List Frame) (spare : Option ℕ) (o : Output) (st : Option Stall) →
     IsBetween conn m.at left spare → IsOpenedBy st m.at.conn o → IsCallTo draws conn Call.Opens m left spare (given o) m
 opens_to draws conn m left spare o None between h = record {
-  heard = Opened ∷ [];
+  happened = Opened ∷ [];
   arrived = [];
   left' = left;
   spare' = spare;
   drawn = [];
   words = refl;
   leads = leads_as refl (ap (λ (g : Given). g.bytes) h ∙ ap (λ (n : ℕ). info_line (info_text n)) between.same) refl
-      (one_heard (place_of m left spare) Opened {s = m.at.stage} refl (search rules) refl (stepped-nil m.hub m.hub refl) (append-nil m.at.owed) (or_false m.at.missed));
+      (one_happening (place_of m left spare) Opened {s = m.at.stage} refl (search rules) refl (stepped-nil m.hub m.hub refl) (append-nil m.at.owed) (or_false m.at.missed));
   between = between;
   part = inr refl;
   closes = ap (λ (g : Given). g.close) h;
@@ -125,7 +125,7 @@ drain_to steps draws hub_of port conn now most m left spare p o p' m' between be
     let to : IsDrainedTo conn now most (place_of m left spare) d (hub_of p') = drains_to steps hub_of port conn now most (place_of m left spare) p d p' still before
     (subst (λ (n : ℕ). Drains steps now n most c.stage c.owed c.missed p d p') between.same h.drains) in
     record {
-      heard = to.heard;
+      happened = to.happened;
       arrived = [];
       left' = left;
       spare' = spare;

@@ -3,21 +3,21 @@ use Rattle.std.proofs.Common.{rules, ◌≡◌, ◌∙◌, ◌∷◌, ◌++◌, 
 use Rattle.std.specs.Option.{option_to_list}
 use Rattle.wire_read.specs.declared.frame.Frame.{Frame}
 use Rattle.hub.specs.History.{State, IsStep}
-use Rattle.hub.specs.declared.event.Event.{Event}
-use Rattle.hub.specs.declared.event.Command.{Command}
-use Rattle.hub.specs.declared.answer.Answer.{Answer}
-use Rattle.hub.specs.declared.answer.Outcome.{Outcome}
-use Rattle.hub.specs.declared.answer.HubRefusal.{HubRefusal}
-use Rattle.hub.specs.declared.answer.HubRefusal.TheVariants as refusal
-use Rattle.session.specs.declared.stage.Stage.{Stage}
-use Rattle.session.specs.declared.output.Stall.{Stall}
-use Rattle.session.specs.declared.output.Stall.TheVariants as stall
-use Rattle.session.specs.declared.reply.Reply.{Reply}
-use Rattle.session.specs.declared.plan.Plan.{Plan}
-use Rattle.session.specs.declared.plan.Plan.TheVariants.{Tells, Asks, Publishes}
-use Rattle.session.specs.Replies.{Told, reply_to}
-use Rattle.session.specs.Turns.{Steps, Draws, Goes, Stalls, outcome_of, turn_after, IsAnswered, IsWord}
-use Rattle.session.specs.Heard.{is_concluded}
+use Rattle.events.specs.declared.event.Event.{Event}
+use Rattle.events.specs.declared.event.Command.{Command}
+use Rattle.events.specs.declared.answer.Entry.{Entry}
+use Rattle.events.specs.declared.answer.Outcome.{Outcome}
+use Rattle.events.specs.declared.refusal.HubRefusal.{HubRefusal}
+use Rattle.events.specs.declared.refusal.HubRefusal.TheVariants as refusal
+use Rattle.conn.specs.declared.stage.Stage.{Stage}
+use Rattle.conn.specs.declared.output.Stall.{Stall}
+use Rattle.conn.specs.declared.output.Stall.TheVariants as stall
+use Rattle.conn.specs.declared.reply.Reply.{Reply}
+use Rattle.conn.specs.declared.plan.Plan.{Plan}
+use Rattle.conn.specs.declared.plan.Plan.TheVariants.{Tells, Asks, Publishes}
+use Rattle.conn.specs.Replies.{Told, reply_to}
+use Rattle.conn.specs.Turns.{Steps, Draws, Goes, Stalls, outcome_of, without_event, turn_after, IsAnswered, IsWord}
+use Rattle.session.specs.Happenings.{is_concluded}
 use Rattle.session.specs.Accounts.{IsPortTo, IsStepped, IsDrawn, unless_refused}
 
 -- ---- the hub
@@ -32,7 +32,7 @@ unfolding IsStepped
 stepped-one s s' e r h = (s', h, refl)
 
 -- a refusal changes nothing
-refused_by : (s s' : State) (e : Event) (x : HubRefusal) (a : Result Answer (Event × HubRefusal)) → IsStep s e a s' → Err x ≡ outcome_of a → s' ≡ s
+refused_by : (s s' : State) (e : Event) (x : HubRefusal) (a : Result Entry (Event × HubRefusal)) → IsStep s e a s' → Err x ≡ outcome_of (without_event a) → s' ≡ s
 refused_by s s' e x (Ok a) step is = absurd (cc)
 refused_by s s' e x (Err r) step is = step.1
 
@@ -55,7 +55,7 @@ word_from draws w (Some k) drawn w' h = record { new = []; are = h.1; same = ap 
 -- a word that was drawn is one of a message
 abbrev pub HasWord : Option ℕ → Plan → Type 0
 HasWord None plan = Unit {0}
-HasWord (Some n) (Publishes subject reply head body) = Unit {0}
+HasWord (Some n) (Publishes message) = Unit {0}
 HasWord (Some n) (Tells r) = ⊥
 HasWord (Some n) (Asks what accepted) = ⊥
 

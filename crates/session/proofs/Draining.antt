@@ -5,24 +5,24 @@ use Rattle.std.proofs.lemmas.List.{append_assoc, append-nil}
 use Rattle.wire_write.specs.Errors.{err_line}
 use Rattle.wire_write.specs.declared.error.ServerError.TheVariants as error
 use Rattle.hub.specs.History.{State, IsStep}
-use Rattle.hub.specs.declared.event.Command.TheVariants as command
-use Rattle.hub.specs.declared.answer.Delivery.{Delivery}
-use Rattle.hub.specs.declared.answer.Outcome.{Outcome}
-use Rattle.hub.specs.declared.answer.Outcome.TheVariants as outcome
-use Rattle.hub.specs.declared.answer.HubRefusal.{HubRefusal}
-use Rattle.hub.specs.declared.answer.HubRefusal.TheVariants as refusal
-use Rattle.session.specs.declared.stage.Stage.{Stage}
-use Rattle.session.specs.declared.stage.Stage.TheVariants as stage
-use Rattle.session.specs.declared.output.Stall.{Stall}
-use Rattle.session.specs.declared.output.Stall.TheVariants as stall
-use Rattle.session.specs.declared.drain.Written.{Written}
-use Rattle.session.specs.declared.drain.Written.TheVariants.{All, Closes, Short}
-use Rattle.session.specs.Replies.{Told, tells, is_closed, closed_from, takes_headers}
-use Rattle.session.specs.Turns.{Steps, event, IsAnswered}
-use Rattle.session.specs.Drains.{Drain, delivery_text, texts, IsTold, stage_after, IsSettled, ends, IsTakeTold, Drains}
-use Rattle.session.specs.Heard.{Heard, Took, Sent, Slow, take_told, took, has_missed, is_concluded}
+use Rattle.events.specs.declared.event.Command.TheVariants as command
+use Rattle.events.specs.declared.answer.Delivery.{Delivery}
+use Rattle.events.specs.declared.answer.Outcome.{Outcome}
+use Rattle.events.specs.declared.answer.Outcome.TheVariants as outcome
+use Rattle.events.specs.declared.refusal.HubRefusal.{HubRefusal}
+use Rattle.events.specs.declared.refusal.HubRefusal.TheVariants as refusal
+use Rattle.conn.specs.declared.stage.Stage.{Stage}
+use Rattle.conn.specs.declared.stage.Stage.TheVariants as stage
+use Rattle.conn.specs.declared.output.Stall.{Stall}
+use Rattle.conn.specs.declared.output.Stall.TheVariants as stall
+use Rattle.conn.specs.declared.drain.Written.{Written}
+use Rattle.conn.specs.declared.drain.Written.TheVariants.{All, Closes, Short}
+use Rattle.conn.specs.Replies.{Told, told_text, is_closed, closed_from, takes_headers}
+use Rattle.conn.specs.Turns.{Steps, event, IsAnswered}
+use Rattle.conn.specs.Drains.{Drain, delivery_text, texts, IsTold, stage_after, IsDrainEnd, drain_owing_nothing, IsTakeTold, Drains}
+use Rattle.session.specs.Happenings.{Happening, Took, Sent, Slow, take_told, took, has_missed, is_concluded}
 use Rattle.session.specs.Accounts.{IsPortTo, IsOfDrain}
-use Rattle.session.proofs.Leading.{Place, Leads, leads_on, leads_as, stepped-nil, or_false, idles, one_heard}
+use Rattle.session.proofs.Leading.{Place, Leads, leads_on, leads_as, stepped-nil, or_false, idles, one_happening}
 use Rattle.session.proofs.Concluding.{of_hub, stepped-one, refused, may_write, may_go}
 
 -- ---- what is written
@@ -30,7 +30,7 @@ use Rattle.session.proofs.Concluding.{of_hub, stepped-one, refused, may_write, m
 one_sent : (conn : ℕ) (a : Place) (d : Delivery) → is_closed a.stage ≡ false →
     Leads conn (record a { owed = d ∷ a.owed }) (Sent d ∷ []) (delivery_text (takes_headers a.stage) d) [] [] a
 one_sent conn a d still =
-    one_heard (record a { owed = d ∷ a.owed }) (Sent d) refl (may_write (is_closed a.stage) still) refl (stepped-nil a.hub a.hub refl) (append-nil (d ∷ a.owed)) (or_false a.missed)
+    one_happening (record a { owed = d ∷ a.owed }) (Sent d) refl (may_write (is_closed a.stage) still) refl (stepped-nil a.hub a.hub refl) (append-nil (d ∷ a.owed)) (or_false a.missed)
 
 all_sent : (conn : ℕ) (a : Place) (ds : List Delivery) → is_closed a.stage ≡ false →
     Leads conn (record a { owed = ds ++ a.owed }) (map Sent ds) (texts (takes_headers a.stage) ds) [] [] a
@@ -44,23 +44,23 @@ front_sent conn a ds owed still is = leads_as (λ i. record a { owed = is i }) r
 
 slow : (conn : ℕ) (a : Place) → is_closed a.stage ≡ false →
     Leads conn (record a { owed = []; missed = true }) (Slow ∷ []) (err_line error.SlowConsumer) [] [] (record a { stage = closed_from a.stage; owed = []; missed = false })
-slow conn a still = one_heard (record a { owed = []; missed = true }) Slow refl (may_write (is_closed a.stage) still) refl (stepped-nil a.hub a.hub refl) refl refl
+slow conn a still = one_happening (record a { owed = []; missed = true }) Slow refl (may_write (is_closed a.stage) still) refl (stepped-nil a.hub a.hub refl) refl refl
 
 -- ---- parts of a drain
 
 -- a part of a drain, from place to place, that writes behind this text
 record IsPartTo (conn now most : ℕ) (a : Place) (before after : List ℕ) (b : Place) : Type 0 where
-  heard : List Heard
+  happened : List Happening
   text : List ℕ
-  leads : Leads conn a heard text [] [] b
+  leads : Leads conn a happened text [] [] b
   after_so : after ≡ before ++ text
-  of_drain : AllByRecursion (IsOfDrain now most) heard
+  of_drain : AllByRecursion (IsOfDrain now most) happened
 
 sent_of_drain : (now most : ℕ) (ds : List Delivery) → AllByRecursion (IsOfDrain now most) (map Sent ds)
 sent_of_drain now most [] = tt
 sent_of_drain now most (d ∷ ds) = (tt, sent_of_drain now most ds)
 
-both_of_drain : (now most : ℕ) (hs more : List Heard) → AllByRecursion (IsOfDrain now most) hs → AllByRecursion (IsOfDrain now most) more → AllByRecursion (IsOfDrain now most) (hs ++ more)
+both_of_drain : (now most : ℕ) (hs more : List Happening) → AllByRecursion (IsOfDrain now most) hs → AllByRecursion (IsOfDrain now most) more → AllByRecursion (IsOfDrain now most) (hs ++ more)
 both_of_drain now most [] more h k = k
 both_of_drain now most (x ∷ hs) more h k = (h.0, both_of_drain now most hs more h.1 k)
 
@@ -69,14 +69,14 @@ told_to : (conn now most : ℕ) (a : Place) (before after : List ℕ) (owed : Li
     is_closed a.stage ≡ false → IsTold (takes_headers a.stage) before a.owed a.missed written after owed missed →
     IsPartTo conn now most a before after (record a { stage = stage_after a.stage written; owed = owed; missed = missed })
 told_to conn now most a before after owed missed All still h = record {
-  heard = map Sent a.owed;
+  happened = map Sent a.owed;
   text = texts (takes_headers a.stage) a.owed;
   leads = leads_as refl refl (λ i. record a { owed = h.1 i; missed = (h.3 ∙ sym h.2) i }) (front_sent conn a a.owed [] still (sym (append-nil a.owed)));
   after_so = h.0;
   of_drain = sent_of_drain now most a.owed;
 }
 told_to conn now most a before after owed missed Closes still h = record {
-  heard = map Sent a.owed ++ Slow ∷ [];
+  happened = map Sent a.owed ++ Slow ∷ [];
   text = texts (takes_headers a.stage) a.owed ++ err_line error.SlowConsumer;
   leads = leads_on (front_sent conn a a.owed [] still (sym (append-nil a.owed)))
       (leads_as (λ i. record a { owed = []; missed = h.2 i }) refl (λ i. record a { stage = closed_from a.stage; owed = h.1 i; missed = h.3 i }) (slow conn a still));
@@ -84,7 +84,7 @@ told_to conn now most a before after owed missed Closes still h = record {
   of_drain = both_of_drain now most (map Sent a.owed) (Slow ∷ []) (sent_of_drain now most a.owed) (tt, tt);
 }
 told_to conn now most a before after owed missed Short still h = record {
-  heard = map Sent h.0.written;
+  happened = map Sent h.0.written;
   text = texts (takes_headers a.stage) h.0.written;
   leads = leads_as refl refl (λ i. record a { owed = owed; missed = h.1 i }) (front_sent conn a h.0.written owed still h.0.is_front);
   after_so = h.0.text;
@@ -102,7 +102,7 @@ one_taken : (conn now most : ℕ) (a : Place) (hub : State) (r : Result Outcome 
     Leads conn (settled a) (Took now most r ∷ []) (take_told a.stage r).text [] []
     (record a { stage = (take_told a.stage r).stage; owed = took (Took now most r); missed = has_missed (Took now most r); hub = hub })
 one_taken conn now most a hub r still done step =
-    one_heard (settled a) (Took now most r) refl (may_go (is_closed a.stage) (is_concluded r) still done) refl (stepped-one a.hub hub (event now (command.Take conn most)) r step) refl refl
+    one_happening (settled a) (Took now most r) refl (may_go (is_closed a.stage) (is_concluded r) still done) refl (stepped-one a.hub hub (event now (command.Take conn most)) r step) refl refl
 
 -- where a drain is, once it left that
 abbrev place_after : Place → Drain → State → Place
@@ -111,10 +111,10 @@ place_after a d hub = record a { stage = d.stage; owed = d.owed; missed = d.miss
 -- an answer without deliveries
 answered : (conn now most : ℕ) (a : Place) (before text : List ℕ) (s : Stage) (st : Option Stall) (d : Drain) (hub : State) (r : Result Outcome HubRefusal) →
     is_closed a.stage ≡ false → is_concluded r ≡ true → IsAnswered IsStep a.hub (event now (command.Take conn most)) r hub →
-    take_told a.stage r ≡ tells text s → took (Took now most r) ≡ [] → has_missed (Took now most r) ≡ false → d ≡ ends (before ++ text) s st false →
+    take_told a.stage r ≡ told_text text s → took (Took now most r) ≡ [] → has_missed (Took now most r) ≡ false → d ≡ drain_owing_nothing (before ++ text) s st false →
     IsPartTo conn now most (settled a) before d.text (place_after a d hub)
 answered conn now most a before text s st d hub r still done step told none kept is = record {
-  heard = Took now most r ∷ [];
+  happened = Took now most r ∷ [];
   text = text;
   leads = leads_as refl (sym (ap (λ (t : Told). t.text) told))
       (λ i. record a { stage = (ap (λ (x : Drain). x.stage) is ∙ sym (ap (λ (t : Told). t.stage) told)) i; owed = (ap (λ (x : Drain). x.owed) is ∙ sym none) i; missed = (ap (λ (x : Drain). x.missed) is ∙ sym kept) i; hub = hub })
@@ -125,9 +125,9 @@ answered conn now most a before text s st d hub r still done step told none kept
 
 -- a refusal that concludes nothing
 not_taken : (conn now most : ℕ) (a : Place) (before : List ℕ) (st : Option Stall) (d : Drain) (hub : State) →
-    hub ≡ a.hub → d ≡ ends before a.stage st false → IsPartTo conn now most (settled a) before d.text (place_after a d hub)
+    hub ≡ a.hub → d ≡ drain_owing_nothing before a.stage st false → IsPartTo conn now most (settled a) before d.text (place_after a d hub)
 not_taken conn now most a before st d hub same is = record {
-  heard = [];
+  happened = [];
   text = [];
   leads = leads_as refl refl (λ i. record a { stage = (is i).stage; owed = (is i).owed; missed = (is i).missed; hub = same i }) (idles (settled a));
   after_so = ap (λ (x : Drain). x.text) is ∙ sym (append-nil before);
@@ -136,14 +136,14 @@ not_taken conn now most a before st d hub same is = record {
 
 -- deliveries are written as far as it goes
 delivered : (conn now most : ℕ) (a : Place) (before : List ℕ) (d : Drain) (hub : State) (ds : List Delivery) (was_missed : Bool) →
-    is_closed a.stage ≡ false → IsAnswered IsStep a.hub (event now (command.Take conn most)) (Ok (outcome.Taken ds was_missed)) hub → IsSettled a.stage before ds was_missed d →
+    is_closed a.stage ≡ false → IsAnswered IsStep a.hub (event now (command.Take conn most)) (Ok (outcome.Taken ds was_missed)) hub → IsDrainEnd a.stage before ds was_missed d →
     IsPartTo conn now most (settled a) before d.text (place_after a d hub)
 delivered conn now most a before d hub ds was_missed still step h =
     let with : Place = record a { owed = ds; missed = was_missed; hub = hub } in
     let t : IsPartTo conn now most with before d.text (record with { stage = stage_after a.stage h.0; owed = d.owed; missed = d.missed }) =
     told_to conn now most with before d.text d.owed d.missed h.0 still h.1 in
     record {
-      heard = Took now most (Ok (outcome.Taken ds was_missed)) ∷ t.heard;
+      happened = Took now most (Ok (outcome.Taken ds was_missed)) ∷ t.happened;
       text = t.text;
       leads = leads_on (one_taken conn now most a hub (Ok (outcome.Taken ds was_missed)) still refl step)
           (leads_as refl refl (λ i. record with { stage = h.2 i; owed = d.owed; missed = d.missed }) t.leads);
@@ -162,17 +162,17 @@ take_to conn now most a before d hub (Err refusal.HistoryFull) still step h =
 take_to conn now most a before d hub (Err refusal.NoMemory) still step h =
     not_taken conn now most a before (Some stall.Memory) d hub (refused (event now (command.Take conn most)) refusal.NoMemory refl step) h
 take_to conn now most a before d hub (Err x) still step h =
-    answered conn now most a before [] a.stage None d hub (Err x) still refl step refl refl refl (h ∙ ap (λ (t : List ℕ). ends t a.stage None false) (sym (append-nil before)))
+    answered conn now most a before [] a.stage None d hub (Err x) still refl step refl refl refl (h ∙ ap (λ (t : List ℕ). drain_owing_nothing t a.stage None false) (sym (append-nil before)))
 take_to conn now most a before d hub (Ok o) still step h =
-    answered conn now most a before [] a.stage None d hub (Ok o) still refl step refl refl refl (h ∙ ap (λ (t : List ℕ). ends t a.stage None false) (sym (append-nil before)))
+    answered conn now most a before [] a.stage None d hub (Ok o) still refl step refl refl refl (h ∙ ap (λ (t : List ℕ). drain_owing_nothing t a.stage None false) (sym (append-nil before)))
 
 -- ---- a drain
 
 -- where a drain leads
 pub record IsDrainedTo (conn now most : ℕ) (a : Place) (d : Drain) (hub : State) : Type 0 where
-  pub heard : List Heard
-  pub leads : Leads conn a heard d.text [] [] (place_after a d hub)
-  pub of_drain : AllByRecursion (IsOfDrain now most) heard
+  pub happened : List Happening
+  pub leads : Leads conn a happened d.text [] [] (place_after a d hub)
+  pub of_drain : AllByRecursion (IsOfDrain now most) happened
 
 -- no Take is made
 owed_still : (conn now most : ℕ) (a : Place) (d : Drain) (hub : State) (written : Written) →
@@ -181,7 +181,7 @@ owed_still : (conn now most : ℕ) (a : Place) (d : Drain) (hub : State) (writte
 owed_still conn now most a d hub written still told stage same =
     let t : IsPartTo conn now most a [] d.text (record a { stage = stage_after a.stage written; owed = d.owed; missed = d.missed }) = told_to conn now most a [] d.text d.owed d.missed written still told in
     record {
-      heard = t.heard;
+      happened = t.happened;
       leads = leads_as refl t.after_so (λ i. record a { stage = stage i; owed = d.owed; missed = d.missed; hub = same i }) t.leads;
       of_drain = t.of_drain;
     }
@@ -194,9 +194,9 @@ then_taken conn now most a d hub still none k =
     let t : IsPartTo conn now most a [] (texts (takes_headers a.stage) a.owed) (settled a) =
     told_to conn now most a [] (texts (takes_headers a.stage) a.owed) [] false All still (refl, refl, none, refl) in
     record {
-      heard = t.heard ++ k.heard;
+      happened = t.happened ++ k.happened;
       leads = leads_as refl (k.after_so ∙ ap (λ (x : List ℕ). x ++ k.text) t.after_so) refl (leads_on t.leads k.leads);
-      of_drain = both_of_drain now most t.heard k.heard t.of_drain k.of_drain;
+      of_drain = both_of_drain now most t.happened k.happened t.of_drain k.of_drain;
     }
 
 pub drains_to : {P : Type 0} (steps : Steps P) (hub_of : P → State) → IsPortTo steps hub_of →

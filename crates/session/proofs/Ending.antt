@@ -3,22 +3,22 @@ use Rattle.std.proofs.Common.{rules, ◌≡◌, ◌∙◌, ◌∷◌, [], ℕ, L
 use Rattle.std.proofs.lemmas.List.{append-nil}
 use Rattle.wire_read.specs.declared.frame.Frame.{Frame}
 use Rattle.hub.specs.History.{State, IsStep}
-use Rattle.hub.specs.declared.event.Event.{Event}
-use Rattle.hub.specs.declared.event.Command.TheVariants as command
-use Rattle.hub.specs.declared.answer.Outcome.{Outcome}
-use Rattle.hub.specs.declared.answer.Outcome.TheVariants as outcome
-use Rattle.hub.specs.declared.answer.HubRefusal.{HubRefusal}
-use Rattle.hub.specs.declared.answer.HubRefusal.TheVariants as refusal
-use Rattle.session.specs.declared.stage.Stage.{Stage}
-use Rattle.session.specs.declared.stage.Stage.TheVariants as stage
-use Rattle.session.specs.declared.output.Output.{Output}
-use Rattle.session.specs.declared.output.Stall.{Stall}
-use Rattle.session.specs.Replies.{tells, is_closed, closed_from}
-use Rattle.session.specs.Turns.{Steps, Draws, event, IsAnswered}
-use Rattle.session.specs.Calls.{Connection, Given, given, nothing, stage_closed, IsQuiet, IsClosing, IsEnded}
-use Rattle.session.specs.Heard.{Ended, Other, Asked, came, come_of_end}
+use Rattle.events.specs.declared.event.Event.{Event}
+use Rattle.events.specs.declared.event.Command.TheVariants as command
+use Rattle.events.specs.declared.answer.Outcome.{Outcome}
+use Rattle.events.specs.declared.answer.Outcome.TheVariants as outcome
+use Rattle.events.specs.declared.refusal.HubRefusal.{HubRefusal}
+use Rattle.events.specs.declared.refusal.HubRefusal.TheVariants as refusal
+use Rattle.conn.specs.declared.stage.Stage.{Stage}
+use Rattle.conn.specs.declared.stage.Stage.TheVariants as stage
+use Rattle.conn.specs.declared.output.Output.{Output}
+use Rattle.conn.specs.declared.output.Stall.{Stall}
+use Rattle.conn.specs.Replies.{told_text, is_closed, closed_from}
+use Rattle.conn.specs.Turns.{Steps, Draws, event, IsAnswered}
+use Rattle.conn.specs.Calls.{Connection, Given, given, nothing, stage_closed, IsQuiet, IsClosing, IsEnded}
+use Rattle.session.specs.Happenings.{Ended, Other, Asked, came, come_of_end}
 use Rattle.session.specs.Accounts.{Call, Moment, IsPortTo, IsStepped, IsLeft}
-use Rattle.session.proofs.Leading.{Place, Leads, leads_as, stepped-nil, or_false, one_heard}
+use Rattle.session.proofs.Leading.{Place, Leads, leads_as, stepped-nil, or_false, one_happening}
 use Rattle.session.proofs.Concluding.{of_hub, stepped-one}
 use Rattle.session.proofs.Calling.{place_of, IsBetween, ReadsOn, reads_none, IsCallTo}
 
@@ -31,9 +31,9 @@ record IsEndedTo (conn now : ℕ) (a : Place) (s : Stage) (hub : State) : Type 0
   closed : is_closed s ≡ true
 
 end_leads : (conn now : ℕ) (a : Place) (s : Stage) (hub : State) (r : Result Outcome HubRefusal) (asked : List Asked) →
-    come_of_end conn now r (closed_from a.stage) ≡ came (tells [] s) asked [] → IsStepped asked a.hub hub →
+    come_of_end conn now r (closed_from a.stage) ≡ came (told_text [] s) asked [] → IsStepped asked a.hub hub →
     Leads conn a (Ended now r ∷ []) [] [] [] (record a { stage = s; hub = hub })
-end_leads conn now a s hub r asked is stepped = one_heard a (Ended now r) is (search rules) refl stepped (append-nil a.owed) (or_false a.missed)
+end_leads conn now a s hub r asked is stepped = one_happening a (Ended now r) is (search rules) refl stepped (append-nil a.owed) (or_false a.missed)
 
 closed_after : (r : Result Outcome HubRefusal) → is_closed (stage_closed r) ≡ true
 closed_after (Err refusal.NoSession) = refl
@@ -45,7 +45,7 @@ quiet_end : {P : Type 0} (hub_of : P → State) (conn now : ℕ) (a : Place) (p 
 quiet_end hub_of conn now a p s st p' at from h = record {
   answer = Ok outcome.Closed;
   leads = end_leads conn now a s (hub_of p') (Ok outcome.Closed) []
-      (ap (come_of_end conn now (Ok outcome.Closed)) from ∙ ap (λ (x : Stage). came (tells [] x) [] []) (sym h.stage)) (stepped-nil a.hub (hub_of p') (ap hub_of h.port ∙ at));
+      (ap (come_of_end conn now (Ok outcome.Closed)) from ∙ ap (λ (x : Stage). came (told_text [] x) [] []) (sym h.stage)) (stepped-nil a.hub (hub_of p') (ap hub_of h.port ∙ at));
   closed = ap is_closed h.stage;
 }
 
@@ -56,7 +56,7 @@ close_end : {P : Type 0} (steps : Steps P) (hub_of : P → State) → IsPortTo s
 close_end steps hub_of port conn now a p s p' r at from step is = record {
   answer = r;
   leads = end_leads conn now a s (hub_of p') r ((event now (command.Close conn), r) ∷ [])
-      (ap (come_of_end conn now r) from ∙ ap (λ (x : Stage). came (tells [] x) ((event now (command.Close conn), r) ∷ []) []) (sym is))
+      (ap (come_of_end conn now r) from ∙ ap (λ (x : Stage). came (told_text [] x) ((event now (command.Close conn), r) ∷ []) []) (sym is))
       (stepped-one a.hub (hub_of p') (event now (command.Close conn)) r
       (subst (λ (x : State). IsAnswered IsStep x (event now (command.Close conn)) r (hub_of p')) at (of_hub steps hub_of port step)));
   closed = ap is_closed is ∙ closed_after r;
@@ -83,7 +83,7 @@ ended_to steps draws hub_of port conn now m left spare p o p' m' between before 
     let to : IsEndedTo conn now (place_of m left spare) m'.at.stage (hub_of p') = end_by steps hub_of port conn now (place_of m left spare) p m'.at.stage o.stall p' c.stage before refl
     (subst (λ (n : ℕ). IsClosing steps now n (closed_from c.stage) p m'.at.stage o.stall p') between.same h.closing) in
     record {
-      heard = Ended now to.answer ∷ [];
+      happened = Ended now to.answer ∷ [];
       arrived = [];
       left' = left;
       spare' = spare;
@@ -106,14 +106,14 @@ pub other_to : {W : Type 0} (draws : Draws W) (conn : ℕ) (e : Event) (m : Mome
     IsBetween conn m.at left spare → g ≡ nothing false None → IsAnswered IsStep m.hub e r m'.hub → m'.at ≡ m.at →
     IsCallTo draws conn (Call.Others e) m left spare g m'
 other_to draws conn e m left spare g m' r between gives step at = record {
-  heard = Other e r ∷ [];
+  happened = Other e r ∷ [];
   arrived = [];
   left' = left;
   spare' = spare;
   drawn = [];
   words = refl;
   leads = leads_as refl (ap (λ (x : Given). x.bytes) gives) (λ i. place_of (record { at = at i; hub = m'.hub }) left spare)
-      (one_heard (place_of m left spare) (Other e r) {s = m.at.stage} refl (search rules) refl (stepped-one m.hub m'.hub e r step) (append-nil m.at.owed) (or_false m.at.missed));
+      (one_happening (place_of m left spare) (Other e r) {s = m.at.stage} refl (search rules) refl (stepped-one m.hub m'.hub e r step) (append-nil m.at.owed) (or_false m.at.missed));
   between = subst (λ (c : Connection). IsBetween conn c left spare) (sym at) between;
   part = (r, refl);
   closes = ap (λ (x : Given). x.close) gives;

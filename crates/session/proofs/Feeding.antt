@@ -5,14 +5,14 @@ use Rattle.std.proofs.lemmas.Bool.{cond-true, cond-false}
 use Rattle.wire_read.specs.declared.frame.Frame.{Frame}
 use Rattle.wire_read.specs.Framing.{Reader, Framing, framing, followed, CutAnywhere}
 use Rattle.hub.specs.History.{State}
-use Rattle.session.specs.declared.stage.Stage.{Stage}
-use Rattle.session.specs.declared.output.Output.{Output}
-use Rattle.session.specs.declared.output.Stall.{Stall}
-use Rattle.session.specs.Replies.{is_closed}
-use Rattle.session.specs.Turns.{Steps, Draws}
-use Rattle.session.specs.Serving.{Spot, spot, Served, served, Serves, frames_after, reader_after}
-use Rattle.session.specs.Calls.{Connection, Given, given, IsRead, IsServedAt}
-use Rattle.session.specs.Heard.{Heard}
+use Rattle.conn.specs.declared.stage.Stage.{Stage}
+use Rattle.conn.specs.declared.output.Output.{Output}
+use Rattle.conn.specs.declared.output.Stall.{Stall}
+use Rattle.conn.specs.Replies.{is_closed}
+use Rattle.conn.specs.Turns.{Steps, Draws}
+use Rattle.conn.specs.Serving.{Spot, spot, Served, served, Serves, frames_after, reader_after}
+use Rattle.conn.specs.Calls.{Connection, Given, given, IsRead, IsServedAt}
+use Rattle.session.specs.Happenings.{Happening}
 use Rattle.session.specs.Accounts.{Call, Moment, IsPortTo, unless_refused}
 use Rattle.session.proofs.Leading.{Place, Leads, leads_as, drawn-nil}
 use Rattle.session.proofs.Serving.{HasFirst, no_word, IsStanding, IsServedTo, serves_to}
@@ -29,7 +29,7 @@ reads_piece : CutAnywhere → (r : Reader) (piece : List ℕ) → ReadsOn r piec
 reads_piece cut r piece fs bytes h = read_by r.rest r.failed piece fs ∙ ap (λ (f : Framing). followed f piece) h ∙ sym (cut bytes piece)
 
 -- frames that arrived come behind those that had no turn
-arrived_first : {conn : ℕ} (a : Place) (more : List Frame) {hs : List Heard} {text drawn : List ℕ} {b : Place} →
+arrived_first : {conn : ℕ} (a : Place) (more : List Frame) {hs : List Happening} {text drawn : List ℕ} {b : Place} →
     Leads conn (record a { left = a.left ++ more }) hs text [] drawn b → Leads conn a hs text more drawn b
 arrived_first a more l = record {
   came = l.came;
@@ -65,7 +65,7 @@ read_to {P} {W} steps draws hub_of port cut conn now piece w w' m left spare p o
     (has_first conn c.stage c.word c.frames more between.standing.first)
     (subst (λ (n : ℕ). Serves steps draws now n (c.frames ++ more) at r) between.same h.turns) in
     record {
-      heard = to.heard;
+      happened = to.happened;
       arrived = more;
       left' = to.left;
       spare' = to.spare;

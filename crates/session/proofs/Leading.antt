@@ -7,11 +7,11 @@ use Rattle.std.proofs.lemmas.List.Concat.{flat_map-append}
 use Rattle.std.proofs.lemmas.List.Folds.{list_any-append}
 use Rattle.wire_read.specs.declared.frame.Frame.{Frame}
 use Rattle.hub.specs.History.{State}
-use Rattle.hub.specs.declared.answer.Delivery.{Delivery}
-use Rattle.session.specs.declared.stage.Stage.{Stage}
-use Rattle.session.specs.Replies.{tells}
-use Rattle.session.specs.Turns.{Draws}
-use Rattle.session.specs.Heard.{Heard, framed, sent, took, is_slow, has_missed, Asked, Came, came, come_of, then_came, comes, may_come, IsInOrder}
+use Rattle.events.specs.declared.answer.Delivery.{Delivery}
+use Rattle.conn.specs.declared.stage.Stage.{Stage}
+use Rattle.conn.specs.Replies.{told_text}
+use Rattle.conn.specs.Turns.{Draws}
+use Rattle.session.specs.Happenings.{Happening, framed, sent, took, is_slow, has_missed, Asked, Came, came, come_of, then_came, comes, may_come, IsInOrder}
 use Rattle.session.specs.Accounts.{IsStepped, IsDrawn}
 
 -- ---- one after another
@@ -24,18 +24,18 @@ then_assoc a b c = λ i. record {
   words = append_assoc a.words b.words c.words i;
 }
 
-comes-nil : (conn : ℕ) (s : Stage) → comes conn s [] ≡ came (tells [] s) [] []
+comes-nil : (conn : ℕ) (s : Stage) → comes conn s [] ≡ came (told_text [] s) [] []
 unfolding comes
 comes-nil conn s = refl
 
-comes-append : (conn : ℕ) (s : Stage) (hs more : List Heard) → comes conn s (hs ++ more) ≡ then_came (comes conn s hs) (comes conn (comes conn s hs).stage more)
+comes-append : (conn : ℕ) (s : Stage) (hs more : List Happening) → comes conn s (hs ++ more) ≡ then_came (comes conn s hs) (comes conn (comes conn s hs).stage more)
 unfolding comes
 comes-append conn s [] more = refl
 comes-append conn s (h ∷ hs) more =
     ap (then_came (come_of conn s h)) (comes-append conn (come_of conn s h).stage hs more)
     ∙ sym (then_assoc (come_of conn s h) (comes conn (come_of conn s h).stage hs) (comes conn (comes conn (come_of conn s h).stage hs).stage more))
 
-pub comes-one : (conn : ℕ) (s : Stage) (h : Heard) → comes conn s (h ∷ []) ≡ come_of conn s h
+pub comes-one : (conn : ℕ) (s : Stage) (h : Happening) → comes conn s (h ∷ []) ≡ come_of conn s h
 unfolding comes
 comes-one conn s h =
     let c : Came = come_of conn s h in
@@ -45,11 +45,11 @@ in_order-nil : (conn : ℕ) (s : Stage) → IsInOrder conn s []
 unfolding IsInOrder
 in_order-nil conn s = tt
 
-pub in_order-one : (conn : ℕ) (s : Stage) (h : Heard) → IsTrue (may_come s h) → IsInOrder conn s (h ∷ [])
+pub in_order-one : (conn : ℕ) (s : Stage) (h : Happening) → IsTrue (may_come s h) → IsInOrder conn s (h ∷ [])
 unfolding IsInOrder
 in_order-one conn s h may = (may, tt)
 
-in_order-append : (conn : ℕ) (s : Stage) (hs more : List Heard) → IsInOrder conn s hs → IsInOrder conn (comes conn s hs).stage more → IsInOrder conn s (hs ++ more)
+in_order-append : (conn : ℕ) (s : Stage) (hs more : List Happening) → IsInOrder conn s hs → IsInOrder conn (comes conn s hs).stage more → IsInOrder conn s (hs ++ more)
 unfolding comes IsInOrder
 in_order-append conn s [] more h k = k
 in_order-append conn s (x ∷ hs) more h k = (h.0, in_order-append conn (come_of conn s x).stage hs more h.1 k)
@@ -85,7 +85,7 @@ pub record Place : Type 0 where
   pub hub : State
 
 -- from place to place by what happens, with this text, while these frames arrived and these words were drawn
-pub record Leads (conn : ℕ) (a : Place) (hs : List Heard) (text : List ℕ) (arrived : List Frame) (drawn : List ℕ) (b : Place) : Type 0 where
+pub record Leads (conn : ℕ) (a : Place) (hs : List Happening) (text : List ℕ) (arrived : List Frame) (drawn : List ℕ) (b : Place) : Type 0 where
   pub came : Came
   pub comes_so : comes conn a.stage hs ≡ came
   pub order : IsInOrder conn a.stage hs
@@ -110,7 +110,7 @@ or_chain a b c x y x' y' h k = sym (assoc a x y) ∙ ap (λ l. l || y) h ∙ ass
     assoc true q r = refl
     assoc false q r = refl
 
-pub leads_on : {conn : ℕ} {a b c : Place} {hs more : List Heard} {text text' : List ℕ} {arrived arrived' : List Frame} {drawn drawn' : List ℕ} →
+pub leads_on : {conn : ℕ} {a b c : Place} {hs more : List Happening} {text text' : List ℕ} {arrived arrived' : List Frame} {drawn drawn' : List ℕ} →
     Leads conn a hs text arrived drawn b → Leads conn b more text' arrived' drawn' c →
     Leads conn a (hs ++ more) (text ++ text') (arrived ++ arrived') (drawn ++ drawn') c
 leads_on {conn} {a} {b} {c} {hs} {more} {text} {text'} {arrived} {arrived'} {drawn} {drawn'} h k =
@@ -135,7 +135,7 @@ leads_on {conn} {a} {b} {c} {hs} {more} {text} {text'} {arrived} {arrived'} {dra
     }
 
 -- the same places and the same text by other names
-pub leads_as : {conn : ℕ} {a a' b b' : Place} {hs : List Heard} {text text' : List ℕ} {arrived : List Frame} {drawn : List ℕ} →
+pub leads_as : {conn : ℕ} {a a' b b' : Place} {hs : List Happening} {text text' : List ℕ} {arrived : List Frame} {drawn : List ℕ} →
     a' ≡ a → text' ≡ text → b' ≡ b → Leads conn a hs text arrived drawn b → Leads conn a' hs text' arrived drawn b'
 leads_as {conn} {a} {a'} {b} {b'} {hs} {text} {text'} {arrived} {drawn} from written to l =
     subst (λ x. Leads conn x hs text' arrived drawn b') (sym from)
@@ -151,7 +151,7 @@ or_false false = refl
 pub stays : {conn : ℕ} (a : Place) {spare : Option ℕ} {hub : State} {drawn : List ℕ} →
     hub ≡ a.hub → option_to_list spare ≡ option_to_list a.spare ++ drawn → Leads conn a [] [] [] drawn (record a { spare = spare; hub = hub })
 stays {conn} a {hub} same so = record {
-  came = came (tells [] a.stage) [] [];
+  came = came (told_text [] a.stage) [] [];
   comes_so = comes-nil conn a.stage;
   order = in_order-nil conn a.stage;
   text_so = refl;
@@ -167,12 +167,12 @@ pub idles : {conn : ℕ} (a : Place) → Leads conn a [] [] [] [] a
 idles a = stays a refl (sym (append-nil (option_to_list a.spare)))
 
 -- one thing happens, and no frame has its turn
-pub one_heard : {conn : ℕ} (a : Place) (h : Heard) {text : List ℕ} {s : Stage} {asked : List Asked} {owed : List Delivery} {missed : Bool} {hub : State} →
-    come_of conn a.stage h ≡ came (tells text s) asked [] → IsTrue (may_come a.stage h) → framed h ≡ [] → IsStepped asked a.hub hub →
+pub one_happening : {conn : ℕ} (a : Place) (h : Happening) {text : List ℕ} {s : Stage} {asked : List Asked} {owed : List Delivery} {missed : Bool} {hub : State} →
+    come_of conn a.stage h ≡ came (told_text text s) asked [] → IsTrue (may_come a.stage h) → framed h ≡ [] → IsStepped asked a.hub hub →
     a.owed ++ took h ≡ sent h ++ owed → (a.missed || has_missed h) ≡ (is_slow h || missed) →
     Leads conn a (h ∷ []) text [] [] (record a { stage = s; owed = owed; missed = missed; hub = hub })
-one_heard {conn} a h {text} {s} {asked} {owed} {missed} is may unframed stepped waiting told = record {
-  came = came (tells text s) asked [];
+one_happening {conn} a h {text} {s} {asked} {owed} {missed} is may unframed stepped waiting told = record {
+  came = came (told_text text s) asked [];
   comes_so = comes-one conn a.stage h ∙ is;
   order = in_order-one conn a.stage h may;
   text_so = refl;

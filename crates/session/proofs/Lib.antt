@@ -5,10 +5,5 @@ mod Draining
 mod Ending
 mod Feeding
 mod Leading
-mod Parsing
-mod Reading
-mod Runs
 mod Serving
-mod Short
 mod Turning
-mod Written

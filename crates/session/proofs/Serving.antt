@@ -3,14 +3,14 @@ use Rattle.std.proofs.Common.{◌≡◌, ◌∷◌, ◌++◌, [], ℕ, List, Boo
 use Rattle.std.specs.List.{AllByRecursion}
 use Rattle.wire_read.specs.declared.frame.Frame.{Frame}
 use Rattle.hub.specs.History.{State}
-use Rattle.hub.specs.declared.answer.Delivery.{Delivery}
-use Rattle.session.specs.declared.stage.Stage.{Stage}
-use Rattle.session.specs.declared.output.Stall.{Stall}
-use Rattle.session.specs.Replies.{Told, is_closed}
-use Rattle.session.specs.Plans.{plan_of}
-use Rattle.session.specs.Turns.{Steps, Draws, Turned, Goes, Stalls, IsTurn}
-use Rattle.session.specs.Serving.{Spot, spot, Served, served, rests, behind, UnlessClosed, IsFollowed, Serves}
-use Rattle.session.specs.Heard.{Heard, Framed}
+use Rattle.events.specs.declared.answer.Delivery.{Delivery}
+use Rattle.conn.specs.declared.stage.Stage.{Stage}
+use Rattle.conn.specs.declared.output.Stall.{Stall}
+use Rattle.conn.specs.Replies.{Told, is_closed}
+use Rattle.conn.specs.Plans.{plan_of}
+use Rattle.conn.specs.Turns.{Steps, Draws, Turned, Goes, Stalls, IsTurn}
+use Rattle.conn.specs.Serving.{Spot, spot, Served, served, rests, behind, UnlessClosed, IsFollowed, Serves}
+use Rattle.session.specs.Happenings.{Happening, Framed}
 use Rattle.session.specs.Accounts.{IsPortTo, IsFramedAt, IsLeft, IsDrawn}
 use Rattle.session.proofs.Leading.{Leads, leads_on, idles, drawn-nil, drawn-append}
 use Rattle.session.proofs.Concluding.{HasWord, IsNoRefusal}
@@ -32,13 +32,13 @@ pub record IsStanding (conn : ℕ) (s : Stage) (frames : List Frame) (word : Opt
 
 -- where turns lead
 pub record IsServedTo {P W : Type 0} (draws : Draws W) (hub_of : P → State) (conn now : ℕ) (owed : List Delivery) (missed : Bool) (fs : List Frame) (at : Spot P W) (r : Served P W) : Type 0 where
-  pub heard : List Heard
+  pub happened : List Happening
   pub left : List Frame
   pub spare : Option ℕ
   pub drawn : List ℕ
-  pub leads : Leads conn (place_at hub_of owed missed fs at) heard r.text [] drawn (place_at hub_of owed missed left (spot r.at.port r.at.words r.at.stage spare))
+  pub leads : Leads conn (place_at hub_of owed missed fs at) happened r.text [] drawn (place_at hub_of owed missed left (spot r.at.port r.at.words r.at.stage spare))
   pub words : IsDrawn draws at.words drawn r.at.words
-  pub framed : AllByRecursion (IsFramedAt now) heard
+  pub framed : AllByRecursion (IsFramedAt now) happened
   pub standing : IsStanding conn r.at.stage r.frames r.at.word r.stall left spare
   pub takes : IsNoRefusal r.stall
 
@@ -57,7 +57,7 @@ left_so false left word none wordless = (sym (none refl), refl)
 no_turn : {P W : Type 0} (draws : Draws W) (hub_of : P → State) (conn now : ℕ) (owed : List Delivery) (missed : Bool) (fs : List Frame) (at : Spot P W) →
     (is_closed at.stage ≡ false → fs ≡ []) → at.word ≡ None → IsServedTo draws hub_of conn now owed missed fs at (rests at)
 no_turn draws hub_of conn now owed missed fs at none wordless = record {
-  heard = [];
+  happened = [];
   left = fs;
   spare = at.word;
   drawn = [];
@@ -78,7 +78,7 @@ first_stalls : {P W : Type 0} (draws : Draws W) (hub_of : P → State) (conn now
     is_closed at.stage ≡ false → IsKept draws hub_of conn owed missed f (f ∷ fs) at st kept p w →
     IsServedTo draws hub_of conn now owed missed (f ∷ fs) at (served [] (f ∷ fs) (Some st) (spot p w at.stage kept))
 first_stalls draws hub_of conn now owed missed f fs at st kept p w still h = record {
-  heard = [];
+  happened = [];
   left = f ∷ fs;
   spare = kept;
   drawn = h.drawn;
@@ -98,7 +98,7 @@ first_goes : {P W : Type 0} (draws : Draws W) (hub_of : P → State) (conn now :
     IsConcluded draws hub_of conn now owed missed f fs at t p w → IsServedTo draws hub_of conn now owed missed fs (spot p w t.stage None) rest →
     IsServedTo draws hub_of conn now owed missed (f ∷ fs) at (behind t.text rest)
 first_goes draws hub_of conn now owed missed f fs at t p w rest h k = record {
-  heard = Framed now f h.word h.answer ∷ k.heard;
+  happened = Framed now f h.word h.answer ∷ k.happened;
   left = k.left;
   spare = k.spare;
   drawn = h.drawn ++ k.drawn;

@@ -4,20 +4,20 @@ use Rattle.std.specs.Option.{option_to_list}
 use Rattle.std.proofs.lemmas.List.{append-nil}
 use Rattle.wire_read.specs.declared.frame.Frame.{Frame}
 use Rattle.hub.specs.History.{State}
-use Rattle.hub.specs.declared.event.Command.TheVariants as command
-use Rattle.hub.specs.declared.answer.Delivery.{Delivery}
-use Rattle.hub.specs.declared.answer.Outcome.{Outcome}
-use Rattle.hub.specs.declared.answer.Outcome.TheVariants as outcome
-use Rattle.hub.specs.declared.answer.HubRefusal.{HubRefusal}
-use Rattle.session.specs.declared.output.Stall.{Stall}
-use Rattle.session.specs.declared.output.Stall.TheVariants as stall
-use Rattle.session.specs.declared.plan.Plan.{Plan}
-use Rattle.session.specs.declared.plan.Plan.TheVariants.{Tells, Asks, Publishes}
-use Rattle.session.specs.Replies.{Told, told, is_closed}
-use Rattle.session.specs.Plans.{plan_of}
-use Rattle.session.specs.Turns.{Steps, Draws, Goes, Stalls, event, IsPlanned, IsTurn}
-use Rattle.session.specs.Serving.{Spot, spot}
-use Rattle.session.specs.Heard.{Framed, Came, come_of_plan, is_concluded}
+use Rattle.events.specs.declared.event.Command.TheVariants as command
+use Rattle.events.specs.declared.answer.Delivery.{Delivery}
+use Rattle.events.specs.declared.answer.Outcome.{Outcome}
+use Rattle.events.specs.declared.answer.Outcome.TheVariants as outcome
+use Rattle.events.specs.declared.refusal.HubRefusal.{HubRefusal}
+use Rattle.conn.specs.declared.output.Stall.{Stall}
+use Rattle.conn.specs.declared.output.Stall.TheVariants as stall
+use Rattle.conn.specs.declared.plan.Plan.{Plan}
+use Rattle.conn.specs.declared.plan.Plan.TheVariants.{Tells, Asks, Publishes}
+use Rattle.conn.specs.Replies.{Told, told, is_closed}
+use Rattle.conn.specs.Plans.{plan_of}
+use Rattle.conn.specs.Turns.{Steps, Draws, Goes, Stalls, event, IsPlanned, IsTurn}
+use Rattle.conn.specs.Serving.{Spot, spot}
+use Rattle.session.specs.Happenings.{Framed, Came, come_of_plan, is_concluded}
 use Rattle.session.specs.Accounts.{IsPortTo, IsStepped, IsDrawn}
 use Rattle.session.proofs.Leading.{Place, Leads, comes-one, in_order-one, stepped-nil, drawn-nil, or_false, stays}
 use Rattle.session.proofs.Concluding.{of_hub, stepped-one, refused, IsWordFrom, word_from, HasWord, told_wordless, asked_wordless, goes_told, IsNoRefusal, IsStalled, stalls_told, may_go}
@@ -84,16 +84,16 @@ goes_by steps draws hub_of port conn now owed missed f fs at t p w (Asks what ac
           (ap (λ (o : Option ℕ). option_to_list o ++ []) (sym (asked_wordless at.word what accepted has)));
       words = drawn-nil draws at.words w h.3;
     }
-goes_by steps draws hub_of port conn now owed missed f fs at t p w (Publishes subject reply head body) still has planned h =
+goes_by steps draws hub_of port conn now owed missed f fs at t p w (Publishes message) still has planned h =
     let done = goes_told t at.stage at.stage f (Some h.1) h.0 h.4 in
     let drawn : IsWordFrom draws at.words at.word h.1 w = word_from draws at.words at.word h.1 w h.2 in
     record {
       word = h.1;
       answer = h.0;
       drawn = drawn.new;
-      leads = framed_leads conn now (place_at hub_of owed missed fs at) f fs (hub_of p) t h.1 h.0 (Publishes subject reply head body) drawn.new
+      leads = framed_leads conn now (place_at hub_of owed missed fs at) f fs (hub_of p) t h.1 h.0 (Publishes message) drawn.new
           still done.1 planned (ap (λ (x : Told). x.text) done.0) (ap (λ (x : Told). x.stage) done.0)
-          (stepped-one (hub_of at.port) (hub_of p) (event now (command.Pub conn subject reply head body h.1)) h.0 (of_hub steps hub_of port h.3)) drawn.same;
+          (stepped-one (hub_of at.port) (hub_of p) (event now (command.Pub conn message h.1)) h.0 (of_hub steps hub_of port h.3)) drawn.same;
       words = drawn.are;
     }
 
@@ -136,15 +136,15 @@ stalls_by steps draws hub_of port conn now owed missed f left at st kept p w (As
       has = subst (HasWord kept) (sym planned) (subst (λ (o : Option ℕ). HasWord o (Asks what accepted)) (sym so.keeps) has);
       takes = so.takes;
     }
-stalls_by steps draws hub_of port conn now owed missed f left at st kept p w (Publishes subject reply head body) has planned h =
+stalls_by steps draws hub_of port conn now owed missed f left at st kept p w (Publishes message) has planned h =
     let so : IsStalled st kept (Some h.1) h.0 = stalls_told st kept at.stage at.stage f (Some h.1) h.0 h.4 in
     let drawn : IsWordFrom draws at.words at.word h.1 w = word_from draws at.words at.word h.1 w h.2 in
     record {
       drawn = drawn.new;
-      leads = stays (place_at hub_of owed missed left at) (refused (event now (command.Pub conn subject reply head body h.1)) so.why so.is (of_hub steps hub_of port h.3))
+      leads = stays (place_at hub_of owed missed left at) (refused (event now (command.Pub conn message h.1)) so.why so.is (of_hub steps hub_of port h.3))
           (ap option_to_list so.keeps ∙ drawn.same);
       words = drawn.are;
-      has = subst (HasWord kept) (sym planned) (subst (λ (o : Option ℕ). HasWord o (Publishes subject reply head body)) (sym so.keeps) tt);
+      has = subst (HasWord kept) (sym planned) (subst (λ (o : Option ℕ). HasWord o (Publishes message)) (sym so.keeps) tt);
       takes = so.takes;
     }
 

@@ -6,19 +6,19 @@ use Rattle.std.specs.Option.{option_to_list}
 use Rattle.wire_read.specs.declared.frame.Frame.{Frame}
 use Rattle.wire_read.specs.Framing.{framing, frames_of}
 use Rattle.hub.specs.History.{State, IsStep}
-use Rattle.hub.specs.declared.event.Event.{Event}
-use Rattle.hub.specs.declared.answer.Answer.{Answer}
-use Rattle.hub.specs.declared.answer.Outcome.{Outcome}
-use Rattle.hub.specs.declared.answer.HubRefusal.{HubRefusal}
-use Rattle.session.specs.declared.stage.Stage.{Stage}
-use Rattle.session.specs.declared.stage.Stage.TheVariants.{Fresh}
-use Rattle.session.specs.declared.output.Output.{Output}
-use Rattle.session.specs.declared.output.Stall.{Stall}
-use Rattle.session.specs.declared.output.Stall.TheVariants as stall
-use Rattle.session.specs.Replies.{is_closed}
-use Rattle.session.specs.Turns.{Steps, Draws, IsAnswered}
-use Rattle.session.specs.Calls.{Connection, new_connection, Given, given, nothing, IsOpened, IsServed, IsDrained, IsEnded}
-use Rattle.session.specs.Heard.{Heard, Opened, Framed, Took, Sent, Slow, Ended, Other, framed, sent, took, is_slow, has_missed, Asked, comes, IsInOrder}
+use Rattle.events.specs.declared.event.Event.{Event}
+use Rattle.events.specs.declared.answer.Entry.{Entry}
+use Rattle.events.specs.declared.answer.Outcome.{Outcome}
+use Rattle.events.specs.declared.refusal.HubRefusal.{HubRefusal}
+use Rattle.conn.specs.declared.stage.Stage.{Stage}
+use Rattle.conn.specs.declared.stage.Stage.TheVariants.{Fresh}
+use Rattle.conn.specs.declared.output.Output.{Output}
+use Rattle.conn.specs.declared.output.Stall.{Stall}
+use Rattle.conn.specs.declared.output.Stall.TheVariants as stall
+use Rattle.conn.specs.Replies.{is_closed}
+use Rattle.conn.specs.Turns.{Steps, Draws, IsAnswered}
+use Rattle.conn.specs.Calls.{Connection, new_connection, Given, given, nothing, IsOpened, IsServed, IsDrained, IsEnded}
+use Rattle.session.specs.Happenings.{Happening, Opened, Framed, Took, Sent, Slow, Ended, Other, framed, sent, took, is_slow, has_missed, Asked, comes, IsInOrder}
 
 -- ---- calls
 
@@ -42,7 +42,7 @@ moment at hub = record { at = at; hub = hub }
 -- a port to a hub: each of its events is a step of it
 abbrev pub IsPortTo : {P : Type 0} → Steps P → (P → State) → Type 0
 IsPortTo {P} steps hub_of =
-    (p : P) (e : Event) (a : Result Answer (Event × HubRefusal)) (p' : P) → steps p e a p' → IsStep (hub_of p) e a (hub_of p')
+    (p : P) (e : Event) (a : Result Entry (Event × HubRefusal)) (p' : P) → steps p e a p' → IsStep (hub_of p) e a (hub_of p')
 
 -- a call over a port of its own: what is lent to it is the hub as it is then, and what it leaves is the hub after it
 abbrev pub Lends : {P : Type 0} → (P → State) → State → State → (P → P → Type 0) → Type 0
@@ -84,11 +84,11 @@ AreCalls steps draws hub_of (made ∷ more) m taken m' =
 
 -- ---- what happened in a call
 
-abbrev pub IsFramedAt : ℕ → Heard → Type 0
+abbrev pub IsFramedAt : ℕ → Happening → Type 0
 IsFramedAt now (Framed at f word r) = at ≡ now
 IsFramedAt now _ = ⊥
 
-abbrev pub IsOfDrain : ℕ → ℕ → Heard → Type 0
+abbrev pub IsOfDrain : ℕ → ℕ → Happening → Type 0
 IsOfDrain now most (Took at as_many r) = (at ≡ now) × (as_many ≡ most)
 IsOfDrain now most (Sent d) = Unit {0}
 IsOfDrain now most Slow = Unit {0}
@@ -96,7 +96,7 @@ IsOfDrain now most _ = ⊥
 
 -- What happens in a call: frames have their turns at its moment, or it is a drain's. INFO is written, or memory lacked.
 -- An end, and what others do, are one thing each.
-abbrev pub IsPart : {W : Type 0} → Call W → List Heard → Type 0
+abbrev pub IsPart : {W : Type 0} → Call W → List Happening → Type 0
 IsPart Opens hs = (hs ≡ []) ⊎ (hs ≡ Opened ∷ [])
 IsPart (Bytes now piece w w') hs = AllByRecursion (IsFramedAt now) hs
 IsPart (Drains now most) hs = AllByRecursion (IsOfDrain now most) hs
@@ -110,10 +110,10 @@ closes_by (Drains now most) s = is_closed s
 closes_by _ s = false
 
 -- what happened falls into parts, one for each call, and a call gives what its part comes to
-unfoldable pub HasParts : {W : Type 0} → ℕ → Stage → List (Made W) → List Heard → Type 0
+unfoldable pub HasParts : {W : Type 0} → ℕ → Stage → List (Made W) → List Happening → Type 0
 HasParts conn s [] hs = hs ≡ []
 HasParts conn s (made ∷ more) hs =
-    (part : List Heard) × (rest : List Heard) × (hs ≡ part ++ rest) × IsPart made.0 part
+    (part : List Happening) × (rest : List Happening) × (hs ≡ part ++ rest) × IsPart made.0 part
     × (written_by made ≡ (comes conn s part).text) × (made.1.close ≡ closes_by made.0 (comes conn s part).stage)
     × HasParts conn (comes conn s part).stage more rest
 
@@ -148,26 +148,26 @@ IsLeft false left spare frames word = (frames ≡ left) × (word ≡ spare)
 -- What happened accounts for all that was written, taken, asked and drawn.
 pub record IsAccounted {W : Type 0} (draws : Draws W) (conn : ℕ) (s : State) (calls : List (Made W)) (taken : List ℕ) (m : Moment) : Type 0 where
   -- what happened, the frames that had no turn, and the word of the first of these where it has drawn one
-  pub heard : List Heard
+  pub happened : List Happening
   pub left : List Frame
   pub spare : Option ℕ
   -- call by call, and nothing of it behind a closing text
-  pub parts : HasParts conn Fresh calls heard
-  pub order : IsInOrder conn Fresh heard
+  pub parts : HasParts conn Fresh calls happened
+  pub order : IsInOrder conn Fresh happened
   -- all that is written, and where the connection is then
-  pub text : flat_map written_by calls ≡ (comes conn Fresh heard).text
-  pub stage : m.at.stage ≡ (comes conn Fresh heard).stage
+  pub text : flat_map written_by calls ≡ (comes conn Fresh happened).text
+  pub stage : m.at.stage ≡ (comes conn Fresh happened).stage
   -- each event is submitted once, in order, and a message has one word, however often it stalls
-  pub hub : IsStepped (comes conn Fresh heard).asked s m.hub
-  pub words : AreDrawn draws calls ((comes conn Fresh heard).words ++ option_to_list spare)
+  pub hub : IsStepped (comes conn Fresh happened).asked s m.hub
+  pub words : AreDrawn draws calls ((comes conn Fresh happened).words ++ option_to_list spare)
   -- each frame of the bytes that were taken has one turn, in order, or none; none waits but where something stopped it
-  pub frames : framing (flat_map framed heard ++ left) m.at.reader.rest m.at.reader.failed ≡ frames_of taken
+  pub frames : framing (flat_map framed happened ++ left) m.at.reader.rest m.at.reader.failed ≡ frames_of taken
   pub waits : IsLeft (is_closed m.at.stage) left spare m.at.frames m.at.word
   pub wordless : left ≡ [] → spare ≡ None
   pub rests : m.at.stall ≡ None → m.at.frames ≡ []
   -- each delivery that was taken is written, in order, or owed; and that one was missed is written, or owed
-  pub deliveries : flat_map took heard ≡ flat_map sent heard ++ m.at.owed
-  pub missed : list_any has_missed heard ≡ (list_any is_slow heard || m.at.missed)
+  pub deliveries : flat_map took happened ≡ flat_map sent happened ++ m.at.owed
+  pub missed : list_any has_missed happened ≡ (list_any is_slow happened || m.at.missed)
 
 -- Whatever is called over ports to one hub, and whatever others do to it between: what happened accounts for it.
 abbrev pub AccountsOver : {P W : Type 0} → Steps P → Draws W → (P → State) → Type 0

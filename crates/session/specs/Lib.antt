@@ -1,8 +1,2 @@
-pub mod Replies
-pub mod Plans
-pub mod Turns
-pub mod Serving
-pub mod Drains
-pub mod Calls
-pub mod Heard
+pub mod Happenings
 pub mod Accounts

@@ -1,8 +1,8 @@
 ghost use Rattle.std.specs.Prelude.{◌≡◌};
 ghost use Rattle.hub.specs.History.{IsStep};
 
-use crate::port::Port;
-use hub::{Answer, Event, Hub, HubRefusal};
+use events::{Answer, Event, HubRefusal, Port};
+use hub::Hub;
 
 /// A hub that is this thread's alone: each event is one step of it.
 #[derive(Drop)]

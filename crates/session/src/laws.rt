@@ -1,7 +1,8 @@
 ghost use Rattle.session.specs.Accounts.{AccountsForCalls, AccountsOver};
 
 use crate::direct::Direct;
-use crate::port::{Port, Words};
+use conn::Words;
+use events::Port;
 use wire_read::cut_anywhere;
 
 /// Any calls of one connection, in any order, each over a port of its own to one hub, with whatever others do to the

@@ -1,28 +1,14 @@
-//! One connection: the bytes of its client to events of a port, and the answers to bytes (NATS documentation,
-//! "Client Protocol"; docs/PROTOCOL.md).
+//! Connections over a hub that is this thread's alone, and the law of any calls of a connection over one hub
+//! (docs/GUARANTEE.md, "A connection").
 #![tactic(auto)]
 
-mod conn;
 mod direct;
-mod drain;
-mod frames;
 mod laws;
-mod message;
-mod output;
-mod plan;
-mod port;
-mod reply;
-mod stage;
-mod submit;
-mod text;
-mod turn;
 
-pub use conn::Conn;
+pub use conn::{Conn, Output, Stage, Stall, Words};
 pub use direct::Direct;
+pub use events::Port;
 pub use laws::{any_calls, any_calls_direct};
-pub use output::{Output, Stall};
-pub use port::{Port, Words};
-pub use stage::Stage;
 
 #[cfg(test)]
 mod tests;

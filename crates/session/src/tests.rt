@@ -1,7 +1,2 @@
-mod drains;
-mod hub_refusals;
-mod life;
-mod port;
-mod refusals;
-mod stalls;
+mod calls;
 mod talk;
