@@ -1,7 +1,6 @@
 -- What a task reads and writes, and its status.
-use Rattle.std.specs.Prelude.{◌≤◌, ℕ, List, [], Option, Some, length, IfSome}
+use Rattle.std.specs.Prelude.{ℕ, List, [], Option, Some}
 use Rattle.std.specs.String.{string_bytes}
-use Rattle.devices.specs.Device.{IsFewerReads}
 use Rattle.script.specs.Fault.{IsShort, IsTooLong}
 use Rattle.script.specs.Play.{Played, output_of}
 use Rattle.natsd.specs.Check.{report_of}

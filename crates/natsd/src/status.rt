@@ -49,16 +49,23 @@ fn tell<E: Sink>(errors: &mut E, text: &[u8], status: u8) -> u8
     }
 }
 
+/// The line of a fault, with its LF.
+fn fault_line(fault: PlayFault) -> &'static [u8]
+    ensures { result.now ≡ fault_text fault ++ codes "\n" }
+{
+    match fault {
+        PlayFault::ReadFailed => b"read failed\n",
+        PlayFault::WriteFailed => b"write failed\n",
+        PlayFault::NoMemory => b"no memory\n",
+        PlayFault::ScriptTooLong => b"script too long\n",
+    }
+}
+
 /// Writes the line of a fault to the error sink, as far as that can be, and answers the status.
 fn tell_fault<E: Sink>(errors: &mut E, fault: PlayFault) -> u8
     ensures { IsMistake 1 (fault_text fault ++ codes "\n") (writes (E.contents errors.old) (E.contents errors.new) (E.failed errors.old) (E.failed errors.new)) result }
 {
-    match fault {
-        PlayFault::ReadFailed => tell(errors, b"read failed\n", 1),
-        PlayFault::WriteFailed => tell(errors, b"write failed\n", 1),
-        PlayFault::NoMemory => tell(errors, b"no memory\n", 1),
-        PlayFault::ScriptTooLong => tell(errors, b"script too long\n", 1),
-    }
+    tell(errors, fault_line(fault), 1)
 }
 
 /// Writes a text.
