@@ -2,14 +2,9 @@ ghost use Rattle.std.specs.Prelude.{◌≤◌};
 
 use crate::policies::Given;
 use crate::talk::{Ask, command, standing_in_words, tells, waiting_in_words};
-use bytes::Bytes;
-use hub::{Answer, Caps, Command, Event, Hub, HubRefusal, User};
-use lists::{Copying, NoMemory};
-use permissions::{Compiled, Verdict};
-use policy_doc::Policy;
+use hub::{Answer, Caps, Command, Event, Hub, HubRefusal};
 use std::alloc::Global;
 use std::test::Fail;
-use subjects::Subject;
 
 const ROOM: Caps = Caps {
     outbox: 16,
@@ -49,38 +44,6 @@ standing [2 1 foo 1]
 1 has 0, missed false
 1.7 published All, entered 1 1
 1.8 taken foo 1 [], missed false
-";
-    tells(&rt, rt.alloc(), Given::Builtin, ROOM, &asks, want)
-}
-
-#[test]
-fn permissions_bound_a_session(rt: HostRuntime) -> Result<(), Fail> {
-    let asks = [
-        Ask::Connect(1, "limited", "limited"),
-        Ask::Connect(2, "demo", "demo"),
-        Ask::Sub(1, "foo.*", "1"),
-        Ask::Pub(2, "foo.bar", "b"),
-        Ask::Pub(2, "foo.baz", "z"),
-        Ask::Pub(1, "foo.baz", "z"),
-        Ask::Pub(1, "bar", ""),
-        Ask::Pub(1, "foo.bar", ""),
-        Ask::Sub(1, ">", "2"),
-        Ask::Sub(1, "foo.bar", "1"),
-        Ask::Standing,
-        Ask::Waiting(1),
-    ];
-    let want = "1.1 connected
-1.2 connected
-1.3 subscribed
-1.4 published All
-1.5 published All, entered 1 1
-1.6 published Index(0), entered 1 1
-1.7 denied NoAllow
-1.8 denied DeniedBy(0)
-1.9 denied NoAllow
-1.10 denied DeniedBy(0)
-standing [3 1 foo.* 1]
-1 has 2, missed false
 ";
     tells(&rt, rt.alloc(), Given::Builtin, ROOM, &asks, want)
 }
@@ -189,46 +152,6 @@ history of 2, same true
 }
 
 #[test]
-fn sessions_have_a_limit(rt: HostRuntime) -> Result<(), Fail> {
-    let asks = [
-        Ask::ConnectAll(1, 4097),
-        Ask::Waiting(4096),
-        Ask::Connect(4097, "demo", "demo"),
-        Ask::Connect(4097, "demo", "wrong"),
-        Ask::Connect(4096, "demo", "demo"),
-        Ask::Close(5),
-        Ask::Connect(4097, "demo", "demo"),
-    ];
-    let want = "4096 has 0, missed false
-SessionLimit
-SessionLimit
-SessionTaken
-1.4097 closed
-1.4098 connected
-";
-    tells(&rt, rt.alloc(), Given::Builtin, ROOM_FOR_ONE, &asks, want)
-}
-
-#[test]
-fn subscriptions_have_a_limit(rt: HostRuntime) -> Result<(), Fail> {
-    let asks = [
-        Ask::Connect(1, "demo", "demo"),
-        Ask::Connect(2, "demo", "demo"),
-        Ask::SubAll(1, 0, 4096),
-        Ask::Sub(1, "foo", "7"),
-        Ask::Sub(1, "foo", "4096"),
-        Ask::Sub(2, "foo", "1"),
-    ];
-    let want = "1.1 connected
-1.2 connected
-1.4099 same sid
-1.4100 subscription limit
-1.4101 subscribed
-";
-    tells(&rt, rt.alloc(), Given::Builtin, ROOM_FOR_ONE, &asks, want)
-}
-
-#[test]
 fn a_subscription_ends_at_its_limit(rt: HostRuntime) -> Result<(), Fail> {
     let asks = [
         Ask::Connect(1, "demo", "demo"),
@@ -265,42 +188,6 @@ standing [10 1 foo 1 0 of 2]
 }
 
 #[test]
-fn a_limit_that_is_reached_ends_at_once(rt: HostRuntime) -> Result<(), Fail> {
-    let asks = [
-        Ask::Connect(1, "demo", "demo"),
-        Ask::Sub(1, "foo", "1"),
-        Ask::Sub(1, "foo", "2"),
-        Ask::Sub(1, "z", "3"),
-        Ask::Unsub(1, "3", Some(0)),
-        Ask::Unsub(1, "2", None),
-        Ask::Unsub(2, "1", None),
-        Ask::Pub(1, "foo", "a"),
-        Ask::Pub(1, "foo", "b"),
-        Ask::Unsub(1, "1", Some(2)),
-        Ask::Standing,
-        Ask::Take(1, 1),
-        Ask::Unsub(1, "1", Some(1)),
-        Ask::Standing,
-    ];
-    let want = "1.1 connected
-1.2 subscribed
-1.3 subscribed
-1.4 subscribed
-1.5 unsubscribed
-1.6 unsubscribed
-NoSession
-1.7 published All, entered 1 1
-1.8 published All, full 1 1
-1.9 unsubscribed
-standing [2 1 foo 1 1 of 2]
-1.10 taken foo 1 [a], missed true
-1.11 unsubscribed
-standing
-";
-    tells(&rt, rt.alloc(), Given::Builtin, ROOM_FOR_ONE, &asks, want)
-}
-
-#[test]
 fn reply_and_head_come_along(rt: HostRuntime) -> Result<(), Fail> {
     let asks = [
         Ask::Connect(1, "demo", "demo"),
@@ -314,26 +201,6 @@ fn reply_and_head_come_along(rt: HostRuntime) -> Result<(), Fail> {
 1.3 published All, entered 1 1
 1.4 taken foo 1 to r.1 [NATS/1.0|hi], missed false
 history of 4, same true
-";
-    tells(&rt, rt.alloc(), Given::Builtin, ROOM, &asks, want)
-}
-
-#[test]
-fn without_echo_nothing_comes_back(rt: HostRuntime) -> Result<(), Fail> {
-    let asks = [
-        Ask::ConnectUnheard(1, "demo", "demo"),
-        Ask::Connect(2, "demo", "demo"),
-        Ask::Sub(1, "foo", "1"),
-        Ask::Sub(2, "foo", "1"),
-        Ask::Pub(1, "foo", "a"),
-        Ask::Pub(2, "foo", "b"),
-    ];
-    let want = "1.1 connected
-1.2 connected
-1.3 subscribed
-1.4 subscribed
-1.5 published All, entered 2 1
-1.6 published All, entered 1 1, entered 2 1
 ";
     tells(&rt, rt.alloc(), Given::Builtin, ROOM, &asks, want)
 }
@@ -365,24 +232,6 @@ NoSession
 history of 6, same true
 ";
     tells(&rt, rt.alloc(), Given::Builtin, ROOM_FOR_ONE, &asks, want)
-}
-
-#[test]
-fn a_history_without_room_takes_nothing(rt: HostRuntime) -> Result<(), Fail> {
-    let caps = Caps {
-        outbox: 16,
-        history: 0,
-    };
-    let asks = [
-        Ask::Connect(1, "demo", "demo"),
-        Ask::Waiting(1),
-        Ask::History,
-    ];
-    let want = "HistoryFull
-1 has no session
-history of 0, same true
-";
-    tells(&rt, rt.alloc(), Given::Builtin, caps, &asks, want)
 }
 
 #[test]
@@ -536,7 +385,7 @@ fn answer_in_words(
     answer: &Result<Answer, (Event, HubRefusal)>,
 ) -> Result<String, Fail> {
     match answer {
-        Ok(answer) => Ok(format!(in alloc; "{}\n", answer.number)?),
+        Ok(answer) => Ok(format!(in alloc; "{}\n", answer.get().number)?),
         Err((event, refusal)) => {
             let back = name_of(&event.what);
             Ok(format!(in alloc; "{refusal:?} to {back}\n")?)
@@ -557,23 +406,6 @@ fn name_of(command: &Command) -> &'static str {
 }
 
 #[test]
-fn a_run_answers_each_event(rt: HostRuntime) -> Result<(), Fail> {
-    let told = ran(rt.alloc(), ROOM)?;
-    assert_eq!(rt;
-        told.as_str(),
-        "1
-2
-3
-NoSession to Take
-NoSession to Close
-1 has 1, missed false
-standing [2 1 foo 1]
-"
-    );
-    Ok(())
-}
-
-#[test]
 fn a_run_changes_nothing_once_the_history_is_full(rt: HostRuntime) -> Result<(), Fail> {
     let caps = Caps {
         outbox: 16,
@@ -591,73 +423,5 @@ HistoryFull to Close
 standing [2 1 foo 1]
 "
     );
-    Ok(())
-}
-
-// Whether the one account is DEMO, with two users.
-fn is_builtin(policy: &Policy) -> bool {
-    match policy.doc().accounts.as_slice() {
-        [account] => {
-            account.name.as_slice() == b"DEMO".as_slice() && account.account.users.len() == 2
-        }
-        _ => false,
-    }
-}
-
-#[test]
-fn a_hub_begins_with_its_policy(rt: HostRuntime) -> Result<(), Fail> {
-    let ready = Given::Builtin.ready(rt.alloc())?;
-    let hub = Hub::new(rt.alloc(), ready, ROOM)
-        .ok()
-        .ok_or("no hub is open")?;
-    assert_eq!(rt; hub.epoch(), 1);
-    assert!(rt; is_builtin(hub.policy()));
-    assert!(rt; is_builtin(hub.ready().policy()));
-    Ok(())
-}
-
-// User limited of the built-in policy, with another password.
-fn limited(alloc: Global) -> Result<User, Fail> {
-    let policy = Policy::builtin(alloc)?;
-    let account = policy
-        .doc()
-        .accounts
-        .as_slice()
-        .first()
-        .ok_or("no account")?;
-    let limited = account.account.users.as_slice().last().ok_or("no user")?;
-    Ok(User {
-        account: account.name.clone()?,
-        user: limited.user.clone()?,
-        password: Bytes::from_static(b"secret"),
-        rules: Compiled::of(alloc, limited)?,
-    })
-}
-
-#[test]
-fn a_copied_user_keeps_its_permissions(rt: HostRuntime) -> Result<(), Fail> {
-    let copy = limited(rt.alloc())?.copy(rt.alloc())?;
-    assert_eq!(rt; copy.account.as_slice(), b"DEMO".as_slice());
-    assert_eq!(rt; copy.user.as_slice(), b"limited".as_slice());
-    assert_eq!(rt; copy.password.as_slice(), b"secret".as_slice());
-    let bar = Subject::parse(rt.alloc(), b"foo.bar")?;
-    assert_eq!(rt; copy.rules.publish(&bar), Verdict::DeniedBy(0));
-    Ok(())
-}
-
-#[test]
-fn refusals_have_texts(rt: HostRuntime) -> Result<(), Fail> {
-    for (refusal, want) in [
-        (HubRefusal::HistoryFull, "the history is full"),
-        (HubRefusal::NoSession, "the connection has no session"),
-        (
-            HubRefusal::SessionTaken,
-            "the connection has a session already",
-        ),
-        (HubRefusal::SessionLimit, "4096 sessions stand"),
-        (HubRefusal::from(NoMemory), "no memory"),
-    ] {
-        assert_eq!(rt; format!(in rt.alloc(); "{refusal}")?.as_str(), want);
-    }
     Ok(())
 }
