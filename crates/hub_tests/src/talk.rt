@@ -2,8 +2,10 @@ ghost use Rattle.std.specs.Prelude.{◌≤◌};
 
 use crate::policies::Given;
 use bytes::Bytes;
-use hub::{Answer, Caps, Command, Delivery, Event, Hub, HubRefusal, Item, Outcome, Ready, Removed};
-use lists::{Copying, Items};
+use hub::{
+    Answer, Caps, Command, Delivery, Event, Hub, HubRefusal, Item, Message, Outcome, Ready, Removed,
+};
+use lists::{Copying, Items, Shared, SharedText};
 use std::alloc::Global;
 use std::process::Abort;
 use std::str;
@@ -140,10 +142,10 @@ impl Talk {
         Ok(())
     }
 
-    // Tells a copy of the answer.
+    // Tells what a further owner of the answer sees.
     fn tell_answer(&mut self, answer: &Answer) -> Result<(), Fail> {
-        let copy = answer.copy(self.alloc)?;
-        let line = said(self.alloc, copy.epoch, copy.number, &copy.outcome)?;
+        let again = answer.copy(self.alloc)?;
+        let line = said(self.alloc, &again)?;
         self.answered.push_str(line.as_str())?;
         self.told.push_str(line.as_str())?;
         Ok(())
@@ -178,16 +180,16 @@ fn step(hub: &mut Hub, event: Event) -> Result<Answer, (Event, HubRefusal)> {
 fn subscribe(alloc: Global, conn: u64, subject: &str, sid: &str) -> Result<Command, Fail> {
     Ok(Command::Sub {
         conn,
-        subject: Pattern::parse(alloc, subject.as_bytes())?,
-        sid: bytes(alloc, sid)?,
+        subject: Shared::new(alloc, Pattern::parse(alloc, subject.as_bytes())?)?,
+        sid: shared(alloc, sid)?,
     })
 }
 
-fn connect(alloc: Global, conn: u64, user: &str, pass: &str) -> Result<Command, Fail> {
+fn connect(alloc: Global, conn: u64, user: &str, password: &str) -> Result<Command, Fail> {
     Ok(Command::Connect {
         conn,
-        user: Some(bytes(alloc, user)?),
-        pass: bytes(alloc, pass)?,
+        user: Some(shared(alloc, user)?),
+        password: shared(alloc, password)?,
         echo: true,
     })
 }
@@ -200,15 +202,15 @@ fn publish(
     head: &str,
     body: &str,
 ) -> Result<Command, Fail> {
+    let subject = Subject::parse(alloc, subject.as_bytes())?;
+    let reply = match reply {
+        Some(reply) => Some(Subject::parse(alloc, reply.as_bytes())?),
+        None => None,
+    };
+    let message = Message::new(subject, reply, bytes(alloc, head)?, bytes(alloc, body)?);
     Ok(Command::Pub {
         conn,
-        subject: Subject::parse(alloc, subject.as_bytes())?,
-        reply: match reply {
-            Some(reply) => Some(Subject::parse(alloc, reply.as_bytes())?),
-            None => None,
-        },
-        head: bytes(alloc, head)?,
-        body: bytes(alloc, body)?,
+        message: Shared::new(alloc, message)?,
         word: 7,
     })
 }
@@ -216,17 +218,17 @@ fn publish(
 /// The command that is asked for.
 pub(crate) fn command(alloc: Global, ask: Ask) -> Result<Command, Fail> {
     match ask {
-        Ask::Connect(conn, user, pass) => connect(alloc, conn, user, pass),
+        Ask::Connect(conn, user, password) => connect(alloc, conn, user, password),
         Ask::ConnectNobody(conn) => Ok(Command::Connect {
             conn,
             user: None,
-            pass: Bytes::from_static(b"demo"),
+            password: shared(alloc, "demo")?,
             echo: true,
         }),
         Ask::Sub(conn, subject, sid) => subscribe(alloc, conn, subject, sid),
         Ask::Unsub(conn, sid, most) => Ok(Command::Unsub {
             conn,
-            sid: bytes(alloc, sid)?,
+            sid: shared(alloc, sid)?,
             most,
         }),
         Ask::Pub(conn, subject, body) => publish(alloc, conn, subject, None, "", body),
@@ -254,7 +256,7 @@ pub(crate) fn waiting_in_words(alloc: Global, hub: &Hub, conn: u64) -> Result<St
 pub(crate) fn standing_in_words(alloc: Global, hub: &Hub) -> Result<String, Fail> {
     let mut line = String::from_str(alloc, "standing")?;
     for one in hub.standing()?.as_slice() {
-        let subject = text(one.subject.bytes())?;
+        let subject = text(one.subject.get().bytes())?;
         let sid = text(one.sid.as_slice())?;
         let limit = limit_in_words(alloc, one.received, one.most)?;
         let word = format!(in alloc; " [{} {} {subject} {sid}{limit}]", one.id, one.conn)?;
@@ -276,9 +278,9 @@ fn limit_in_words(alloc: Global, received: u64, most: Option<u64>) -> Result<Str
 fn history_in_words(alloc: Global, hub: &Hub) -> Result<(String, String), Fail> {
     let mut events = String::new(alloc);
     let mut answers = String::new(alloc);
-    for entry in hub.history() {
-        events.push_str(format!(in alloc; "{:?}\n", entry.event)?.as_str())?;
-        let line = said(alloc, entry.epoch, entry.number, &entry.outcome)?;
+    for answer in hub.history() {
+        events.push_str(format!(in alloc; "{:?}\n", answer.get().event)?.as_str())?;
+        let line = said(alloc, answer)?;
         answers.push_str(line.as_str())?;
     }
     Ok((events, answers))
@@ -292,10 +294,15 @@ pub(crate) fn bytes(alloc: Global, text: &str) -> Result<Bytes, Fail> {
     Ok(Bytes::copy_from_slice(alloc, text.as_bytes())?)
 }
 
+fn shared(alloc: Global, text: &str) -> Result<SharedText, Fail> {
+    Ok(SharedText::of(alloc, text.as_bytes())?)
+}
+
 /// An answer in words.
-fn said(alloc: Global, epoch: u128, number: u64, outcome: &Outcome) -> Result<String, Fail> {
-    let outcome = outcome_in_words(alloc, outcome)?;
-    Ok(format!(in alloc; "{epoch}.{number} {outcome}\n")?)
+fn said(alloc: Global, answer: &Answer) -> Result<String, Fail> {
+    let entry = answer.get();
+    let outcome = outcome_in_words(alloc, &entry.outcome)?;
+    Ok(format!(in alloc; "{}.{} {outcome}\n", entry.epoch, entry.number)?)
 }
 
 fn outcome_in_words(alloc: Global, outcome: &Outcome) -> Result<String, Fail> {
@@ -354,11 +361,12 @@ fn deliveries_in_words(alloc: Global, deliveries: &Items<Delivery>) -> Result<St
 }
 
 fn delivery_in_words(alloc: Global, delivery: &Delivery) -> Result<String, Fail> {
-    let subject = text(delivery.subject.bytes())?;
+    let message = delivery.message.get();
+    let subject = text(message.subject().bytes())?;
     let sid = text(delivery.sid.as_slice())?;
-    let head = text(delivery.head.as_slice())?;
-    let body = text(delivery.body.as_slice())?;
-    match &delivery.reply {
+    let head = text(message.head())?;
+    let body = text(message.payload())?;
+    match message.reply() {
         None => Ok(format!(in alloc; " {subject} {sid} [{head}{body}]")?),
         Some(reply) => {
             let reply = text(reply.bytes())?;

@@ -385,7 +385,7 @@ fn answer_in_words(
     answer: &Result<Answer, (Event, HubRefusal)>,
 ) -> Result<String, Fail> {
     match answer {
-        Ok(answer) => Ok(format!(in alloc; "{}\n", answer.number)?),
+        Ok(answer) => Ok(format!(in alloc; "{}\n", answer.get().number)?),
         Err((event, refusal)) => {
             let back = name_of(&event.what);
             Ok(format!(in alloc; "{refusal:?} to {back}\n")?)
