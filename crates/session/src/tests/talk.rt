@@ -1,4 +1,4 @@
-ghost use Rattle.std.specs.Prelude.{◌≡◌, ◌≤◌};
+ghost use Rattle.std.specs.Prelude.{◌≡◌};
 
 use crate::{Conn, Direct, Output, Stall, Words};
 use events::{Answer, Command, Event, HubRefusal};
