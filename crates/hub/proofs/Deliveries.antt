@@ -1,12 +1,11 @@
 -- Deliveries offered in turn, told for each session by itself.
 use Rattle.std.proofs.Common.{◌≡◌, ◌∙◌, ◌==◌, ◌||◌, ◌⊎◌, inl, inr, ℕ, ◌+◌, ◌-◌, ◌<◌, ◌≤◌, suc, zero, Bool, true, false, cond, List, [], ◌∷◌, ◌++◌, map, length, take, Option, Some, None, ap, sym, refl, subst, arith, nat_lt}
-use Rattle.std.specs.Prelude.{All, AllPairs, ◌≢◌}
+use Rattle.std.specs.Prelude.{AllPairs}
 use Rattle.std.specs.Option.{option_map}
 use Rattle.std.proofs.lemmas.List.{append_assoc, append-nil, length-append}
 use Rattle.std.proofs.Math.Bool.{or-true, or-false}
 use Rattle.std.proofs.lemmas.List.Folds.{map_fixed}
-use Rattle.std.proofs.lemmas.Bool.{eqb-true, eq-eqb, ne_eqb, ltb-true, ltb-false, lt-ltb, le-ltb, cases_eq}
-use Rattle.std.proofs.lemmas.List.Elements.{All-head, All-tail}
+use Rattle.std.proofs.lemmas.Bool.{eq-eqb, ne_eqb, ltb-true, ltb-false, lt-ltb, le-ltb, cases_eq}
 use Rattle.events.specs.Messages.{Message}
 use Rattle.events.specs.declared.answer.Delivery.{Delivery}
 use Rattle.events.specs.declared.answer.Item.{Item}
@@ -17,64 +16,10 @@ use Rattle.sessions.specs.declared.session.Session.{Session}
 use Rattle.subscriptions.specs.Subscriptions.{of_connection}
 use Rattle.subscriptions.specs.declared.subscription.Subscription.{Subscription}
 use Rattle.subscriptions.specs.Addressing.{delivery_to, addressed_to}
+use Rattle.sessions.proofs.Changes.{only, with_session-map, session_of-changed, session_of-other, offered-conn}
 use Rattle.hub.specs.Guarantee.{receives, room_in, items_of, items_with_room, item_names, names_of}
-use Rattle.hub.proofs.Finds.{AllPairs-head, AllPairs-tail, AllPairs-map}
+use Rattle.hub.proofs.Finds.{AllPairs-map}
 use Rattle.hub.proofs.Soundness.{IsApart, either}
-
--- ---- one session among all
-
--- a change of the sessions of one connection
-abbrev pub only : (Session → Session) → ℕ → Session → Session
-only f conn z = cond (z.conn == conn) (f z) z
-
-only-none : (f : Session → Session) (conn : ℕ) (zs : List Session) → All (λ (z : Session). (z.conn == conn) ≡ false) zs → map (only f conn) zs ≡ zs
-only-none f conn [] none = refl
-only-none f conn (z ∷ zs) none =
-    ap (λ b. cond b (f z) z ∷ map (only f conn) zs) (All-head (λ (y : Session). (y.conn == conn) ≡ false) z zs none)
-    ∙ ap (λ rest. z ∷ rest) (only-none f conn zs (All-tail (λ (y : Session). (y.conn == conn) ≡ false) z zs none))
-
--- where each connection has one session, a change of the first is a change of all
-pub with_session-map : (f : Session → Session) (conn : ℕ) (zs : List Session) → AllPairs IsApart zs → with_session f conn zs ≡ map (only f conn) zs
-with_session-map f conn [] apart = refl
-with_session-map f conn (z ∷ zs) apart =
-    here (z.conn == conn) refl (with_session-map f conn zs (AllPairs-tail IsApart z zs apart))
-  where
-    others : (z.conn == conn) ≡ true → All (λ (y : Session). (y.conn == conn) ≡ false) zs
-    others is k d h = ne_eqb _ _ (λ same. AllPairs-head IsApart z zs apart k d h (eqb-true z.conn conn is ∙ sym same))
-
-    here : (b : Bool) → (z.conn == conn) ≡ b → with_session f conn zs ≡ map (only f conn) zs → cond b (f z ∷ zs) (z ∷ with_session f conn zs) ≡ cond b (f z) z ∷ map (only f conn) zs
-    here true is later = ap (λ rest. f z ∷ rest) (sym (only-none f conn zs (others is)))
-    here false is later = ap (λ rest. z ∷ rest) later
-
--- the changed session is found in its place, and each other one as before
-pub session_of-changed : (f : Session → Session) (conn : ℕ) (zs : List Session) → ((z : Session) → (f z).conn ≡ z.conn) → session_of (with_session f conn zs) conn ≡ option_map f (session_of zs conn)
-session_of-changed f conn [] same = refl
-session_of-changed f conn (z ∷ zs) same = here (z.conn == conn) refl (session_of-changed f conn zs same)
-  where
-    here : (b : Bool) → (z.conn == conn) ≡ b → session_of (with_session f conn zs) conn ≡ option_map f (session_of zs conn) →
-        session_of (cond b (f z ∷ zs) (z ∷ with_session f conn zs)) conn ≡ option_map f (cond b (Some z) (session_of zs conn))
-    here true is later = ap (λ n. cond (n == conn) (Some (f z)) (session_of zs conn)) (same z) ∙ ap (λ b. cond b (Some (f z)) (session_of zs conn)) is
-    here false is later = ap (λ b. cond b (Some z) (session_of (with_session f conn zs) conn)) is ∙ later
-
-pub session_of-other : (f : Session → Session) (conn other : ℕ) (zs : List Session) → ((z : Session) → (f z).conn ≡ z.conn) → conn ≢ other → session_of (with_session f conn zs) other ≡ session_of zs other
-session_of-other f conn other [] same apart = refl
-session_of-other f conn other (z ∷ zs) same apart = here (z.conn == conn) refl (session_of-other f conn other zs same apart)
-  where
-    here : (b : Bool) → (z.conn == conn) ≡ b → session_of (with_session f conn zs) other ≡ session_of zs other →
-        session_of (cond b (f z ∷ zs) (z ∷ with_session f conn zs)) other ≡ cond (z.conn == other) (Some z) (session_of zs other)
-    here true is later =
-        let no : (z.conn == other) ≡ false = ne_eqb _ _ (λ e. apart (sym (eqb-true z.conn conn is) ∙ e)) in
-        ap (λ n. cond (n == other) (Some (f z)) (session_of zs other)) (same z)
-        ∙ ap (λ b. cond b (Some (f z)) (session_of zs other)) no
-        ∙ sym (ap (λ b. cond b (Some z) (session_of zs other)) no)
-    here false is later = ap (λ o. cond (z.conn == other) (Some z) o) later
-
-offered-conn : (d : Delivery) (z : Session) → (offered d z).conn ≡ z.conn
-offered-conn d z = here (nat_lt (length z.outbox.waiting) z.outbox.capacity)
-  where
-    here : (b : Bool) → (cond b (record z { outbox = record z.outbox { waiting = z.outbox.waiting ++ d ∷ [] } }) (record z { missed = true })).conn ≡ z.conn
-    here true = refl
-    here false = refl
 
 -- ---- the outboxes
 

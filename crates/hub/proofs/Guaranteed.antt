@@ -42,7 +42,8 @@ use Rattle.hub.proofs.Finds.{find-passes}
 use Rattle.hub.proofs.Naming.{user_named-again}
 use Rattle.hub.proofs.Soundness.{next, KeepsSession, KeepsSubscription, either, keeps-where, user_at-session, sound-same, sound-map, sound-limits, sound-open, sound-add, sound-close}
 use Rattle.hub.proofs.Reloads.{in_force, sound-reload}
-use Rattle.hub.proofs.Deliveries.{only, with_session-map, gets, items_after, outboxes, one_each, with_room}
+use Rattle.sessions.proofs.Changes.{only, with_session-map}
+use Rattle.hub.proofs.Deliveries.{gets, items_after, outboxes, one_each, with_room}
 
 -- where the tables turn a command away
 abbrev turns_away : World → Command → HubRefusal → Bool

@@ -1,6 +1,5 @@
 pub mod Lists
 pub mod Finds
-pub mod Ascending
 pub mod Naming
 pub mod Soundness
 pub mod Deliveries

@@ -28,7 +28,7 @@ use Rattle.hub.specs.Sound.{IsSound, has_same_sid, user_behind, account_of, may_
 use Rattle.hub.specs.InForce.{goes_on_for, goes_on, under, removal_for, IsInForce}
 use Rattle.hub.proofs.Finds.{find-map, find-passes, find-All, find-nothing, AllPairs-head, AllPairs-tail, AllPairs-map}
 use Rattle.hub.proofs.Naming.{name_of, are_named_once, unlike, named_again}
-use Rattle.hub.proofs.Ascending.{AreApart, among-ascending, ascending-rises}
+use Rattle.sessions.proofs.Ascending.{AreApart, among-ascending, ascending-rises}
 use Rattle.hub.proofs.Soundness.{IsOfPolicy, HasBound, IsApart, IsOwned, quotas-filter}
 
 -- ---- the same user, found by its name
