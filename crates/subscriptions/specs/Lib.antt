@@ -1,5 +1,6 @@
 pub mod Addressing
 pub mod Changes
+pub mod Index
 pub mod Kept
 pub mod Limit
 pub mod Subscriptions
