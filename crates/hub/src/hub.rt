@@ -5,7 +5,6 @@ use policy_doc::Policy;
 use ready::Ready;
 use std::alloc::Global;
 use std::collections::VecDeque;
-use std::hash::RandomState;
 use std::marker::Model;
 use world::{Standing, World};
 
@@ -57,15 +56,9 @@ impl Hub {
     ghost use Rattle.hub.specs.Sound.{IsSound};
     ghost use Rattle.hub.specs.History.{opening_state, is_history_full, IsLegalRun, IsStep};
 
-    /// A hub over a policy, with nobody connected and nothing to remember. `NoMemory` hands the policy back. Clients
-    /// choose the tokens of subjects, so the tables of tokens are hashed under keys that they can't know.
+    /// A hub over a policy, with nobody connected and nothing to remember. `NoMemory` hands the policy back.
     #[tactic(auto, unfolding(crate::specs::History::IsLegalRun))]
-    pub fn new(
-        alloc: Global,
-        ready: Ready,
-        caps: Caps,
-        keys: RandomState,
-    ) -> Result<Hub, (Ready, NoMemory)>
+    pub fn new(alloc: Global, ready: Ready, caps: Caps) -> Result<Hub, (Ready, NoMemory)>
         requires low { 1 ≤ caps.outbox }
         requires high { caps.outbox ≤ 65536 }
         ensures ok { IfOk result (λ hub. hub ≡ opening_state ready caps.outbox caps.history) }
@@ -75,7 +68,7 @@ impl Hub {
             Ok(opening) => opening,
             Err(refused) => return Err((ready, refused)),
         };
-        let world = World::new(alloc, ready, caps.outbox, keys)?;
+        let world = World::new(alloc, ready, caps.outbox)?;
         Ok(Hub {
             alloc,
             world,

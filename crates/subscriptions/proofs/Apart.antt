@@ -69,7 +69,7 @@ all_names p (s ∷ subs) apart = here (p s) (all_names p subs apart.1)
     here false later = (none_filter p s subs apart.0, later)
 
 -- a filter keeps them apart
-pub none_kept : (p : Subscription → Bool) (s : Subscription) (subs : List Subscription) → NoneLike s subs → NoneLike s (filter p subs)
+none_kept : (p : Subscription → Bool) (s : Subscription) (subs : List Subscription) → NoneLike s subs → NoneLike s (filter p subs)
 none_kept p s [] none = tt
 none_kept p s (r ∷ subs) none = here (p r) (none_kept p s subs none.2)
   where

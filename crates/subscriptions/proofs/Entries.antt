@@ -17,7 +17,7 @@ use Rattle.subscriptions.specs.Kept.{IsAbove, IsKept}
 abbrev pub Entries : Type 0
 Entries = List (ℕ × Subscription)
 
-pub test_is : (id k : ℕ) → is_id id k ≡ (k == id)
+test_is : (id k : ℕ) → is_id id k ≡ (k == id)
 test_is id k = grind (arith, nat_tests)
 
 -- nothing above an id is of it, and nothing has ended

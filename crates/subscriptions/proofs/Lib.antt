@@ -2,6 +2,5 @@ pub mod Entries
 pub mod Ends
 pub mod Turns
 pub mod Apart
-pub mod Holding
-pub mod Indexed
+pub mod Having
 pub mod Known

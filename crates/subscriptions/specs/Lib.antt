@@ -1,6 +1,5 @@
 pub mod Addressing
 pub mod Changes
-pub mod Index
 pub mod Kept
 pub mod Limit
 pub mod Subscriptions

@@ -5,7 +5,6 @@ mod address;
 mod change;
 mod subscription;
 mod subscriptions;
-mod trees;
 
 pub use subscription::Subscription;
 pub use subscriptions::{Keeps, Subscriptions};

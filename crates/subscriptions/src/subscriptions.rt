@@ -2,16 +2,14 @@ ghost use Rattle.std.specs.Prelude.{◌≡◌, Bool};
 ghost use Rattle.subscriptions.specs.declared.subscription.Subscription.{Subscription};
 
 use crate::Subscription;
-use crate::address::address;
-use crate::change::{bump_at, cap_at, forget_failing, is_under, take_out};
-use crate::trees::Trees;
+use crate::address::address_if_having;
+use crate::change::{bump_at, cap_at, is_under, take_out};
 use bytes::Bytes;
 use events::{Addressed, Item, Message, Sid};
 use lists::{NoMemory, Shared};
 use std::alloc::Global;
 use std::collections::BTreeMap;
 use std::collections::btree_map::Values;
-use std::hash::RandomState;
 use std::marker::Model;
 use subjects::Pattern;
 
@@ -28,44 +26,23 @@ pub trait Keeps {
         ensures { result ≡ keeps self.now subscription.now };
 }
 
-/// Those that are not of a connection.
-#[derive(Drop)]
-struct OfOthers {
-    conn: u64,
-}
-
-impl Keeps for OfOthers {
-    ghost use Rattle.std.specs.Prelude.{◌==◌, not};
-
-    ghost keeps = { λ test subscription. not (subscription.conn == test.conn) };
-
-    fn keeps(&self, subscription: &Subscription) -> bool {
-        subscription.conn != self.conn
-    }
-}
-
-/// The standing subscriptions. A clause sees them as a list, oldest first. The trees are the list's index: they find
-/// those that have a subject.
+/// The standing subscriptions. A clause sees them as a list, oldest first.
 #[derive(Drop)]
 pub struct Subscriptions {
     by_id: BTreeMap<u64, Subscription>,
-    trees: Trees,
 }
 
 impl Model for Subscriptions {
     ghost use Rattle.std.specs.Prelude.{List};
     ghost use Rattle.std.specs.Map.{values_of};
     ghost use Rattle.subscriptions.specs.declared.subscription.Subscription.{Subscription};
-    ghost use Rattle.subscriptions.specs.Index.{AreIndexesOf};
     ghost use Rattle.subscriptions.specs.Kept.{IsKept, Apart};
 
     ghost Value = { List Subscription };
 
     ghost view = { λ subs. values_of subs.by_id.entries };
 
-    ghost invariant = { λ subs. IsKept subs.by_id.entries
-        × Apart (values_of subs.by_id.entries)
-        × AreIndexesOf (values_of subs.by_id.entries) subs.trees };
+    ghost invariant = { λ subs. IsKept subs.by_id.entries × Apart (values_of subs.by_id.entries) };
 }
 
 impl Subscriptions {
@@ -79,17 +56,14 @@ impl Subscriptions {
     ghost use Rattle.subscriptions.specs.Kept.{Apart};
     ghost use Rattle.subscriptions.specs.Changes.{only, bumped, capped};
     ghost use Rattle.subscriptions.specs.Turns.{in_turn, entered_ids, TellEach};
-    ghost use Rattle.subscriptions.specs.Index.{found_by};
 
-    /// No subscriptions. Clients choose the tokens of subjects, so the tables of tokens are hashed under keys that they
-    /// can't know.
+    /// No subscriptions.
     #[tactic(auto, unfolding(crate::specs::Kept::IsKept, crate::specs::Kept::Apart))]
-    pub fn new(alloc: Global, keys: RandomState) -> Subscriptions
+    pub fn new(alloc: Global) -> Subscriptions
         ensures { result ≡ [] }
     {
         Subscriptions {
             by_id: BTreeMap::new(alloc),
-            trees: Trees::new(alloc, keys),
         }
     }
 
@@ -155,6 +129,7 @@ impl Subscriptions {
 
     /// Addresses a message to the subscriptions of an account that have its subject, oldest first, and adds these
     /// deliveries. On `NoMemory` some of them may have been added.
+    #[tactic(auto, using(crate::proofs::Having::having_first))]
     pub fn address(
         &self,
         account: &[u8],
@@ -164,43 +139,10 @@ impl Subscriptions {
         ensures { OnOk result (all.new.items ≡ all.old.items
             ++ map (addressed_to message.now) (having account.now message.now.subject self.now)) }
     {
-        let found = self.trees.matching(account, message.get().subject())?;
-        self.address_each(found.as_slice(), message, all)?;
-        Ok(())
-    }
-
-    /// Adds the deliveries for the subscriptions of these ids.
-    #[tactic(auto, using(crate::proofs::Indexed::found_first))]
-    fn address_each(
-        &self,
-        ids: &[u64],
-        message: &Shared<Message>,
-        all: &mut Vec<Addressed>,
-    ) -> Result<(), NoMemory>
-        ensures { OnOk result (all.new.items ≡ all.old.items ++ map (addressed_to message.now) (found_by self.now ids.now)) }
-    {
-        for id in ids {
-            self.address_one(*id, message, all)?;
+        for subscription in self.by_id.values() {
+            address_if_having(all, account, message, subscription)?;
         }
         Ok(())
-    }
-
-    /// Adds the delivery for the subscription of an id.
-    fn address_one(
-        &self,
-        id: u64,
-        message: &Shared<Message>,
-        all: &mut Vec<Addressed>,
-    ) -> Result<(), NoMemory>
-        ensures { OnOk result (all.new.items ≡ all.old.items ++ map (addressed_to message.now) (found_by self.now (id ∷ []))) }
-    {
-        match self.get(id) {
-            None => Ok(()),
-            Some(subscription) => {
-                all.push(address(message, subscription)?)?;
-                Ok(())
-            }
-        }
     }
 
     /// Adds a subscription, the youngest of all. On `NoMemory` nothing has changed.
@@ -226,14 +168,8 @@ impl Subscriptions {
             received: 0,
             most: None,
         };
-        self.trees.insert(&subscription)?;
-        match self.by_id.insert(id, subscription) {
-            Ok(_) => Ok(()),
-            Err(refused) => {
-                self.trees.remove(&refused.value.1);
-                Err(NoMemory)
-            }
-        }
+        self.by_id.insert(id, subscription)?;
+        Ok(())
     }
 
     /// The id of the connection's subscription of that sid.
@@ -267,7 +203,7 @@ impl Subscriptions {
         ensures { self.new ≡ unended (map (only (capped most) id) self.old) }
     {
         if cap_at(&mut self.by_id, id, most) {
-            take_out(&mut self.by_id, &mut self.trees, id);
+            take_out(&mut self.by_id, id);
         }
     }
 
@@ -276,7 +212,7 @@ impl Subscriptions {
         ensures { self.new ≡ unended (map (only bumped id) self.old) }
     {
         if bump_at(&mut self.by_id, id) {
-            take_out(&mut self.by_id, &mut self.trees, id);
+            take_out(&mut self.by_id, id);
         }
     }
 
@@ -315,14 +251,14 @@ impl Subscriptions {
     pub fn remove(&mut self, conn: u64)
         ensures { self.new ≡ filter (λ (s : Subscription). not (s.conn == conn)) self.old }
     {
-        self.keep(&OfOthers { conn });
+        self.by_id
+            .retain(|_, subscription| subscription.conn != conn);
     }
 
     /// Removes those that don't pass a test.
     pub fn keep<K: Keeps>(&mut self, test: &K)
         ensures { self.new ≡ filter (K.keeps test.now) self.old }
     {
-        forget_failing(&mut self.trees, &self.by_id, test);
         self.by_id
             .retain(|_, subscription| test.keeps(subscription));
     }

@@ -8,7 +8,6 @@ use policy_doc::Policy;
 use ready::Ready;
 use sessions::Sessions;
 use std::alloc::Global;
-use std::hash::RandomState;
 use std::marker::Model;
 use subscriptions::Subscriptions;
 
@@ -56,14 +55,8 @@ impl World {
     ghost use Rattle.world.specs.Transition.{IsApplied, IsReasoned, IsRefusal, IsMoved, transition, moved, refusal_in, in_session, in_new_session};
     ghost use Rattle.world.specs.Shown.{standing_of, waiting_of};
 
-    /// The tables over a policy, with nobody connected. `outbox` is how many deliveries may wait for a session. Clients
-    /// choose the tokens of subjects, so the tables of tokens are hashed under keys that they can't know.
-    pub fn new(
-        alloc: Global,
-        ready: Ready,
-        outbox: usize,
-        keys: RandomState,
-    ) -> Result<World, (Ready, NoMemory)>
+    /// The tables over a policy, with nobody connected. `outbox` is how many deliveries may wait for a session.
+    pub fn new(alloc: Global, ready: Ready, outbox: usize) -> Result<World, (Ready, NoMemory)>
         requires low { 1 ≤ outbox }
         requires high { outbox ≤ 65536 }
         ensures ok { IfOk result (λ world. world ≡ opening_world ready outbox) }
@@ -77,7 +70,7 @@ impl World {
             moment: 0,
             number: 0,
             sessions: Sessions::new(alloc),
-            subscriptions: Subscriptions::new(alloc, keys),
+            subscriptions: Subscriptions::new(alloc),
         })
     }
 

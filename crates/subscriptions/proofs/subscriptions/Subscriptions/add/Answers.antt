@@ -4,48 +4,29 @@ use Rattle.std.specs.Map.{values_of}
 use Rattle.std.proofs.lemmas.List.{map-append}
 use Rattle.subscriptions.specs.Subscriptions.{subscription_of, stands}
 use Rattle.subscriptions.specs.declared.subscription.Subscription.{Subscription}
-use Rattle.subscriptions.specs.Index.{IsWithout, AreIndexesOf}
 use Rattle.subscriptions.specs.Kept.{IsKept, Apart}
 use Rattle.subscriptions.proofs.Apart.{apart_added}
 use Rattle.subscriptions.proofs.Entries.{Entries, added, kept-added}
-use Rattle.subscriptions.proofs.Indexed.{indexes_added, indexes_undone}
 use Rattle.subscriptions.proofs.subscriptions.Subscriptions.add.Goals as goal
 
-pub invariant_of-self-in-Ok : goal.invariant_of-self-in-Ok
-invariant_of-self-in-Ok c =
+pub invariant_of-self-2 : goal.invariant_of-self-2
+invariant_of-self-2 c =
     let es = c.self.inside.by_id.entries in
     let id = c.args.id in
     let s = subscription_of id c.args.conn c.args.account c.args.subject c.args.sid in
     let below : All (λ (x : Subscription). x.id < id) (values_of es) = subst (λ (xs : List Subscription). All (λ (x : Subscription). x.id < id) xs) (sym c.self.view_is) c.requires.above in
     let free : stands (values_of es) c.args.conn c.args.sid ≡ false = ap (λ (xs : List Subscription). stands xs c.args.conn c.args.sid) c.self.view_is ∙ c.requires.free in
-    let now = c.in-Ok.ensures.entries ∙ added id es s c.self.invariant.0 below in
-    let all = ap (λ (xs : Entries). values_of xs) now ∙ map-append _ es ((id, s) ∷ []) in (
+    let now = c.in_ok-insert.ensures.entries ∙ added id es s c.self.invariant.0 below in (
       subst IsKept (sym now) (kept-added id es s c.self.invariant.0 below refl refl),
-      subst Apart (sym all) (apart_added (values_of es) s c.self.invariant.1 below free),
-      subst (λ (xs : List Subscription). AreIndexesOf xs c.insert.new.self) (sym all) (indexes_added (values_of es) s c.self.inside.trees c.insert.new.self c.in_ok-insert.ensures.ok c.self.invariant.2),
+      subst Apart (sym (ap (λ (xs : Entries). values_of xs) now ∙ map-append _ es ((id, s) ∷ []))) (apart_added (values_of es) s c.self.invariant.1 below free),
     )
 
-pub returns-in-Ok-clause-ok : goal.returns-in-Ok-clause-ok
-returns-in-Ok-clause-ok c =
+pub returns-clause-ok : goal.returns-clause-ok
+returns-clause-ok c =
     let es = c.self.inside.by_id.entries in
     let id = c.args.id in
     let s = subscription_of id c.args.conn c.args.account c.args.subject c.args.sid in
     let below : All (λ (x : Subscription). x.id < id) (values_of es) = subst (λ (xs : List Subscription). All (λ (x : Subscription). x.id < id) xs) (sym c.self.view_is) c.requires.above in
-    ap (λ (xs : Entries). values_of xs) (c.in-Ok.ensures.entries ∙ added id es s c.self.invariant.0 below)
+    ap (λ (xs : Entries). values_of xs) (c.in_ok-insert.ensures.entries ∙ added id es s c.self.invariant.0 below)
     ∙ map-append _ es ((id, s) ∷ [])
     ∙ ap (λ (xs : List Subscription). xs ++ s ∷ []) c.self.view_is
-
--- the map has refused it, so it is taken out of the trees again
-pub invariant_of-self-in-Err : goal.invariant_of-self-in-Err
-invariant_of-self-in-Err c =
-    let es = c.self.inside.by_id.entries in
-    let id = c.args.id in
-    let s = subscription_of id c.args.conn c.args.account c.args.subject c.args.sid in
-    let below : All (λ (x : Subscription). x.id < id) (values_of es) = subst (λ (xs : List Subscription). All (λ (x : Subscription). x.id < id) xs) (sym c.self.view_is) c.requires.above in
-    let same = c.in-Err.ensures.err in
-    let back : c.in-Err.refused.value.1 ≡ s = ap (λ e. e.1) c.in-Err.ensures.value_returned in
-    let less : IsWithout c.insert.new.self s c.remove.new.self = rw back at c.remove.ensures in (
-      subst IsKept (sym same) c.self.invariant.0,
-      subst (λ (xs : Entries). Apart (values_of xs)) (sym same) c.self.invariant.1,
-      subst (λ (xs : Entries). AreIndexesOf (values_of xs) c.remove.new.self) (sym same) (indexes_undone (values_of es) s c.self.inside.trees c.insert.new.self c.remove.new.self below c.in_ok-insert.ensures.ok less c.self.invariant.2),
-    )
