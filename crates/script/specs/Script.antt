@@ -36,8 +36,8 @@ of_number Free n = says.Client n Frees
 of_number End n = says.Client n Ends
 
 abbrev pub numbered : NumberWord → Option ℕ → Line
-numbered word (Some n) = of_number word n
-numbered word None = says.Other
+numbered kind (Some n) = of_number kind n
+numbered kind None = says.Other
 
 -- or by its number and what stands behind it
 abbrev pub send_of : Option ℕ → Option (List ℕ) → Line
