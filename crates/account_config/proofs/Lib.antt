@@ -1,3 +1,9 @@
-pub mod Json
 pub mod Entries
 pub mod Lists
+pub mod Order
+pub mod First
+pub mod Objects
+pub mod Each
+pub mod Parts
+pub mod Law
+pub mod Printed

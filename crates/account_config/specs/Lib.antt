@@ -2,3 +2,6 @@ pub mod Fault
 pub mod Path
 pub mod Object
 pub mod Policy
+pub mod Place
+pub mod Standing
+pub mod Written

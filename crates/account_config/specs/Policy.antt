@@ -3,10 +3,10 @@
 use Rattle.std.specs.Prelude.{⊤, ◌==◌, ◌&&◌, ◌∷◌, ℕ, suc, Bool, true, false, not, List, [], codes, length, take, if◌then◌else◌, Option, Some, None, Ok, Err, is_some, nat_lt, nat_le, option_and_then}
 use Rattle.std.specs.List.{list_all}
 use Rattle.std.specs.Option.{ok_or}
-use Rattle.std.specs.Str.{is_utf8, bytes_eq}
+use Rattle.std.specs.Str.{bytes_eq}
 use Rattle.serde_json.specs.Data.{Data, Items, no_items, item, Members, no_members, member}
 use Rattle.serde_json.specs.Find.{get, as_str, as_array, as_object, as_number, as_u64}
-use Rattle.serde_json.specs.Read.{read}
+use Rattle.json_text.specs.Json.{json_of}
 use Rattle.subjects.specs.Subject.{tokens_of}
 use Rattle.subjects.specs.Fault.{pattern_fault}
 use Rattle.policy_doc.specs.Accounts.{with_account}
@@ -192,8 +192,11 @@ account_at path d = do
 abbrev pub is_account_byte : ℕ → Bool
 is_account_byte b = not (nat_lt b 33) && not (b == 127)
 
+abbrev pub is_account_name : List ℕ → Bool
+is_account_name name = has_name_length name && list_all is_account_byte name
+
 abbrev pub account_name_from : Path → List ℕ → Read (List ℕ)
-account_name_from path name = if has_name_length name && list_all is_account_byte name then Ok name else Err (BadName path)
+account_name_from path name = if is_account_name name then Ok name else Err (BadName path)
 
 -- an account's name is judged before what the account has
 unfoldable pub named_account_at : Path → List ℕ → Data → Read NamedAccount
@@ -235,10 +238,6 @@ document_at path d = do
   accounts ← accounts_at (at_key path (codes "accounts")) value
   version ← version_under (at_key path (codes "version")) (get (codes "version") d)
   Ok (record { accounts = accounts })
-
--- the JSON value of a text; of members with equal keys the last stays
-abbrev pub json_of : List ℕ → Option Data
-json_of text = if is_utf8 text then read text else None
 
 abbrev pub json_at : List ℕ → Read Data
 json_at text = ok_or (json_of text) NotJson

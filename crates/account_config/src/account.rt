@@ -7,7 +7,7 @@ ghost use Rattle.account_config.specs.Policy.{account_at, account_name_from, acc
 
 use crate::ConfigFault;
 use crate::object::{judge, members_of};
-use crate::path::{path_of_index, path_of_key};
+use crate::paths::Path;
 use crate::text::items_of;
 use crate::user::{has_name_length, user_of};
 use bytes::Bytes;
@@ -20,7 +20,7 @@ use std::alloc::Global;
 #[tactic(auto, unfolding(crate::specs::Policy::accounts_at))]
 pub(crate) fn accounts_of(
     alloc: Global,
-    path: &[u8],
+    path: &Path,
     value: &Value,
 ) -> Result<Accounts, ConfigFault>
     ensures { Gives (λ x. x) result (accounts_at path.now (view value.now)) }
@@ -32,7 +32,7 @@ pub(crate) fn accounts_of(
 /// The accounts of an object's members, in the order of their names.
 fn each_account(
     alloc: Global,
-    path: &[u8],
+    path: &Path,
     members: &Map<String, Value>,
 ) -> Result<Accounts, ConfigFault>
     ensures { Gives (λ x. x) result (accounts_from [] path.now (members_view members.now.entries)) }
@@ -49,26 +49,26 @@ fn each_account(
 #[tactic(auto, unfolding(crate::specs::Policy::named_account_at))]
 fn named_account_of(
     alloc: Global,
-    path: &[u8],
+    path: &Path,
     key: &str,
     value: &Value,
 ) -> Result<NamedAccount, ConfigFault>
     ensures { Gives (λ x. x) result (named_account_at path.now key.now (view value.now)) }
 {
-    let below = path_of_key(alloc, path, key)?;
+    let below = path.key(alloc, key)?;
     let name = account_name_from(alloc, &below, key.as_bytes())?;
     let account = account_of(alloc, &below, value)?;
     Ok(NamedAccount { name, account })
 }
 
 /// An account's name. `BadName` where it hasn't 1 to 256 bytes, or has a control byte, a space or DEL.
-fn account_name_from(alloc: Global, path: &[u8], name: &[u8]) -> Result<Bytes, ConfigFault>
+fn account_name_from(alloc: Global, path: &Path, name: &[u8]) -> Result<Bytes, ConfigFault>
     ensures { Gives (λ x. x) result (account_name_from path.now name.now) }
 {
     if has_name_length(name) && has_account_bytes(name) {
         Ok(Bytes::copy_from_slice(alloc, name)?)
     } else {
-        Err(ConfigFault::BadName(Items::from_vec(Vec::from_slice(alloc, path)?)))
+        Err(ConfigFault::BadName(path.copy(alloc)?))
     }
 }
 
@@ -81,11 +81,11 @@ fn has_account_bytes(name: &[u8]) -> bool
 
 /// What an account has: its users, if any are there.
 #[tactic(auto, unfolding(crate::specs::Policy::account_at))]
-fn account_of(alloc: Global, path: &[u8], value: &Value) -> Result<AccountDoc, ConfigFault>
+fn account_of(alloc: Global, path: &Path, value: &Value) -> Result<AccountDoc, ConfigFault>
     ensures { Gives (λ x. x) result (account_at path.now (view value.now)) }
 {
     judge(alloc, &[("users", false)], path, value)?;
-    let below = path_of_key(alloc, path, "users")?;
+    let below = path.key(alloc, "users")?;
     let users = users_under(alloc, &below, value.get("users"))?;
     Ok(AccountDoc { users })
 }
@@ -93,7 +93,7 @@ fn account_of(alloc: Global, path: &[u8], value: &Value) -> Result<AccountDoc, C
 /// The users of a list, if it is there.
 fn users_under(
     alloc: Global,
-    path: &[u8],
+    path: &Path,
     found: Option<&Value>,
 ) -> Result<Items<UserDoc>, ConfigFault>
     ensures { Gives (λ x. x) result (users_under path.now (option_map (λ v. view v.now) found.entry)) }
@@ -106,7 +106,7 @@ fn users_under(
 
 /// The users of a list.
 #[tactic(auto, unfolding(crate::specs::Policy::users_at))]
-fn users_of(alloc: Global, path: &[u8], value: &Value) -> Result<Items<UserDoc>, ConfigFault>
+fn users_of(alloc: Global, path: &Path, value: &Value) -> Result<Items<UserDoc>, ConfigFault>
     ensures { Gives (λ x. x) result (users_at path.now (view value.now)) }
 {
     let values = items_of(alloc, path, value)?;
@@ -114,12 +114,12 @@ fn users_of(alloc: Global, path: &[u8], value: &Value) -> Result<Items<UserDoc>,
 }
 
 /// The users of a list's values in order.
-fn each_user(alloc: Global, path: &[u8], values: &[Value]) -> Result<Items<UserDoc>, ConfigFault>
+fn each_user(alloc: Global, path: &Path, values: &[Value]) -> Result<Items<UserDoc>, ConfigFault>
     ensures { Gives (λ x. x) result (each user_at path.now 0 (items_view values.now)) }
 {
     let mut users = Vec::with_capacity(alloc, values.len())?;
     for (index, value) in values.iter().enumerate() {
-        let below = path_of_index(alloc, path, index)?;
+        let below = path.index(alloc, index)?;
         let user = user_of(alloc, &below, value)?;
         users.push(user)?;
     }

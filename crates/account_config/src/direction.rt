@@ -6,7 +6,7 @@ ghost use Rattle.account_config.specs.Policy.{allow_at, direction_at, each, entr
 
 use crate::ConfigFault;
 use crate::object::judge;
-use crate::path::{path_of_index, path_of_key};
+use crate::paths::Path;
 use crate::text::{items_of, text_of};
 use lists::Items;
 use policy_doc::{Direction, PermDoc, PermEntry};
@@ -17,7 +17,7 @@ use subjects::Pattern;
 /// A user's permissions, if it has any.
 pub(crate) fn permissions_under(
     alloc: Global,
-    path: &[u8],
+    path: &Path,
     found: Option<&Value>,
 ) -> Result<Option<PermDoc>, ConfigFault>
     ensures { Gives (λ x. x) result (permissions_under path.now (option_map (λ v. view v.now) found.entry)) }
@@ -30,7 +30,7 @@ pub(crate) fn permissions_under(
 
 /// A user's permissions.
 #[tactic(auto, unfolding(crate::specs::Policy::permissions_at))]
-fn permissions_of(alloc: Global, path: &[u8], value: &Value) -> Result<PermDoc, ConfigFault>
+fn permissions_of(alloc: Global, path: &Path, value: &Value) -> Result<PermDoc, ConfigFault>
     ensures { Gives (λ x. x) result (permissions_at path.now (view value.now)) }
 {
     let rows = [
@@ -50,13 +50,13 @@ fn spelled_of(
     alloc: Global,
     long: &str,
     short: &str,
-    path: &[u8],
+    path: &Path,
     value: &Value,
 ) -> Result<Direction, ConfigFault>
     ensures { Gives (λ x. x) result (spelled_at long.now short.now path.now (view value.now)) }
 {
-    let long_path = path_of_key(alloc, path, long)?;
-    let short_path = path_of_key(alloc, path, short)?;
+    let long_path = path.key(alloc, long)?;
+    let short_path = path.key(alloc, short)?;
     Ok(spelled_from(
         alloc,
         &long_path,
@@ -69,8 +69,8 @@ fn spelled_of(
 /// The direction of the one of two values that is there.
 fn spelled_from(
     alloc: Global,
-    long_path: &[u8],
-    short_path: &[u8],
+    long_path: &Path,
+    short_path: &Path,
     long: Option<&Value>,
     short: Option<&Value>,
 ) -> Result<Direction, ConfigFault>
@@ -84,14 +84,12 @@ fn spelled_from(
         }),
         (Some(value), None) => Ok(direction_of(alloc, long_path, value)?),
         (None, Some(value)) => Ok(direction_of(alloc, short_path, value)?),
-        (Some(_), Some(_)) => Err(ConfigFault::WrongType(Items::from_vec(Vec::from_slice(
-            alloc, short_path,
-        )?))),
+        (Some(_), Some(_)) => Err(ConfigFault::WrongType(short_path.copy(alloc)?)),
     }
 }
 
 /// The lists of one direction.
-fn direction_of(alloc: Global, path: &[u8], value: &Value) -> Result<Direction, ConfigFault>
+fn direction_of(alloc: Global, path: &Path, value: &Value) -> Result<Direction, ConfigFault>
     ensures { Gives (λ x. x) result (direction_at path.now (view value.now)) }
 {
     if value.is_object() {
@@ -103,13 +101,13 @@ fn direction_of(alloc: Global, path: &[u8], value: &Value) -> Result<Direction, 
 
 /// An allow and a deny list, each if it is there.
 #[tactic(auto, unfolding(crate::specs::Policy::lists_at))]
-fn lists_of(alloc: Global, path: &[u8], value: &Value) -> Result<Direction, ConfigFault>
+fn lists_of(alloc: Global, path: &Path, value: &Value) -> Result<Direction, ConfigFault>
     ensures { Gives (λ x. x) result (lists_at path.now (view value.now)) }
 {
     judge(alloc, &[("allow", false), ("deny", false)], path, value)?;
-    let below = path_of_key(alloc, path, "allow")?;
+    let below = path.key(alloc, "allow")?;
     let allow = entries_under(alloc, &below, value.get("allow"))?;
-    let below = path_of_key(alloc, path, "deny")?;
+    let below = path.key(alloc, "deny")?;
     match entries_under(alloc, &below, value.get("deny"))? {
         None => Ok(Direction {
             allow,
@@ -121,7 +119,7 @@ fn lists_of(alloc: Global, path: &[u8], value: &Value) -> Result<Direction, Conf
 
 /// A text or a list of texts as an allow list.
 #[tactic(auto, unfolding(crate::specs::Policy::allow_at))]
-fn allow_of(alloc: Global, path: &[u8], value: &Value) -> Result<Direction, ConfigFault>
+fn allow_of(alloc: Global, path: &Path, value: &Value) -> Result<Direction, ConfigFault>
     ensures { Gives (λ x. x) result (allow_at path.now (view value.now)) }
 {
     let entries = entries_of(alloc, path, value)?;
@@ -134,7 +132,7 @@ fn allow_of(alloc: Global, path: &[u8], value: &Value) -> Result<Direction, Conf
 /// The entries of a list, if it is there.
 fn entries_under(
     alloc: Global,
-    path: &[u8],
+    path: &Path,
     found: Option<&Value>,
 ) -> Result<Option<Items<PermEntry>>, ConfigFault>
     ensures { Gives (λ x. x) result (entries_under path.now (option_map (λ v. view v.now) found.entry)) }
@@ -147,7 +145,7 @@ fn entries_under(
 
 /// The one entry of a text, or those of a list.
 #[tactic(auto, unfolding(crate::specs::Policy::entries_at))]
-fn entries_of(alloc: Global, path: &[u8], value: &Value) -> Result<Items<PermEntry>, ConfigFault>
+fn entries_of(alloc: Global, path: &Path, value: &Value) -> Result<Items<PermEntry>, ConfigFault>
     ensures { Gives (λ x. x) result (entries_at path.now (view value.now)) }
 {
     if value.is_string() {
@@ -162,12 +160,12 @@ fn entries_of(alloc: Global, path: &[u8], value: &Value) -> Result<Items<PermEnt
 }
 
 /// The entries of a list's values in order.
-fn each_entry(alloc: Global, path: &[u8], values: &[Value]) -> Result<Items<PermEntry>, ConfigFault>
+fn each_entry(alloc: Global, path: &Path, values: &[Value]) -> Result<Items<PermEntry>, ConfigFault>
     ensures { Gives (λ x. x) result (each entry_at path.now 0 (items_view values.now)) }
 {
     let mut entries = Vec::with_capacity(alloc, values.len())?;
     for (index, value) in values.iter().enumerate() {
-        let below = path_of_index(alloc, path, index)?;
+        let below = path.index(alloc, index)?;
         let entry = entry_of(alloc, &below, value)?;
         entries.push(entry)?;
     }
@@ -176,7 +174,7 @@ fn each_entry(alloc: Global, path: &[u8], values: &[Value]) -> Result<Items<Perm
 
 /// The entry of a value that has to be a pattern's text.
 #[tactic(auto, unfolding(crate::specs::Policy::entry_at))]
-fn entry_of(alloc: Global, path: &[u8], value: &Value) -> Result<PermEntry, ConfigFault>
+fn entry_of(alloc: Global, path: &Path, value: &Value) -> Result<PermEntry, ConfigFault>
     ensures { Gives (λ x. x) result (entry_at path.now (view value.now)) }
 {
     let text = text_of(alloc, path, value)?;
@@ -185,7 +183,7 @@ fn entry_of(alloc: Global, path: &[u8], value: &Value) -> Result<PermEntry, Conf
 
 /// The entry of a text. `BadSubject` where it is no pattern: none has a space, so that an entry with
 /// a queue's part is refused here.
-fn entry_from(alloc: Global, path: &[u8], text: &[u8]) -> Result<PermEntry, ConfigFault>
+fn entry_from(alloc: Global, path: &Path, text: &[u8]) -> Result<PermEntry, ConfigFault>
     ensures { Gives (λ x. x) result (entry_from path.now text.now) }
 {
     match Pattern::parse(alloc, text) {
@@ -194,7 +192,7 @@ fn entry_from(alloc: Global, path: &[u8], text: &[u8]) -> Result<PermEntry, Conf
             if error.is_no_memory() {
                 Err(ConfigFault::NoMemory)
             } else {
-                Err(ConfigFault::BadSubject(Items::from_vec(Vec::from_slice(alloc, path)?)))
+                Err(ConfigFault::BadSubject(path.copy(alloc)?))
             }
         }
     }

@@ -3,13 +3,14 @@ ghost use Rattle.std.specs.Prelude.{◌≡◌, option_map};
 ghost use Rattle.serde_json.specs.View.{view};
 ghost use Rattle.account_config.specs.Fault.{Gives};
 ghost use Rattle.account_config.specs.Policy.{document_at, is_version, json_at, json_from, policy_of, version_under};
+ghost use Rattle.account_config.specs.Written.{IsAnsweredFor};
 
 use crate::ConfigFault;
 use crate::account::accounts_of;
 use crate::object::judge;
-use crate::path::path_of_key;
+use crate::paths::Path;
 use crate::text::required_of;
-use lists::Items;
+use json_text::JsonError;
 use policy_doc::PolicyDoc;
 use serde_json::Value;
 use std::alloc::Global;
@@ -22,12 +23,13 @@ pub const MOST_BYTES: usize = 1_048_576;
 /// its kind, then the least unknown key by bytes, then the keys that must be there, then the known
 /// keys in the order of their table, lists by index and accounts by name. `NoMemory` wherever memory
 /// could not be had.
-#[tactic(auto, unfolding(crate::specs::Policy::policy_of))]
+#[tactic(auto, using(crate::proofs::Law::answered, crate::proofs::Law::answered_err), unfolding(crate::specs::Policy::policy_of))]
 pub fn read_policy(alloc: Global, text: &[u8]) -> Result<PolicyDoc, ConfigFault>
-    ensures { Gives (λ x. x) result (policy_of text.now) }
+    ensures reads { Gives (λ x. x) result (policy_of text.now) }
+    ensures first { IsAnsweredFor text.now result }
 {
     let value = json_of(alloc, text)?;
-    Ok(document_of(alloc, b"", &value)?)
+    Ok(document_of(alloc, &Path::whole(alloc), &value)?)
 }
 
 /// The JSON value of a text that isn't too large.
@@ -44,21 +46,16 @@ fn json_of(alloc: Global, text: &[u8]) -> Result<Value, ConfigFault>
 fn read_json(alloc: Global, text: &[u8]) -> Result<Value, ConfigFault>
     ensures { Gives (λ value. view value) result (json_at text.now) }
 {
-    match Value::from_slice(alloc, text) {
+    match json_text::read_json(alloc, text) {
         Ok(value) => Ok(value),
-        Err(error) => {
-            if error.is_memory() {
-                Err(ConfigFault::NoMemory)
-            } else {
-                Err(ConfigFault::NotJson)
-            }
-        }
+        Err(JsonError::NotJson) => Err(ConfigFault::NotJson),
+        Err(JsonError::NoMemory) => Err(ConfigFault::NoMemory),
     }
 }
 
 /// The document of a JSON value.
 #[tactic(auto, unfolding(crate::specs::Policy::document_at))]
-fn document_of(alloc: Global, path: &[u8], value: &Value) -> Result<PolicyDoc, ConfigFault>
+fn document_of(alloc: Global, path: &Path, value: &Value) -> Result<PolicyDoc, ConfigFault>
     ensures { Gives (λ x. x) result (document_at path.now (view value.now)) }
 {
     judge(
@@ -68,15 +65,15 @@ fn document_of(alloc: Global, path: &[u8], value: &Value) -> Result<PolicyDoc, C
         value,
     )?;
     let found = required_of(alloc, "accounts", path, value)?;
-    let below = path_of_key(alloc, path, "accounts")?;
+    let below = path.key(alloc, "accounts")?;
     let accounts = accounts_of(alloc, &below, found)?;
-    let below = path_of_key(alloc, path, "version")?;
+    let below = path.key(alloc, "version")?;
     version_under(alloc, &below, value.get("version"))?;
     Ok(PolicyDoc { accounts })
 }
 
 /// Refuses another version than the whole number 1.
-fn version_under(alloc: Global, path: &[u8], found: Option<&Value>) -> Result<(), ConfigFault>
+fn version_under(alloc: Global, path: &Path, found: Option<&Value>) -> Result<(), ConfigFault>
     ensures { Gives (λ x. x) result (version_under path.now (option_map (λ v. view v.now) found.entry)) }
 {
     match found {
@@ -85,7 +82,7 @@ fn version_under(alloc: Global, path: &[u8], found: Option<&Value>) -> Result<()
             if is_version(value) {
                 Ok(())
             } else {
-                Err(ConfigFault::WrongType(Items::from_vec(Vec::from_slice(alloc, path)?)))
+                Err(ConfigFault::WrongType(path.copy(alloc)?))
             }
         }
     }

@@ -1,10 +1,10 @@
-use lists::{Items, NoMemory};
+use crate::Path;
+use lists::NoMemory;
 use std::alloc::{AllocError, AllocFailed, Global};
 use std::error::Error;
-use std::{fmt, str};
+use std::fmt;
 
-/// Why a text is no policy document. A path says where: a `/` before each key and index, from the outermost
-/// on, and in a key `~0` for `~` and `~1` for `/`. Which fault comes first: `read_policy`.
+/// Why a text is no policy document, with the path of where. Which fault comes first: `read_policy`.
 #[derive(Debug, Drop)]
 pub enum ConfigFault {
     /// The text has more than 1,048,576 bytes.
@@ -12,16 +12,16 @@ pub enum ConfigFault {
     /// The text is no JSON, or isn't UTF-8.
     NotJson,
     /// An object has a key that it may not have; the path is the key's.
-    UnknownKey(Items<u8>),
+    UnknownKey(Path),
     /// A value is of another kind than the one that is wanted, or a key that must be there isn't; the path is
     /// the value's, or that key's. Or both spellings of a direction are there; the path is the shorter's.
-    WrongType(Items<u8>),
+    WrongType(Path),
     /// A text is no pattern.
-    BadSubject(Items<u8>),
+    BadSubject(Path),
     /// A name has another length than 1 to 256 bytes, or an account's name a byte that it may not have.
-    BadName(Items<u8>),
+    BadName(Path),
     /// A password begins as a hashed one does, with `$2`.
-    HashedPassword(Items<u8>),
+    HashedPassword(Path),
     /// Memory could not be had for reading, or for keeping what was read.
     NoMemory,
 }
@@ -36,7 +36,7 @@ impl ConfigFault {
         ensures { IfOk result (λ line. line.items ≡ fault_line self.now) }
     {
         let mut line = Vec::from_slice(alloc, self.title().as_bytes())?;
-        line.extend_from_slice(self.path())?;
+        line.extend_from_slice(self.path().as_bytes())?;
         Ok(line)
     }
 
@@ -73,29 +73,31 @@ impl ConfigFault {
     }
 
     /// Where the fault stands, or nothing.
-    fn path(&self) -> &[u8]
+    fn path(&self) -> &str
         ensures { result.now ≡ fault_path self.now }
     {
         match self {
-            ConfigFault::TooLarge => b"",
-            ConfigFault::NotJson => b"",
-            ConfigFault::UnknownKey(path) => path.as_slice(),
-            ConfigFault::WrongType(path) => path.as_slice(),
-            ConfigFault::BadSubject(path) => path.as_slice(),
-            ConfigFault::BadName(path) => path.as_slice(),
-            ConfigFault::HashedPassword(path) => path.as_slice(),
-            ConfigFault::NoMemory => b"",
+            ConfigFault::TooLarge => "",
+            ConfigFault::NotJson => "",
+            ConfigFault::UnknownKey(path) => path.as_str(),
+            ConfigFault::WrongType(path) => path.as_str(),
+            ConfigFault::BadSubject(path) => path.as_str(),
+            ConfigFault::BadName(path) => path.as_str(),
+            ConfigFault::HashedPassword(path) => path.as_str(),
+            ConfigFault::NoMemory => "",
         }
     }
 }
 
 impl fmt::Display for ConfigFault {
+    ghost use Rattle.std.specs.Prelude.{Some};
+    ghost use Rattle.account_config.specs.Fault.{fault_line};
+
+    ghost output = { λ fault. Some (fault_line fault) };
+
     fn fmt<W: fmt::Write>(&self, f: &mut fmt::Formatter<W>) -> fmt::Result {
         f.write_str(self.title())?;
-        match str::from_utf8(self.path()) {
-            Ok(path) => f.write_str(path),
-            Err(_) => Err(fmt::Error),
-        }
+        f.write_str(self.path())
     }
 }
 

@@ -6,7 +6,7 @@ mod direction;
 mod document;
 mod fault;
 mod object;
-mod path;
+mod paths;
 #[cfg(test)]
 mod tests;
 mod text;
@@ -14,3 +14,4 @@ mod user;
 
 pub use document::{MOST_BYTES, read_policy};
 pub use fault::ConfigFault;
+pub use paths::Path;

@@ -6,8 +6,7 @@ ghost use Rattle.account_config.specs.Fault.{Gives};
 ghost use Rattle.account_config.specs.Object.{is_known, judged, members_at, missing_key, refuse, row_of, unknown_key};
 
 use crate::ConfigFault;
-use crate::path::path_of_key;
-use lists::Items;
+use crate::paths::Path;
 use serde_json::{Map, Value};
 use std::alloc::Global;
 
@@ -18,7 +17,7 @@ use std::alloc::Global;
 pub(crate) fn judge(
     alloc: Global,
     rows: &[(&str, bool)],
-    path: &[u8],
+    path: &Path,
     value: &Value,
 ) -> Result<(), ConfigFault>
     ensures { Gives (λ x. x) result (judged (map row_of rows.now) path.now (view value.now)) }
@@ -32,14 +31,14 @@ pub(crate) fn judge(
 /// The members of what has to be an object.
 pub(crate) fn members_of<'v>(
     alloc: Global,
-    path: &[u8],
+    path: &Path,
     value: &'v Value,
 ) -> Result<&'v Map<String, Value>, ConfigFault>
     ensures { Gives (λ m. members_view m.now.entries) result (members_at path.now (view value.now)) }
 {
     match value.as_object() {
         Some(members) => Ok(members),
-        None => Err(ConfigFault::WrongType(Items::from_vec(Vec::from_slice(alloc, path)?))),
+        None => Err(ConfigFault::WrongType(path.copy(alloc)?)),
     }
 }
 
@@ -80,21 +79,21 @@ fn first_missing<'r>(rows: &[(&'r str, bool)], value: &Value) -> Option<&'r str>
 }
 
 /// Refuses a key that the table doesn't have.
-fn refuse_unknown(alloc: Global, path: &[u8], key: Option<&str>) -> Result<(), ConfigFault>
+fn refuse_unknown(alloc: Global, path: &Path, key: Option<&str>) -> Result<(), ConfigFault>
     ensures { Gives (λ x. x) result (refuse UnknownKey path.now (option_map (λ k. k.now) key.entry)) }
 {
     match key {
         None => Ok(()),
-        Some(key) => Err(ConfigFault::UnknownKey(Items::from_vec(path_of_key(alloc, path, key)?))),
+        Some(key) => Err(ConfigFault::UnknownKey(path.key(alloc, key)?)),
     }
 }
 
 /// Refuses an object without a key.
-fn refuse_missing(alloc: Global, path: &[u8], key: Option<&str>) -> Result<(), ConfigFault>
+fn refuse_missing(alloc: Global, path: &Path, key: Option<&str>) -> Result<(), ConfigFault>
     ensures { Gives (λ x. x) result (refuse WrongType path.now (option_map (λ k. k.now) key.entry)) }
 {
     match key {
         None => Ok(()),
-        Some(key) => Err(ConfigFault::WrongType(Items::from_vec(path_of_key(alloc, path, key)?))),
+        Some(key) => Err(ConfigFault::WrongType(path.key(alloc, key)?)),
     }
 }

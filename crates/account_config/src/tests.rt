@@ -30,11 +30,3 @@ fn a_document_is_what_was_written(rt: HostRuntime) -> Result<(), Fail> {
     assert_eq!(rt; deny[1].subject.bytes(), b">".as_slice());
     Ok(())
 }
-
-#[test]
-fn a_fault_has_a_text(rt: HostRuntime) -> Result<(), Fail> {
-    let fault = read_policy(rt.alloc(), b"{}").err().ok_or("no fault")?;
-    let text = format!(in rt.alloc(); "{fault}")?;
-    assert_eq!(rt; text.as_str(), "config WrongType /accounts");
-    Ok(())
-}

@@ -5,36 +5,35 @@ ghost use Rattle.account_config.specs.Object.{required_at};
 ghost use Rattle.account_config.specs.Policy.{items_at, required_text_at, text_at};
 
 use crate::ConfigFault;
-use crate::path::path_of_key;
-use lists::Items;
+use crate::paths::Path;
 use serde_json::Value;
 use std::alloc::Global;
 
 /// What has to be a text.
 pub(crate) fn text_of<'v>(
     alloc: Global,
-    path: &[u8],
+    path: &Path,
     value: &'v Value,
 ) -> Result<&'v str, ConfigFault>
     ensures { Gives (λ text. text.now) result (text_at path.now (view value.now)) }
 {
     match value.as_str() {
         Some(text) => Ok(text),
-        None => Err(ConfigFault::WrongType(Items::from_vec(Vec::from_slice(alloc, path)?))),
+        None => Err(ConfigFault::WrongType(path.copy(alloc)?)),
     }
 }
 
 /// What has to be a list.
 pub(crate) fn items_of<'v>(
     alloc: Global,
-    path: &[u8],
+    path: &Path,
     value: &'v Value,
 ) -> Result<&'v [Value], ConfigFault>
     ensures { Gives (λ items. items_view items.now) result (items_at path.now (view value.now)) }
 {
     match value.as_array() {
         Some(items) => Ok(items.as_slice()),
-        None => Err(ConfigFault::WrongType(Items::from_vec(Vec::from_slice(alloc, path)?))),
+        None => Err(ConfigFault::WrongType(path.copy(alloc)?)),
     }
 }
 
@@ -42,14 +41,14 @@ pub(crate) fn items_of<'v>(
 pub(crate) fn required_of<'v>(
     alloc: Global,
     key: &str,
-    path: &[u8],
+    path: &Path,
     value: &'v Value,
 ) -> Result<&'v Value, ConfigFault>
     ensures { Gives (λ found. view found.now) result (required_at key.now path.now (view value.now)) }
 {
     match value.get(key) {
         Some(found) => Ok(found),
-        None => Err(ConfigFault::WrongType(Items::from_vec(path_of_key(alloc, path, key)?))),
+        None => Err(ConfigFault::WrongType(path.key(alloc, key)?)),
     }
 }
 
@@ -58,12 +57,12 @@ pub(crate) fn required_of<'v>(
 pub(crate) fn required_text_of<'v>(
     alloc: Global,
     key: &str,
-    path: &[u8],
+    path: &Path,
     value: &'v Value,
 ) -> Result<&'v str, ConfigFault>
     ensures { Gives (λ text. text.now) result (required_text_at key.now path.now (view value.now)) }
 {
     let found = required_of(alloc, key, path, value)?;
-    let below = path_of_key(alloc, path, key)?;
+    let below = path.key(alloc, key)?;
     Ok(text_of(alloc, &below, found)?)
 }

@@ -7,17 +7,16 @@ ghost use Rattle.account_config.specs.Policy.{has_name_length, is_hashed, passwo
 use crate::ConfigFault;
 use crate::direction::permissions_under;
 use crate::object::judge;
-use crate::path::path_of_key;
+use crate::paths::Path;
 use crate::text::required_text_of;
 use bytes::Bytes;
-use lists::Items;
 use policy_doc::{PermDoc, UserDoc};
 use serde_json::Value;
 use std::alloc::Global;
 
 /// A user: its name, its password and, if they are there, its permissions.
 #[tactic(auto, unfolding(crate::specs::Policy::user_at))]
-pub(crate) fn user_of(alloc: Global, path: &[u8], value: &Value) -> Result<UserDoc, ConfigFault>
+pub(crate) fn user_of(alloc: Global, path: &Path, value: &Value) -> Result<UserDoc, ConfigFault>
     ensures { Gives (λ x. x) result (user_at path.now (view value.now)) }
 {
     let rows = [("user", true), ("password", true), ("permissions", false)];
@@ -34,21 +33,21 @@ pub(crate) fn user_of(alloc: Global, path: &[u8], value: &Value) -> Result<UserD
 
 /// The name under `user`.
 #[tactic(auto, unfolding(crate::specs::Policy::user_name_at))]
-fn user_name_of(alloc: Global, path: &[u8], value: &Value) -> Result<Bytes, ConfigFault>
+fn user_name_of(alloc: Global, path: &Path, value: &Value) -> Result<Bytes, ConfigFault>
     ensures { Gives (λ x. x) result (user_name_at path.now (view value.now)) }
 {
     let name = required_text_of(alloc, "user", path, value)?;
-    let below = path_of_key(alloc, path, "user")?;
+    let below = path.key(alloc, "user")?;
     Ok(user_name_from(alloc, &below, name.as_bytes())?)
 }
 
 /// The password under `password`.
 #[tactic(auto, unfolding(crate::specs::Policy::password_at))]
-fn password_of(alloc: Global, path: &[u8], value: &Value) -> Result<Bytes, ConfigFault>
+fn password_of(alloc: Global, path: &Path, value: &Value) -> Result<Bytes, ConfigFault>
     ensures { Gives (λ x. x) result (password_at path.now (view value.now)) }
 {
     let password = required_text_of(alloc, "password", path, value)?;
-    let below = path_of_key(alloc, path, "password")?;
+    let below = path.key(alloc, "password")?;
     Ok(password_from(alloc, &below, password.as_bytes())?)
 }
 
@@ -56,32 +55,32 @@ fn password_of(alloc: Global, path: &[u8], value: &Value) -> Result<Bytes, Confi
 #[tactic(auto, unfolding(crate::specs::Policy::user_permissions_at))]
 fn user_permissions_of(
     alloc: Global,
-    path: &[u8],
+    path: &Path,
     value: &Value,
 ) -> Result<Option<PermDoc>, ConfigFault>
     ensures { Gives (λ x. x) result (user_permissions_at path.now (view value.now)) }
 {
-    let below = path_of_key(alloc, path, "permissions")?;
+    let below = path.key(alloc, "permissions")?;
     Ok(permissions_under(alloc, &below, value.get("permissions"))?)
 }
 
 /// A user's name. `BadName` where it hasn't 1 to 256 bytes.
-fn user_name_from(alloc: Global, path: &[u8], name: &[u8]) -> Result<Bytes, ConfigFault>
+fn user_name_from(alloc: Global, path: &Path, name: &[u8]) -> Result<Bytes, ConfigFault>
     ensures { Gives (λ x. x) result (user_name_from path.now name.now) }
 {
     if has_name_length(name) {
         Ok(Bytes::copy_from_slice(alloc, name)?)
     } else {
-        Err(ConfigFault::BadName(Items::from_vec(Vec::from_slice(alloc, path)?)))
+        Err(ConfigFault::BadName(path.copy(alloc)?))
     }
 }
 
 /// A password in clear. `HashedPassword` where it begins as a hashed one does.
-fn password_from(alloc: Global, path: &[u8], password: &[u8]) -> Result<Bytes, ConfigFault>
+fn password_from(alloc: Global, path: &Path, password: &[u8]) -> Result<Bytes, ConfigFault>
     ensures { Gives (λ x. x) result (password_from path.now password.now) }
 {
     if is_hashed(password) {
-        Err(ConfigFault::HashedPassword(Items::from_vec(Vec::from_slice(alloc, path)?)))
+        Err(ConfigFault::HashedPassword(path.copy(alloc)?))
     } else {
         Ok(Bytes::copy_from_slice(alloc, password)?)
     }

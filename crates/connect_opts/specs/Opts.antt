@@ -1,17 +1,12 @@
 -- What the text of a CONNECT says (NATS documentation, "Client Protocol", "CONNECT"; docs/PROTOCOL.md).
 use Rattle.std.specs.Prelude.{ℕ, Bool, true, false, List, [], codes, Option, Some, None, Ok, Err, if◌then◌else◌, is_some, unwrap_or}
 use Rattle.std.specs.Option.{ok_or}
-use Rattle.std.specs.Str.{is_utf8}
 use Rattle.serde_json.specs.Data.{Data, null, boolean, number, string, array, object}
 use Rattle.serde_json.specs.Find.{get, as_object}
-use Rattle.serde_json.specs.Read.{read}
+use Rattle.json_text.specs.Json.{json_of}
 use Rattle.connect_opts.specs.declared.error.ConnectError.TheVariants.{NotJson, NotObject, FieldType}
 use Rattle.connect_opts.specs.declared.opts.ConnectOpts.{ConnectOpts}
 use Rattle.connect_opts.specs.Read.{Read, ◌>>=◌}
-
--- the JSON value of a text; of members with equal keys the last stays
-abbrev pub json_of : List ℕ → Option Data
-json_of text = if is_utf8 text then read text else None
 
 abbrev pub json_at : List ℕ → Read Data
 json_at text = ok_or (json_of text) NotJson

@@ -1,4 +1,4 @@
-use std::alloc::AllocError;
+use lists::NoMemory;
 use std::error::Error;
 use std::fmt;
 
@@ -33,13 +33,13 @@ impl fmt::Display for ConnectError {
 
 impl Error for ConnectError {}
 
-impl From<AllocError> for ConnectError {
+impl From<NoMemory> for ConnectError {
     ghost use Rattle.std.specs.Prelude.{◌≡◌};
     ghost use Rattle.connect_opts.specs.declared.error.ConnectError.TheVariants.{NoMemory};
 
     ghost from_gives = { λ _ e. e ≡ NoMemory };
 
-    fn from(_refused: AllocError) -> ConnectError {
+    fn from(_refused: NoMemory) -> ConnectError {
         ConnectError::NoMemory
     }
 }

@@ -6,7 +6,8 @@ ghost use Rattle.connect_opts.specs.Opts.{json_at, object_at};
 
 use crate::ConnectError;
 use crate::field::{text_field, truth_field};
-use bytes::Bytes;
+use json_text::JsonError;
+use lists::SharedText;
 use serde_json::Value;
 use std::alloc::Global;
 
@@ -14,9 +15,9 @@ use std::alloc::Global;
 #[derive(Debug, Drop)]
 pub struct ConnectOpts {
     /// The user's name, if the client gave one.
-    pub user: Option<Bytes>,
+    pub user: Option<SharedText>,
     /// The user's password, empty if the client gave none.
-    pub password: Bytes,
+    pub password: SharedText,
     /// Whether each accepted message is answered by `+OK`, as it is if the client doesn't say.
     pub verbose: bool,
     /// Whether the client's own messages come to its own subscriptions, as they do if the client doesn't say.
@@ -71,27 +72,22 @@ fn read_object(alloc: Global, text: &[u8]) -> Result<Value, ConnectError>
 fn read_json(alloc: Global, text: &[u8]) -> Result<Value, ConnectError>
     ensures { Gives (λ value. view value) result (json_at text.now) }
 {
-    match Value::from_slice(alloc, text) {
+    match json_text::read_json(alloc, text) {
         Ok(value) => Ok(value),
-        Err(error) => {
-            if error.is_memory() {
-                Err(ConnectError::NoMemory)
-            } else {
-                Err(ConnectError::NotJson)
-            }
-        }
+        Err(JsonError::NotJson) => Err(ConnectError::NotJson),
+        Err(JsonError::NoMemory) => Err(ConnectError::NoMemory),
     }
 }
 
 /// The same text with an owner of its own.
-fn keep(alloc: Global, text: &str) -> Result<Bytes, ConnectError>
+fn keep(alloc: Global, text: &str) -> Result<SharedText, ConnectError>
     ensures { MatchResult result (λ kept. kept ≡ text.now) (λ error. error ≡ fault.NoMemory) }
 {
-    Ok(Bytes::copy_from_slice(alloc, text.as_bytes())?)
+    Ok(SharedText::of(alloc, text.as_bytes())?)
 }
 
 /// The same text, if there is one, with an owner of its own.
-fn keep_option(alloc: Global, text: Option<&str>) -> Result<Option<Bytes>, ConnectError>
+fn keep_option(alloc: Global, text: Option<&str>) -> Result<Option<SharedText>, ConnectError>
     ensures { MatchResult result (λ kept. kept ≡ option_copied text.entry) (λ error. error ≡ fault.NoMemory) }
 {
     match text {

@@ -1,11 +1,10 @@
 -- The search for the first user whose name is taken finds what is said of it.
 use Rattle.std.proofs.Common.{◌≡◌, ◌+◌, ℕ, zero, suc, Bool, true, false, List, [], ◌∷◌, ◌++◌, take, Option, Some, None, subst, sym, ◌∙◌, refl, ap, append_assoc, arith}
 use Rattle.std.specs.List.{slice_get}
-use Rattle.std.specs.Option.{option_map_or, IsSomeAnd}
+use Rattle.std.specs.Option.{IsSomeAnd}
 use Rattle.std.proofs.lemmas.List.{append-nil}
-use Rattle.policy_doc.specs.Document.{users_of, users_at, is_taken, twin_row, twin_or, twin_place, policy_fault, HaveUniqueNames, IsTwinRow, IsFirstTwin}
+use Rattle.policy_doc.specs.Document.{users_of, users_at, is_taken, twin_row, twin_place, policy_fault, HaveUniqueNames, IsTwinRow, IsFirstTwin}
 use Rattle.policy_doc.specs.declared.fault.Place.{Place}
-use Rattle.policy_doc.specs.declared.fault.PolicyFault.{PolicyFault}
 use Rattle.policy_doc.specs.declared.fault.PolicyFault.TheVariants.{DuplicateUser}
 use Rattle.policy_doc.specs.declared.document.PolicyDoc.{PolicyDoc}
 use Rattle.policy_doc.specs.declared.document.NamedAccount.{NamedAccount}

@@ -1,5 +1,5 @@
 -- When a document is valid, and the built-in one (docs/POLICY.md, "Users" and "The built-in policy").
-use Rattle.std.specs.Prelude.{◌∷◌, ◌++◌, ◌+◌, ℕ, Bool, List, [], map, take, Option, Some, None, codes, decimal, slice_get, if◌then◌else◌, IsSomeAnd, IsTrue}
+use Rattle.std.specs.Prelude.{◌∷◌, ◌++◌, ◌+◌, ℕ, Bool, List, [], map, take, Option, Some, None, codes, slice_get, if◌then◌else◌, IsSomeAnd, IsTrue}
 use Rattle.std.specs.List.{flat_map, list_any, IsDistinct}
 use Rattle.std.specs.Option.{option_map, option_map_or}
 use Rattle.std.specs.Str.{bytes_eq}
@@ -102,11 +102,6 @@ builtin_doc = record {
 -- the name of the account at an index
 abbrev pub name_at : List NamedAccount → ℕ → Name
 name_at accounts i = option_map_or (λ (a : NamedAccount). a.name) (slice_get accounts i) []
-
--- the line that tells an operator of a fault of a document: its name, the account and the row
-abbrev pub fault_line : PolicyDoc → PolicyFault → List ℕ
-fault_line doc (DuplicateUser place) = codes "policy DuplicateUser " ++ name_at doc.accounts place.account ++ codes " " ++ decimal place.row
-fault_line doc NoMemory = codes "no memory"
 
 -- what is said of a fault
 abbrev pub fault_text : PolicyFault → List ℕ

@@ -1,7 +1,3 @@
-use crate::{NamedAccount, PolicyDoc};
-use itoa::Buffer;
-use lists::NoMemory;
-use std::alloc::Global;
 use std::error::Error;
 use std::fmt;
 
@@ -21,41 +17,6 @@ pub enum PolicyFault {
     DuplicateUser(Place),
     /// Memory could not be had. No call answers it yet.
     NoMemory,
-}
-
-impl PolicyFault {
-    ghost use Rattle.std.specs.Prelude.{◌≡◌, IfOk};
-    ghost use Rattle.policy_doc.specs.Document.{fault_line};
-
-    /// The line that tells an operator of the fault of a document, without the line's end: the fault's
-    /// name, the account and the row. `NoMemory` where memory could not be had.
-    pub fn line(&self, alloc: Global, doc: &PolicyDoc) -> Result<Vec<u8>, NoMemory>
-        ensures { IfOk result (λ line. line.items ≡ fault_line doc.now self.now) }
-    {
-        match self {
-            PolicyFault::DuplicateUser(place) => {
-                let mut line = Vec::from_slice(alloc, b"policy DuplicateUser ")?;
-                line.extend_from_slice(name_at(doc.accounts.as_slice(), place.account))?;
-                line.extend_from_slice(b" ")?;
-                line.extend_from_slice(Buffer::new().format(place.row).as_bytes())?;
-                Ok(line)
-            }
-            PolicyFault::NoMemory => Ok(Vec::from_slice(alloc, b"no memory")?),
-        }
-    }
-}
-
-ghost use Rattle.std.specs.Prelude.{◌≡◌};
-ghost use Rattle.policy_doc.specs.Document.{name_at};
-
-/// The name of the account at an index.
-fn name_at(accounts: &[NamedAccount], index: usize) -> &[u8]
-    ensures { result.now ≡ name_at accounts.now index }
-{
-    match accounts.get(index) {
-        Some(named) => named.name.as_slice(),
-        None => b"",
-    }
 }
 
 impl fmt::Display for PolicyFault {

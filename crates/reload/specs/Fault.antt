@@ -1,7 +1,9 @@
 -- What is said of a text that is no policy (docs/POLICY.md, "Faults").
-use Rattle.std.specs.Prelude.{◌++◌, ℕ, List, [], Bool, true, false, codes, decimal}
+use Rattle.std.specs.Prelude.{◌++◌, ℕ, List, Bool, true, false, codes, decimal, if◌then◌else◌}
+use Rattle.std.specs.Str.{is_utf8}
 use Rattle.policy_doc.specs.declared.fault.PolicyFault.{PolicyFault}
 use Rattle.policy_doc.specs.declared.fault.PolicyFault.TheVariants as policy
+use Rattle.policy_doc.specs.Document as document
 use Rattle.account_config.specs.Fault as config
 use Rattle.reload.specs.declared.fault.ReloadFault.{ReloadFault}
 use Rattle.reload.specs.declared.fault.ReloadFault.TheVariants.{Config, Policy}
@@ -24,3 +26,8 @@ policy_line policy.NoMemory account = codes "no memory"
 abbrev pub fault_line : ReloadFault → List ℕ
 fault_line (Config fault) = config.fault_line fault
 fault_line (Policy fault account) = policy_line fault account
+
+-- what is printed of a fault: its line. An account that isn't UTF-8, as no text of a policy has one, isn't named
+abbrev pub fault_text : ReloadFault → List ℕ
+fault_text (Config fault) = config.fault_line fault
+fault_text (Policy fault account) = if is_utf8 account then policy_line fault account else document.fault_text fault

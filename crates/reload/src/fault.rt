@@ -5,7 +5,7 @@ use lists::NoMemory;
 use policy_doc::PolicyFault;
 use std::alloc::Global;
 use std::error::Error;
-use std::fmt;
+use std::{fmt, str};
 
 /// Why a text gives no policy.
 #[derive(Debug, Drop)]
@@ -72,11 +72,39 @@ fn policy_line(alloc: Global, fault: PolicyFault, account: &[u8]) -> Result<Vec<
 }
 
 impl fmt::Display for ReloadFault {
+    ghost use Rattle.std.specs.Prelude.{Some};
+    ghost use Rattle.reload.specs.Fault.{fault_text};
+
+    ghost output = { λ fault. Some (fault_text fault) };
+
     fn fmt<W: fmt::Write>(&self, f: &mut fmt::Formatter<W>) -> fmt::Result {
         match self {
             ReloadFault::Config(fault) => fault.fmt(f),
-            ReloadFault::Policy { fault, .. } => fault.fmt(f),
+            ReloadFault::Policy { fault, account } => match str::from_utf8(account.as_slice()) {
+                Ok(account) => show_policy(*fault, account, f),
+                Err(_) => fault.fmt(f),
+            },
         }
+    }
+}
+
+ghost use Rattle.std.specs.Fmt.{WritesOnOk};
+
+/// Prints the line of a fault of a document, of which the row is in this account.
+fn show_policy<W: fmt::Write>(
+    fault: PolicyFault,
+    account: &str,
+    f: &mut fmt::Formatter<W>,
+) -> fmt::Result
+    ensures { WritesOnOk W.write_str_gives f.old result (policy_line fault account.now) f.new }
+{
+    match fault {
+        PolicyFault::DuplicateUser(place) => write!(
+            f,
+            "policy DuplicateUser {account} {}",
+            place.row
+        ),
+        PolicyFault::NoMemory => f.write_str("no memory"),
     }
 }
 

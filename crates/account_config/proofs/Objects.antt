@@ -1,0 +1,154 @@
+-- What is judged of an object before its keys are read.
+use Rattle.std.proofs.Common.{◌≡◌, ℕ, zero, suc, ◌<◌, ◌≤◌, List, [], ◌∷◌, length, Option, Some, None, Ordering, Less, Equal, Greater, Bool, true, false, ◌&&◌, ◌||◌, not, if◌then◌else◌, is_some, bytes_eq, refl, ap, sym, ◌∙◌, true≢false, arith}
+use Rattle.std.specs.Prelude.{⊤}
+use Rattle.std.specs.Ordering.{match_ordering}
+use Rattle.serde_json.specs.Data.{Data, null, boolean, number, string, array, object, Members, no_members, member}
+use Rattle.serde_json.specs.Find.{get, get_member}
+use Rattle.account_config.specs.declared.fault.ConfigFault.{ConfigFault}
+use Rattle.account_config.specs.declared.fault.ConfigFault.TheVariants.{UnknownKey, WrongType}
+use Rattle.account_config.specs.Fault.{Read, ◌>>=◌}
+use Rattle.account_config.specs.Path.{Path, at_key}
+use Rattle.account_config.specs.Object.{Row, is_known, unknown_key, missing_key, refuse, judged}
+use Rattle.account_config.specs.Place.{Place, itself, unknown, missing, under, named, IsBefore, Faults, IsReading}
+use Rattle.account_config.specs.Standing.{Key, required, optional, spelled, unless_found, has_key, missing_at, under_at, of_key, object_faults}
+use Rattle.account_config.proofs.Order.{IsAscending, IsOrdered, above_further, absent, compared, same_key, key_is}
+use Rattle.account_config.proofs.First.{IsClear, first_itself, whole}
+
+-- a table as the walk has it
+abbrev pub rows_of : List Key → List Row
+rows_of [] = []
+rows_of (required k faults ∷ keys) = (k, true) ∷ rows_of keys
+rows_of (optional k faults ∷ keys) = (k, false) ∷ rows_of keys
+rows_of (spelled k l faults ∷ keys) = (k, false) ∷ (l, false) ∷ rows_of keys
+
+same_keys : (keys : List Key) (key : List ℕ) → is_known (rows_of keys) key ≡ has_key keys key
+same_keys [] key = refl
+same_keys (required k faults ∷ keys) key = ap (λ b. bytes_eq k key || b) (same_keys keys key)
+same_keys (optional k faults ∷ keys) key = ap (λ b. bytes_eq k key || b) (same_keys keys key)
+same_keys (spelled k l faults ∷ keys) key = ap (λ b. bytes_eq k key || (bytes_eq l key || b)) (same_keys keys key)
+
+-- ---- the least unknown key
+
+abbrev IsLeastUnknown : (List ℕ → Bool) → Members → Option (List ℕ) → Type 0
+IsLeastUnknown known ms None = (k : List ℕ) → is_some (get_member k ms) ≡ true → known k ≡ true
+IsLeastUnknown known ms (Some u) = (is_some (get_member u ms) ≡ true) × (known u ≡ false) × ((k : List ℕ) → compared k u ≡ Less → is_some (get_member k ms) ≡ true → known k ≡ true)
+
+-- a key behind the first is a key of the whole
+still_there : (o : Ordering) (d : Data) (found : Option Data) → is_some found ≡ true → is_some (match_ordering o found (Some d) found) ≡ true
+still_there Less d found is = is
+still_there Equal d found is = refl
+still_there Greater d found is = is
+
+known_all : (known : List ℕ → Bool) (k : List ℕ) (d : Data) (ms : Members) → known k ≡ true → (key : List ℕ) →
+    (is_some (get_member key ms) ≡ true → known key ≡ true) → is_some (get_member key (member k d ms)) ≡ true → known key ≡ true
+known_all known k d ms is key later there = by (compared key k) refl there
+  where
+    by : (o : Ordering) → compared key k ≡ o → is_some (match_ordering o (get_member key ms) (Some d) (get_member key ms)) ≡ true → known key ≡ true
+    by Less e h = later h
+    by Equal e h = ap known (key_is key k e) ∙ is
+    by Greater e h = later h
+
+least_unknown : (rows : List Row) (ms : Members) → IsAscending ms → IsLeastUnknown (is_known rows) ms (unknown_key rows ms)
+least_unknown rows no_members up = λ k is. absurd (true≢false (sym is))
+least_unknown rows (member k d ms) up = by (is_known rows k) refl (unknown_key rows ms) (least_unknown rows ms up.2)
+  where
+    below : (key : List ℕ) → compared key k ≡ Less → is_some (get_member key (member k d ms)) ≡ true → is_known rows key ≡ true
+    below key lt there = absurd (true≢false (sym there ∙ ap is_some (absent key (member k d ms) (lt, above_further key k ms lt up.0))))
+
+    by : (b : Bool) → is_known rows k ≡ b → (later : Option (List ℕ)) → IsLeastUnknown (is_known rows) ms later → IsLeastUnknown (is_known rows) (member k d ms) (if b then later else Some k)
+    by false e later is = (rw (same_key k) refl, e, below)
+    by true e None is = λ key there. known_all (is_known rows) k d ms e key (is key) there
+    by true e (Some u) is = (still_there (compared u k) d (get_member u ms) is.0, is.1, λ key lt there. known_all (is_known rows) k d ms e key (is.2 key lt) there)
+
+-- ---- the first missing key
+
+abbrev IsFirstMissing : Path → (ℕ → Option ConfigFault) → Option (List ℕ) → Type 0
+IsFirstMissing path faults None = (i : ℕ) → faults i ≡ None
+IsFirstMissing path faults (Some k) = (i : ℕ) × (faults i ≡ Some (WrongType (at_key path k))) × ((j : ℕ) → j < i → faults j ≡ None)
+
+one_further : (path : Path) (fault : Key → Option ConfigFault) (key : Key) (keys : List Key) → fault key ≡ None →
+    (found : Option (List ℕ)) → IsFirstMissing path (of_key fault keys) found → IsFirstMissing path (of_key fault (key ∷ keys)) found
+one_further path fault key keys none None is = to
+  where
+    to : (i : ℕ) → of_key fault (key ∷ keys) i ≡ None
+    to zero = none
+    to (suc i) = is i
+one_further path fault key keys none (Some k) is = (suc is.0, is.1, to)
+  where
+    to : (j : ℕ) → j < suc is.0 → of_key fault (key ∷ keys) j ≡ None
+    to zero lt = none
+    to (suc j) lt = is.2 j (omega arith)
+
+first_missing : (path : Path) (d : Data) (keys : List Key) → IsFirstMissing path (of_key (missing_at path d) keys) (missing_key (rows_of keys) d)
+first_missing path d [] = λ i. refl
+first_missing path d (optional k faults ∷ keys) = one_further path (missing_at path d) (optional k faults) keys refl _ (first_missing path d keys)
+first_missing path d (spelled k l faults ∷ keys) = one_further path (missing_at path d) (spelled k l faults) keys refl _ (first_missing path d keys)
+first_missing path d (required k faults ∷ keys) = by (first_missing path d keys) (get k d) refl
+  where
+    by : IsFirstMissing path (of_key (missing_at path d) keys) (missing_key (rows_of keys) d) → (found : Option Data) → get k d ≡ found →
+        IsFirstMissing path (of_key (missing_at path d) (required k faults ∷ keys)) (if true && not (is_some found) then Some k else missing_key (rows_of keys) d)
+    by later None e = (zero, ap (λ o. unless_found o (WrongType (at_key path k))) e, λ j lt. absurd (omega arith))
+    by later (Some v) e = one_further path (missing_at path d) (required k faults) keys (ap (λ o. unless_found o (WrongType (at_key path k))) e) _ later
+
+-- ---- both
+
+abbrev IsUnknownSaid : Path → Faults → Option (List ℕ) → Type 0
+IsUnknownSaid path F None = (k : List ℕ) → F (unknown k) ≡ None
+IsUnknownSaid path F (Some u) = (F (unknown u) ≡ Some (UnknownKey (at_key path u))) × ((k : List ℕ) → compared k u ≡ Less → F (unknown k) ≡ None)
+
+then_judged : {X : Type 0} (path : Path) (F : Faults) (y : X) (more : ⊤ → Read X) → F itself ≡ None → (u m : Option (List ℕ)) →
+    IsUnknownSaid path F u → IsFirstMissing path (λ i. F (missing i)) m → (IsClear F 0 → IsReading F y (more tt)) →
+    IsReading F y ((refuse UnknownKey path u >>= λ known. refuse WrongType path m) >>= more)
+then_judged path F y more kind None None no_unknown no_missing rest =
+    rest (record { at_itself = kind; at_unknown = no_unknown; at_missing = no_missing; at_under = λ i p lt. absurd (omega arith) })
+then_judged path F y more kind None (Some k) no_unknown is rest = (missing is.0, is.1, before)
+  where
+    before : (q : Place) → IsBefore q (missing is.0) → F q ≡ None
+    before itself h = kind
+    before (unknown k) h = no_unknown k
+    before (missing j) h = is.2 j h
+    before (under i q) h = absurd h
+    before (named k q) h = absurd h
+then_judged path F y more kind (Some u) m is missings rest = (unknown u, is.0, before)
+  where
+    before : (q : Place) → IsBefore q (unknown u) → F q ≡ None
+    before itself h = kind
+    before (unknown k) h = is.1 k h
+    before (missing j) h = absurd h
+    before (under i q) h = absurd h
+    before (named k q) h = absurd h
+
+unknown_said : (path : Path) (keys : List Key) (ms : Members) (u : Option (List ℕ)) → IsLeastUnknown (is_known (rows_of keys)) ms u → IsUnknownSaid path (object_faults keys path (object ms)) u
+unknown_said path keys ms None is = λ k. by k (is_some (get_member k ms)) refl
+  where
+    by : (k : List ℕ) (b : Bool) → is_some (get_member k ms) ≡ b → (if b && not (has_key keys k) then Some (UnknownKey (at_key path k)) else None) ≡ None
+    by k false e = refl
+    by k true e = rw (sym (same_keys keys k), is k e) refl
+unknown_said path keys ms (Some u) is = (rw (is.0, sym (same_keys keys u), is.1) refl, λ k lt. by k lt (is_some (get_member k ms)) refl)
+  where
+    by : (k : List ℕ) → compared k u ≡ Less → (b : Bool) → is_some (get_member k ms) ≡ b → (if b && not (has_key keys k) then Some (UnknownKey (at_key path k)) else None) ≡ None
+    by k lt false e = refl
+    by k lt true e = rw (sym (same_keys keys k), is.2 k lt e) refl
+
+-- an object is judged, and then read
+pub then_object : {X : Type 0} (keys : List Key) (path : Path) (d : Data) (y : X) (more : ⊤ → Read X) → IsOrdered d →
+    (IsClear (object_faults keys path d) 0 → IsReading (object_faults keys path d) y (more tt)) →
+    IsReading (object_faults keys path d) y (judged (rows_of keys) path d >>= more)
+unfolding judged
+then_object keys path null y more up rest = first_itself _ _ refl
+then_object keys path (boolean b) y more up rest = first_itself _ _ refl
+then_object keys path (number n) y more up rest = first_itself _ _ refl
+then_object keys path (string s) y more up rest = first_itself _ _ refl
+then_object keys path (array ds) y more up rest = first_itself _ _ refl
+then_object keys path (object ms) y more up rest =
+    then_judged path (object_faults keys path (object ms)) y more refl (unknown_key (rows_of keys) ms) (missing_key (rows_of keys) (object ms))
+    (unknown_said path keys ms _ (least_unknown (rows_of keys) ms up)) (first_missing path (object ms) keys) rest
+
+beyond : (fault : Key → Option ConfigFault) (keys : List Key) (i : ℕ) → length keys ≤ i → of_key fault keys i ≡ None
+beyond fault [] i le = refl
+beyond fault (key ∷ keys) zero le = absurd (omega arith)
+beyond fault (key ∷ keys) (suc i) le = beyond fault keys i (omega arith)
+
+-- an object of which each key was read has no fault
+pub none_left : (keys : List Key) (path : Path) (d : Data) → IsClear (object_faults keys path d) (length keys) → (p : Place) → object_faults keys path d p ≡ None
+none_left keys path d clear = whole _ (length keys) clear (λ i p le. beyond (λ key. under_at path d key p) keys i le) (λ k p. refl)

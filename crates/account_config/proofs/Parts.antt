@@ -1,0 +1,256 @@
+-- Each part of a policy is read as its faults and what is written say.
+use Rattle.std.proofs.Common.{◌≡◌, ℕ, zero, suc, ◌+◌, ◌≤◌, List, [], ◌∷◌, codes, Option, Some, None, option_map, Ok, Err, Bool, true, false, not, if◌then◌else◌, is_some, refl, ap, sym, ◌∙◌, true≢false, zero-add, arith}
+use Rattle.std.specs.Prelude.{⊤}
+use Rattle.std.specs.Option.{ok_or, option_or, unwrap_or}
+use Rattle.serde_json.specs.Data.{Data, null, boolean, number, string, array, object, Members, no_members}
+use Rattle.serde_json.specs.Find.{get, get_item, as_object}
+use Rattle.subjects.specs.Subject.{tokens_of}
+use Rattle.subjects.specs.Fault.{pattern_fault}
+use Rattle.policy_doc.specs.Document.{entry_of}
+use Rattle.policy_doc.specs.declared.document.NamedAccount.{NamedAccount}
+use Rattle.account_config.specs.declared.fault.ConfigFault.{ConfigFault}
+use Rattle.account_config.specs.declared.fault.ConfigFault.TheVariants.{WrongType, BadSubject, BadName, HashedPassword}
+use Rattle.account_config.specs.Fault.{Read, ◌>>=◌}
+use Rattle.account_config.specs.Path.{Path, at_key, at_index}
+use Rattle.account_config.specs.Policy.{text_at, items_at, each, entry_at, entries_at, entries_under, or_empty, lists_at, allow_at, direction_at, spelled_from, permissions_at, permissions_under, has_name_length, is_hashed, required_text_at, user_name_at, password_at, user_permissions_at, user_at, users_at, users_under, account_at, is_account_name, named_account_at, accounts_at, is_version, version_under, document_at}
+use Rattle.account_config.specs.Place.{Place, itself, unknown, missing, under, named, Faults, IsReading}
+use Rattle.account_config.specs.Standing.{unless_found, in_value, in_spelled, object_faults, text_faults, list_faults, entry_faults, entries_faults, direction_keys, direction_faults, permission_keys, user_keys, account_keys, account_faults, accounts_faults, version_faults, top_keys}
+use Rattle.account_config.specs.Written.{text_in, list_in, entry_in, entries_in, lists_in, direction_in, permissions_in, user_in, account_in, accounts_in, document_in}
+use Rattle.account_config.proofs.Order.{IsOrdered, Meets, under-ordered}
+use Rattle.account_config.proofs.First.{IsClear, go_on, whole, first_itself, same_faults, mapped}
+use Rattle.account_config.proofs.Objects.{then_object, none_left}
+use Rattle.account_config.proofs.Each.{Reads, each_from, in_accounts, accounts_read}
+
+-- ---- texts and lists
+
+-- a text that may not be any is read, or it is the fault
+text_read : {X : Type 0} (is_allowed : List ℕ → Bool) (fault : Path → ConfigFault) (written : List ℕ → X) (path : Path) (from : List ℕ → Read X) →
+    ((text : List ℕ) → from text ≡ (if is_allowed text then Ok (written text) else Err (fault path))) →
+    (d : Data) → IsReading (text_faults is_allowed fault path d) (written (text_in d)) (text_at path d >>= from)
+text_read is_allowed fault written path from is null = first_itself _ _ refl
+text_read is_allowed fault written path from is (boolean b) = first_itself _ _ refl
+text_read is_allowed fault written path from is (number n) = first_itself _ _ refl
+text_read is_allowed fault written path from is (array ds) = first_itself _ _ refl
+text_read is_allowed fault written path from is (object ms) = first_itself _ _ refl
+text_read {X = X} is_allowed fault written path from is (string s) = rw (is s) (by (is_allowed s) refl)
+  where
+    F : Faults
+    F = text_faults is_allowed fault path (string s)
+
+    none : is_allowed s ≡ true → (p : Place) → F p ≡ None
+    none e itself = rw e refl
+    none e (unknown k) = refl
+    none e (missing i) = refl
+    none e (under i p) = refl
+    none e (named k p) = refl
+
+    by : (b : Bool) → is_allowed s ≡ b → IsReading F (written s) (if b then Ok (written s) else Err (fault path))
+    by true e = (none e, refl)
+    by false e = first_itself F (fault path) (rw e refl)
+
+turned : {X : Type 0} (b : Bool) (x y : X) → (if b then x else y) ≡ (if not b then y else x)
+turned true x y = refl
+turned false x y = refl
+
+-- a list of values, each of which is read
+list_read : {X : Type 0} (faults : Path → Data → Faults) (written : Data → X) (reader : Path → Data → Read X) → Reads faults written reader →
+    (path : Path) (d : Data) → IsOrdered d → IsReading (list_faults faults path d) (list_in written d) (items_at path d >>= λ items. each reader path 0 items)
+list_read faults written reader reads path null up = first_itself _ _ refl
+list_read faults written reader reads path (boolean b) up = first_itself _ _ refl
+list_read faults written reader reads path (number n) up = first_itself _ _ refl
+list_read faults written reader reads path (string s) up = first_itself _ _ refl
+list_read faults written reader reads path (object ms) up = first_itself _ _ refl
+list_read faults written reader reads path (array ds) up =
+    each_from faults written reader reads path (list_faults faults path (array ds)) (λ k p. refl) 0 ds up
+    (λ n p. ap (λ m. in_value faults (at_index path (0 + n)) (get_item m ds) p) (zero-add n))
+    (record { at_itself = refl; at_unknown = λ k. refl; at_missing = λ i. refl; at_under = λ i p lt. absurd (omega arith) })
+
+-- a value that may be there
+optional_read : {X : Type 0} (faults : Path → Data → Faults) (written : Data → X) (reader : Path → Data → Read X) → Reads faults written reader →
+    (path : Path) (d : Data) → IsOrdered d → IsReading (faults path d) (Some (written d)) (reader path d >>= λ x. Ok (Some x))
+optional_read faults written reader reads path d up = mapped (faults path d) (λ x. Some x) (written d) (reader path d) (reads path d up)
+
+-- ---- permissions
+
+entry_read : Reads entry_faults entry_in entry_at
+unfolding entry_at
+entry_read path d up =
+    text_read (λ text. not (is_some (pattern_fault text))) BadSubject (λ text. entry_of (tokens_of text)) path _ (λ text. turned (is_some (pattern_fault text)) _ _) d
+
+entries_read : Reads entries_faults entries_in entries_at
+unfolding entries_at
+entries_read path null up = list_read entry_faults entry_in entry_at entry_read path null up
+entries_read path (boolean b) up = list_read entry_faults entry_in entry_at entry_read path (boolean b) up
+entries_read path (number n) up = list_read entry_faults entry_in entry_at entry_read path (number n) up
+entries_read path (string s) up = mapped (entry_faults path (string s)) (λ x. x ∷ []) (entry_in (string s)) (entry_at path (string s)) (entry_read path (string s) up)
+entries_read path (array ds) up = list_read entry_faults entry_in entry_at entry_read path (array ds) up
+entries_read path (object ms) up = list_read entry_faults entry_in entry_at entry_read path (object ms) up
+
+entries_under_read : (path : Path) (found : Option Data) → Meets IsOrdered found → IsReading (in_value entries_faults path found) (option_map entries_in found) (entries_under path found)
+entries_under_read path None up = (λ p. refl, refl)
+entries_under_read path (Some d) up = optional_read entries_faults entries_in entries_at entries_read path d up
+
+lists_read : (path : Path) (ms : Members) → IsOrdered (object ms) → IsReading (object_faults direction_keys path (object ms)) (lists_in (object ms)) (lists_at path (object ms))
+unfolding lists_at
+lists_read path ms up =
+    let d : Data = object ms in
+    then_object direction_keys path d (lists_in d) _ up λ clear.
+    go_on _ 0 (option_map entries_in (get (codes "allow") d)) (lists_in d) (entries_under (at_key path (codes "allow")) (get (codes "allow") d)) _ clear (entries_under_read _ _ (under-ordered (codes "allow") d up)) λ clear.
+    go_on _ 1 (option_map entries_in (get (codes "deny") d)) (lists_in d) (entries_under (at_key path (codes "deny")) (get (codes "deny") d)) _ clear (entries_under_read _ _ (under-ordered (codes "deny") d up)) λ clear.
+    (none_left direction_keys path d clear, refl)
+
+direction_read : Reads direction_faults lists_in direction_at
+unfolding allow_at
+direction_read path null up = mapped (entries_faults path null) _ (entries_in null) (entries_at path null) (entries_read path null up)
+direction_read path (boolean b) up = mapped (entries_faults path (boolean b)) _ (entries_in (boolean b)) (entries_at path (boolean b)) (entries_read path (boolean b) up)
+direction_read path (number n) up = mapped (entries_faults path (number n)) _ (entries_in (number n)) (entries_at path (number n)) (entries_read path (number n) up)
+direction_read path (string s) up = mapped (entries_faults path (string s)) _ (entries_in (string s)) (entries_at path (string s)) (entries_read path (string s) up)
+direction_read path (array ds) up = mapped (entries_faults path (array ds)) _ (entries_in (array ds)) (entries_at path (array ds)) (entries_read path (array ds) up)
+direction_read path (object ms) up = lists_read path ms up
+
+spelled_read : (long short : Path) (found other : Option Data) → Meets IsOrdered found → Meets IsOrdered other →
+    IsReading (in_spelled direction_faults long short found other) (direction_in (option_or found other)) (spelled_from long short found other)
+spelled_read long short None None up up' = (λ p. refl, refl)
+spelled_read long short None (Some d) up up' = direction_read short d up'
+spelled_read long short (Some d) None up up' = direction_read long d up
+spelled_read long short (Some d) (Some e) up up' = first_itself _ _ refl
+
+permissions_read : Reads (object_faults permission_keys) permissions_in permissions_at
+unfolding permissions_at
+permissions_read path d up =
+    then_object permission_keys path d (permissions_in d) _ up λ clear.
+    go_on _ 0 (direction_in (option_or (get (codes "publish") d) (get (codes "pub") d))) (permissions_in d) _ _ clear
+    (spelled_read _ _ _ _ (under-ordered (codes "publish") d up) (under-ordered (codes "pub") d up)) λ clear.
+    go_on _ 1 (direction_in (option_or (get (codes "subscribe") d) (get (codes "sub") d))) (permissions_in d) _ _ clear
+    (spelled_read _ _ _ _ (under-ordered (codes "subscribe") d up) (under-ordered (codes "sub") d up)) λ clear.
+    (none_left permission_keys path d clear, refl)
+
+-- ---- users
+
+permissions_under_read : (path : Path) (found : Option Data) → Meets IsOrdered found → IsReading (in_value (object_faults permission_keys) path found) (option_map permissions_in found) (permissions_under path found)
+permissions_under_read path None up = (λ p. refl, refl)
+permissions_under_read path (Some d) up = optional_read (object_faults permission_keys) permissions_in permissions_at permissions_read path d up
+
+-- a text under a key that has to be there
+required_read : (is_allowed : List ℕ → Bool) (fault : Path → ConfigFault) (path : Path) (from : List ℕ → Read (List ℕ)) →
+    ((text : List ℕ) → from text ≡ (if is_allowed text then Ok text else Err (fault path))) →
+    (found : Option Data) → unless_found found (WrongType path) ≡ None →
+    IsReading (in_value (text_faults is_allowed fault) path found) (text_in (unwrap_or found null)) ((ok_or found (WrongType path) >>= λ value. text_at path value) >>= from)
+required_read is_allowed fault path from is None there = absurd (true≢false (ap is_some there))
+required_read is_allowed fault path from is (Some d) there = text_read is_allowed fault (λ text. text) path from is d
+
+user_read : Reads (object_faults user_keys) user_in user_at
+unfolding user_at user_name_at password_at user_permissions_at required_text_at
+user_read path d up =
+    then_object user_keys path d (user_in d) _ up λ clear.
+    go_on _ 0 (text_in (unwrap_or (get (codes "user") d) null)) (user_in d) (user_name_at path d) _ clear
+    (required_read has_name_length BadName (at_key path (codes "user")) _ (λ text. refl) _ (clear.at_missing 0)) λ clear.
+    go_on _ 1 (text_in (unwrap_or (get (codes "password") d) null)) (user_in d) (password_at path d) _ clear
+    (required_read (λ password. not (is_hashed password)) HashedPassword (at_key path (codes "password")) _ (λ text. turned (is_hashed text) _ _) _ (clear.at_missing 1)) λ clear.
+    go_on _ 2 (option_map permissions_in (get (codes "permissions") d)) (user_in d) (user_permissions_at path d) _ clear
+    (permissions_under_read _ _ (under-ordered (codes "permissions") d up)) λ clear.
+    (none_left user_keys path d clear, refl)
+
+-- ---- accounts
+
+users_read : Reads (list_faults (object_faults user_keys)) (list_in user_in) users_at
+unfolding users_at
+users_read path d up = list_read (object_faults user_keys) user_in user_at user_read path d up
+
+users_under_read : (path : Path) (found : Option Data) → Meets IsOrdered found → IsReading (in_value (list_faults (object_faults user_keys)) path found) (or_empty (option_map (list_in user_in) found)) (users_under path found)
+users_under_read path None up = (λ p. refl, refl)
+users_under_read path (Some d) up = users_read path d up
+
+account_read : Reads (object_faults account_keys) account_in account_at
+unfolding account_at
+account_read path d up =
+    then_object account_keys path d (account_in d) _ up λ clear.
+    go_on _ 0 (or_empty (option_map (list_in user_in) (get (codes "users") d))) (account_in d) (users_under (at_key path (codes "users")) (get (codes "users") d)) _ clear
+    (users_under_read _ _ (under-ordered (codes "users") d up)) λ clear.
+    (none_left account_keys path d clear, refl)
+
+named_read : (path : Path) (name : List ℕ) (d : Data) → IsOrdered d →
+    IsReading (account_faults name (at_key path name) d) (record { name = name; account = account_in d }) (named_account_at path name d)
+unfolding named_account_at
+named_read path name d up = by (is_account_name name) refl
+  where
+    F : Faults
+    F = account_faults name (at_key path name) d
+
+    named_account : NamedAccount
+    named_account = record { name = name; account = account_in d }
+
+    past : (i : ℕ) (p : Place) → 1 ≤ i → F (under i p) ≡ None
+    past zero p le = absurd (omega arith)
+    past (suc i) p le = refl
+
+    by : (b : Bool) → is_account_name name ≡ b → IsReading F named_account
+        ((if b then Ok name else Err (BadName (at_key path name))) >>= λ n. (account_at (at_key path name) d >>= λ account. Ok (record { name = n; account = account })))
+    by false e = first_itself F (BadName (at_key path name)) (rw e refl)
+    by true e =
+        go_on F 0 (account_in d) named_account (account_at (at_key path name) d) _
+        (record { at_itself = rw e refl; at_unknown = λ k. refl; at_missing = λ i. refl; at_under = λ i p lt. absurd (omega arith) })
+        (account_read (at_key path name) d up) λ clear.
+        (whole F 1 clear past (λ k p. refl), refl)
+
+accounts_read_at : (path : Path) (d : Data) → IsOrdered d → IsReading (accounts_faults path d) (accounts_in [] (unwrap_or (as_object d) no_members)) (accounts_at path d)
+unfolding accounts_at
+accounts_read_at path null up = first_itself _ _ refl
+accounts_read_at path (boolean b) up = first_itself _ _ refl
+accounts_read_at path (number n) up = first_itself _ _ refl
+accounts_read_at path (string s) up = first_itself _ _ refl
+accounts_read_at path (array ds) up = first_itself _ _ refl
+accounts_read_at path (object ms) up = same_faults (in_accounts path ms) (accounts_faults path (object ms)) same _ _ (accounts_read named_read [] path ms up)
+  where
+    same : (p : Place) → accounts_faults path (object ms) p ≡ in_accounts path ms p
+    same itself = refl
+    same (unknown k) = refl
+    same (missing i) = refl
+    same (under i p) = refl
+    same (named k p) = refl
+
+-- ---- the whole
+
+abbrev nothing : ⊤
+nothing = tt
+
+version_read : (path : Path) (found : Option Data) → IsReading (in_value version_faults path found) nothing (version_under path found)
+version_read path None = (λ p. refl, refl)
+version_read path (Some d) = by (is_version d) refl
+  where
+    F : Faults
+    F = version_faults path d
+
+    none : is_version d ≡ true → (p : Place) → F p ≡ None
+    none e itself = rw e refl
+    none e (unknown k) = refl
+    none e (missing i) = refl
+    none e (under i p) = refl
+    none e (named k p) = refl
+
+    by : (b : Bool) → is_version d ≡ b → IsReading F nothing (if b then Ok nothing else Err (WrongType path))
+    by true e = (none e, refl)
+    by false e = first_itself F (WrongType path) (rw e refl)
+
+pub document_read : Reads (object_faults top_keys) document_in document_at
+unfolding document_at
+document_read path d up =
+    then_object top_keys path d (document_in d) _ up λ clear.
+    given clear (get (codes "accounts") d) refl (under-ordered (codes "accounts") d up)
+  where
+    F : Faults
+    F = object_faults top_keys path d
+
+    below : Path
+    below = at_key path (codes "accounts")
+
+    given : IsClear F 0 → (found : Option Data) → get (codes "accounts") d ≡ found → Meets IsOrdered found →
+        IsReading F (document_in d)
+        (ok_or found (WrongType below) >>= λ value. (accounts_at below value >>= λ accounts.
+        (version_under (at_key path (codes "version")) (get (codes "version") d) >>= λ version. Ok (record { accounts = accounts }))))
+    given clear None e inside = absurd (true≢false (sym (ap (λ (o : Option Data). is_some (unless_found o (WrongType below))) e) ∙ ap is_some (clear.at_missing 0)))
+    given clear (Some v) e inside =
+        go_on F 0 (accounts_in [] (unwrap_or (as_object v) no_members)) (document_in d) (accounts_at below v) _ clear
+        (same_faults (accounts_faults below v) (λ p. F (under 0 p)) (λ p. rw e refl) _ _ (accounts_read_at below v inside)) λ clear.
+        go_on F 1 nothing (document_in d) (version_under (at_key path (codes "version")) (get (codes "version") d)) _ clear (version_read (at_key path (codes "version")) (get (codes "version") d)) λ clear.
+        (none_left top_keys path d clear, rw e refl)

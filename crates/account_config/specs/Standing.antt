@@ -1,0 +1,136 @@
+-- Which faults a policy's text has, and where (docs/POLICY.md, "Objects" and "Faults"). Nothing here says which comes first.
+use Rattle.std.specs.Prelude.{◌&&◌, ◌||◌, ◌∷◌, ℕ, zero, suc, Bool, false, not, List, [], codes, if◌then◌else◌, Option, Some, None, is_some}
+use Rattle.std.specs.Str.{bytes_eq}
+use Rattle.serde_json.specs.Data.{Data}
+use Rattle.serde_json.specs.Find.{get, at, as_str, as_array, as_object}
+use Rattle.subjects.specs.Fault.{pattern_fault}
+use Rattle.account_config.specs.declared.fault.ConfigFault.{ConfigFault}
+use Rattle.account_config.specs.declared.fault.ConfigFault.TheVariants.{UnknownKey, WrongType, BadSubject, BadName, HashedPassword}
+use Rattle.account_config.specs.Path.{Path, at_key, at_index}
+use Rattle.account_config.specs.Place.{itself, unknown, missing, under, named, Faults}
+use Rattle.account_config.specs.Policy.{has_name_length, is_account_name, is_hashed, is_version}
+
+-- a key of an object with the faults of what stands under it: it has to be there, or it may be, or it has two spellings
+pub data Key : Type 0 where
+  required : List ℕ → (Path → Data → Faults) → Key
+  optional : List ℕ → (Path → Data → Faults) → Key
+  spelled : List ℕ → List ℕ → (Path → Data → Faults) → Key
+
+-- a fault where nothing was found
+abbrev pub unless_found : {X : Type 0} → Option X → ConfigFault → Option ConfigFault
+unless_found None fault = Some fault
+unless_found (Some x) fault = None
+
+-- the faults of a value, if it is there
+abbrev pub in_value : (Path → Data → Faults) → Path → Option Data → Faults
+in_value faults path None p = None
+in_value faults path (Some d) p = faults path d p
+
+-- the faults under one of two spellings. That both are there is a fault of the direction itself, at the shorter
+abbrev pub in_spelled : (Path → Data → Faults) → Path → Path → Option Data → Option Data → Faults
+in_spelled faults long short None found p = in_value faults short found p
+in_spelled faults long short (Some d) None p = faults long d p
+in_spelled faults long short (Some d) (Some e) itself = Some (WrongType short)
+in_spelled faults long short (Some d) (Some e) _ = None
+
+-- ---- objects by their tables
+
+abbrev pub has_key : List Key → List ℕ → Bool
+has_key [] key = false
+has_key (required k faults ∷ keys) key = bytes_eq k key || has_key keys key
+has_key (optional k faults ∷ keys) key = bytes_eq k key || has_key keys key
+has_key (spelled k l faults ∷ keys) key = bytes_eq k key || (bytes_eq l key || has_key keys key)
+
+abbrev pub missing_at : Path → Data → Key → Option ConfigFault
+missing_at path d (required k faults) = unless_found (get k d) (WrongType (at_key path k))
+missing_at path d (optional k faults) = None
+missing_at path d (spelled k l faults) = None
+
+abbrev pub under_at : Path → Data → Key → Faults
+under_at path d (required k faults) p = in_value faults (at_key path k) (get k d) p
+under_at path d (optional k faults) p = in_value faults (at_key path k) (get k d) p
+under_at path d (spelled k l faults) p = in_spelled faults (at_key path k) (at_key path l) (get k d) (get l d) p
+
+-- of the key with a number
+abbrev pub of_key : (Key → Option ConfigFault) → List Key → ℕ → Option ConfigFault
+of_key fault [] i = None
+of_key fault (key ∷ keys) zero = fault key
+of_key fault (key ∷ keys) (suc i) = of_key fault keys i
+
+-- an object with a table of keys
+abbrev pub object_faults : List Key → Path → Data → Faults
+object_faults keys path d itself = unless_found (as_object d) (WrongType path)
+object_faults keys path d (unknown key) = if is_some (get key d) && not (has_key keys key) then Some (UnknownKey (at_key path key)) else None
+object_faults keys path d (missing i) = of_key (missing_at path d) keys i
+object_faults keys path d (under i p) = of_key (λ key. under_at path d key p) keys i
+object_faults keys path d (named key p) = None
+
+-- ---- texts and lists
+
+abbrev pub text_fault : (List ℕ → Bool) → (Path → ConfigFault) → Path → Option (List ℕ) → Option ConfigFault
+text_fault is_allowed fault path None = Some (WrongType path)
+text_fault is_allowed fault path (Some text) = if is_allowed text then None else Some (fault path)
+
+-- a text that may not be any
+abbrev pub text_faults : (List ℕ → Bool) → (Path → ConfigFault) → Path → Data → Faults
+text_faults is_allowed fault path d itself = text_fault is_allowed fault path (as_str d)
+text_faults is_allowed fault path d _ = None
+
+-- a list of values
+abbrev pub list_faults : (Path → Data → Faults) → Path → Data → Faults
+list_faults faults path d itself = unless_found (as_array d) (WrongType path)
+list_faults faults path d (under i p) = in_value faults (at_index path i) (at i d) p
+list_faults faults path d _ = None
+
+-- ---- what a policy has, from the inside out
+
+abbrev pub entry_faults : Path → Data → Faults
+entry_faults = text_faults (λ text. not (is_some (pattern_fault text))) BadSubject
+
+-- one entry, or a list of them
+abbrev pub entries_faults : Path → Data → Faults
+entries_faults path d = if is_some (as_str d) then entry_faults path d else list_faults entry_faults path d
+
+abbrev pub direction_keys : List Key
+direction_keys = optional (codes "allow") entries_faults ∷ optional (codes "deny") entries_faults ∷ []
+
+-- an object, or entries to be allowed
+abbrev pub direction_faults : Path → Data → Faults
+direction_faults path d = if is_some (as_object d) then object_faults direction_keys path d else entries_faults path d
+
+abbrev pub permission_keys : List Key
+permission_keys =
+    spelled (codes "publish") (codes "pub") direction_faults
+    ∷ spelled (codes "subscribe") (codes "sub") direction_faults ∷ []
+
+abbrev pub user_keys : List Key
+user_keys =
+    required (codes "user") (text_faults has_name_length BadName)
+    ∷ required (codes "password") (text_faults (λ password. not (is_hashed password)) HashedPassword)
+    ∷ optional (codes "permissions") (object_faults permission_keys) ∷ []
+
+abbrev pub account_keys : List Key
+account_keys = optional (codes "users") (list_faults (object_faults user_keys)) ∷ []
+
+-- an account's name, and then the account
+abbrev pub account_faults : List ℕ → Path → Data → Faults
+account_faults name path d itself = if is_account_name name then None else Some (BadName path)
+account_faults name path d (under zero p) = object_faults account_keys path d p
+account_faults name path d _ = None
+
+-- an object with an account under each name
+abbrev pub accounts_faults : Path → Data → Faults
+accounts_faults path d itself = unless_found (as_object d) (WrongType path)
+accounts_faults path d (named name p) = in_value (account_faults name) (at_key path name) (get name d) p
+accounts_faults path d _ = None
+
+abbrev pub version_faults : Path → Data → Faults
+version_faults path d itself = if is_version d then None else Some (WrongType path)
+version_faults path d _ = None
+
+abbrev pub top_keys : List Key
+top_keys = required (codes "accounts") accounts_faults ∷ optional (codes "version") version_faults ∷ []
+
+-- the whole has no path
+abbrev pub policy_faults : Data → Faults
+policy_faults = object_faults top_keys []

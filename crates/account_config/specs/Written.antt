@@ -1,0 +1,92 @@
+-- The document that a JSON value without a fault writes (docs/POLICY.md, "Objects").
+use Rattle.std.specs.Prelude.{◌≡◌, ◌≢◌, ◌∷◌, ℕ, Bool, true, false, List, [], codes, length, if◌then◌else◌, nat_lt, Option, Some, None, Ok, Err, is_some}
+use Rattle.std.specs.Option.{option_map, option_or, unwrap_or}
+use Rattle.serde_json.specs.Data.{Data, null, Items, no_items, item, Members, no_members, member}
+use Rattle.serde_json.specs.Find.{get, as_str, as_array, as_object}
+use Rattle.subjects.specs.Subject.{tokens_of}
+use Rattle.policy_doc.specs.Accounts.{with_account}
+use Rattle.policy_doc.specs.Document.{entry_of}
+use Rattle.policy_doc.specs.declared.document.PolicyDoc.{PolicyDoc}
+use Rattle.policy_doc.specs.declared.document.NamedAccount.{NamedAccount}
+use Rattle.policy_doc.specs.declared.document.AccountDoc.{AccountDoc}
+use Rattle.policy_doc.specs.declared.document.UserDoc.{UserDoc}
+use Rattle.policy_doc.specs.declared.document.PermDoc.{PermDoc}
+use Rattle.policy_doc.specs.declared.document.Direction.{Direction}
+use Rattle.policy_doc.specs.declared.document.PermEntry.{PermEntry}
+use Rattle.account_config.specs.declared.fault.ConfigFault.TheVariants.{TooLarge, NotJson, NoMemory}
+use Rattle.account_config.specs.Fault.{Read}
+use Rattle.account_config.specs.Place.{IsReading}
+use Rattle.account_config.specs.Standing.{policy_faults}
+use Rattle.account_config.specs.Policy.{or_empty}
+use Rattle.json_text.specs.Json.{json_of}
+
+abbrev pub text_in : Data → List ℕ
+text_in d = unwrap_or (as_str d) []
+
+abbrev pub each_in : {X : Type 0} → (Data → X) → Items → List X
+each_in written no_items = []
+each_in written (item d ds) = written d ∷ each_in written ds
+
+abbrev pub list_in : {X : Type 0} → (Data → X) → Data → List X
+list_in written d = each_in written (unwrap_or (as_array d) no_items)
+
+-- what stands under a key that has to be there
+abbrev pub value_under : List ℕ → Data → Data
+value_under key d = unwrap_or (get key d) null
+
+abbrev pub entry_in : Data → PermEntry
+entry_in d = entry_of (tokens_of (text_in d))
+
+abbrev pub entries_in : Data → List PermEntry
+entries_in d = if is_some (as_str d) then entry_in d ∷ [] else list_in entry_in d
+
+-- an object has an allow and a deny list, each if it is there; anything else is an allow list
+abbrev pub lists_in : Data → Direction
+lists_in d =
+    if is_some (as_object d)
+    then record { allow = option_map entries_in (get (codes "allow") d); deny = or_empty (option_map entries_in (get (codes "deny") d)) }
+    else record { allow = Some (entries_in d); deny = [] }
+
+abbrev pub direction_in : Option Data → Direction
+direction_in None = record { allow = None; deny = [] }
+direction_in (Some d) = lists_in d
+
+abbrev pub permissions_in : Data → PermDoc
+permissions_in d = record {
+  publish = direction_in (option_or (get (codes "publish") d) (get (codes "pub") d));
+  subscribe = direction_in (option_or (get (codes "subscribe") d) (get (codes "sub") d));
+}
+
+abbrev pub user_in : Data → UserDoc
+user_in d = record {
+  user = text_in (value_under (codes "user") d);
+  password = text_in (value_under (codes "password") d);
+  permissions = option_map permissions_in (get (codes "permissions") d);
+}
+
+abbrev pub account_in : Data → AccountDoc
+account_in d = record { users = or_empty (option_map (list_in user_in) (get (codes "users") d)) }
+
+-- accounts, each put under its name
+abbrev pub accounts_in : List NamedAccount → Members → List NamedAccount
+accounts_in before no_members = before
+accounts_in before (member name d ms) = accounts_in (with_account name (account_in d) before) ms
+
+abbrev pub document_in : Data → PolicyDoc
+document_in d = record { accounts = accounts_in [] (unwrap_or (as_object (value_under (codes "accounts") d)) no_members) }
+
+-- the answer to a text: whether it is too large, and the JSON value that it has
+abbrev pub IsAnswerBy : Bool → Option Data → Read PolicyDoc → Type 0
+IsAnswerBy true value read = read ≡ Err TooLarge
+IsAnswerBy false None read = read ≡ Err NotJson
+IsAnswerBy false (Some d) read = IsReading (policy_faults d) (document_in d) read
+
+-- The document of a text without a fault, or its first fault: that it is too large, that it is no JSON, or the first
+-- that stands in its value.
+abbrev pub IsAnswer : List ℕ → Read PolicyDoc → Type 0
+IsAnswer text read = IsAnswerBy (nat_lt 1048576 (length text)) (json_of text) read
+
+-- what is answered to a text, want of memory apart
+abbrev pub IsAnsweredFor : List ℕ → Read PolicyDoc → Type 0
+IsAnsweredFor text (Ok doc) = IsAnswer text (Ok doc)
+IsAnsweredFor text (Err fault) = fault ≢ NoMemory → IsAnswer text (Err fault)
