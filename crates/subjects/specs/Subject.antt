@@ -1,6 +1,6 @@
 -- The subject grammar, the subjects of a pattern, and how two patterns compare
 -- (NATS documentation, "Subject-Based Messaging"; docs/GUARANTEE.md, "Subjects").
-use Rattle.std.specs.Prelude.{◌≡◌, ◌==◌, ℕ, Bool, true, false, not, ◌&&◌, ◌||◌, IsTrue, List, [], ◌∷◌, length, nat_eq, nat_le}
+use Rattle.std.specs.Prelude.{◌≡◌, ◌==◌, ℕ, Bool, true, false, not, ◌&&◌, ◌||◌, IsTrue, List, [], ◌∷◌, length, nat_eq, nat_le, nat_lt}
 use Rattle.std.specs.List.{list_all, join_with_byte}
 use Rattle.lists.specs.Pieces.{pieces_of}
 use Rattle.std.specs.Cmp.Lexicographic.{pointwise}
@@ -24,9 +24,9 @@ is_tail t = same_token t (62 ∷ [])
 abbrev pub is_wildcard : Token → Bool
 is_wildcard t = is_star t || is_tail t
 
--- a token has every byte but NUL, TAB, LF, CR and space, and the dot, which parts tokens
+-- a text has every byte but NUL, TAB, LF, CR and space; a token has these but for the dot, which parts tokens
 abbrev pub is_text_byte : ℕ → Bool
-is_text_byte b = not (b == 0 || b == 9 || b == 10 || b == 13 || b == 32)
+is_text_byte b = nat_lt b 256 && not (b == 0 || b == 9 || b == 10 || b == 13 || b == 32)
 
 abbrev pub is_token_byte : ℕ → Bool
 is_token_byte b = is_text_byte b && not (b == 46)

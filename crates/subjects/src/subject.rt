@@ -42,6 +42,17 @@ impl Subject {
         }
     }
 
+    /// The same of a text that is handed over: nothing is copied, and no memory is taken.
+    pub fn from_bytes(text: Bytes) -> Result<Subject, SubjectError>
+        ensures tokens { IsParse text (subject_fault text) result }
+        ensures grammar { AcceptsExactly (IsSubject (tokens_of text)) result }
+    {
+        match faults::subject_fault(text.as_slice()) {
+            Some(fault) => Err(fault),
+            None => Ok(Subject { text }),
+        }
+    }
+
     /// The text that the subject was parsed from.
     pub fn bytes(&self) -> &[u8]
         ensures { result.now ≡ text_of self.now }

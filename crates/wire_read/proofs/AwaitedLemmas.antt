@@ -8,8 +8,8 @@ use Rattle.memchr.specs.Find.{IsFirstByte, is_byte}
 use Rattle.wire_read.specs.declared.fault.WireFault.{WireFault}
 use Rattle.wire_read.specs.declared.fault.WireFault.TheVariants.{ControlLine}
 use Rattle.wire_read.specs.declared.frame.Frame.{Frame}
-use Rattle.wire_read.specs.declared.command.Announced.{Announced}
-use Rattle.wire_read.specs.declared.command.Command.TheVariants.{Alone, Publish, Refused}
+use Rattle.wire_read.specs.Command.{Announced}
+use Rattle.wire_read.specs.Command.{Alone, Publish, Refused}
 use Rattle.wire_read.specs.declared.front.End.TheVariants as ends
 use Rattle.wire_read.specs.declared.line.Line.{Line}
 use Rattle.wire_read.specs.declared.line.Line.TheVariants.{Open, TooLong, Ended}

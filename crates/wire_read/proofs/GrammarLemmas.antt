@@ -8,9 +8,9 @@ use Rattle.wire_read.specs.declared.fault.WireFault.{WireFault}
 use Rattle.wire_read.specs.declared.fault.WireFault.TheVariants.{ParserError, ControlLine}
 use Rattle.wire_read.specs.declared.frame.Frame.{Frame}
 use Rattle.wire_read.specs.declared.frame.Frame.TheVariants as frame
-use Rattle.wire_read.specs.declared.command.Announced.{Announced}
-use Rattle.wire_read.specs.declared.command.Command.{Command}
-use Rattle.wire_read.specs.declared.command.Command.TheVariants.{Alone, Publish, Refused}
+use Rattle.wire_read.specs.Command.{Announced}
+use Rattle.wire_read.specs.Command.{Command}
+use Rattle.wire_read.specs.Command.{Alone, Publish, Refused}
 use Rattle.wire_read.specs.declared.front.End.TheVariants as ends
 use Rattle.wire_read.specs.declared.line.Line.{Line}
 use Rattle.wire_read.specs.declared.line.Line.TheVariants.{Open, TooLong, Ended}

@@ -1,4 +1,5 @@
 pub mod FieldLemmas
+pub mod PlaceLemmas
 pub mod LineLemmas
 pub mod SizeLemmas
 pub mod FramingLemmas

@@ -6,9 +6,9 @@ use Rattle.wire_read.specs.declared.fault.WireFault.TheVariants.{UnknownOperatio
 use Rattle.wire_read.specs.declared.frame.Frame.TheVariants as frame
 use Rattle.wire_read.specs.declared.operation.Operation.{Operation}
 use Rattle.wire_read.specs.declared.operation.Operation.TheVariants.{Connect, Pub, Hpub, Sub, Unsub, Ping, Pong}
-use Rattle.wire_read.specs.declared.command.Announced.{Announced}
-use Rattle.wire_read.specs.declared.command.Command.{Command}
-use Rattle.wire_read.specs.declared.command.Command.TheVariants.{Alone, Publish, Refused}
+use Rattle.wire_read.specs.Command.{Announced}
+use Rattle.wire_read.specs.Command.{Command}
+use Rattle.wire_read.specs.Command.{Alone, Publish, Refused}
 use Rattle.wire_read.specs.Field.{fields, counted, first_field, after_first_field}
 use Rattle.wire_read.specs.Operation.{operation}
 use Rattle.wire_read.specs.Size.{is_number, size, sizes, count, head_within}

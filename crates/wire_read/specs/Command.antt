@@ -2,17 +2,26 @@
 use Rattle.std.specs.Prelude.{ℕ, ◌≤◌, List, Option, Some, None, Result, Ok, Err}
 use Rattle.wire_read.specs.declared.fault.WireFault.{WireFault}
 use Rattle.wire_read.specs.declared.fault.WireFault.TheVariants.{UnknownOperation, ParserError}
+use Rattle.wire_read.specs.declared.frame.Frame.{Frame}
 use Rattle.wire_read.specs.declared.frame.Frame.TheVariants.{Connect, Sub, Unsub, Ping, Pong}
 use Rattle.wire_read.specs.declared.operation.Operation.{Operation}
 use Rattle.wire_read.specs.declared.operation.Operation.TheVariants as operations
-use Rattle.wire_read.specs.declared.command.Announced.{Announced}
-use Rattle.wire_read.specs.declared.command.Command.{Command}
-use Rattle.wire_read.specs.declared.command.Command.TheVariants.{Alone, Publish, Refused}
-use Rattle.wire_read.specs.declared.field.Fields.{Fields}
-use Rattle.wire_read.specs.declared.field.Fields.TheVariants.{One, Two, Three, Four}
-use Rattle.wire_read.specs.Field.{counted, fields, trimmed, first_field, after_first_field}
+use Rattle.wire_read.specs.Field.{Fields, One, Two, Three, Four, counted, fields, trimmed, first_field, after_first_field}
 use Rattle.wire_read.specs.Operation.{operation}
 use Rattle.wire_read.specs.Size.{size, sizes, count}
+
+-- a message that a line announces: the bytes of its header block, if it has one, and all bytes behind the line
+pub record Announced : Type 0 where
+  pub subject : List ℕ
+  pub reply : Option (List ℕ)
+  pub head : Option ℕ
+  pub total : ℕ
+
+-- a line is a frame by itself, announces a message, or is refused
+pub data Command : Type 0 where
+  Alone : Frame → Command
+  Publish : Announced → Command
+  Refused : WireFault → Command
 
 -- a message with so many bytes behind its line
 abbrev pub announced : List ℕ → Option (List ℕ) → Option ℕ → ℕ → Announced

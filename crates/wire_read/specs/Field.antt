@@ -1,8 +1,6 @@
 -- The fields of a control line (NATS documentation, "Client Protocol").
 use Rattle.std.specs.Prelude.{ℕ, ◌==◌, ◌||◌, Bool, not, List, [], ◌∷◌, length, drop, filter}
 use Rattle.std.specs.List.{slice_split, prefix_len, take_while}
-use Rattle.wire_read.specs.declared.field.Fields.{Fields}
-use Rattle.wire_read.specs.declared.field.Fields.TheVariants.{One, Two, Three, Four, Other}
 
 -- fields are parted by spaces and tabs
 abbrev pub is_separator : ℕ → Bool
@@ -31,7 +29,14 @@ first_field line = take_while is_field_byte (trimmed line)
 abbrev pub after_first_field : List ℕ → List ℕ
 after_first_field line = drop (prefix_len is_field_byte (trimmed line)) (trimmed line)
 
--- the fields, as many as an operation may take
+-- the fields of a line, as many as an operation may take
+pub data Fields : Type 0 where
+  One : List ℕ → Fields
+  Two : List ℕ → List ℕ → Fields
+  Three : List ℕ → List ℕ → List ℕ → Fields
+  Four : List ℕ → List ℕ → List ℕ → List ℕ → Fields
+  Other : Fields
+
 abbrev pub counted : List (List ℕ) → Fields
 counted (a ∷ []) = One a
 counted (a ∷ b ∷ []) = Two a b

@@ -8,9 +8,9 @@ use Rattle.wire_read.specs.declared.frame.Frame.{Frame}
 use Rattle.wire_read.specs.declared.frame.Frame.TheVariants as frame
 use Rattle.wire_read.specs.declared.operation.Operation.{Operation}
 use Rattle.wire_read.specs.declared.operation.Operation.TheVariants.{Connect, Pub, Hpub, Sub, Unsub, Ping, Pong}
-use Rattle.wire_read.specs.declared.command.Announced.{Announced}
-use Rattle.wire_read.specs.declared.command.Command.{Command}
-use Rattle.wire_read.specs.declared.command.Command.TheVariants.{Alone, Publish, Refused}
+use Rattle.wire_read.specs.Command.{Announced}
+use Rattle.wire_read.specs.Command.{Command}
+use Rattle.wire_read.specs.Command.{Alone, Publish, Refused}
 use Rattle.wire_read.specs.Front.{Whole, Wrong, front}
 use Rattle.wire_read.specs.Line.{is_lf, without_cr}
 use Rattle.wire_read.specs.Field.{fields, trimmed, first_field, after_first_field}

@@ -3,6 +3,7 @@ pub mod Field
 pub mod Operation
 pub mod Size
 pub mod Command
+pub mod Places
 pub mod Front
 pub mod Awaited
 pub mod Framing

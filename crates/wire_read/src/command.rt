@@ -1,9 +1,10 @@
-ghost use Rattle.std.specs.Prelude.{◌≡◌, IfOk};
+ghost use Rattle.std.specs.Prelude.{◌≡◌, ◌≤◌, length, take, drop, IfOk};
 ghost use Rattle.wire_read.specs.Field.{counted, fields};
 ghost use Rattle.wire_read.specs.Size.{size, sizes};
 ghost use Rattle.wire_read.specs.Command.{command, publication, headed_publication, subscription, unsubscription, sized, headed};
+ghost use Rattle.wire_read.specs.Places.{text_at, text_if_at, frame_at, command_at};
 
-use crate::field::{Fields, fields_of, take_field, trim};
+use crate::field::{FieldsAt, Place, cut, cut_if, fields_of, first_place, text_at, trim};
 use crate::operation::{Operation, find_operation};
 use crate::size::{count_of, size_of, sizes_of};
 use crate::{Frame, WireFault};
@@ -11,33 +12,66 @@ use bytes::Bytes;
 use std::alloc::AllocError;
 
 /// What the line of a message says of it.
-#[derive(Drop)]
-pub struct Announced {
-    pub subject: Bytes,
-    pub reply: Option<Bytes>,
+#[derive(Clone, Copy)]
+pub struct AnnouncedAt {
+    pub subject: Place,
+    pub reply: Option<Place>,
     /// The bytes of its header block, if it has one.
     pub head: Option<usize>,
     /// The bytes of the header block and the payload.
     pub total: usize,
 }
 
-/// What a control line says.
-#[derive(Drop)]
-pub enum Command {
+/// A frame that is a line by itself.
+#[derive(Clone, Copy)]
+pub enum FrameAt {
+    Connect(Place),
+    /// Its subject, its queue and its sid.
+    Sub(Place, Option<Place>, Place),
+    /// Its sid and its count.
+    Unsub(Place, Option<u64>),
+    Ping,
+    Pong,
+}
+
+/// What a control line says, by the places of its fields.
+#[derive(Clone, Copy)]
+pub enum CommandAt {
     /// It is a frame by itself.
-    Alone(Frame),
+    Alone(FrameAt),
     /// A message follows.
-    Publish(Announced),
+    Publish(AnnouncedAt),
     Refused(WireFault),
 }
 
-/// A message with a payload alone.
-fn sized(subject: Bytes, reply: Option<Bytes>, field: &[u8]) -> Command
-    ensures { result ≡ sized subject reply (size field.now) }
+/// The frame of the line of the first `len` bytes, which it shares.
+pub fn frame_of(bytes: &Bytes, len: usize, frame: FrameAt) -> Result<Frame, AllocError>
+    requires { len ≤ length bytes.now }
+    ensures { IfOk result (λ f. f ≡ frame_at (take len bytes.now) frame) }
 {
-    match size_of(field) {
-        Err(fault) => Command::Refused(fault),
-        Ok(total) => Command::Publish(Announced {
+    match frame {
+        FrameAt::Connect(options) => Ok(Frame::Connect(cut(bytes, len, options)?)),
+        FrameAt::Sub(subject, queue, sid) => Ok(Frame::Sub {
+            subject: cut(bytes, len, subject)?,
+            queue: cut_if(bytes, len, queue)?,
+            sid: cut(bytes, len, sid)?,
+        }),
+        FrameAt::Unsub(sid, most) => Ok(Frame::Unsub {
+            sid: cut(bytes, len, sid)?,
+            most,
+        }),
+        FrameAt::Ping => Ok(Frame::Ping),
+        FrameAt::Pong => Ok(Frame::Pong),
+    }
+}
+
+/// A message with a payload alone.
+fn sized(line: &[u8], subject: Place, reply: Option<Place>, field: Place) -> CommandAt
+    ensures { command_at line.now result ≡ sized (text_at line.now subject) (text_if_at line.now reply) (size (text_at line.now field)) }
+{
+    match size_of(text_at(line, field)) {
+        Err(fault) => CommandAt::Refused(fault),
+        Ok(total) => CommandAt::Publish(AnnouncedAt {
             subject,
             reply,
             head: None,
@@ -47,12 +81,12 @@ fn sized(subject: Bytes, reply: Option<Bytes>, field: &[u8]) -> Command
 }
 
 /// A message with a header block.
-fn headed(subject: Bytes, reply: Option<Bytes>, head: &[u8], total: &[u8]) -> Command
-    ensures { result ≡ headed subject reply (sizes head.now total.now) }
+fn headed(line: &[u8], subject: Place, reply: Option<Place>, head: Place, total: Place) -> CommandAt
+    ensures { command_at line.now result ≡ headed (text_at line.now subject) (text_if_at line.now reply) (sizes (text_at line.now head) (text_at line.now total)) }
 {
-    match sizes_of(head, total) {
-        Err(fault) => Command::Refused(fault),
-        Ok((head, total)) => Command::Publish(Announced {
+    match sizes_of(text_at(line, head), text_at(line, total)) {
+        Err(fault) => CommandAt::Refused(fault),
+        Ok((head, total)) => CommandAt::Publish(AnnouncedAt {
             subject,
             reply,
             head: Some(head),
@@ -61,89 +95,79 @@ fn headed(subject: Bytes, reply: Option<Bytes>, head: &[u8], total: &[u8]) -> Co
     }
 }
 
-fn publication(line: Bytes) -> Result<Command, AllocError>
-    ensures { IfOk result (λ c. c ≡ publication (counted (fields line))) }
+fn publication(line: &[u8], from: usize) -> CommandAt
+    requires { from ≤ length line.now }
+    ensures { command_at line.now result ≡ publication (counted (fields (drop from line.now))) }
 {
-    match fields_of(line)? {
-        Fields::Two(subject, size) => Ok(sized(subject, None, size.as_slice())),
-        Fields::Three(subject, reply, size) => Ok(sized(subject, Some(reply), size.as_slice())),
-        Fields::One(_) => Ok(Command::Refused(WireFault::ParserError)),
-        Fields::Four(_, _, _, _) => Ok(Command::Refused(WireFault::ParserError)),
-        Fields::Other => Ok(Command::Refused(WireFault::ParserError)),
+    match fields_of(line, from) {
+        FieldsAt::Two(subject, size) => sized(line, subject, None, size),
+        FieldsAt::Three(subject, reply, size) => sized(line, subject, Some(reply), size),
+        FieldsAt::One(_) => CommandAt::Refused(WireFault::ParserError),
+        FieldsAt::Four(_, _, _, _) => CommandAt::Refused(WireFault::ParserError),
+        FieldsAt::Other => CommandAt::Refused(WireFault::ParserError),
     }
 }
 
-fn headed_publication(line: Bytes) -> Result<Command, AllocError>
-    ensures { IfOk result (λ c. c ≡ headed_publication (counted (fields line))) }
+fn headed_publication(line: &[u8], from: usize) -> CommandAt
+    requires { from ≤ length line.now }
+    ensures { command_at line.now result ≡ headed_publication (counted (fields (drop from line.now))) }
 {
-    match fields_of(line)? {
-        Fields::Three(subject, head, total) => {
-            Ok(headed(subject, None, head.as_slice(), total.as_slice()))
+    match fields_of(line, from) {
+        FieldsAt::Three(subject, head, total) => headed(line, subject, None, head, total),
+        FieldsAt::Four(subject, reply, head, total) => {
+            headed(line, subject, Some(reply), head, total)
         }
-        Fields::Four(subject, reply, head, total) => Ok(headed(
-            subject,
-            Some(reply),
-            head.as_slice(),
-            total.as_slice(),
-        )),
-        Fields::One(_) => Ok(Command::Refused(WireFault::ParserError)),
-        Fields::Two(_, _) => Ok(Command::Refused(WireFault::ParserError)),
-        Fields::Other => Ok(Command::Refused(WireFault::ParserError)),
+        FieldsAt::One(_) => CommandAt::Refused(WireFault::ParserError),
+        FieldsAt::Two(_, _) => CommandAt::Refused(WireFault::ParserError),
+        FieldsAt::Other => CommandAt::Refused(WireFault::ParserError),
     }
 }
 
-fn subscription(line: Bytes) -> Result<Command, AllocError>
-    ensures { IfOk result (λ c. c ≡ subscription (counted (fields line))) }
+fn subscription(line: &[u8], from: usize) -> CommandAt
+    requires { from ≤ length line.now }
+    ensures { command_at line.now result ≡ subscription (counted (fields (drop from line.now))) }
 {
-    match fields_of(line)? {
-        Fields::Two(subject, sid) => Ok(Command::Alone(Frame::Sub {
-            subject,
-            queue: None,
-            sid,
-        })),
-        Fields::Three(subject, queue, sid) => Ok(Command::Alone(Frame::Sub {
-            subject,
-            queue: Some(queue),
-            sid,
-        })),
-        Fields::One(_) => Ok(Command::Refused(WireFault::ParserError)),
-        Fields::Four(_, _, _, _) => Ok(Command::Refused(WireFault::ParserError)),
-        Fields::Other => Ok(Command::Refused(WireFault::ParserError)),
+    match fields_of(line, from) {
+        FieldsAt::Two(subject, sid) => CommandAt::Alone(FrameAt::Sub(subject, None, sid)),
+        FieldsAt::Three(subject, queue, sid) => {
+            CommandAt::Alone(FrameAt::Sub(subject, Some(queue), sid))
+        }
+        FieldsAt::One(_) => CommandAt::Refused(WireFault::ParserError),
+        FieldsAt::Four(_, _, _, _) => CommandAt::Refused(WireFault::ParserError),
+        FieldsAt::Other => CommandAt::Refused(WireFault::ParserError),
     }
 }
 
-fn unsubscription(line: Bytes) -> Result<Command, AllocError>
-    ensures { IfOk result (λ c. c ≡ unsubscription (counted (fields line))) }
+fn unsubscription(line: &[u8], from: usize) -> CommandAt
+    requires { from ≤ length line.now }
+    ensures { command_at line.now result ≡ unsubscription (counted (fields (drop from line.now))) }
 {
-    match fields_of(line)? {
-        Fields::One(sid) => Ok(Command::Alone(Frame::Unsub { sid, most: None })),
-        Fields::Two(sid, field) => match count_of(field.as_slice()) {
-            None => Ok(Command::Refused(WireFault::ParserError)),
-            Some(most) => Ok(Command::Alone(Frame::Unsub {
-                sid,
-                most: Some(most),
-            })),
+    match fields_of(line, from) {
+        FieldsAt::One(sid) => CommandAt::Alone(FrameAt::Unsub(sid, None)),
+        FieldsAt::Two(sid, field) => match count_of(text_at(line, field)) {
+            None => CommandAt::Refused(WireFault::ParserError),
+            Some(most) => CommandAt::Alone(FrameAt::Unsub(sid, Some(most))),
         },
-        Fields::Three(_, _, _) => Ok(Command::Refused(WireFault::ParserError)),
-        Fields::Four(_, _, _, _) => Ok(Command::Refused(WireFault::ParserError)),
-        Fields::Other => Ok(Command::Refused(WireFault::ParserError)),
+        FieldsAt::Three(_, _, _) => CommandAt::Refused(WireFault::ParserError),
+        FieldsAt::Four(_, _, _, _) => CommandAt::Refused(WireFault::ParserError),
+        FieldsAt::Other => CommandAt::Refused(WireFault::ParserError),
     }
 }
 
 /// What a control line says, without its end.
 #[tactic(auto, unfolding(crate::specs::Command::command))]
-pub fn read_command(mut line: Bytes) -> Result<Command, AllocError>
-    ensures { IfOk result (λ c. c ≡ command line) }
+pub fn read_command(line: &[u8]) -> CommandAt
+    ensures { command_at line.now result ≡ command line.now }
 {
-    let name = take_field(&mut line)?;
-    match find_operation(name.as_slice()) {
-        None => Ok(Command::Refused(WireFault::UnknownOperation)),
-        Some(Operation::Connect) => Ok(Command::Alone(Frame::Connect(trim(line)))),
-        Some(Operation::Pub) => publication(line),
-        Some(Operation::Hpub) => headed_publication(line),
-        Some(Operation::Sub) => subscription(line),
-        Some(Operation::Unsub) => unsubscription(line),
-        Some(Operation::Ping) => Ok(Command::Alone(Frame::Ping)),
-        Some(Operation::Pong) => Ok(Command::Alone(Frame::Pong)),
+    let name = first_place(line, 0);
+    match find_operation(text_at(line, name)) {
+        None => CommandAt::Refused(WireFault::UnknownOperation),
+        Some(Operation::Connect) => CommandAt::Alone(FrameAt::Connect(trim(line, name.end))),
+        Some(Operation::Pub) => publication(line, name.end),
+        Some(Operation::Hpub) => headed_publication(line, name.end),
+        Some(Operation::Sub) => subscription(line, name.end),
+        Some(Operation::Unsub) => unsubscription(line, name.end),
+        Some(Operation::Ping) => CommandAt::Alone(FrameAt::Ping),
+        Some(Operation::Pong) => CommandAt::Alone(FrameAt::Pong),
     }
 }

@@ -1,19 +1,57 @@
-ghost use Rattle.std.specs.Prelude.{◌≡◌, ◌≤◌, length, IfOk};
+ghost use Rattle.std.specs.Prelude.{◌≡◌, ◌∷◌, ◌≤◌, [], length, take, drop, IfOk, IfSome, MatchOption};
 ghost use Rattle.std.specs.List.{prefix_len};
 ghost use Rattle.wire_read.specs.Field.{is_separator, is_field_byte, first_field, after_first_field, fields, counted, trimmed};
+ghost use Rattle.wire_read.specs.Places.{text_at, text_if_at, fields_at};
 
 use bytes::Bytes;
 use std::alloc::AllocError;
 
-/// The fields of a line, as many as an operation may take.
-#[derive(Drop)]
-pub enum Fields {
-    One(Bytes),
-    Two(Bytes, Bytes),
-    Three(Bytes, Bytes, Bytes),
-    Four(Bytes, Bytes, Bytes, Bytes),
+/// Where a field stands in its line.
+#[derive(Clone, Copy)]
+pub struct Place {
+    pub start: usize,
+    pub end: usize,
+}
+
+/// Where the fields of a line stand, as many as an operation may take.
+#[derive(Clone, Copy)]
+pub enum FieldsAt {
+    One(Place),
+    Two(Place, Place),
+    Three(Place, Place, Place),
+    Four(Place, Place, Place, Place),
     /// There are none, or more than four.
     Other,
+}
+
+/// The text at a place of a line.
+pub fn text_at(line: &[u8], place: Place) -> &[u8]
+    ensures { result.now ≡ text_at line.now place }
+{
+    let end = place.end.min(line.len());
+    &line[place.start.min(end)..end]
+}
+
+/// The text at a place of the line of the first `len` bytes, which it shares.
+#[tactic(auto, using(crate::proofs::PlaceLemmas::cut_is))]
+pub fn cut(bytes: &Bytes, len: usize, place: Place) -> Result<Bytes, AllocError>
+    requires { len ≤ length bytes.now }
+    ensures { IfOk result (λ text. text ≡ text_at (take len bytes.now) place) }
+{
+    let end = place.end.min(len);
+    let text = bytes.slice(place.start.min(end)..end)?;
+    Ok(text)
+}
+
+/// The same of a place that may be there.
+pub fn cut_if(bytes: &Bytes, len: usize, place: Option<Place>) -> Result<Option<Bytes>, AllocError>
+    requires { len ≤ length bytes.now }
+    ensures { IfOk result (λ text. text ≡ text_if_at (take len bytes.now) place) }
+{
+    match place {
+        None => Ok(None),
+        Some(place) => Ok(Some(cut(bytes, len, place)?)),
+    }
 }
 
 fn is_separator(byte: u8) -> bool
@@ -48,50 +86,63 @@ fn field_len(text: &[u8]) -> usize
     text.len()
 }
 
-/// The text after the separators in front.
-pub fn trim(mut text: Bytes) -> Bytes
-    ensures { result ≡ trimmed text }
+/// What stands behind the separators in front of what follows a place of a line.
+pub fn trim(line: &[u8], from: usize) -> Place
+    requires { from ≤ length line.now }
+    ensures { text_at line.now result ≡ trimmed (drop from line.now) }
 {
-    let skip = separators(text.as_slice());
-    text.advance(skip);
-    text
+    Place {
+        start: from + separators(&line[from..]),
+        end: line.len(),
+    }
 }
 
-/// Takes the first field off a line. It has no byte where the line has no field.
-pub fn take_field(line: &mut Bytes) -> Result<Bytes, AllocError>
-    ensures { IfOk result (λ field. (field ≡ first_field line.old) × (line.new ≡ after_first_field line.old)) }
+/// The first field of what follows a place of a line. It has no byte where there is none.
+pub fn first_place(line: &[u8], from: usize) -> Place
+    requires { from ≤ length line.now }
+    ensures text { text_at line.now result ≡ first_field (drop from line.now) }
+    ensures rest { drop result.end line.now ≡ after_first_field (drop from line.now) }
+    ensures ordered { result.start ≤ result.end }
+    ensures within { result.end ≤ length line.now }
 {
-    let skip = separators(line.as_slice());
-    line.advance(skip);
-    let len = field_len(line.as_slice());
-    line.split_to(len)
+    let start = from + separators(&line[from..]);
+    let end = start + field_len(&line[start..]);
+    Place { start, end }
 }
 
-/// The fields of a line.
-#[tactic(auto, using(crate::proofs::FieldLemmas::fields_end, crate::proofs::FieldLemmas::fields_more))]
-pub fn fields_of(mut line: Bytes) -> Result<Fields, AllocError>
-    ensures { IfOk result (λ f. f ≡ counted (fields line)) }
+/// The next field of what follows a place of a line, if there is one.
+fn next_place(line: &[u8], from: usize) -> Option<Place>
+    requires { from ≤ length line.now }
+    ensures fields { MatchOption result (fields (drop from line.now) ≡ []) (λ p. fields (drop from line.now) ≡ text_at line.now p ∷ fields (drop p.end line.now)) }
+    ensures within { IfSome result (λ p. p.end ≤ length line.now) }
 {
-    let first = take_field(&mut line)?;
-    if first.is_empty() {
-        return Ok(Fields::Other);
-    }
-    let second = take_field(&mut line)?;
-    if second.is_empty() {
-        return Ok(Fields::One(first));
-    }
-    let third = take_field(&mut line)?;
-    if third.is_empty() {
-        return Ok(Fields::Two(first, second));
-    }
-    let fourth = take_field(&mut line)?;
-    if fourth.is_empty() {
-        return Ok(Fields::Three(first, second, third));
-    }
-    let fifth = take_field(&mut line)?;
-    if fifth.is_empty() {
-        Ok(Fields::Four(first, second, third, fourth))
+    let place = first_place(line, from);
+    if place.start == place.end {
+        None
     } else {
-        Ok(Fields::Other)
+        Some(place)
+    }
+}
+
+/// The fields of what follows a place of a line.
+pub fn fields_of(line: &[u8], from: usize) -> FieldsAt
+    requires { from ≤ length line.now }
+    ensures { fields_at line.now result ≡ counted (fields (drop from line.now)) }
+{
+    let Some(first) = next_place(line, from) else {
+        return FieldsAt::Other;
+    };
+    let Some(second) = next_place(line, first.end) else {
+        return FieldsAt::One(first);
+    };
+    let Some(third) = next_place(line, second.end) else {
+        return FieldsAt::Two(first, second);
+    };
+    let Some(fourth) = next_place(line, third.end) else {
+        return FieldsAt::Three(first, second, third);
+    };
+    match next_place(line, fourth.end) {
+        None => FieldsAt::Four(first, second, third, fourth),
+        Some(_) => FieldsAt::Other,
     }
 }

@@ -1,12 +1,15 @@
-ghost use Rattle.std.specs.Prelude.{◌≡◌, ◌<◌, ◌≤◌, ◌+◌, length, drop, IfOk};
+ghost use Rattle.std.specs.Prelude.{◌≡◌, ◌<◌, ◌≤◌, ◌+◌, length, take, drop, IfOk};
 ghost use Rattle.wire_read.specs.Line.{line_of};
 ghost use Rattle.wire_read.specs.declared.line.Line.TheVariants as line_is;
 ghost use Rattle.wire_read.specs.Awaited.{IsFound, AwaitsBlock, front_of};
 ghost use Rattle.wire_read.specs.Command.{IsWithin};
 ghost use Rattle.wire_read.specs.Front.{after_announced, end_of, message};
+ghost use Rattle.wire_read.specs.Places.{announced_at, text_at, text_if_at};
+ghost use Rattle.wire_read.specs.declared.front.Found.TheVariants as found;
 
 use crate::awaited::Awaited;
-use crate::command::{Announced, Command, read_command};
+use crate::command::{AnnouncedAt, CommandAt, frame_of, read_command};
+use crate::field::{cut, cut_if};
 use crate::line::{Line, find_line, len_without_cr};
 use crate::{Frame, WireFault};
 use bytes::Bytes;
@@ -44,55 +47,59 @@ fn find_end(rest: &[u8]) -> End
     }
 }
 
-/// A message by the bytes behind its line.
-fn message(
-    subject: Bytes,
-    reply: Option<Bytes>,
-    head: Option<usize>,
-    mut block: Bytes,
-) -> Result<Frame, AllocError>
-    requires { IsWithin head (length block) }
-    ensures { IfOk result (λ f. f ≡ message subject reply head block) }
+/// The message that the line of the first `len` bytes announced, all of which came.
+fn message(bytes: &Bytes, len: usize, start: usize, line: AnnouncedAt) -> Result<Found, AllocError>
+    requires len { len ≤ length bytes.now }
+    requires head { IsWithin line.head line.total }
+    requires total { start + line.total + 2 ≤ length bytes.now }
+    ensures { IfOk result (λ f. f ≡ found.Whole (message (text_at (take len bytes.now) line.subject) (text_if_at (take len bytes.now) line.reply) line.head (take line.total (drop start bytes.now))) (start + line.total + 2)) }
 {
-    match head {
-        None => Ok(Frame::Pub {
-            subject,
-            reply,
-            payload: block,
-        }),
-        Some(len) => {
-            let head = block.split_to(len)?;
-            Ok(Frame::Hpub {
+    let _bound = bytes.len();
+    let end = start + line.total;
+    let subject = cut(bytes, len, line.subject)?;
+    let reply = cut_if(bytes, len, line.reply)?;
+    match line.head {
+        None => {
+            let payload = bytes.slice(start..end)?;
+            let frame = Frame::Pub {
+                subject,
+                reply,
+                payload,
+            };
+            Ok(Found::Whole(frame, end + 2))
+        }
+        Some(size) => {
+            let mut payload = bytes.slice(start..end)?;
+            let head = payload.split_to(size)?;
+            let frame = Frame::Hpub {
                 subject,
                 reply,
                 head,
-                payload: block,
-            })
+                payload,
+            };
+            Ok(Found::Whole(frame, end + 2))
         }
     }
 }
 
-/// The message that a line announced, where the bytes behind the line start at `start`.
-fn publish(bytes: &Bytes, start: usize, line: Announced) -> Result<Found, AllocError>
+/// The message that the line of the first `len` bytes announced, where the bytes behind it start at `start`.
+fn publish(bytes: &Bytes, len: usize, start: usize, line: AnnouncedAt) -> Result<Found, AllocError>
+    requires len { len ≤ length bytes.now }
     requires start { start ≤ length bytes.now }
     requires head { IsWithin line.head line.total }
     requires total { line.total ≤ 1048576 }
-    ensures front { IfOk result (λ f. front_of f ≡ after_announced line start (drop start bytes.now)) }
+    ensures front { IfOk result (λ f. front_of f ≡ after_announced (announced_at (take len bytes.now) line) start (drop start bytes.now)) }
     ensures awaited { IfOk result (λ f. AwaitsBlock f (start + line.total)) }
 {
-    let len = bytes.len();
+    let whole = bytes.len();
     let end = start + line.total;
-    if len < end {
+    if whole < end {
         return Ok(Found::More(Awaited::Block(end)));
     }
     match find_end(&bytes.as_slice()[end..]) {
         End::Open => Ok(Found::More(Awaited::Block(end))),
         End::Wrong => Ok(Found::Wrong(WireFault::ParserError)),
-        End::Whole => {
-            let block = bytes.slice(start..end)?;
-            let frame = message(line.subject, line.reply, line.head, block)?;
-            Ok(Found::Whole(frame, end + 2))
-        }
+        End::Whole => message(bytes, len, start, line),
     }
 }
 
@@ -103,10 +110,10 @@ fn after_end(bytes: &Bytes, end: usize) -> Result<Found, AllocError>
     ensures { IfOk result (λ f. IsFound f bytes.now) }
 {
     let len = len_without_cr(&bytes.as_slice()[..end]);
-    match read_command(bytes.slice(0..len)?)? {
-        Command::Refused(fault) => Ok(Found::Wrong(fault)),
-        Command::Alone(frame) => Ok(Found::Whole(frame, end + 1)),
-        Command::Publish(line) => publish(bytes, end + 1, line),
+    match read_command(&bytes.as_slice()[..len]) {
+        CommandAt::Refused(fault) => Ok(Found::Wrong(fault)),
+        CommandAt::Alone(frame) => Ok(Found::Whole(frame_of(bytes, len, frame)?, end + 1)),
+        CommandAt::Publish(line) => publish(bytes, len, end + 1, line),
     }
 }
 

@@ -16,11 +16,10 @@ mod reader;
 mod scan;
 mod size;
 mod step;
+#[cfg(test)]
+mod tests;
 
 pub use fault::{FeedError, WireFault};
 pub use frame::Frame;
 pub use laws::{any_pieces, cut_anywhere, faults, one_framing, spellings};
 pub use reader::FrameReader;
-
-#[cfg(test)]
-mod tests;

@@ -62,8 +62,8 @@ fn read_part(alloc: Global, read: Progress, part: &[u8]) -> Result<Progress, All
     read_whole(alloc, frames, whole)
 }
 
-/// What was read once this piece came behind it. Each of its bytes is copied once into the bytes of
-/// its frame, and the line of a message once more.
+/// What was read once this piece came behind it. Its bytes are copied once, into one buffer that its frames
+/// share, and those of a last frame that isn't whole once more.
 pub fn read_on(alloc: Global, before: Progress, piece: &[u8]) -> Result<Progress, AllocError>
     requires { IsAwaiting before.awaited before.kept }
     ensures framing { IfOk result (λ p. framing p.frames.items p.kept p.failed ≡ followed (framing before.frames.items before.kept before.failed) piece.now) }

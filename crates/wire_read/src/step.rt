@@ -21,7 +21,7 @@ pub fn next_step(kept: &Buffer, awaited: Awaited, piece: &[u8]) -> Step
     let len = kept.len();
     match awaited {
         Awaited::LineEnd => match memchr(b'\n', piece) {
-            Some(at) => Step::Takes(at + 1),
+            Some(_) => Step::Takes(piece.len()),
             None => {
                 if len.saturating_add(piece.len()) > MAX_CONTROL_LINE {
                     Step::Takes(piece.len())
