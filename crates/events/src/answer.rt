@@ -5,6 +5,8 @@ use crate::message::Message;
 use lists::{Copying, Items, NoMemory, Shared};
 use permissions::{By, Verdict};
 use std::alloc::Global;
+use std::marker::Model;
+use std::slice;
 
 /// A message on its way to one subscription. All deliveries of a message share it.
 #[derive(Debug, Drop)]
@@ -44,6 +46,61 @@ pub enum Item {
     Full { conn: u64, sid: Sid },
 }
 
+/// What a message met at the subscriptions that it is for. A clause sees the items, oldest subscription first. A
+/// single one has no block of its own.
+#[derive(Debug, Drop)]
+pub struct Met {
+    items: MetItems,
+}
+
+#[derive(Debug, Drop)]
+enum MetItems {
+    One(Item),
+    Many(Vec<Item>),
+}
+
+impl Model for Met {
+    ghost use Rattle.std.specs.Prelude.{List};
+    ghost use Rattle.events.specs.Met.{met_items};
+    ghost use Rattle.events.specs.declared.answer.Item.{Item};
+
+    ghost Value = { List Item };
+
+    ghost view = { λ met. met_items met.items };
+}
+
+impl Met {
+    ghost use Rattle.std.specs.Prelude.{◌≡◌, ◌∷◌, []};
+
+    /// One item.
+    pub fn one(item: Item) -> Met
+        ensures { result ≡ item ∷ [] }
+    {
+        Met {
+            items: MetItems::One(item),
+        }
+    }
+
+    /// The items of a vector, which is handed over and not copied.
+    pub fn from_vec(items: Vec<Item>) -> Met
+        ensures { result ≡ items.items }
+    {
+        Met {
+            items: MetItems::Many(items),
+        }
+    }
+
+    /// The items in order.
+    pub fn as_slice(&self) -> &[Item]
+        ensures { result.now ≡ self.now }
+    {
+        match &self.items {
+            MetItems::One(item) => slice::from_ref(item),
+            MetItems::Many(items) => items.as_slice(),
+        }
+    }
+}
+
 /// A subscription that a reload has removed from a session that stays.
 #[derive(Debug, Drop)]
 pub struct Removed {
@@ -74,7 +131,7 @@ pub enum Outcome {
     /// The user's permissions refuse the command, by this verdict.
     Denied(Verdict),
     /// The message is accepted by this rule, and met these subscriptions, oldest first.
-    Published(By, Items<Item>),
+    Published(By, Met),
     /// These deliveries left the outbox, and whether a full outbox has lost one since the Connect or last Take.
     Taken(Items<Delivery>, bool),
     /// The subscription of that id, if one stood, has ended or has its limit.

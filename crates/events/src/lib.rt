@@ -8,7 +8,7 @@ mod message;
 mod port;
 mod refusal;
 
-pub use answer::{Addressed, Answer, Delivery, Entry, Item, Outcome, Removed};
+pub use answer::{Addressed, Answer, Delivery, Entry, Item, Met, Outcome, Removed};
 pub use event::{Command, Event, Sid};
 pub use message::Message;
 pub use port::Port;

@@ -1,11 +1,12 @@
 -- The transition keeps the guarantee, command by command.
-use Rattle.std.proofs.Common.{◌||◌, ◌≡◌, ◌∙◌, ◌==◌, ◌&&◌, ℕ, ◌+◌, ◌-◌, ◌≤◌, Bool, true, false, not, cond, List, [], ◌∷◌, ◌++◌, map, filter, length, take, drop, Option, Some, None, Result, Ok, Err, ap, sym, refl, subst, arith, max}
-use Rattle.std.specs.Prelude.{IsSomeAnd, is_some, nat_lt, nat_le, nat_eq, IfOk}
+use Rattle.std.proofs.Common.{◌||◌, ◌≡◌, ◌∙◌, ◌==◌, ◌&&◌, ℕ, ◌+◌, ◌-◌, ◌≤◌, Bool, true, false, not, cond, List, [], ◌∷◌, ◌++◌, map, filter, length, get_or, take, drop, Option, Some, None, Result, Ok, Err, ap, sym, refl, subst, arith, max}
+use Rattle.std.specs.Prelude.{IfSome, IsSomeAnd, is_some, nat_lt, nat_le, nat_eq, IfOk}
 use Rattle.std.specs.Cmp.Lexicographic.{pointwise}
 use Rattle.std.proofs.lemmas.List.{length-append, length-take, length-drop}
 use Rattle.std.proofs.lemmas.List.Elements.{All-weaker}
 use Rattle.subjects.specs.Subject.{Token, in_set}
-use Rattle.permissions.specs.Verdicts.{publish_verdict, subscribe_verdict, delivery_verdict, is_allowed, IsJustifiedPublish, IsJustifiedSubscribe}
+use Rattle.permissions.specs.Verdicts.{publish_verdict, subscribe_verdict, delivery_verdict, is_allowed, IsJustifiedPublish, IsJustifiedSubscribe, IsJustifiedDelivery}
+use Rattle.permissions.specs.declared.verdict.By.{By}
 use Rattle.permissions.specs.declared.verdict.Verdict.{Verdict}
 use Rattle.permissions.specs.declared.verdict.Verdict.TheVariants.{Allowed, DeniedBy, NoAllow}
 use Rattle.policy_doc.specs.declared.document.PolicyDoc.{PolicyDoc}
@@ -32,15 +33,16 @@ use Rattle.world.specs.World.{World, advanced}
 use Rattle.world.specs.Routing.{own_view, is_admitted, admitted, may_hear, lets_through}
 use Rattle.subscriptions.specs.Addressing.{addressed_to}
 use Rattle.world.specs.Transition.{IsReasoned, IsRefusal, connected, subscribed, unsubscribed, published, taken, closed, in_session, in_new_session, moved, numbered, transition}
-use Rattle.hub.specs.Sound.{IsSound, user_behind, user_at, account_of, may_subscribe}
+use Rattle.hub.specs.Sound.{IsSound, user_behind, user_at, account_of, may_subscribe, HasAllowance}
 use Rattle.hub.specs.InForce.{policy_after, epoch_after}
 use Rattle.hub.specs.History.{State, is_history_full, remembered, stepped, IsStep}
-use Rattle.hub.specs.Guarantee.{accepts, allows, may_publish, may_receive, has_echo, is_for, recipients, IsDenial, HasReason, IsDelivered, IsUntouched, IsEffect, is_connect, is_nobodys, has_session, is_fit, is_in_order, is_due, is_at_limit, IsRouted, KeepsGuarantee, IsGuarded}
+use Rattle.hub.specs.Guarantee.{accepts, allows, may_publish, may_receive, has_echo, is_for, recipients, IsDenial, HasReason, IsReasonedFor, IsDelivered, IsUntouched, IsEffect, is_connect, is_nobodys, has_session, is_fit, is_in_order, is_due, is_at_limit, IsRouted, KeepsGuarantee, IsGuarded}
 use Rattle.std.proofs.lemmas.Bool.{eqb-true}
 use Rattle.hub.proofs.Lists.{filter_same_on}
 use Rattle.hub.proofs.Finds.{find-passes}
 use Rattle.hub.proofs.Naming.{user_named-again}
-use Rattle.hub.proofs.Soundness.{next, KeepsSession, KeepsSubscription, either, keeps-where, user_at-session, sound-same, sound-map, sound-limits, sound-open, sound-add, sound-close}
+use Rattle.hub.proofs.Soundness.{next, KeepsSession, KeepsSubscription, either, keeps-where, user_at-session, sound-same, sound-map, unended-same, sound-limits, sound-open, sound-add, sound-close}
+use Rattle.hub.proofs.Reasons.{delivery_justified}
 use Rattle.hub.proofs.Reloads.{in_force, sound-reload}
 use Rattle.sessions.proofs.Changes.{only, with_session-map}
 use Rattle.hub.proofs.Deliveries.{gets, items_after, outboxes, one_each, with_room}
@@ -71,7 +73,7 @@ event now c = record { now = now; what = c }
 
 -- a command other than a reload
 answered : (w : World) (now : ℕ) (c : Command) (o : Outcome) (zs : List Session) (subs : List Subscription) →
-    (policy_after w c ≡ w.policy) × (epoch_after w c ≡ w.epoch) → is_fit w c ≡ true → accepts o ≡ allows w c → (IsReasoned w c o → HasReason w c o) → IsEffect w c o (next w now zs subs) → IsSound (next w now zs subs) →
+    (policy_after w c ≡ w.policy) × (epoch_after w c ≡ w.epoch) → is_fit w c ≡ true → accepts o ≡ allows w c → (IsReasoned w c o → HasReason w c o) → IsEffect w c o (next w now zs subs) → (IsReasoned w c o → IsSound (next w now zs subs)) →
     Keeps w (event now c) (Ok (o, next w now zs subs))
 answered w now c o zs subs stay fit accepted reason effect sound = (
   fit,
@@ -81,7 +83,7 @@ answered w now c o zs subs stay fit accepted reason effect sound = (
     effect = effect;
     others = ap (λ doc. record (next w now zs subs) { policy = doc }) (sym stay.0)
         ∙ ap (λ n. record (next w now zs subs) { policy = policy_after w c; epoch = n }) (sym stay.1);
-    sound = sound;
+    sound = sound reasoned;
   },
 )
 
@@ -110,12 +112,12 @@ connect-keeps w now conn name password echo sound = by_session (session_of w.ses
   where
     by_user : (uo : Option User) → user_with_password w.policy name password ≡ uo → session_of w.sessions conn ≡ None → nat_le 4096 (length w.sessions) ≡ false → is_fit w (Connect conn name password echo) ≡ true →
         Keeps w (event now (Connect conn name password echo)) (numbered (w.number + 1) (Ok (connected (advanced w now) conn echo uo)))
-    by_user None u e room fit = answered w now (Connect conn name password echo) AuthViolation w.sessions w.subscriptions (refl, refl) fit (sym (ap is_some u)) (λ _. tt) (untouched w now) (sound-same w now sound)
+    by_user None u e room fit = answered w now (Connect conn name password echo) AuthViolation w.sessions w.subscriptions (refl, refl) fit (sym (ap is_some u)) (λ _. tt) (untouched w now) (λ _. sound-same w now sound)
     by_user (Some user) u e room fit =
         let zs : List Session = w.sessions ++ new_session conn user echo w.capacity ∷ [] in
         answered w now (Connect conn name password echo) Connected zs w.subscriptions (refl, refl) fit (sym (ap is_some u)) (λ _. tt)
         (subst (λ o. IsSomeAnd o (λ (v : User). zs ≡ w.sessions ++ new_session conn v echo w.capacity ∷ [])) (sym u) refl, refl)
-        (sound-open w now conn user echo e room (user_named-again w.policy name password user sound.policy u) sound)
+        (λ _. sound-open w now conn user echo e room (user_named-again w.policy name password user sound.policy u) sound)
 
     by_limit : (l : Bool) → nat_le 4096 (length w.sessions) ≡ l → session_of w.sessions conn ≡ None →
         Keeps w (event now (Connect conn name password echo)) (numbered (w.number + 1) (cond l (Err SessionLimit) (Ok (connected (advanced w now) conn echo (user_with_password w.policy name password)))))
@@ -133,11 +135,22 @@ sub-keeps : (w : World) (now conn : ℕ) (p : List Token) (sid : List ℕ) → I
     Keeps w (event now (Sub conn p sid)) (numbered (w.number + 1) (moved (advanced w now) (Sub conn p sid)))
 sub-keeps w now conn p sid sound = by_session (session_of w.sessions conn) refl
   where
-    denied : (v : Verdict) (z : Session) → subscribe_verdict z.user.rules p ≡ v → session_of w.sessions conn ≡ Some z → user_at w conn ≡ Some z.user →
-        IsSomeAnd (session_of w.sessions conn) (λ (y : Session). IsJustifiedSubscribe p y.user.rules.subscribe v) → IsDenial w (Sub conn p sid) v
+    -- the verdict on what is asked has its reason
+    Reasoned : Type 0
+    Reasoned = IfSome (session_of w.sessions conn) (λ (y : Session). IsJustifiedSubscribe p y.user.rules.subscribe (subscribe_verdict y.user.rules p))
+
+    justified : (v : Verdict) (z : Session) → subscribe_verdict z.user.rules p ≡ v → session_of w.sessions conn ≡ Some z → Reasoned → IsJustifiedSubscribe p z.user.rules.subscribe v
+    justified v z e at reasoned =
+        subst (λ x. IsJustifiedSubscribe p z.user.rules.subscribe x) e
+        (subst (λ o. IfSome o (λ (y : Session). IsJustifiedSubscribe p y.user.rules.subscribe (subscribe_verdict y.user.rules p))) at reasoned)
+
+    denied : (v : Verdict) (z : Session) → subscribe_verdict z.user.rules p ≡ v → session_of w.sessions conn ≡ Some z → user_at w conn ≡ Some z.user → Reasoned → IsDenial w (Sub conn p sid) v
     denied v z e at u reasoned =
         subst (λ o. IsSomeAnd o (λ (user : User). (v ≡ subscribe_verdict user.rules p) × IsJustifiedSubscribe p user.rules.subscribe v)) (sym u)
-        (sym e, subst (λ o. IsSomeAnd o (λ (y : Session). IsJustifiedSubscribe p y.user.rules.subscribe v)) at reasoned)
+        (sym e, justified v z e at reasoned)
+
+    allowance : (by : By) (z : Session) → subscribe_verdict z.user.rules p ≡ Allowed by → session_of w.sessions conn ≡ Some z → user_at w conn ≡ Some z.user → Reasoned → HasAllowance (user_at w conn) p
+    allowance by z e at u reasoned = subst (λ o. HasAllowance o p) (sym u) (by, justified (Allowed by) z e at reasoned)
 
     allowed : (v : Verdict) (z : Session) → subscribe_verdict z.user.rules p ≡ v → user_at w conn ≡ Some z.user → may_subscribe (user_at w conn) p ≡ is_allowed v
     allowed v z e u = ap (λ o. may_subscribe o p) u ∙ ap is_allowed e
@@ -145,24 +158,24 @@ sub-keeps w now conn p sid sound = by_session (session_of w.sessions conn) refl
     added : Session → List Subscription
     added z = w.subscriptions ++ subscription_of (w.number + 1) conn z.user.account p sid ∷ []
 
-    by_limit : (l : Bool) (z : Session) → has_all w.subscriptions conn ≡ l → stands w.subscriptions conn sid ≡ false → user_at w conn ≡ Some z.user → may_subscribe (user_at w conn) p ≡ true → is_fit w (Sub conn p sid) ≡ true →
+    by_limit : (l : Bool) (z : Session) → has_all w.subscriptions conn ≡ l → stands w.subscriptions conn sid ≡ false → user_at w conn ≡ Some z.user → may_subscribe (user_at w conn) p ≡ true → (Reasoned → HasAllowance (user_at w conn) p) → is_fit w (Sub conn p sid) ≡ true →
         Keeps w (event now (Sub conn p sid)) (numbered (w.number + 1) (Ok (cond l (SubLimit, advanced w now) (Subscribed, record (advanced w now) { subscriptions = added z }))))
-    by_limit true z limit taken u may fit = answered w now (Sub conn p sid) SubLimit w.sessions w.subscriptions (refl, refl) fit (sym may) (λ _. tt) (taken, limit, untouched w now) (sound-same w now sound)
-    by_limit false z limit taken u may fit =
-        answered w now (Sub conn p sid) Subscribed w.sessions (added z) (refl, refl) fit (sym may) (λ _. tt)
+    by_limit true z limit taken u may has fit = answered w now (Sub conn p sid) SubLimit w.sessions w.subscriptions (refl, refl) fit (sym may) has (taken, limit, untouched w now) (λ _. sound-same w now sound)
+    by_limit false z limit taken u may has fit =
+        answered w now (Sub conn p sid) Subscribed w.sessions (added z) (refl, refl) fit (sym may) has
         (taken, limit, refl, subst (λ o. IsSomeAnd o (λ (user : User). added z ≡ w.subscriptions ++ subscription_of (w.number + 1) conn user.account p sid ∷ [])) (sym u) refl)
-        (sound-add w now conn z.user.account p sid may (ap account_of u) taken limit sound)
+        (λ reasoned. sound-add w now conn z.user.account p sid may (has reasoned) (ap account_of u) taken limit sound)
 
-    by_sid : (t : Bool) (z : Session) → stands w.subscriptions conn sid ≡ t → user_at w conn ≡ Some z.user → may_subscribe (user_at w conn) p ≡ true → is_fit w (Sub conn p sid) ≡ true →
+    by_sid : (t : Bool) (z : Session) → stands w.subscriptions conn sid ≡ t → user_at w conn ≡ Some z.user → may_subscribe (user_at w conn) p ≡ true → (Reasoned → HasAllowance (user_at w conn) p) → is_fit w (Sub conn p sid) ≡ true →
         Keeps w (event now (Sub conn p sid)) (numbered (w.number + 1) (Ok (cond t (SameSid, advanced w now) (cond (has_all w.subscriptions conn) (SubLimit, advanced w now) (Subscribed, record (advanced w now) { subscriptions = added z })))))
-    by_sid true z taken u may fit = answered w now (Sub conn p sid) SameSid w.sessions w.subscriptions (refl, refl) fit (sym may) (λ _. tt) (taken, untouched w now) (sound-same w now sound)
-    by_sid false z taken u may fit = by_limit (has_all w.subscriptions conn) z refl taken u may fit
+    by_sid true z taken u may has fit = answered w now (Sub conn p sid) SameSid w.sessions w.subscriptions (refl, refl) fit (sym may) has (taken, untouched w now) (λ _. sound-same w now sound)
+    by_sid false z taken u may has fit = by_limit (has_all w.subscriptions conn) z refl taken u may has fit
 
     by_verdict : (v : Verdict) (z : Session) → subscribe_verdict z.user.rules p ≡ v → session_of w.sessions conn ≡ Some z → user_at w conn ≡ Some z.user → is_fit w (Sub conn p sid) ≡ true →
         Keeps w (event now (Sub conn p sid)) (numbered (w.number + 1) (Ok (subscribed (advanced w now) conn z.user.account p sid v)))
-    by_verdict (Allowed by) z e at u fit = by_sid (stands w.subscriptions conn sid) z refl u (allowed (Allowed by) z e u) fit
-    by_verdict (DeniedBy i) z e at u fit = answered w now (Sub conn p sid) (Denied (DeniedBy i)) w.sessions w.subscriptions (refl, refl) fit (sym (allowed (DeniedBy i) z e u)) (denied (DeniedBy i) z e at u) (untouched w now) (sound-same w now sound)
-    by_verdict NoAllow z e at u fit = answered w now (Sub conn p sid) (Denied NoAllow) w.sessions w.subscriptions (refl, refl) fit (sym (allowed NoAllow z e u)) (denied NoAllow z e at u) (untouched w now) (sound-same w now sound)
+    by_verdict (Allowed by) z e at u fit = by_sid (stands w.subscriptions conn sid) z refl u (allowed (Allowed by) z e u) (allowance by z e at u) fit
+    by_verdict (DeniedBy i) z e at u fit = answered w now (Sub conn p sid) (Denied (DeniedBy i)) w.sessions w.subscriptions (refl, refl) fit (sym (allowed (DeniedBy i) z e u)) (denied (DeniedBy i) z e at u) (untouched w now) (λ _. sound-same w now sound)
+    by_verdict NoAllow z e at u fit = answered w now (Sub conn p sid) (Denied NoAllow) w.sessions w.subscriptions (refl, refl) fit (sym (allowed NoAllow z e u)) (denied NoAllow z e at u) (untouched w now) (λ _. sound-same w now sound)
 
     by_session : (o : Option Session) → session_of w.sessions conn ≡ o →
         Keeps w (event now (Sub conn p sid)) (numbered (w.number + 1) (in_session o (λ z. subscribed (advanced w now) conn z.user.account p sid (subscribe_verdict z.user.rules p))))
@@ -229,10 +242,18 @@ gets-keeps capacity m subs = record {
 }
 
 -- counting changes nothing but the count
-counted-keeps : (items : List Item) → KeepsSubscription (counted items)
+pub counted-keeps : (items : List Item) → KeepsSubscription (counted items)
 counted-keeps items =
     keeps-where (λ s. has_entered items s && nat_lt s.received 18446744073709551615) (λ (s : Subscription). record s { received = s.received + 1 })
     (record { id = λ s. refl; conn = λ s. refl; account = λ s. refl; subject = λ s. refl; sid = λ s. refl })
+
+-- who may be sent a message, is decided with reason
+receiver-reason : (w : World) (s : List Token) (sub : Subscription) → IsReasonedFor w s sub
+receiver-reason w s sub = here (user_at w sub.conn)
+  where
+    here : (o : Option User) → IfSome o (λ (u : User). IsJustifiedDelivery s u.rules.subscribe (delivery_verdict u.rules s))
+    here None = tt
+    here (Some u) = delivery_justified u.rules s
 
 pub-keeps : (w : World) (now conn : ℕ) (m : Message) (word : ℕ) → IsSound w →
     Keeps w (event now (Pub conn m word)) (numbered (w.number + 1) (moved (advanced w now) (Pub conn m word)))
@@ -241,11 +262,22 @@ pub-keeps w now conn m word sound = by_session (session_of w.sessions conn) refl
     command : Command
     command = Pub conn m word
 
-    denied : (v : Verdict) (z : Session) → publish_verdict z.user.rules m.subject ≡ v → session_of w.sessions conn ≡ Some z → user_at w conn ≡ Some z.user →
-        IsSomeAnd (session_of w.sessions conn) (λ (y : Session). IsJustifiedPublish m.subject y.user.rules.publish v) → IsDenial w command v
+    Reasoned : Type 0
+    Reasoned = IfSome (session_of w.sessions conn) (λ (y : Session). IsJustifiedPublish m.subject y.user.rules.publish (publish_verdict y.user.rules m.subject))
+
+    justified : (v : Verdict) (z : Session) → publish_verdict z.user.rules m.subject ≡ v → session_of w.sessions conn ≡ Some z → Reasoned → IsJustifiedPublish m.subject z.user.rules.publish v
+    justified v z e at reasoned =
+        subst (λ x. IsJustifiedPublish m.subject z.user.rules.publish x) e
+        (subst (λ o. IfSome o (λ (y : Session). IsJustifiedPublish m.subject y.user.rules.publish (publish_verdict y.user.rules m.subject))) at reasoned)
+
+    denied : (v : Verdict) (z : Session) → publish_verdict z.user.rules m.subject ≡ v → session_of w.sessions conn ≡ Some z → user_at w conn ≡ Some z.user → Reasoned → IsDenial w command v
     denied v z e at u reasoned =
         subst (λ o. IsSomeAnd o (λ (user : User). (v ≡ publish_verdict user.rules m.subject) × IsJustifiedPublish m.subject user.rules.publish v)) (sym u)
-        (sym e, subst (λ o. IsSomeAnd o (λ (y : Session). IsJustifiedPublish m.subject y.user.rules.publish v)) at reasoned)
+        (sym e, justified v z e at reasoned)
+
+    reason : (by : By) (z : Session) → publish_verdict z.user.rules m.subject ≡ Allowed by → session_of w.sessions conn ≡ Some z → user_at w conn ≡ Some z.user → Reasoned → IsSomeAnd (user_at w conn) (λ (user : User). IsJustifiedPublish m.subject user.rules.publish (Allowed by))
+    reason by z e at u reasoned =
+        subst (λ o. IsSomeAnd o (λ (user : User). IsJustifiedPublish m.subject user.rules.publish (Allowed by))) (sym u) (justified (Allowed by) z e at reasoned)
 
     allowed : (v : Verdict) (z : Session) → publish_verdict z.user.rules m.subject ≡ v → user_at w conn ≡ Some z.user → may_publish (user_at w conn) m.subject ≡ is_allowed v
     allowed v z e u = ap (λ o. may_publish o m.subject) u ∙ ap is_allowed e
@@ -258,6 +290,7 @@ pub-keeps w now conn m word sound = by_session (session_of w.sessions conn) refl
         subst (λ subs. IsDelivered w m subs (items_after m (whom z) w.sessions) (delivered (map (addressed_to m) (whom z)) w.sessions).0)
         (recipients-same w conn z m sound at)
         (record {
+          reasons = λ k d h. receiver-reason w m.subject (get_or w.subscriptions k d);
           one_each = one_each m (whom z) w.sessions;
           with_room = with_room m (whom z) w.sessions;
           outboxes = outboxes m (whom z) w.sessions sound.connections;
@@ -269,13 +302,13 @@ pub-keeps w now conn m word sound = by_session (session_of w.sessions conn) refl
         let zs : List Session = (delivered (map (addressed_to m) (whom z)) w.sessions).0 in
         let items : List Item = items_after m (whom z) w.sessions in
         let subs : List Subscription = unended (map (counted items) w.subscriptions) in
-        answered w now command (Published by items) zs subs (refl, refl) fit (sym (allowed (Allowed by) z e u)) (λ _. tt)
-        (subst (λ o. IsSomeAnd o (λ (user : User). (publish_verdict user.rules m.subject ≡ Allowed by) × IsDelivered w m (recipients w conn user.account m.subject) items zs)) (sym u) (e, handed z at), refl)
-        (subst (λ ys. IsSound (next w now ys subs)) (sym (outboxes m (whom z) w.sessions sound.connections))
+        answered w now command (Published by items) zs subs (refl, refl) fit (sym (allowed (Allowed by) z e u)) (reason by z e at u)
+        (subst (λ o. IsSomeAnd o (λ (user : User). (publish_verdict user.rules m.subject ≡ Allowed by) × IsDelivered w m (recipients w conn user.account m.subject) items zs)) (sym u) (e, handed z at), unended-same (map (counted items) w.subscriptions))
+        (λ _. subst (λ ys. IsSound (next w now ys subs)) (sym (outboxes m (whom z) w.sessions sound.connections))
         (sound-limits (next w now (map (gets m (whom z)) w.sessions) w.subscriptions) (counted items) (counted-keeps items)
         (sound-map w now (gets m (whom z)) (gets-keeps w.capacity m (whom z)) sound)))
-    by_verdict (DeniedBy i) z e at u fit = answered w now command (Denied (DeniedBy i)) w.sessions w.subscriptions (refl, refl) fit (sym (allowed (DeniedBy i) z e u)) (denied (DeniedBy i) z e at u) (untouched w now) (sound-same w now sound)
-    by_verdict NoAllow z e at u fit = answered w now command (Denied NoAllow) w.sessions w.subscriptions (refl, refl) fit (sym (allowed NoAllow z e u)) (denied NoAllow z e at u) (untouched w now) (sound-same w now sound)
+    by_verdict (DeniedBy i) z e at u fit = answered w now command (Denied (DeniedBy i)) w.sessions w.subscriptions (refl, refl) fit (sym (allowed (DeniedBy i) z e u)) (denied (DeniedBy i) z e at u) (untouched w now) (λ _. sound-same w now sound)
+    by_verdict NoAllow z e at u fit = answered w now command (Denied NoAllow) w.sessions w.subscriptions (refl, refl) fit (sym (allowed NoAllow z e u)) (denied NoAllow z e at u) (untouched w now) (λ _. sound-same w now sound)
 
     by_session : (o : Option Session) → session_of w.sessions conn ≡ o →
         Keeps w (event now command) (numbered (w.number + 1) (in_session o (λ z. published (advanced w now) z m (publish_verdict z.user.rules m.subject))))
@@ -285,7 +318,7 @@ pub-keeps w now conn m word sound = by_session (session_of w.sessions conn) refl
 -- ---- Unsub
 
 -- so does a limit
-limited-keeps : (conn : ℕ) (sid : List ℕ) (most : Option ℕ) → KeepsSubscription (limited conn sid most)
+pub limited-keeps : (conn : ℕ) (sid : List ℕ) (most : Option ℕ) → KeepsSubscription (limited conn sid most)
 limited-keeps conn sid most =
     keeps-where (is_under conn sid) (λ (s : Subscription). record s { most = Some (limit_of most) })
     (record { id = λ s. refl; conn = λ s. refl; account = λ s. refl; subject = λ s. refl; sid = λ s. refl })
@@ -299,8 +332,8 @@ unsub-keeps w now conn sid most sound = by_session (session_of w.sessions conn) 
     by_session None e = none-due (session_of w.sessions conn) e
     by_session (Some z) e =
         answered w now (Unsub conn sid most) Unsubscribed w.sessions (unended (map (limited conn sid most) w.subscriptions)) (refl, refl)
-        (is_there (session_of w.sessions conn) z e) refl (λ _. tt) (refl, refl)
-        (sound-limits (next w now w.sessions w.subscriptions) (limited conn sid most) (limited-keeps conn sid most) (sound-same w now sound))
+        (is_there (session_of w.sessions conn) z e) refl (λ _. tt) (refl, unended-same (map (limited conn sid most) w.subscriptions))
+        (λ _. sound-limits (next w now w.sessions w.subscriptions) (limited conn sid most) (limited-keeps conn sid most) (sound-same w now sound))
 
 -- ---- Take and Close
 
@@ -331,7 +364,7 @@ take-keeps w now conn most sound = by_session (session_of w.sessions conn) refl
         answered w now (Take conn most) (Taken ds z.missed) (with_session (drained most) conn w.sessions) w.subscriptions (refl, refl)
         (is_there (session_of w.sessions conn) z e) refl (λ _. tt)
         (subst (λ o. IsSomeAnd o (λ (y : Session). (ds ≡ take most y.outbox.waiting) × (z.missed ≡ y.missed))) (sym e) (refl, refl), changed, refl)
-        (subst (λ zs. IsSound (next w now zs w.subscriptions)) (sym changed) (sound-map w now (only (drained most) conn) (drained-keeps w.capacity most conn) sound))
+        (λ _. subst (λ zs. IsSound (next w now zs w.subscriptions)) (sym changed) (sound-map w now (only (drained most) conn) (drained-keeps w.capacity most conn) sound))
 
 close-keeps : (w : World) (now conn : ℕ) → IsSound w →
     Keeps w (event now (Close conn)) (numbered (w.number + 1) (moved (advanced w now) (Close conn)))
@@ -342,7 +375,7 @@ close-keeps w now conn sound = by_session (session_of w.sessions conn) refl
     by_session None e = none-due (session_of w.sessions conn) e
     by_session (Some z) e =
         answered w now (Close conn) Closed (filter (λ (y : Session). not (y.conn == conn)) w.sessions) (filter (λ (sub : Subscription). not (sub.conn == conn)) w.subscriptions) (refl, refl)
-        (is_there (session_of w.sessions conn) z e) refl (λ _. tt) (refl, refl) (sound-close w now conn sound)
+        (is_there (session_of w.sessions conn) z e) refl (λ _. tt) (refl, refl) (λ _. sound-close w now conn sound)
 
 -- ---- Reload
 
@@ -355,7 +388,7 @@ reload-keeps w now doc sound = (
     reason = tt;
     effect = in_force w now doc sound reasoned;
     others = refl;
-    sound = sound-reload w now doc sound reasoned.0;
+    sound = sound-reload w now doc sound reasoned;
   },
 )
 

@@ -1,9 +1,11 @@
 pub mod Lists
 pub mod Finds
 pub mod Naming
+pub mod Reasons
 pub mod Soundness
 pub mod Deliveries
 pub mod Reloads
 pub mod Guaranteed
+pub mod Counts
 pub mod Legal
 pub mod Runs

@@ -14,22 +14,23 @@ use Rattle.std.proofs.lemmas.Map.Keys.{IsDistinct-head, IsDistinct-tail}
 use Rattle.std.proofs.lemmas.Slice.Eq.{bytes_eq-Decides}
 use Rattle.policy_doc.specs.Document.{IsValidPolicy}
 use Rattle.policy_doc.specs.declared.document.PolicyDoc.{PolicyDoc}
-use Rattle.permissions.specs.Verdicts.{subscribe_verdict, IsJustifiedSubscribe}
+use Rattle.permissions.specs.Verdicts.{subscribe_verdict, is_allowed, IsJustifiedSubscribe}
+use Rattle.permissions.specs.declared.verdict.Verdict.{Verdict}
+use Rattle.permissions.specs.declared.verdict.Verdict.TheVariants.{Allowed, DeniedBy, NoAllow}
 use Rattle.ready.specs.Users.{users_of, user_named, is_same_user, user_again}
 use Rattle.ready.specs.declared.ready.User.{User}
 use Rattle.sessions.specs.Sessions.{session_of}
 use Rattle.sessions.specs.Renewal.{user_again_of, stays, goes, with_user, renewed, remaining, connection_of, closed_conns}
 use Rattle.sessions.specs.declared.session.Session.{Session}
-use Rattle.subscriptions.specs.Limit.{has_ended}
 use Rattle.subscriptions.specs.declared.subscription.Subscription.{Subscription}
 use Rattle.world.specs.World.{World}
 use Rattle.world.specs.Reload.{user_after, verdict_for, may_stand, stands_on, removal, removal_after, IsReasonedVerdict, IsReasonedReload}
-use Rattle.hub.specs.Sound.{IsSound, has_same_sid, user_behind, account_of, may_subscribe}
+use Rattle.hub.specs.Sound.{IsSound, has_same_sid, user_behind, account_of, may_subscribe, HasAllowance}
 use Rattle.hub.specs.InForce.{goes_on_for, goes_on, under, removal_for, IsInForce}
 use Rattle.hub.proofs.Finds.{find-map, find-passes, find-All, find-nothing, AllPairs-head, AllPairs-tail, AllPairs-map}
 use Rattle.hub.proofs.Naming.{name_of, are_named_once, unlike, named_again}
 use Rattle.sessions.proofs.Ascending.{AreApart, among-ascending, ascending-rises}
-use Rattle.hub.proofs.Soundness.{IsOfPolicy, HasBound, IsApart, IsOwned, quotas-filter}
+use Rattle.hub.proofs.Soundness.{IsOfPolicy, HasBound, IsApart, IsOwned, IsStillToReceive, quotas-filter}
 
 -- ---- the same user, found by its name
 
@@ -246,8 +247,22 @@ owned-after old doc zs sub valid apart users owned stand =
         let known : Some z.user.account ≡ Some sub.account = sym (ap account_of (find-All (IsOfPolicy old) (λ (y : Session). y.conn == sub.conn) zs z users e)) ∙ is in
         by_user z (user_again_of doc z) refl (let same : z.user.account ≡ sub.account = cc in same) may
 
-pub sound-reload : (w : World) (now : ℕ) (doc : PolicyDoc) → IsSound w → IsValidPolicy doc → IsSound (after_reload w now doc)
-sound-reload w now doc sound valid = record {
+-- and it has its reason there
+allowed-after : (doc : PolicyDoc) (zs : List Session) (sub : Subscription) → IsValidPolicy doc → AllPairs IsApart zs → IsReasonedVerdict doc zs sub → stands_on doc zs sub ≡ true → HasAllowance (user_now doc zs sub) sub.subject
+allowed-after doc zs sub valid apart reasoned stand =
+    subst (λ u. HasAllowance u sub.subject) (sym (user_behind-remaining doc sub.conn zs valid apart)) (by_user (user_after doc (session_of zs sub.conn)) reasoned stand)
+  where
+    by_verdict : (u : User) (v : Verdict) → IsJustifiedSubscribe sub.subject u.rules.subscribe v → is_allowed v ≡ true → HasAllowance (Some u) sub.subject
+    by_verdict u (Allowed by) has may = (by, has)
+    by_verdict u (DeniedBy i) has may = absurd (cc)
+    by_verdict u NoAllow has may = absurd (cc)
+
+    by_user : (o : Option User) → IfSome o (λ (u : User). IsJustifiedSubscribe sub.subject u.rules.subscribe (subscribe_verdict u.rules sub.subject)) → may_stand (verdict_for o sub) ≡ true → HasAllowance o sub.subject
+    by_user None has may = absurd (cc)
+    by_user (Some u) has may = by_verdict u (subscribe_verdict u.rules sub.subject) has may
+
+pub sound-reload : (w : World) (now : ℕ) (doc : PolicyDoc) → IsSound w → IsReasonedReload doc w.sessions w.subscriptions → IsSound (after_reload w now doc)
+sound-reload w now doc sound reasoned = let valid = reasoned.0 in record {
   policy = valid;
   limit = omega (arith, length-map (filter (stays doc) w.sessions) (renewed doc), length-filter_both (stays doc) (goes doc) (λ z. refl) w.sessions, sound.limit);
   connections = AllPairs-map IsApart (renewed doc) (filter (stays doc) w.sessions)
@@ -259,9 +274,11 @@ sound-reload w now doc sound valid = record {
       (λ k d h. with_user-bound w.capacity _ _ (All-filter (stays doc) (HasBound w.capacity) w.sessions sound.outboxes k d h));
   subscriptions = λ k d h. sym (stands-same doc w.sessions (get_or (filter (stands_on doc w.sessions) w.subscriptions) k d) valid sound.connections)
       ∙ filter_passes (stands_on doc w.sessions) w.subscriptions k d h;
+  reasons = λ k d h. allowed-after doc w.sessions (get_or (filter (stands_on doc w.sessions) w.subscriptions) k d) valid sound.connections
+      (All-filter (stands_on doc w.sessions) (IsReasonedVerdict doc w.sessions) w.subscriptions reasoned.1 k d h) (filter_passes (stands_on doc w.sessions) w.subscriptions k d h);
   accounts = λ k d h. owned-after w.policy doc w.sessions (get_or (filter (stands_on doc w.sessions) w.subscriptions) k d) valid sound.connections sound.users
       (All-filter (stands_on doc w.sessions) (IsOwned w.policy w.sessions) w.subscriptions sound.accounts k d h) (filter_passes (stands_on doc w.sessions) w.subscriptions k d h);
-  limits = All-filter (stands_on doc w.sessions) (λ (s : Subscription). has_ended s ≡ false) w.subscriptions sound.limits;
+  limits = All-filter (stands_on doc w.sessions) IsStillToReceive w.subscriptions sound.limits;
   sids = AllPairs-filter (λ (s t : Subscription). has_same_sid s t ≡ false) (stands_on doc w.sessions) w.subscriptions sound.sids;
   quotas = quotas-filter (stands_on doc w.sessions) w.subscriptions sound.quotas;
   ids = AllPairs-filter (λ (s t : Subscription). s.id < t.id) (stands_on doc w.sessions) w.subscriptions sound.ids;

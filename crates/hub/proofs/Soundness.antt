@@ -1,14 +1,14 @@
 -- What every hub keeps is kept by each kind of change.
 use Rattle.std.proofs.Common.{◌≡◌, ◌∙◌, ◌==◌, ◌&&◌, ℕ, ◌+◌, ◌<◌, ◌≤◌, Bool, true, false, not, cond, List, [], ◌∷◌, ◌++◌, map, filter, length, get_or, Option, Some, None, ap, sym, refl, subst, arith, max}
-use Rattle.std.specs.Prelude.{All, ◌≢◌, nat_le, nat_eq}
+use Rattle.std.specs.Prelude.{All, ◌≢◌, nat_le, nat_lt, nat_eq}
 use Rattle.std.specs.Option.{option_map, option_or}
 use Rattle.std.specs.Cmp.Lexicographic.{pointwise}
 use Rattle.std.proofs.Math.Bool.{not-not}
-use Rattle.std.proofs.lemmas.Bool.{eqb-true, eqb-false, leb-false, not-true}
+use Rattle.std.proofs.lemmas.Bool.{eqb-true, eqb-false, leb-true, leb-false, lt-ltb, le-ltb}
 use Rattle.std.proofs.lemmas.List.{length-map, length-append}
 use Rattle.std.proofs.lemmas.List.Folds.{find-append}
 use Rattle.std.proofs.lemmas.List.Filters.{length-filter_both}
-use Rattle.std.proofs.lemmas.List.Elements.{All-push, All-map, All-filter, filter_passes, filter-append}
+use Rattle.std.proofs.lemmas.List.Elements.{All-push, All-map, All-filter, filter_agree, filter_passes, filter-append}
 use Rattle.std.proofs.lemmas.List.Kept.{AllPairs-filter}
 use Rattle.std.proofs.lemmas.List.Quantifiers.{all_pairs_push}
 use Rattle.subjects.specs.Subject.{Token}
@@ -18,10 +18,10 @@ use Rattle.ready.specs.declared.ready.User.{User}
 use Rattle.sessions.specs.Sessions.{session_of, new_session}
 use Rattle.sessions.specs.declared.session.Session.{Session}
 use Rattle.subscriptions.specs.Subscriptions.{subscription_of, stands, of_connection, has_all}
-use Rattle.subscriptions.specs.Limit.{has_ended, unended}
+use Rattle.subscriptions.specs.Limit.{is_reached, has_ended, unended}
 use Rattle.subscriptions.specs.declared.subscription.Subscription.{Subscription}
 use Rattle.world.specs.World.{World}
-use Rattle.hub.specs.Sound.{IsSound, has_same_sid, user_behind, user_at, account_of, may_subscribe}
+use Rattle.hub.specs.Sound.{IsSound, has_same_sid, user_behind, user_at, account_of, may_subscribe, HasAllowance, is_below, is_to_receive}
 use Rattle.hub.proofs.Lists.{length-filter_twice, length-filter_map}
 use Rattle.hub.proofs.Finds.{find-All, find-none, find-filter, find-map, any-none, AllPairs-map}
 
@@ -42,6 +42,12 @@ IsApart y z = y.conn ≢ z.conn
 -- the facts of a subscription that its connection's user decides
 abbrev IsAllowed : PolicyDoc → List Session → Subscription → Type 0
 IsAllowed doc zs s = may_subscribe (user_behind doc (session_of zs s.conn)) s.subject ≡ true
+
+abbrev HasReasonHere : PolicyDoc → List Session → Subscription → Type 0
+HasReasonHere doc zs s = HasAllowance (user_behind doc (session_of zs s.conn)) s.subject
+
+abbrev pub IsStillToReceive : Subscription → Type 0
+IsStillToReceive s = is_to_receive s ≡ true
 
 abbrev pub IsOwned : PolicyDoc → List Session → Subscription → Type 0
 IsOwned doc zs s = account_of (user_behind doc (session_of zs s.conn)) ≡ Some s.account
@@ -72,6 +78,7 @@ sound-same w now sound = record {
   users = sound.users;
   outboxes = sound.outboxes;
   subscriptions = sound.subscriptions;
+  reasons = sound.reasons;
   accounts = sound.accounts;
   limits = sound.limits;
   sids = sound.sids;
@@ -105,6 +112,7 @@ sound-map w now f keeps sound = record {
   users = All-map (IsOfPolicy w.policy) f w.sessions (λ k d h. of_policy (get_or w.sessions k d) (sound.users k d h));
   outboxes = All-map (HasBound w.capacity) f w.sessions (λ k d h. keeps.outbox _ (sound.outboxes k d h));
   subscriptions = λ k d h. ap (λ u. may_subscribe u (get_or w.subscriptions k d).subject) (user_is (get_or w.subscriptions k d)) ∙ sound.subscriptions k d h;
+  reasons = λ k d h. subst (λ u. HasAllowance u (get_or w.subscriptions k d).subject) (sym (user_is (get_or w.subscriptions k d))) (sound.reasons k d h);
   accounts = λ k d h. ap account_of (user_is (get_or w.subscriptions k d)) ∙ sound.accounts k d h;
   limits = sound.limits;
   sids = sound.sids;
@@ -144,6 +152,7 @@ sound-open w now conn u echo free room is sound = record {
   users = All-push (IsOfPolicy w.policy) w.sessions (new_session conn u echo w.capacity) sound.users is;
   outboxes = All-push (HasBound w.capacity) w.sessions (new_session conn u echo w.capacity) sound.outboxes (refl, omega arith);
   subscriptions = λ k d h. known-open (λ v. may_subscribe v (get_or w.subscriptions k d).subject ≡ true) (none-allowed (get_or w.subscriptions k d).subject) w.policy w.sessions (new_session conn u echo w.capacity) (get_or w.subscriptions k d).conn (sound.subscriptions k d h);
+  reasons = λ k d h. known-open (λ v. HasAllowance v (get_or w.subscriptions k d).subject) (λ none. none) w.policy w.sessions (new_session conn u echo w.capacity) (get_or w.subscriptions k d).conn (sound.reasons k d h);
   accounts = λ k d h. known-open (λ v. account_of v ≡ Some (get_or w.subscriptions k d).account) (none-owned (get_or w.subscriptions k d).account) w.policy w.sessions (new_session conn u echo w.capacity) (get_or w.subscriptions k d).conn (sound.accounts k d h);
   limits = sound.limits;
   sids = sound.sids;
@@ -162,17 +171,18 @@ quotas-add subs s room quotas conn =
     here true is = omega (arith, leb-false 4096 (length (of_connection s.conn subs)) room, ap (λ n. length (of_connection n subs)) (eqb-true s.conn conn is))
     here false is = omega (arith, quotas conn)
 
-pub sound-add : (w : World) (now conn : ℕ) (account : List ℕ) (p : List Token) (sid : List ℕ) → may_subscribe (user_at w conn) p ≡ true → account_of (user_at w conn) ≡ Some account → stands w.subscriptions conn sid ≡ false → has_all w.subscriptions conn ≡ false → IsSound w →
+pub sound-add : (w : World) (now conn : ℕ) (account : List ℕ) (p : List Token) (sid : List ℕ) → may_subscribe (user_at w conn) p ≡ true → HasAllowance (user_at w conn) p → account_of (user_at w conn) ≡ Some account → stands w.subscriptions conn sid ≡ false → has_all w.subscriptions conn ≡ false → IsSound w →
     IsSound (next w now w.sessions (w.subscriptions ++ subscription_of (w.number + 1) conn account p sid ∷ []))
-sound-add w now conn account p sid may owned free room sound = record {
+sound-add w now conn account p sid may reason owned free room sound = record {
   policy = sound.policy;
   limit = sound.limit;
   connections = sound.connections;
   users = sound.users;
   outboxes = sound.outboxes;
   subscriptions = All-push (IsAllowed w.policy w.sessions) w.subscriptions added sound.subscriptions may;
+  reasons = All-push (HasReasonHere w.policy w.sessions) w.subscriptions added sound.reasons reason;
   accounts = All-push (IsOwned w.policy w.sessions) w.subscriptions added sound.accounts owned;
-  limits = All-push (λ (s : Subscription). has_ended s ≡ false) w.subscriptions added sound.limits refl;
+  limits = All-push IsStillToReceive w.subscriptions added sound.limits refl;
   sids = all_pairs_push (λ (s t : Subscription). has_same_sid s t ≡ false) w.subscriptions added sound.sids (any-none (λ (s : Subscription). has_same_sid s added) w.subscriptions free);
   quotas = quotas-add w.subscriptions added room sound.quotas;
   ids = all_pairs_push (λ (s t : Subscription). s.id < t.id) w.subscriptions added sound.ids (λ k d h. let n = sound.numbers k d h in omega arith);
@@ -204,8 +214,9 @@ sound-close w now conn sound = record {
   users = All-filter (λ (z : Session). not (z.conn == conn)) (IsOfPolicy w.policy) w.sessions sound.users;
   outboxes = All-filter (λ (z : Session). not (z.conn == conn)) (HasBound w.capacity) w.sessions sound.outboxes;
   subscriptions = λ k d h. ap (λ u. may_subscribe u (get_or left k d).subject) (user_is k d h) ∙ All-filter stay (IsAllowed w.policy w.sessions) w.subscriptions sound.subscriptions k d h;
+  reasons = λ k d h. subst (λ u. HasAllowance u (get_or left k d).subject) (sym (user_is k d h)) (All-filter stay (HasReasonHere w.policy w.sessions) w.subscriptions sound.reasons k d h);
   accounts = λ k d h. ap account_of (user_is k d h) ∙ All-filter stay (IsOwned w.policy w.sessions) w.subscriptions sound.accounts k d h;
-  limits = All-filter stay (λ (s : Subscription). has_ended s ≡ false) w.subscriptions sound.limits;
+  limits = All-filter stay IsStillToReceive w.subscriptions sound.limits;
   sids = AllPairs-filter (λ (s t : Subscription). has_same_sid s t ≡ false) stay w.subscriptions sound.sids;
   quotas = quotas-filter stay w.subscriptions sound.quotas;
   ids = AllPairs-filter (λ (s t : Subscription). s.id < t.id) stay w.subscriptions sound.ids;
@@ -251,11 +262,16 @@ allowed-again doc zs f keeps s is =
     ∙ ap (λ p. may_subscribe (user_behind doc (session_of zs s.conn)) p) (keeps.subject s)
     ∙ is
 
+reason-again : (doc : PolicyDoc) (zs : List Session) (f : Subscription → Subscription) → KeepsSubscription f → (s : Subscription) → HasReasonHere doc zs s → HasReasonHere doc zs (f s)
+reason-again doc zs f keeps s is =
+    subst (λ n. HasAllowance (user_behind doc (session_of zs n)) (f s).subject) (sym (keeps.conn s))
+    (subst (λ p. HasAllowance (user_behind doc (session_of zs s.conn)) p) (sym (keeps.subject s)) is)
+
 owned-again : (doc : PolicyDoc) (zs : List Session) (f : Subscription → Subscription) → KeepsSubscription f → (s : Subscription) → IsOwned doc zs s → IsOwned doc zs (f s)
 owned-again doc zs f keeps s is =
     ap (λ n. account_of (user_behind doc (session_of zs n))) (keeps.conn s) ∙ is ∙ ap (λ (a : List ℕ). Some a) (sym (keeps.account s))
 
-apart-again : (f : Subscription → Subscription) → KeepsSubscription f → (s t : Subscription) → has_same_sid s t ≡ false → has_same_sid (f s) (f t) ≡ false
+pub apart-again : (f : Subscription → Subscription) → KeepsSubscription f → (s t : Subscription) → has_same_sid s t ≡ false → has_same_sid (f s) (f t) ≡ false
 apart-again f keeps s t is =
     ap (λ n. (n == (f t).conn) && pointwise nat_eq (f s).sid (f t).sid) (keeps.conn s)
     ∙ ap (λ n. (s.conn == n) && pointwise nat_eq (f s).sid (f t).sid) (keeps.conn t)
@@ -273,6 +289,19 @@ quotas-again : (f : Subscription → Subscription) → KeepsSubscription f → (
 quotas-again f keeps subs quotas conn =
     omega (arith, length-filter_map (λ (s : Subscription). s.conn == conn) f subs (λ s. ap (λ n. n == conn) (keeps.conn s)), quotas conn)
 
+-- what has not reached its limit is below it
+below-limit : (limit : Option ℕ) (received : ℕ) → not (is_reached limit received) ≡ is_below limit received
+below-limit None received = refl
+below-limit (Some most) received = here (nat_le most received) refl
+  where
+    here : (b : Bool) → nat_le most received ≡ b → not b ≡ nat_lt received most
+    here true is = sym (le-ltb received most (leb-true most received is))
+    here false is = sym (lt-ltb received most (leb-false most received is))
+
+-- those that have not ended are those that are still to receive
+pub unended-same : (subs : List Subscription) → unended subs ≡ filter is_to_receive subs
+unended-same subs = filter_agree (λ (s : Subscription). not (has_ended s)) is_to_receive (λ s. below-limit s.most s.received) subs
+
 pub sound-limits : (w : World) (f : Subscription → Subscription) → KeepsSubscription f → IsSound w → IsSound (record w { subscriptions = unended (map f w.subscriptions) })
 sound-limits w f keeps sound = record {
   policy = sound.policy;
@@ -281,8 +310,9 @@ sound-limits w f keeps sound = record {
   users = sound.users;
   outboxes = sound.outboxes;
   subscriptions = All-filter IsOpen (IsAllowed w.policy w.sessions) subs (All-map (IsAllowed w.policy w.sessions) f w.subscriptions (λ k d h. allowed-again w.policy w.sessions f keeps (get_or w.subscriptions k d) (sound.subscriptions k d h)));
+  reasons = All-filter IsOpen (HasReasonHere w.policy w.sessions) subs (All-map (HasReasonHere w.policy w.sessions) f w.subscriptions (λ k d h. reason-again w.policy w.sessions f keeps (get_or w.subscriptions k d) (sound.reasons k d h)));
   accounts = All-filter IsOpen (IsOwned w.policy w.sessions) subs (All-map (IsOwned w.policy w.sessions) f w.subscriptions (λ k d h. owned-again w.policy w.sessions f keeps (get_or w.subscriptions k d) (sound.accounts k d h)));
-  limits = λ k d h. not-true (has_ended (get_or (unended subs) k d)) (filter_passes IsOpen subs k d h);
+  limits = λ k d h. let s = get_or (unended subs) k d in sym (below-limit s.most s.received) ∙ filter_passes IsOpen subs k d h;
   sids = AllPairs-filter (λ (s t : Subscription). has_same_sid s t ≡ false) IsOpen subs (AllPairs-map (λ (s t : Subscription). has_same_sid s t ≡ false) f w.subscriptions (apart-again f keeps) sound.sids);
   quotas = quotas-filter IsOpen subs (quotas-again f keeps w.subscriptions sound.quotas);
   ids = AllPairs-filter (λ (s t : Subscription). s.id < t.id) IsOpen subs (AllPairs-map (λ (s t : Subscription). s.id < t.id) f w.subscriptions (rising-again f keeps) sound.ids);

@@ -1,10 +1,10 @@
 -- The routing guarantee: what each step of a hub keeps, in terms of the policy in force, which is that of the
 -- world before the step (docs/GUARANTEE.md, "The guarantee").
-use Rattle.std.specs.Prelude.{◌≡◌, ◌==◌, ◌+◌, ◌-◌, ◌&&◌, ◌||◌, ◌∷◌, ◌++◌, ℕ, List, [], Bool, true, false, Option, Some, None, Result, Ok, Err, if◌then◌else◌, filter, map, not, length, is_some, IsSomeAnd, nat_lt, nat_le, nat_eq, max, take, drop}
+use Rattle.std.specs.Prelude.{◌≡◌, ◌==◌, ◌+◌, ◌-◌, ◌&&◌, ◌||◌, ◌∷◌, ◌++◌, ℕ, List, [], Bool, true, false, Option, Some, None, Result, Ok, Err, if◌then◌else◌, filter, map, not, length, is_some, All, IfSome, IsSomeAnd, nat_lt, nat_le, nat_eq, max, take, drop}
 use Rattle.std.specs.Option.{option_and_then}
 use Rattle.std.specs.Cmp.Lexicographic.{pointwise}
 use Rattle.subjects.specs.Subject.{Token, in_set}
-use Rattle.permissions.specs.Verdicts.{publish_verdict, subscribe_verdict, delivery_verdict, is_allowed, IsJustifiedPublish, IsJustifiedSubscribe}
+use Rattle.permissions.specs.Verdicts.{publish_verdict, subscribe_verdict, delivery_verdict, is_allowed, IsJustifiedPublish, IsJustifiedSubscribe, IsJustifiedDelivery}
 use Rattle.permissions.specs.declared.verdict.Verdict.{Verdict}
 use Rattle.permissions.specs.declared.verdict.Verdict.TheVariants.{Allowed}
 use Rattle.ready.specs.Users.{user_with_password}
@@ -24,11 +24,11 @@ use Rattle.events.specs.declared.refusal.HubRefusal.TheVariants.{HistoryFull, No
 use Rattle.sessions.specs.Sessions.{session_of, new_session, drained}
 use Rattle.sessions.specs.declared.session.Session.{Session}
 use Rattle.subscriptions.specs.Subscriptions.{stands, of_connection, has_all, subscription_of}
-use Rattle.subscriptions.specs.Limit.{unended, counted, limited}
+use Rattle.subscriptions.specs.Limit.{counted, limited}
 use Rattle.subscriptions.specs.declared.subscription.Subscription.{Subscription}
 use Rattle.world.specs.World.{World}
 use Rattle.subscriptions.specs.Addressing.{delivery_to}
-use Rattle.hub.specs.Sound.{IsSound, user_at, may_subscribe}
+use Rattle.hub.specs.Sound.{IsSound, user_at, may_subscribe, HasAllowance, is_to_receive}
 use Rattle.hub.specs.History.{State, is_history_full}
 use Rattle.hub.specs.InForce.{IsInForce, policy_after, epoch_after}
 use Rattle.hub.specs.Run.{EachStep}
@@ -65,7 +65,7 @@ allows w (Take conn most) = true
 allows w (Close conn) = true
 allows w (Reload doc) = true
 
--- ---- denials
+-- ---- reasons
 
 -- A denial is the verdict of the user's permissions in the policy in force, and it has its reason: the entry it
 -- names is the least deny entry that has all that was asked; or no deny entry has it, an allow list is given, and
@@ -83,9 +83,16 @@ IsDenial w (Take conn most) v = ⊥
 IsDenial w (Close conn) v = ⊥
 IsDenial w (Reload doc) v = ⊥
 
--- what is denied is denied with reason
+-- What is denied is denied with reason, and what is allowed is allowed with reason: each deny entry lacks some of what
+-- was asked, and no allow list is given, or one of its entries is the least that has all of it. Of a Pub it is the one
+-- that is told.
 abbrev pub HasReason : World → Command → Outcome → Type 0
 HasReason w c (Denied v) = IsDenial w c v
+HasReason w (Sub conn p sid) Subscribed = HasAllowance (user_at w conn) p
+HasReason w (Sub conn p sid) SameSid = HasAllowance (user_at w conn) p
+HasReason w (Sub conn p sid) SubLimit = HasAllowance (user_at w conn) p
+HasReason w (Pub conn m word) (Published by items) =
+    IsSomeAnd (user_at w conn) (λ (u : User). IsJustifiedPublish m.subject u.rules.publish (Allowed by))
 HasReason w c _ = Unit {0}
 
 -- ---- delivery
@@ -110,6 +117,12 @@ is_for w conn account s sub =
 -- the subscriptions that a message is for, oldest first
 abbrev pub recipients : World → ℕ → List ℕ → List Token → List Subscription
 recipients w conn account s = filter (is_for w conn account s) w.subscriptions
+
+-- Whether the user behind a subscription may be sent it has its reason: each deny entry of its subscribe lists lacks
+-- the subject, or the least that has it refuses.
+abbrev pub IsReasonedFor : World → List Token → Subscription → Type 0
+IsReasonedFor w s sub =
+    IfSome (user_at w sub.conn) (λ (u : User). IsJustifiedDelivery s u.rules.subscribe (delivery_verdict u.rules s))
 
 -- how many more deliveries the outbox of a connection's session has room for
 abbrev pub room_in : Option Session → ℕ
@@ -149,6 +162,8 @@ items_of conn items = filter (λ (item : Item). (item_names item).0 == conn) ite
 
 -- A message on its way to those that it is for.
 pub record IsDelivered (w : World) (m : Message) (subs : List Subscription) (items : List Item) (after : List Session) : Type 0 where
+  -- which of the standing subscriptions may be sent it, is decided with reason
+  pub reasons : All (IsReasonedFor w m.subject) w.subscriptions
   -- each of them has one item, oldest first, and nobody else has one
   pub one_each : map item_names items ≡ map names_of subs
   -- those of a connection have entered as long as there was room in its outbox; Full is reported of the others
@@ -182,13 +197,13 @@ IsEffect w (Sub conn p sid) (Denied v) after = IsUntouched w after
 -- the connection's subscription of that id, if one stands, takes the limit, in place of an earlier one, and ends where
 -- it has received as many; no other changes
 IsEffect w (Unsub conn sid most) Unsubscribed after =
-    (after.sessions ≡ w.sessions) × (after.subscriptions ≡ unended (map (limited conn sid most) w.subscriptions))
+    (after.sessions ≡ w.sessions) × (after.subscriptions ≡ filter is_to_receive (map (limited conn sid most) w.subscriptions))
 -- the message, by the rule that allows it, to those of the user's account that it is for, and to nobody else; each
 -- subscription that it has entered for counts it, and ends where that was the last that it was to receive
 IsEffect w (Pub conn m word) (Published by items) after =
     IsSomeAnd (user_at w conn) (λ (u : User). (publish_verdict u.rules m.subject ≡ Allowed by)
     × IsDelivered w m (recipients w conn u.account m.subject) items after.sessions)
-    × (after.subscriptions ≡ unended (map (counted items) w.subscriptions))
+    × (after.subscriptions ≡ filter is_to_receive (map (counted items) w.subscriptions))
 IsEffect w (Pub conn m word) (Denied v) after = IsUntouched w after
 -- the oldest deliveries of the connection's session leave its outbox, and what was missed has been told
 IsEffect w (Take conn most) (Taken deliveries missed) after =

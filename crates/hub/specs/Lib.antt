@@ -3,3 +3,4 @@ pub mod History
 pub mod Run
 pub mod InForce
 pub mod Guarantee
+pub mod Counts

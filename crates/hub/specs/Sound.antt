@@ -1,16 +1,17 @@
 -- What holds of the world of every hub (docs/GUARANTEE.md, "What always holds").
-use Rattle.std.specs.Prelude.{◌≡◌, ◌≢◌, ◌+◌, ◌<◌, ◌≤◌, ℕ, List, Bool, true, false, Option, Some, None, length, All, AllPairs}
+use Rattle.std.specs.Prelude.{◌≡◌, ◌≢◌, ◌+◌, ◌<◌, ◌≤◌, ℕ, List, Bool, true, false, Option, Some, None, length, All, AllPairs, IsSomeAnd, nat_lt}
 use Rattle.std.specs.Option.{option_map}
 use Rattle.subjects.specs.Subject.{Token}
 use Rattle.policy_doc.specs.Document.{IsValidPolicy}
 use Rattle.policy_doc.specs.declared.document.PolicyDoc.{PolicyDoc}
-use Rattle.permissions.specs.Verdicts.{subscribe_verdict, is_allowed}
+use Rattle.permissions.specs.Verdicts.{subscribe_verdict, is_allowed, IsJustifiedSubscribe}
+use Rattle.permissions.specs.declared.verdict.By.{By}
+use Rattle.permissions.specs.declared.verdict.Verdict.TheVariants.{Allowed}
 use Rattle.ready.specs.Users.{user_named}
 use Rattle.ready.specs.declared.ready.User.{User}
 use Rattle.sessions.specs.Sessions.{session_of}
 use Rattle.sessions.specs.declared.session.Session.{Session}
 use Rattle.subscriptions.specs.Subscriptions.{is_under, of_connection}
-use Rattle.subscriptions.specs.Limit.{has_ended}
 use Rattle.subscriptions.specs.declared.subscription.Subscription.{Subscription}
 use Rattle.world.specs.World.{World}
 
@@ -32,6 +33,19 @@ abbrev pub may_subscribe : Option User → List Token → Bool
 may_subscribe None p = false
 may_subscribe (Some u) p = is_allowed (subscribe_verdict u.rules p)
 
+-- There is a user who may subscribe to the pattern, and this is why: each deny entry lacks some of it, and no allow
+-- list is given, or one of its entries is the least that has all of it.
+abbrev pub HasAllowance : Option User → List Token → Type 0
+HasAllowance user p = IsSomeAnd user (λ (u : User). (by : By) × IsJustifiedSubscribe p u.rules.subscribe (Allowed by))
+
+-- whether a subscription is still to receive: it has no limit, or has received fewer messages
+abbrev pub is_below : Option ℕ → ℕ → Bool
+is_below None received = true
+is_below (Some most) received = nat_lt received most
+
+abbrev pub is_to_receive : Subscription → Bool
+is_to_receive s = is_below s.most s.received
+
 -- whether two subscriptions have the same connection and sid
 abbrev pub has_same_sid : Subscription → Subscription → Bool
 has_same_sid s t = is_under t.conn t.sid s
@@ -50,10 +64,12 @@ pub record IsSound (w : World) : Type 0 where
   pub outboxes : All (λ (z : Session). (z.outbox.capacity ≡ w.capacity) × (length z.outbox.waiting ≤ w.capacity)) w.sessions
   -- the policy in force refuses no standing subscription: its connection has a session, whose user may have it
   pub subscriptions : All (λ (s : Subscription). may_subscribe (user_at w s.conn) s.subject ≡ true) w.subscriptions
+  -- and it has its reason
+  pub reasons : All (λ (s : Subscription). HasAllowance (user_at w s.conn) s.subject) w.subscriptions
   -- each is of the account that its connection's user has in the policy in force
   pub accounts : All (λ (s : Subscription). account_of (user_at w s.conn) ≡ Some s.account) w.subscriptions
   -- each is still to receive: none has received as many messages as it was to
-  pub limits : All (λ (s : Subscription). has_ended s ≡ false) w.subscriptions
+  pub limits : All (λ (s : Subscription). is_to_receive s ≡ true) w.subscriptions
   -- no connection has two of one sid
   pub sids : AllPairs (λ (s t : Subscription). has_same_sid s t ≡ false) w.subscriptions
   -- no connection has more than 4,096 standing subscriptions

@@ -5,6 +5,7 @@ use policy_doc::Policy;
 use ready::Ready;
 use std::alloc::Global;
 use std::collections::VecDeque;
+use std::hash::RandomState;
 use std::marker::Model;
 use world::{Standing, World};
 
@@ -51,14 +52,20 @@ impl Model for Hub {
 }
 
 impl Hub {
-    ghost use Rattle.std.specs.Prelude.{◌≡◌, ◌≤◌, IfOk, IfErr, length};
+    ghost use Rattle.std.specs.Prelude.{◌≡◌, ◌≤◌, IfOk, IfErr, All, length};
     ghost use Rattle.world.specs.World.{opening_world};
     ghost use Rattle.hub.specs.Sound.{IsSound};
     ghost use Rattle.hub.specs.History.{opening_state, is_history_full, IsLegalRun, IsStep};
 
-    /// A hub over a policy, with nobody connected and nothing to remember. `NoMemory` hands the policy back.
+    /// A hub over a policy, with nobody connected and nothing to remember. `NoMemory` hands the policy back. Clients
+    /// choose the tokens of subjects, so the tables of tokens are hashed under keys that they can't know.
     #[tactic(auto, unfolding(crate::specs::History::IsLegalRun))]
-    pub fn new(alloc: Global, ready: Ready, caps: Caps) -> Result<Hub, (Ready, NoMemory)>
+    pub fn new(
+        alloc: Global,
+        ready: Ready,
+        caps: Caps,
+        keys: RandomState,
+    ) -> Result<Hub, (Ready, NoMemory)>
         requires low { 1 ≤ caps.outbox }
         requires high { caps.outbox ≤ 65536 }
         ensures ok { IfOk result (λ hub. hub ≡ opening_state ready caps.outbox caps.history) }
@@ -68,7 +75,7 @@ impl Hub {
             Ok(opening) => opening,
             Err(refused) => return Err((ready, refused)),
         };
-        let world = World::new(alloc, ready, caps.outbox)?;
+        let world = World::new(alloc, ready, caps.outbox, keys)?;
         Ok(Hub {
             alloc,
             world,
@@ -80,18 +87,21 @@ impl Hub {
 
     ghost use Rattle.world.specs.Transition.{transition, IsRefusal};
     ghost use Rattle.hub.specs.Guarantee.{KeepsGuarantee, IsGuarded};
+    ghost use Rattle.hub.specs.Counts.{IsCounted};
 
     /// Tells what holds of every hub (docs/GUARANTEE.md, "What always holds"): the policy in force is valid and
     /// refuses no standing subscription, each of which is of its user's account; at most 4,096 sessions stand, each of
     /// a user of that policy; no connection has two sessions, two subscriptions of one sid, or more than 4,096
     /// subscriptions; no outbox holds more than the hub's capacity; the ids of subscriptions rise, and none is above
     /// the last number. And the history is legal: its entries lead, one by one, from the world that the hub opened
-    /// with to the present one. They are no more than it may hold.
+    /// with to the present one. They are no more than it may hold. Each standing subscription has its SUB among them,
+    /// and has received as many messages as have entered for it since.
     pub fn known(&self)
         ensures sound { IsSound self.now.world }
         ensures opening { self.now.opening ≡ opening_world self.now.opening.policy self.now.world.capacity }
         ensures legal { IsLegalRun self.now.opening self.now.entries self.now.world }
         ensures room { length self.now.entries ≤ self.now.most }
+        ensures counts { All (IsCounted self.now.entries) self.now.world.subscriptions }
     {
         // The loan tells the prover what the type keeps.
         let _ = &self.world;

@@ -4,7 +4,8 @@
 mod hub;
 
 pub use events::{
-    Answer, Command, Delivery, Entry, Event, HubRefusal, Item, Message, Outcome, Port, Removed, Sid,
+    Answer, Command, Delivery, Entry, Event, HubRefusal, Item, Message, Met, Outcome, Port,
+    Removed, Sid,
 };
 pub use hub::{Caps, Hub};
 pub use ready::{Ready, User};

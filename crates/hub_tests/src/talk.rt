@@ -7,7 +7,9 @@ use hub::{
 };
 use lists::{Copying, Items, Shared, SharedText};
 use std::alloc::Global;
+use std::hash::RandomState;
 use std::process::Abort;
+use std::random::RandomSource;
 use std::str;
 use std::test::Fail;
 use subjects::{Pattern, Subject};
@@ -42,8 +44,8 @@ pub enum Ask {
 }
 
 /// Asserts what a hub over the policy tells when it is asked so.
-pub(crate) fn tells(
-    rt: &impl Abort,
+pub(crate) fn tells<R: Abort + RandomSource>(
+    rt: &R,
     alloc: Global,
     given: Given,
     caps: Caps,
@@ -53,17 +55,23 @@ pub(crate) fn tells(
     requires low { 1 ≤ caps.outbox }
     requires high { caps.outbox ≤ 65536 }
 {
-    let told = told(alloc, given, caps, asks)?;
+    let told = told(alloc, RandomState::new(rt)?, given, caps, asks)?;
     assert_eq!(rt; told.as_str(), want);
     Ok(())
 }
 
 /// What is told: the epoch, number and outcome of each answer, or the refusal; and what was looked at.
-fn told(alloc: Global, given: Given, caps: Caps, asks: &[Ask]) -> Result<String, Fail>
+fn told(
+    alloc: Global,
+    keys: RandomState,
+    given: Given,
+    caps: Caps,
+    asks: &[Ask],
+) -> Result<String, Fail>
     requires low { 1 ≤ caps.outbox }
     requires high { caps.outbox ≤ 65536 }
 {
-    let mut talk = Talk::over(alloc, given.ready(alloc)?, caps)?;
+    let mut talk = Talk::over(alloc, keys, given.ready(alloc)?, caps)?;
     for ask in asks {
         talk.ask(*ask)?;
     }
@@ -83,11 +91,13 @@ struct Talk {
 }
 
 impl Talk {
-    fn over(alloc: Global, ready: Ready, caps: Caps) -> Result<Talk, Fail>
+    fn over(alloc: Global, keys: RandomState, ready: Ready, caps: Caps) -> Result<Talk, Fail>
         requires low { 1 ≤ caps.outbox }
         requires high { caps.outbox ≤ 65536 }
     {
-        let hub = Hub::new(alloc, ready, caps).ok().ok_or("no hub is open")?;
+        let hub = Hub::new(alloc, ready, caps, keys)
+            .ok()
+            .ok_or("no hub is open")?;
         Ok(Talk {
             alloc,
             hub,
@@ -314,7 +324,7 @@ fn outcome_in_words(alloc: Global, outcome: &Outcome) -> Result<String, Fail> {
         Outcome::SubLimit => Ok(String::from_str(alloc, "subscription limit")?),
         Outcome::Denied(verdict) => Ok(format!(in alloc; "denied {verdict:?}")?),
         Outcome::Published(by, items) => {
-            let items = items_in_words(alloc, items)?;
+            let items = items_in_words(alloc, items.as_slice())?;
             Ok(format!(in alloc; "published {by:?}{items}")?)
         }
         Outcome::Taken(deliveries, missed) => {
@@ -331,9 +341,9 @@ fn outcome_in_words(alloc: Global, outcome: &Outcome) -> Result<String, Fail> {
     }
 }
 
-fn items_in_words(alloc: Global, items: &Items<Item>) -> Result<String, Fail> {
+fn items_in_words(alloc: Global, items: &[Item]) -> Result<String, Fail> {
     let mut words = String::new(alloc);
-    for item in items.as_slice() {
+    for item in items {
         words.push_str(item_in_words(alloc, item)?.as_str())?;
     }
     Ok(words)

@@ -4,6 +4,7 @@ use crate::policies::Given;
 use crate::talk::{Ask, command, standing_in_words, tells, waiting_in_words};
 use hub::{Answer, Caps, Command, Event, Hub, HubRefusal};
 use std::alloc::Global;
+use std::hash::RandomState;
 use std::test::Fail;
 
 const ROOM: Caps = Caps {
@@ -337,11 +338,11 @@ standing [6 3 s 1]
 }
 
 // What a run answers, and the tables behind it: Connect 1, Sub, Pub, Take of 9 and Close of 9.
-fn ran(alloc: Global, caps: Caps) -> Result<String, Fail>
+fn ran(alloc: Global, keys: RandomState, caps: Caps) -> Result<String, Fail>
     requires low { 1 ≤ caps.outbox }
     requires high { caps.outbox ≤ 65536 }
 {
-    let mut hub = Hub::new(alloc, Given::Builtin.ready(alloc)?, caps)
+    let mut hub = Hub::new(alloc, Given::Builtin.ready(alloc)?, caps, keys)
         .ok()
         .ok_or("no hub is open")?;
     let answers = run(&mut hub, five_events(alloc)?)?;
@@ -411,7 +412,7 @@ fn a_run_changes_nothing_once_the_history_is_full(rt: HostRuntime) -> Result<(),
         outbox: 16,
         history: 2,
     };
-    let told = ran(rt.alloc(), caps)?;
+    let told = ran(rt.alloc(), RandomState::new(&rt)?, caps)?;
     assert_eq!(rt;
         told.as_str(),
         "1

@@ -65,7 +65,7 @@ impl Model for Ready {
 impl Ready {
     ghost use Rattle.std.specs.Prelude.{◌≡◌, Some, IfOk, IfErr};
     ghost use Rattle.std.specs.Option.{option_copied};
-    ghost use Rattle.ready.specs.Users.{user_with_password, user_again};
+    ghost use Rattle.ready.specs.Users.{users_of, user_with_password, user_again};
 
     /// The policy, made ready. Where memory could not be had, the policy is handed back.
     pub fn of(alloc: Global, policy: Policy) -> Result<Ready, (Policy, NoMemory)>
@@ -83,6 +83,13 @@ impl Ready {
         ensures { result.now ≡ self.now }
     {
         &self.shared.policy
+    }
+
+    /// The users, account by account, each with its permissions.
+    pub fn users(&self) -> &[User]
+        ensures { result.now ≡ users_of self.now }
+    {
+        self.shared.users.as_slice()
     }
 
     /// The user with that name and password; no name is nobody's.

@@ -102,9 +102,9 @@ planned-same (a ∷ rest) r s same =
     here c true e = ap (λ n. n - 1) (same 0 a (omega arith))
     here c false e = e
 
-has_room-is : (o : Option Session) → nat_lt 0 (room_in o) ≡ has_room o
-has_room-is None = refl
-has_room-is (Some z) = here (nat_lt (length z.outbox.waiting) z.outbox.capacity) refl
+pub has_room_is : (o : Option Session) → nat_lt 0 (room_in o) ≡ has_room o
+has_room_is None = refl
+has_room_is (Some z) = here (nat_lt (length z.outbox.waiting) z.outbox.capacity) refl
   where
     here : (b : Bool) → nat_lt (length z.outbox.waiting) z.outbox.capacity ≡ b → nat_lt 0 (z.outbox.capacity - length z.outbox.waiting) ≡ b
     here true is = let h = ltb-true (length z.outbox.waiting) z.outbox.capacity is in lt-ltb _ _ (omega arith)
@@ -137,7 +137,7 @@ after_one a zs other = by (cases_eq other a.conn)
 pub planned-delivered : (all : List Addressed) (zs : List Session) → planned all (rooms_of zs) ≡ (delivered all zs).1
 planned-delivered [] zs = refl
 planned-delivered (a ∷ rest) zs =
-    ap (λ b. cond b (Entered a.conn a.delivery.sid) (Full a.conn a.delivery.sid) ∷ planned rest (with_room a.conn (rooms_of zs a.conn - 1) (rooms_of zs))) (has_room-is (session_of zs a.conn))
+    ap (λ b. cond b (Entered a.conn a.delivery.sid) (Full a.conn a.delivery.sid) ∷ planned rest (with_room a.conn (rooms_of zs a.conn - 1) (rooms_of zs))) (has_room_is (session_of zs a.conn))
     ∙ ap (λ more. item_of a zs ∷ more)
     (ap (planned rest) (λ i other. after_one a zs other i) ∙ planned-delivered rest (after_offer a zs))
 

@@ -1,7 +1,8 @@
 //! What deliveries will meet, before one is handed over.
-ghost use Rattle.std.specs.Prelude.{◌≡◌, ℕ, ◌<◌, ◌≤◌, ◌-◌, ◌==◌, IfOk, length, map, position, nat_lt, slice_index_or, if◌then◌else◌};
+ghost use Rattle.std.specs.Prelude.{◌≡◌, ℕ, ◌<◌, ◌≤◌, ◌-◌, ◌==◌, ◌∷◌, [], IfOk, IfSome, length, map, position, nat_lt, slice_index_or, if◌then◌else◌};
+ghost use Rattle.std.specs.Option.{option_copied};
 ghost use Rattle.sessions.specs.Sessions.{session_of};
-ghost use Rattle.sessions.specs.Delivered.{room_in, delivered};
+ghost use Rattle.sessions.specs.Delivered.{has_room, room_in, delivered};
 ghost use Rattle.sessions.specs.Planned.{room_at, rooms_of, with_room, planned};
 ghost use Rattle.sessions.specs.Renewal.{connection_of};
 
@@ -18,6 +19,36 @@ pub(crate) fn place_in(conns: &IndexSet<u64>, list: &[Session], conn: u64) -> Op
 {
     let place = conns.get_index_of(&conn);
     place
+}
+
+/// The one delivery, where there is one and no other.
+pub(crate) fn only(all: &[Addressed]) -> Option<&Addressed>
+    ensures { IfSome result (λ next. all.now ≡ next.now ∷ []) }
+{
+    match all.split_first() {
+        None => None,
+        Some((next, rest)) => { if rest.is_empty() { Some(next) } else { None } }
+    }
+}
+
+/// Whether one more delivery has room in a session's outbox.
+#[tactic(auto, using(crate::proofs::Plans::has_room_is))]
+fn has_room(session: Option<&Session>) -> bool
+    ensures { result ≡ has_room (option_copied session.entry) }
+{
+    match session {
+        None => false,
+        Some(session) => 0 < session.outbox.room(),
+    }
+}
+
+/// What a single delivery meets at the session that it is for.
+pub(crate) fn plan_one(session: Option<&Session>, next: &Addressed) -> Result<Item, NoMemory>
+    ensures { IfOk result (λ item. item ≡ (if has_room (option_copied session.entry) then Item.Entered next.now.conn next.now.delivery.sid else Item.Full next.now.conn next.now.delivery.sid)) }
+{
+    let has_room = has_room(session);
+    let item = item(next, has_room)?;
+    Ok(item)
 }
 
 /// Notes how much room a connection has.

@@ -1,6 +1,6 @@
-use crate::plan::{place_in, plan_all};
+use crate::plan::{only, place_in, plan_all, plan_one};
 use crate::{Session, renewal};
-use events::{Addressed, Item};
+use events::{Addressed, Met};
 use indexmap::IndexSet;
 use lists::NoMemory;
 use ready::{Ready, User};
@@ -120,13 +120,21 @@ impl Sessions {
     }
 
     /// What each delivery will meet, where they are handed over in turn. `NoMemory` where memory could not be had.
-    pub fn plan(&mut self, all: &[Addressed]) -> Result<Vec<Item>, NoMemory>
-        ensures items { IfOk result (λ items. items.items ≡ (delivered all.now self.old).1) }
+    pub fn plan(&mut self, all: &[Addressed]) -> Result<Met, NoMemory>
+        ensures items { IfOk result (λ items. items ≡ (delivered all.now self.old).1) }
         ensures same { self.new ≡ self.old }
     {
-        let rooms = self.rooms.as_mut_slice();
-        let items = plan_all(self.alloc, &self.conns, self.list.as_slice(), rooms, all)?;
-        Ok(items)
+        match only(all) {
+            Some(next) => {
+                let item = plan_one(self.find(next.conn), next)?;
+                Ok(Met::one(item))
+            }
+            None => {
+                let rooms = self.rooms.as_mut_slice();
+                let items = plan_all(self.alloc, &self.conns, self.list.as_slice(), rooms, all)?;
+                Ok(Met::from_vec(items))
+            }
+        }
     }
 
     /// Hands a delivery over to the session that it is for: it waits in the outbox, or was missed where that is
@@ -145,11 +153,11 @@ impl Sessions {
         }
     }
 
-    /// Hands deliveries over in turn. It takes no memory.
-    pub fn hand_over_all(&mut self, all: Vec<Addressed>)
-        ensures { self.new ≡ (delivered all.items self.old).0 }
+    /// Hands deliveries over in turn. It takes no memory, and the vector keeps its room.
+    pub fn hand_over_all(&mut self, all: &mut Vec<Addressed>)
+        ensures { self.new ≡ (delivered all.old.items self.old).0 }
     {
-        for next in all {
+        for next in all.drain(..) {
             self.hand_over(next);
         }
     }

@@ -122,7 +122,7 @@ fn a_plan_counts_the_room(rt: HostRuntime) -> Result<(), Fail> {
     );
     let words = in_words(alloc, &sessions)?;
     assert_eq!(rt; words.as_str(), "7: 0\n3: 0\n5: 0\n");
-    sessions.hand_over_all(all);
+    sessions.hand_over_all(&mut all);
     let words = in_words(alloc, &sessions)?;
     assert_eq!(rt; words.as_str(), "7: 1, missed\n3: 2, missed\n5: 0\n");
     Ok(())

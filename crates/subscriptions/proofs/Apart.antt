@@ -39,7 +39,7 @@ and_right : (b c : Bool) → (b && c) ≡ true → c ≡ true
 and_right true c e = e
 and_right false c e = cc
 
-same_bytes : (xs ys : List ℕ) → pointwise nat_eq xs ys ≡ true → xs ≡ ys
+pub same_bytes : (xs ys : List ℕ) → pointwise nat_eq xs ys ≡ true → xs ≡ ys
 same_bytes [] [] e = refl
 same_bytes [] (y ∷ ys) e = cc
 same_bytes (x ∷ xs) [] e = cc
@@ -69,7 +69,7 @@ all_names p (s ∷ subs) apart = here (p s) (all_names p subs apart.1)
     here false later = (none_filter p s subs apart.0, later)
 
 -- a filter keeps them apart
-none_kept : (p : Subscription → Bool) (s : Subscription) (subs : List Subscription) → NoneLike s subs → NoneLike s (filter p subs)
+pub none_kept : (p : Subscription → Bool) (s : Subscription) (subs : List Subscription) → NoneLike s subs → NoneLike s (filter p subs)
 none_kept p s [] none = tt
 none_kept p s (r ∷ subs) none = here (p r) (none_kept p s subs none.2)
   where
@@ -116,7 +116,7 @@ pub record Leaves (f : Subscription → Subscription) : Type 0 where
   pub conn : (s : Subscription) → (f s).conn ≡ s.conn
   pub sid : (s : Subscription) → (f s).sid ≡ s.sid
 
-only-leaves : (f : Subscription → Subscription) (n : ℕ) → Leaves f → Leaves (only f n)
+pub only-leaves : (f : Subscription → Subscription) (n : ℕ) → Leaves f → Leaves (only f n)
 only-leaves f n same = record {
   id = λ s. here (λ (x : Subscription). x.id) s (s.id == n) (same.id s);
   conn = λ s. here (λ (x : Subscription). x.conn) s (s.id == n) (same.conn s);
@@ -136,7 +136,7 @@ none_mapped f s (r ∷ subs) same none = (
   none_mapped f s subs same none.2,
 )
 
-apart_mapped : (f : Subscription → Subscription) (subs : List Subscription) → Leaves f → Apart subs → Apart (map f subs)
+pub apart_mapped : (f : Subscription → Subscription) (subs : List Subscription) → Leaves f → Apart subs → Apart (map f subs)
 unfolding Apart
 apart_mapped f [] same apart = tt
 apart_mapped f (s ∷ subs) same apart = (none_mapped f s subs same apart.0, apart_mapped f subs same apart.1)
@@ -148,11 +148,11 @@ none_added : (t s : Subscription) (rs : List Subscription) → NoneLike t rs →
 none_added t s [] none h e = (h, e, tt)
 none_added t s (r ∷ rs) none h e = (none.0, none.1, none_added t s rs none.2 h e)
 
-or_left : (b c : Bool) → (b || c) ≡ false → b ≡ false
+pub or_left : (b c : Bool) → (b || c) ≡ false → b ≡ false
 or_left true c e = e
 or_left false c e = refl
 
-or_right : (b c : Bool) → (b || c) ≡ false → c ≡ false
+pub or_right : (b c : Bool) → (b || c) ≡ false → c ≡ false
 or_right true c e = cc
 or_right false c e = e
 
@@ -188,6 +188,17 @@ found_behind t s (r ∷ subs) n none e = here (t r) e (found_behind t s subs n n
     here true e later = let it : r.id ≡ n = cc in let h = none.0 in omega arith
     here false e later = later e
 
+-- what holds of the connection and the sid of a subscription holds of those that it is under
+pub under : (P : ℕ → List ℕ → Type 0) (conn : ℕ) (sid : List ℕ) (s : Subscription) → is_under conn sid s ≡ true → P s.conn s.sid → P conn sid
+under P conn sid s is h =
+    let c : s.conn ≡ conn = eqb-true s.conn conn (and_left (s.conn == conn) (pointwise nat_eq s.sid sid) is) in
+    let n : s.sid ≡ sid = same_bytes s.sid sid (and_right (s.conn == conn) (pointwise nat_eq s.sid sid) is) in
+    subst (λ k. P k sid) c (subst (λ bs. P s.conn bs) n h)
+
+-- what has the name of the first is the first's, so no other has it
+pub under_other : (conn : ℕ) (sid : List ℕ) (s r : Subscription) → is_under conn sid s ≡ true → is_under r.conn r.sid s ≡ false → is_under conn sid r ≡ false
+under_other conn sid s r is apart = under (λ k bs. is_under k bs r ≡ false) conn sid s is (under_sym s r ∙ apart)
+
 -- nothing behind a subscription has its name or its id
 none_limited : (conn : ℕ) (sid : List ℕ) (most : Option ℕ) (s : Subscription) (subs : List Subscription) → is_under conn sid s ≡ true → NoneLike s subs →
     map (limited conn sid most) subs ≡ map (only (capped most) s.id) subs
@@ -198,13 +209,6 @@ none_limited conn sid most s (r ∷ subs) is none =
     ap (λ b. cond b (record r { most = Some (limit_of most) }) r ∷ map (limited conn sid most) subs) other
     ∙ ap (λ rest. r ∷ rest) (none_limited conn sid most s subs is none.2)
     ∙ sym (ap (λ b. cond b (capped most r) r ∷ map (only (capped most) s.id) subs) no)
-  where
-    -- what has the name of the first is the first's, so no other has it
-    under_other : (conn : ℕ) (sid : List ℕ) (s r : Subscription) → is_under conn sid s ≡ true → is_under r.conn r.sid s ≡ false → is_under conn sid r ≡ false
-    under_other conn sid s r is apart =
-        let c : s.conn ≡ conn = eqb-true s.conn conn (and_left (s.conn == conn) (pointwise nat_eq s.sid sid) is) in
-        let n : s.sid ≡ sid = same_bytes s.sid sid (and_right (s.conn == conn) (pointwise nat_eq s.sid sid) is) in
-        ap (λ k. is_under k sid r) (sym c) ∙ ap (λ bs. is_under s.conn bs r) (sym n) ∙ under_sym s r ∙ apart
 
 pub limited-is : (conn : ℕ) (sid : List ℕ) (most : Option ℕ) (n : ℕ) (subs : List Subscription) → Apart subs → option_map (λ (x : Subscription). x.id) (find (is_under conn sid) subs) ≡ Some n →
     map (limited conn sid most) subs ≡ map (only (capped most) n) subs

@@ -1,11 +1,12 @@
 -- What a change by id left, with whether it has ended.
-use Rattle.std.proofs.Common.{◌≡◌, ◌∙◌, ℕ, Bool, true, false, true≢false, Option, Some, None, map, ap, sym, refl, subst, MatchOption, cond, nat_lt, ◌+◌}
+use Rattle.std.proofs.Common.{◌≡◌, ◌∙◌, ℕ, Bool, true, false, true≢false, List, [], Option, Some, None, map, filter, ap, sym, refl, subst, MatchOption, cond, nat_lt, ◌+◌}
 use Rattle.std.specs.Map.{lookup, set_value, remove_entry, values_of}
 use Rattle.subscriptions.specs.Limit.{has_ended, unended}
 use Rattle.subscriptions.specs.declared.subscription.Subscription.{Subscription}
 use Rattle.subscriptions.specs.Changes.{only, is_id, bumped}
 use Rattle.subscriptions.specs.Kept.{IsKept}
-use Rattle.subscriptions.proofs.Entries.{Entries, absent, goes_on, ends, kept-set, kept-ended}
+use Rattle.subscriptions.specs.Index.{if_any}
+use Rattle.subscriptions.proofs.Entries.{Entries, lookup_set, over, ended_of, absent, goes_on, ends, kept-set, kept-ended}
 
 -- what the change left of the entries, and whether the one that it changed has ended
 abbrev pub Changes : (Subscription → Subscription) → ℕ → Entries → Entries → Bool → Type 0
@@ -41,6 +42,24 @@ module _ (f : Subscription → Subscription) (id : ℕ) (es new : Entries) (kept
       by : (o : Option Subscription) → lookup (is_id id) es ≡ o → MatchOption o ((new ≡ es) × (ended ≡ false)) (λ s. (new ≡ set_value (is_id id) es (f s)) × (ended ≡ has_ended (f s))) → IsKept (remove_entry (is_id id) new)
       by None e h = absurd (true≢false (sym is ∙ h.1))
       by (Some s) e h = subst (λ (xs : Entries). IsKept (remove_entry (is_id id) xs)) (sym h.0) (kept-ended id es (f s) kept)
+
+module _ (f : Subscription → Subscription) (id : ℕ) (es new : Entries) (kept : IsKept es) (ended : Bool) where
+  abbrev over_all : List Subscription
+  over_all = filter has_ended (map (only f id) (values_of es))
+
+  pub none_ends : Changes f id es new ended → ended ≡ false → [] ≡ over_all
+  none_ends h is = by (lookup (is_id id) es) refl h ∙ over f id es kept
+    where
+      by : (o : Option Subscription) → lookup (is_id id) es ≡ o → MatchOption o ((new ≡ es) × (ended ≡ false)) (λ s. (new ≡ set_value (is_id id) es (f s)) × (ended ≡ has_ended (f s))) → [] ≡ if_any (ended_of f (lookup (is_id id) es))
+      by None e h = rw e refl
+      by (Some s) e h = rw (e, sym h.1 ∙ is) refl
+
+  pub one_ends : Changes f id es new ended → ended ≡ true → if_any (lookup (is_id id) new) ≡ over_all
+  one_ends h is = by (lookup (is_id id) es) refl h ∙ over f id es kept
+    where
+      by : (o : Option Subscription) → lookup (is_id id) es ≡ o → MatchOption o ((new ≡ es) × (ended ≡ false)) (λ s. (new ≡ set_value (is_id id) es (f s)) × (ended ≡ has_ended (f s))) → if_any (lookup (is_id id) new) ≡ if_any (ended_of f (lookup (is_id id) es))
+      by None e h = absurd (true≢false (sym is ∙ h.1))
+      by (Some s) e h = ap if_any (ap (λ (xs : Entries). lookup (is_id id) xs) h.0 ∙ lookup_set id es (f s) s e) ∙ sym (rw (e, sym h.1 ∙ is) refl)
 
 pub bumped-id : (s : Subscription) → (bumped s).id ≡ s.id
 bumped-id s = here (nat_lt s.received 18446744073709551615)

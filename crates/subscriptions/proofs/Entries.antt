@@ -1,23 +1,24 @@
 -- A change of one entry by its key is a change of one subscription by its id.
-use Rattle.std.proofs.Common.{◌≡◌, ◌∙◌, ◌==◌, ◌<◌, ℕ, Bool, true, false, cond, not, List, [], ◌∷◌, ◌++◌, map, filter, Some, None, ap, sym, refl, subst, arith}
+use Rattle.std.proofs.Common.{◌≡◌, ◌∙◌, ◌==◌, ◌<◌, ℕ, Bool, true, false, cond, not, List, [], ◌∷◌, ◌++◌, map, filter, Option, Some, None, inl, inr, ap, sym, refl, subst, arith}
 use Rattle.std.specs.Prelude.{find, All}
 use Rattle.std.specs.Map.{lookup, set_value, remove_entry, values_of}
 use Rattle.std.specs.BTreeMap.{insert_entry}
 use Rattle.std.specs.Ordering.{nat_cmp, match_ordering}
 use Rattle.std.specs.declared.cmp.Ordering.{Ordering}
 use Rattle.std.specs.declared.cmp.Ordering.TheVariants.{Greater}
-use Rattle.std.proofs.lemmas.Bool.{eqb-true, ne_eqb}
+use Rattle.std.proofs.lemmas.Bool.{cases_Bool, eqb-true, eq-eqb, ne_eqb}
 use Rattle.std.proofs.lemmas.Bool.Decides.{nat_tests}
 use Rattle.std.proofs.lemmas.List.Elements.{All-head, All-tail}
 use Rattle.subscriptions.specs.Limit.{has_ended, unended}
 use Rattle.subscriptions.specs.declared.subscription.Subscription.{Subscription}
 use Rattle.subscriptions.specs.Changes.{only, is_id}
+use Rattle.subscriptions.specs.Index.{if_any}
 use Rattle.subscriptions.specs.Kept.{IsAbove, IsKept}
 
 abbrev pub Entries : Type 0
 Entries = List (ℕ × Subscription)
 
-test_is : (id k : ℕ) → is_id id k ≡ (k == id)
+pub test_is : (id k : ℕ) → is_id id k ≡ (k == id)
 test_is id k = grind (arith, nat_tests)
 
 -- nothing above an id is of it, and nothing has ended
@@ -99,6 +100,13 @@ ends f id (e ∷ es) s kept found over = here (is_id id e.0) refl found (λ h. e
         ∙ ap (λ more. e.1 ∷ more) (later h)
         ∙ sym (ap (λ b. cond (not (has_ended (cond b (f e.1) e.1))) (cond b (f e.1) e.1 ∷ rest) rest) no
         ∙ ap (λ b. cond (not b) (e.1 ∷ rest) rest) kept.1)
+
+pub lookup_set : (id : ℕ) (es : Entries) (w s : Subscription) → lookup (is_id id) es ≡ Some s → lookup (is_id id) (set_value (is_id id) es w) ≡ Some w
+lookup_set id [] w s found = cc
+lookup_set id (e ∷ es) w s found = elim (cases_Bool (is_id id e.0)) [
+  | inl y ↦ rw (y, y) refl
+  | inr n ↦ rw (n, n) (lookup_set id es w s (rw n at found))
+]
 
 -- ---- what is kept
 
@@ -204,3 +212,56 @@ kept-filter q (e ∷ es) kept = here (q e) (kept-filter q es kept.3)
     here : (b : Bool) → IsKept (filter q es) → IsKept (cond b (e ∷ filter q es) (filter q es))
     here true later = (kept.0, kept.1, above-filter e.0 q es kept.2, later)
     here false later = later
+
+-- ---- one taken out by its id
+
+all_stay : (id : ℕ) (es : Entries) → IsKept es → IsAbove id es → es ≡ filter (λ (e : ℕ × Subscription). not (e.1.id == id)) es
+unfolding IsKept IsAbove
+all_stay id [] kept above = refl
+all_stay id (e ∷ es) kept above =
+    let other : (e.1.id == id) ≡ false = grind (arith, nat_tests, above.0, kept.0) in
+    rw other (ap (λ (more : Entries). e ∷ more) (all_stay id es kept.3 above.1))
+
+pub removed-filter : (id : ℕ) (es : Entries) → IsKept es → remove_entry (is_id id) es ≡ filter (λ (e : ℕ × Subscription). not (e.1.id == id)) es
+unfolding IsKept
+removed-filter id [] kept = refl
+removed-filter id (e ∷ es) kept = elim (cases_Bool (is_id id e.0)) [
+  | inl y ↦
+      let key : e.0 ≡ id = eqb-true e.0 id (sym (test_is id e.0) ∙ y) in
+      rw (y, eq-eqb e.1.id id (kept.0 ∙ key)) (all_stay id es kept.3 (subst (λ n. IsAbove n es) key kept.2))
+  | inr n ↦
+      let other : (e.1.id == id) ≡ false = ap (λ k. k == id) kept.0 ∙ sym (test_is id e.0) ∙ n in
+      rw (n, other) (ap (λ (more : Entries). e ∷ more) (removed-filter id es kept.3))
+]
+
+-- ---- those that end by a change
+
+-- the one that a change ends
+abbrev pub ended_of : (Subscription → Subscription) → Option Subscription → Option Subscription
+ended_of f None = None
+ended_of f (Some s) = cond (has_ended (f s)) (Some (f s)) None
+
+none_over : (f : Subscription → Subscription) (id : ℕ) (es : Entries) → IsKept es → IsAbove id es → filter has_ended (map (only f id) (values_of es)) ≡ []
+unfolding IsKept IsAbove
+none_over f id [] kept above = refl
+none_over f id (e ∷ es) kept above =
+    let other : (e.1.id == id) ≡ false = grind (arith, nat_tests, above.0, kept.0) in
+    rw (other, kept.1) (none_over f id es kept.3 above.1)
+
+-- at most the one of that id
+pub over : (f : Subscription → Subscription) (id : ℕ) (es : Entries) → IsKept es → if_any (ended_of f (lookup (is_id id) es)) ≡ filter has_ended (map (only f id) (values_of es))
+unfolding IsKept
+over f id [] kept = refl
+over f id (e ∷ es) kept = elim (cases_Bool (is_id id e.0)) [
+  | inl y ↦
+      let key : e.0 ≡ id = eqb-true e.0 id (sym (test_is id e.0) ∙ y) in
+      rw (y, eq-eqb e.1.id id (kept.0 ∙ key)) (here (has_ended (f e.1)) (none_over f id es kept.3 (subst (λ n. IsAbove n es) key kept.2)))
+  | inr n ↦
+      let other : (e.1.id == id) ≡ false = ap (λ k. k == id) kept.0 ∙ sym (test_is id e.0) ∙ n in
+      rw (n, other, kept.1) (over f id es kept.3)
+]
+  where
+    here : (b : Bool) → filter has_ended (map (only f id) (values_of es)) ≡ []
+        → if_any (cond b (Some (f e.1)) None) ≡ cond b (f e.1 ∷ filter has_ended (map (only f id) (values_of es))) (filter has_ended (map (only f id) (values_of es)))
+    here true none = ap (λ (xs : List Subscription). f e.1 ∷ xs) (sym none)
+    here false none = sym none

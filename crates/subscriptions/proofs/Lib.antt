@@ -2,5 +2,8 @@ pub mod Entries
 pub mod Ends
 pub mod Turns
 pub mod Apart
-pub mod Having
+pub mod Holding
+pub mod Indexed
 pub mod Known
+pub mod BySid
+pub mod Shuffled

@@ -1,20 +1,13 @@
 //! Changes of one subscription, by its id.
-ghost use Rattle.std.specs.Prelude.{◌≡◌, MatchOption, false};
-ghost use Rattle.std.specs.Map.{lookup, set_value, remove_entry};
+ghost use Rattle.std.specs.Prelude.{◌≡◌, ◌∷◌, [], MatchOption, false, filter, not};
+ghost use Rattle.std.specs.Map.{lookup, set_value, remove_entry, values_of};
 ghost use Rattle.subscriptions.specs.Limit.{has_ended};
-ghost use Rattle.subscriptions.specs.Subscriptions.{is_under};
 ghost use Rattle.subscriptions.specs.Changes.{bumped, capped, is_id};
+ghost use Rattle.subscriptions.specs.Index.{IsSame, IsWithout, IsWithoutAll};
 
-use crate::Subscription;
-use events::Sid;
+use crate::trees::Trees;
+use crate::{Keeps, Subscription};
 use std::collections::BTreeMap;
-
-/// Whether a subscription is the connection's of that sid.
-pub(crate) fn is_under(subscription: &Subscription, conn: u64, sid: &Sid) -> bool
-    ensures { result ≡ is_under conn sid.now subscription.now }
-{
-    subscription.conn == conn && subscription.sid.as_slice() == sid.as_slice()
-}
 
 /// Whether a subscription has received as many messages as it is to receive.
 fn has_ended(subscription: &Subscription) -> bool
@@ -76,9 +69,43 @@ pub(crate) fn cap_at(by_id: &mut BTreeMap<u64, Subscription>, id: u64, most: Opt
     }
 }
 
-/// Takes the subscription of that id out.
-pub(crate) fn take_out(by_id: &mut BTreeMap<u64, Subscription>, id: u64)
-    ensures { by_id.new.entries ≡ remove_entry (is_id id) by_id.old.entries }
+/// Takes the subscription of that id out, and out of the trees. Answers it, if it stood.
+pub(crate) fn take_out(
+    by_id: &mut BTreeMap<u64, Subscription>,
+    trees: &mut Trees,
+    id: u64,
+) -> Option<Subscription>
+    ensures gone { result ≡ lookup (is_id id) by_id.old.entries }
+    ensures entries { by_id.new.entries ≡ remove_entry (is_id id) by_id.old.entries }
+    ensures trees { MatchOption (lookup (is_id id) by_id.old.entries) (IsSame trees.old trees.new) (λ sub. IsWithout trees.old sub trees.new) }
 {
-    let _gone = by_id.remove(&id);
+    match by_id.remove(&id) {
+        None => None,
+        Some(gone) => {
+            trees.remove(&gone);
+            Some(gone)
+        }
+    }
+}
+
+/// Takes a subscription out of the trees that doesn't pass a test.
+fn forget_if_failing<K: Keeps>(trees: &mut Trees, subscription: &Subscription, test: &K)
+    ensures { IsWithoutAll trees.old (filter (λ s. not (K.keeps test.now s)) (subscription.now ∷ [])) trees.new }
+{
+    if !test.keeps(subscription) {
+        trees.remove(subscription);
+    }
+}
+
+/// Takes those out of the trees that don't pass a test.
+pub(crate) fn forget_failing<K: Keeps>(
+    trees: &mut Trees,
+    by_id: &BTreeMap<u64, Subscription>,
+    test: &K,
+)
+    ensures { IsWithoutAll trees.old (filter (λ s. not (K.keeps test.now s)) (values_of by_id.now.entries)) trees.new }
+{
+    for subscription in by_id.values() {
+        forget_if_failing(trees, subscription, test);
+    }
 }

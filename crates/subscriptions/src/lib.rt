@@ -3,8 +3,11 @@
 
 mod address;
 mod change;
+mod sids;
 mod subscription;
 mod subscriptions;
+mod table;
+mod trees;
 
 pub use subscription::Subscription;
 pub use subscriptions::{Keeps, Subscriptions};

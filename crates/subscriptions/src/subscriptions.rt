@@ -1,15 +1,15 @@
-ghost use Rattle.std.specs.Prelude.{◌≡◌, Bool};
+ghost use Rattle.std.specs.Prelude.{◌≡◌, ◌==◌, Bool};
 ghost use Rattle.subscriptions.specs.declared.subscription.Subscription.{Subscription};
 
 use crate::Subscription;
-use crate::address::address_if_having;
-use crate::change::{bump_at, cap_at, is_under, take_out};
+use crate::sids::{Sids, forget_sids};
+use crate::table::Table;
 use bytes::Bytes;
 use events::{Addressed, Item, Message, Sid};
 use lists::{NoMemory, Shared};
 use std::alloc::Global;
-use std::collections::BTreeMap;
 use std::collections::btree_map::Values;
+use std::hash::RandomState;
 use std::marker::Model;
 use subjects::Pattern;
 
@@ -26,44 +26,46 @@ pub trait Keeps {
         ensures { result ≡ keeps self.now subscription.now };
 }
 
-/// The standing subscriptions. A clause sees them as a list, oldest first.
+/// The standing subscriptions. A clause sees them as a list, oldest first. The sids find those of a connection.
 #[derive(Drop)]
 pub struct Subscriptions {
-    by_id: BTreeMap<u64, Subscription>,
+    table: Table,
+    sids: Sids,
 }
 
 impl Model for Subscriptions {
     ghost use Rattle.std.specs.Prelude.{List};
-    ghost use Rattle.std.specs.Map.{values_of};
     ghost use Rattle.subscriptions.specs.declared.subscription.Subscription.{Subscription};
-    ghost use Rattle.subscriptions.specs.Kept.{IsKept, Apart};
+    ghost use Rattle.subscriptions.specs.BySid.{AreSidsOf};
 
     ghost Value = { List Subscription };
 
-    ghost view = { λ subs. values_of subs.by_id.entries };
+    ghost view = { λ subs. subs.table };
 
-    ghost invariant = { λ subs. IsKept subs.by_id.entries × Apart (values_of subs.by_id.entries) };
+    ghost invariant = { λ subs. AreSidsOf subs.table subs.sids };
 }
 
 impl Subscriptions {
     ghost use Rattle.std.specs.Prelude.{◌≡◌, ◌==◌, ◌<◌, ◌++◌, ◌∷◌, [], OnOk, OnErr, All, AllPairs, false, length, map, filter, not, find};
-    ghost use Rattle.std.specs.Option.{option_copied, option_map};
+    ghost use Rattle.std.specs.Option.{option_copied};
     ghost use Rattle.std.specs.Map.Iter.{ShowsInOrder, deref};
-    ghost use Rattle.subscriptions.specs.Subscriptions.{is_under, has_same_sid, stands, has_all, of_connection, subscription_of, having};
+    ghost use Rattle.subscriptions.specs.Subscriptions.{has_same_sid, stands, has_all, subscription_of, having};
     ghost use Rattle.subscriptions.specs.Addressing.{addressed_to};
     ghost use Rattle.events.specs.Messages.{Message};
     ghost use Rattle.subscriptions.specs.Limit.{has_ended, unended, limited, counted};
+    ghost use Rattle.subscriptions.specs.BySid.{id_of};
     ghost use Rattle.subscriptions.specs.Kept.{Apart};
     ghost use Rattle.subscriptions.specs.Changes.{only, bumped, capped};
     ghost use Rattle.subscriptions.specs.Turns.{in_turn, entered_ids, TellEach};
 
-    /// No subscriptions.
-    #[tactic(auto, unfolding(crate::specs::Kept::IsKept, crate::specs::Kept::Apart))]
-    pub fn new(alloc: Global) -> Subscriptions
+    /// No subscriptions. Clients choose the tokens of subjects, and sids, so what finds them is hashed under keys that
+    /// they can't know.
+    pub fn new(alloc: Global, keys: RandomState) -> Subscriptions
         ensures { result ≡ [] }
     {
         Subscriptions {
-            by_id: BTreeMap::new(alloc),
+            table: Table::new(alloc, keys),
+            sids: Sids::new(alloc, keys),
         }
     }
 
@@ -71,7 +73,7 @@ impl Subscriptions {
     pub fn len(&self) -> usize
         ensures { result ≡ length self.now }
     {
-        self.by_id.len()
+        self.table.len()
     }
 
     /// Tells what holds of all: the ids rise, no two have one connection and sid, and none has ended.
@@ -82,7 +84,7 @@ impl Subscriptions {
         ensures going { unended self.now ≡ self.now }
         ensures apart { Apart self.now }
     {
-        let _ = &self.by_id;
+        self.table.known();
     }
 
     /// Them all, oldest first.
@@ -90,14 +92,14 @@ impl Subscriptions {
         ensures all { result ≡ self.now }
         ensures runs { ShowsInOrder (deref {X = Subscription}) }
     {
-        self.by_id.values()
+        self.table.values()
     }
 
     /// The subscription of that id.
     pub fn get(&self, id: u64) -> Option<&Subscription>
         ensures { option_copied result ≡ find (λ (s : Subscription). s.id == id) self.now }
     {
-        let found = self.by_id.get(&id);
+        let found = self.table.get(id);
         found
     }
 
@@ -105,31 +107,19 @@ impl Subscriptions {
     pub fn stands(&self, conn: u64, sid: &Sid) -> bool
         ensures { result ≡ stands self.now conn sid.now }
     {
-        self.by_id
-            .values()
-            .any(|subscription| is_under(subscription, conn, sid))
-    }
-
-    /// How many subscriptions of the connection stand.
-    fn count_of(&self, conn: u64) -> usize
-        ensures { result ≡ length (of_connection conn self.now) }
-    {
-        self.by_id
-            .values()
-            .filter(|subscription| subscription.conn == conn)
-            .count()
+        self.id_of(conn, sid).is_some()
     }
 
     /// Whether the connection has as many subscriptions as it may have, 4,096.
     pub fn has_all(&self, conn: u64) -> bool
         ensures { result ≡ has_all self.now conn }
     {
-        SUBSCRIPTIONS <= self.count_of(conn)
+        self.table.known();
+        SUBSCRIPTIONS <= self.sids.count_of(conn)
     }
 
     /// Addresses a message to the subscriptions of an account that have its subject, oldest first, and adds these
     /// deliveries. On `NoMemory` some of them may have been added.
-    #[tactic(auto, using(crate::proofs::Having::having_first))]
     pub fn address(
         &self,
         account: &[u8],
@@ -139,9 +129,7 @@ impl Subscriptions {
         ensures { OnOk result (all.new.items ≡ all.old.items
             ++ map (addressed_to message.now) (having account.now message.now.subject self.now)) }
     {
-        for subscription in self.by_id.values() {
-            address_if_having(all, account, message, subscription)?;
-        }
+        self.table.address(account, message, all)?;
         Ok(())
     }
 
@@ -168,21 +156,13 @@ impl Subscriptions {
             received: 0,
             most: None,
         };
-        self.by_id.insert(id, subscription)?;
-        Ok(())
-    }
-
-    /// The id of the connection's subscription of that sid.
-    fn id_of(&self, conn: u64, sid: &Sid) -> Option<u64>
-        ensures { result ≡ option_map (λ (s : Subscription). s.id) (find (is_under conn sid.now) self.now) }
-    {
-        let found = self
-            .by_id
-            .values()
-            .find(|subscription| is_under(subscription, conn, sid));
-        match found {
-            None => None,
-            Some(subscription) => Some(subscription.id),
+        self.sids.insert(&subscription)?;
+        match self.table.add(subscription) {
+            Ok(()) => Ok(()),
+            Err(refused) => {
+                self.sids.remove(&refused);
+                Err(NoMemory)
+            }
         }
     }
 
@@ -198,12 +178,21 @@ impl Subscriptions {
         }
     }
 
+    /// The id of the connection's subscription of that sid.
+    fn id_of(&self, conn: u64, sid: &Sid) -> Option<u64>
+        ensures { result ≡ id_of self.now conn sid.now }
+    {
+        self.sids.id_of(conn, sid)
+    }
+
     /// A limit for the subscription of that id, which ends where it has reached it.
     fn limit_one(&mut self, id: u64, most: Option<u64>)
         ensures { self.new ≡ unended (map (only (capped most) id) self.old) }
     {
-        if cap_at(&mut self.by_id, id, most) {
-            take_out(&mut self.by_id, id);
+        self.table.known();
+        match self.table.limit(id, most) {
+            None => {}
+            Some(gone) => self.sids.remove(&gone),
         }
     }
 
@@ -211,8 +200,10 @@ impl Subscriptions {
     fn count_one(&mut self, id: u64)
         ensures { self.new ≡ unended (map (only bumped id) self.old) }
     {
-        if bump_at(&mut self.by_id, id) {
-            take_out(&mut self.by_id, id);
+        self.table.known();
+        match self.table.count(id) {
+            None => {}
+            Some(gone) => self.sids.remove(&gone),
         }
     }
 
@@ -247,19 +238,23 @@ impl Subscriptions {
         }
     }
 
-    /// Removes those of a connection.
+    /// Removes those of a connection. No other is touched.
     pub fn remove(&mut self, conn: u64)
         ensures { self.new ≡ filter (λ (s : Subscription). not (s.conn == conn)) self.old }
     {
-        self.by_id
-            .retain(|_, subscription| subscription.conn != conn);
+        self.table.known();
+        match self.sids.take(conn) {
+            None => {}
+            Some(own) => self.table.take_each(&own),
+        }
     }
 
     /// Removes those that don't pass a test.
     pub fn keep<K: Keeps>(&mut self, test: &K)
         ensures { self.new ≡ filter (K.keeps test.now) self.old }
     {
-        self.by_id
-            .retain(|_, subscription| test.keeps(subscription));
+        self.table.known();
+        forget_sids(&mut self.sids, &self.table, test);
+        self.table.keep(test);
     }
 }

@@ -3,6 +3,7 @@ use bytes::Bytes;
 use events::{Item, Message, Sid};
 use lists::{Shared, SharedText};
 use std::alloc::Global;
+use std::hash::RandomState;
 use std::test::Fail;
 use subjects::{Pattern, Subject};
 
@@ -32,7 +33,7 @@ fn adds(
 
 /// Three subscriptions: two of connection 7, in the account `a`, and one of connection 8, in `b`.
 fn three(rt: &HostRuntime) -> Result<Subscriptions, Fail> {
-    let mut all = Subscriptions::new(rt.alloc());
+    let mut all = Subscriptions::new(rt.alloc(), RandomState::new(rt)?);
     let _first = adds(rt, &mut all, (1, 7), ("a", "foo.*", "x"))?;
     let _second = adds(rt, &mut all, (2, 8), ("b", "foo.bar", "x"))?;
     let _third = adds(rt, &mut all, (5, 7), ("a", ">", "y"))?;
@@ -87,6 +88,35 @@ fn a_message_is_counted_where_it_has_entered(rt: HostRuntime) -> Result<(), Fail
     assert_eq!(rt; ids(rt.alloc(), &all)?.as_slice(), [2, 5].as_slice());
     all.limit(7, &sid(&rt, "y")?, None);
     assert_eq!(rt; ids(rt.alloc(), &all)?.as_slice(), [2].as_slice());
+    Ok(())
+}
+
+/// The ids of those that a message on `foo.bar` in the account is addressed to.
+fn reached(rt: &HostRuntime, all: &Subscriptions, account: &str) -> Result<String, Fail> {
+    let subject = Subject::parse(rt.alloc(), b"foo.bar")?;
+    let message = Message::new(subject, None, Bytes::new(), Bytes::new());
+    let message = Shared::new(rt.alloc(), message)?;
+    let mut found = Vec::new(rt.alloc());
+    all.address(account.as_bytes(), &message, &mut found)?;
+    let mut ids = Vec::new(rt.alloc());
+    for addressed in found.as_slice() {
+        ids.push(addressed.id)?;
+    }
+    Ok(format!(in rt.alloc(); "{ids:?}")?)
+}
+
+#[test]
+fn a_message_is_for_those_that_stand(rt: HostRuntime) -> Result<(), Fail> {
+    let mut all = three(&rt)?;
+    assert_eq!(rt; reached(&rt, &all, "a")?.as_str(), "[1, 5]");
+    assert_eq!(rt; reached(&rt, &all, "b")?.as_str(), "[2]");
+    assert_eq!(rt; reached(&rt, &all, "c")?.as_str(), "[]");
+    all.limit(7, &sid(&rt, "x")?, None);
+    assert_eq!(rt; reached(&rt, &all, "a")?.as_str(), "[5]");
+    assert!(rt; adds(&rt, &mut all, (6, 8), ("a", "*.bar", "y"))?);
+    all.remove(7);
+    assert_eq!(rt; reached(&rt, &all, "a")?.as_str(), "[6]");
+    assert_eq!(rt; reached(&rt, &all, "b")?.as_str(), "[2]");
     Ok(())
 }
 

@@ -1,5 +1,5 @@
 -- The transition: what one event makes of the world (docs/GUARANTEE.md, "The step").
-use Rattle.std.specs.Prelude.{◌==◌, ◌+◌, ◌∷◌, ◌++◌, ◌≡◌, ℕ, List, [], Bool, Option, Some, None, Result, Ok, Err, if◌then◌else◌, filter, map, not, length, nat_le, take, IsSomeAnd}
+use Rattle.std.specs.Prelude.{◌==◌, ◌+◌, ◌∷◌, ◌++◌, ◌≡◌, ℕ, List, [], Bool, Option, Some, None, Result, Ok, Err, if◌then◌else◌, filter, map, not, length, nat_le, take, IfSome}
 use Rattle.subjects.specs.Subject.{Token}
 use Rattle.permissions.specs.Verdicts.{publish_verdict, subscribe_verdict, IsJustifiedPublish, IsJustifiedSubscribe}
 use Rattle.permissions.specs.declared.verdict.Verdict.{Verdict}
@@ -124,13 +124,13 @@ IsMoved w e (Err r) after = (after ≡ w) × IsRefusal (moved w e.what) r
 
 -- ---- reasons
 
--- What is denied has its reason in the lists of the session's user: the least deny entry that has all that was
--- asked, or no deny entry has it, an allow list is given, and each of its entries lacks some of it. So has what a
--- reload removes, whose policy is valid.
+-- The verdict on what a session asks for has its reason in the lists of its user, whether it is allowed or denied: each
+-- deny entry lacks some of what was asked, or the least that has all of it is named; and so on of the allow list. So
+-- have those of a reload, whose policy is valid.
 abbrev pub IsReasoned : World → Command → Outcome → Type 0
-IsReasoned w (Sub conn p sid) (Denied v) =
-    IsSomeAnd (session_of w.sessions conn) (λ (z : Session). IsJustifiedSubscribe p z.user.rules.subscribe v)
-IsReasoned w (Pub conn m word) (Denied v) =
-    IsSomeAnd (session_of w.sessions conn) (λ (z : Session). IsJustifiedPublish m.subject z.user.rules.publish v)
+IsReasoned w (Sub conn p sid) o =
+    IfSome (session_of w.sessions conn) (λ (z : Session). IsJustifiedSubscribe p z.user.rules.subscribe (subscribe_verdict z.user.rules p))
+IsReasoned w (Pub conn m word) o =
+    IfSome (session_of w.sessions conn) (λ (z : Session). IsJustifiedPublish m.subject z.user.rules.publish (publish_verdict z.user.rules m.subject))
 IsReasoned w (Reload doc) (Reloaded gone removed) = IsReasonedReload doc w.sessions w.subscriptions
 IsReasoned w command outcome = Unit {0}

@@ -45,7 +45,9 @@ impl World {
             }
             Change::Deliver(all) => {
                 self.subscriptions.count(all.as_slice(), items_in(told));
-                self.sessions.hand_over_all(all.into_vec());
+                let mut all = all.into_vec();
+                self.sessions.hand_over_all(&mut all);
+                self.deliveries = all;
                 Ok(())
             }
             Change::Drain { conn, most } => {

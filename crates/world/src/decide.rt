@@ -11,6 +11,7 @@ use lists::{Items, NoMemory, Shared, SharedText};
 use permissions::Verdict;
 use ready::Ready;
 use sessions::Session;
+use std::mem;
 use subjects::Pattern;
 
 /// How many sessions may stand.
@@ -165,18 +166,13 @@ impl World {
         ensures reason { IfOk result (λ d. (word : ℕ) → IsReasoned self.old (command.Pub conn message.now word) d.outcome) }
         ensures same { self.new ≡ self.old }
     {
+        let room = mem::replace(&mut self.deliveries, Vec::new(self.alloc));
         let (by, all) = match self.sessions.find(conn) {
             None => return Err(HubRefusal::NoSession),
             Some(session) => match session.user.rules.publish(message.get().subject()) {
                 Verdict::Allowed(by) => (
                     by,
-                    address_all(
-                        self.alloc,
-                        &self.sessions,
-                        &self.subscriptions,
-                        session,
-                        message,
-                    )?,
+                    address_all(&self.sessions, &self.subscriptions, session, message, room)?,
                 ),
                 Verdict::DeniedBy(index) => {
                     return Ok(unchanged(Outcome::Denied(Verdict::DeniedBy(index))));
@@ -188,7 +184,7 @@ impl World {
         };
         let items = self.sessions.plan(all.as_slice())?;
         Ok(Decided {
-            outcome: Outcome::Published(by, Items::from_vec(items)),
+            outcome: Outcome::Published(by, items),
             change: Change::Deliver(Items::from_vec(all)),
         })
     }

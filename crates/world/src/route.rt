@@ -7,7 +7,6 @@ ghost use Rattle.world.specs.Routing.{lets_through, is_open_to, is_open, own_vie
 use events::{Addressed, Message};
 use lists::{NoMemory, Shared};
 use sessions::{Session, Sessions};
-use std::alloc::Global;
 use subjects::Subject;
 use subscriptions::Subscriptions;
 
@@ -36,19 +35,21 @@ fn keep_open(all: &mut Vec<Addressed>, sessions: &Sessions, publisher: &Session,
     all.retain(|addressed| is_open_to(sessions, publisher, subject, addressed.conn));
 }
 
-/// The deliveries of a message to those of the publisher's account that it is for, oldest subscription first.
+/// The deliveries of a message to those of the publisher's account that it is for, oldest subscription first, in a vector
+/// whose room is used again.
 #[tactic(auto, using(crate::proofs::Routing::open_deliveries))]
 pub(crate) fn address_all(
-    alloc: Global,
     sessions: &Sessions,
     subscriptions: &Subscriptions,
     publisher: &Session,
     message: &Shared<Message>,
+    room: Vec<Addressed>,
 ) -> Result<Vec<Addressed>, NoMemory>
     ensures { IfOk result (λ all. all.items ≡ map (addressed_to message.now)
         (filter (is_admitted sessions.now publisher.now (own_view publisher.now message.now)) subscriptions.now)) }
 {
-    let mut all = Vec::new(alloc);
+    let mut all = room;
+    all.clear();
     subscriptions.address(publisher.user.account.as_slice(), message, &mut all)?;
     keep_open(&mut all, sessions, publisher, message.get().subject());
     Ok(all)

@@ -2,12 +2,13 @@
 use crate::change::{Change, Decided};
 use crate::decide::SESSIONS;
 use crate::standing::{Standing, standing_all};
-use events::{Answer, Command, Entry, Event, HubRefusal, Outcome};
+use events::{Addressed, Answer, Command, Entry, Event, HubRefusal, Outcome};
 use lists::{Copying, Items, NoMemory, Shared};
 use policy_doc::Policy;
 use ready::Ready;
 use sessions::Sessions;
 use std::alloc::Global;
+use std::hash::RandomState;
 use std::marker::Model;
 use subscriptions::Subscriptions;
 
@@ -23,6 +24,8 @@ pub struct World {
     pub(crate) number: u64,
     pub(crate) sessions: Sessions,
     pub(crate) subscriptions: Subscriptions,
+    // Room for the deliveries of a message, which each step uses again.
+    pub(crate) deliveries: Vec<Addressed>,
 }
 
 impl Model for World {
@@ -55,8 +58,14 @@ impl World {
     ghost use Rattle.world.specs.Transition.{IsApplied, IsReasoned, IsRefusal, IsMoved, transition, moved, refusal_in, in_session, in_new_session};
     ghost use Rattle.world.specs.Shown.{standing_of, waiting_of};
 
-    /// The tables over a policy, with nobody connected. `outbox` is how many deliveries may wait for a session.
-    pub fn new(alloc: Global, ready: Ready, outbox: usize) -> Result<World, (Ready, NoMemory)>
+    /// The tables over a policy, with nobody connected. `outbox` is how many deliveries may wait for a session. Clients
+    /// choose the tokens of subjects, so the tables of tokens are hashed under keys that they can't know.
+    pub fn new(
+        alloc: Global,
+        ready: Ready,
+        outbox: usize,
+        keys: RandomState,
+    ) -> Result<World, (Ready, NoMemory)>
         requires low { 1 ≤ outbox }
         requires high { outbox ≤ 65536 }
         ensures ok { IfOk result (λ world. world ≡ opening_world ready outbox) }
@@ -70,7 +79,8 @@ impl World {
             moment: 0,
             number: 0,
             sessions: Sessions::new(alloc),
-            subscriptions: Subscriptions::new(alloc),
+            subscriptions: Subscriptions::new(alloc, keys),
+            deliveries: Vec::new(alloc),
         })
     }
 

@@ -1,25 +1,11 @@
--- what is kept is what passes the test
-use Rattle.std.proofs.Common.{◌≡◌, ◌∙◌, ℕ, Bool, filter, ap, sym, subst, rules}
-use Rattle.std.specs.Map.{values_of}
-use Rattle.std.proofs.lemmas.Map.Made.{filter_same_pairs}
+use Rattle.std.proofs.Common.{Bool, List, not, sym, refl, subst}
+use Rattle.subscriptions.specs.BySid.{AreSidsOf}
 use Rattle.subscriptions.specs.declared.subscription.Subscription.{Subscription}
-use Rattle.subscriptions.specs.Kept.{IsKept, Apart}
-use Rattle.subscriptions.proofs.Entries.{Entries, values-filter, kept-filter}
-use Rattle.subscriptions.proofs.Apart.{apart_kept}
+use Rattle.subscriptions.proofs.BySid.{sids_kept}
 use Rattle.subscriptions.proofs.subscriptions.Subscriptions.keep.Goals as goal
 
 pub invariant_of-self : goal.invariant_of-self
 invariant_of-self g c =
-    let es = c.self.inside.by_id.entries in
-    let p : Subscription → Bool = g.K.Keeps.keeps c.args.test.now in
-    let now : c.retain.new.self.entries ≡ filter (λ (e : ℕ × Subscription). p e.1) es = filter_same_pairs _ (λ (e : ℕ × Subscription). p e.1) _ (λ k v b w f' t. search rules) _ _ c.retain.ensures.filtered in (
-      subst IsKept (sym now) (kept-filter (λ (e : ℕ × Subscription). p e.1) es c.self.invariant.0),
-      subst Apart (sym (ap (λ (xs : Entries). values_of xs) now ∙ values-filter p es)) (apart_kept p (values_of es) c.self.invariant.1),
-    )
-
-pub returns : goal.returns
-returns g c =
-    let es = c.self.inside.by_id.entries in
-    let p : Subscription → Bool = g.K.Keeps.keeps c.args.test.now in
-    let now : c.retain.new.self.entries ≡ filter (λ (e : ℕ × Subscription). p e.1) es = filter_same_pairs _ (λ (e : ℕ × Subscription). p e.1) _ (λ k v b w f' t. search rules) _ _ c.retain.ensures.filtered in
-    ap (λ (xs : Entries). values_of xs) now ∙ values-filter p es ∙ ap (filter p) c.self.view_is
+    let keeps : Subscription → Bool = g.K.Keeps.keeps c.args.test.now in
+    subst (λ (xs : List Subscription). AreSidsOf xs c.forget_sids.new.sids) (sym c.keep.ensures)
+    (sids_kept keeps (λ s. not (keeps s)) (λ s. refl) c.self.inside.table c.self.inside.sids c.forget_sids.new.sids c.known.ensures.apart c.forget_sids.ensures c.self.invariant)

@@ -1,38 +1,22 @@
--- a change of the entry of that id, which goes where it has ended
-use Rattle.std.proofs.Common.{◌∙◌, ap, sym, subst, List, map}
-use Rattle.std.specs.Map.{values_of}
-use Rattle.subscriptions.specs.Limit.{unended}
+use Rattle.std.proofs.Common.{List, [], ◌∷◌, sym, refl, subst}
+use Rattle.subscriptions.specs.BySid.{AreSidsOf}
+use Rattle.subscriptions.specs.Changes.{capped}
 use Rattle.subscriptions.specs.declared.subscription.Subscription.{Subscription}
-use Rattle.subscriptions.specs.Changes.{only, capped}
-use Rattle.subscriptions.specs.Kept.{IsKept, Apart}
-use Rattle.subscriptions.proofs.Entries.{Entries}
-use Rattle.subscriptions.proofs.Ends.{ended_at, on_at, kept_on, kept_over}
-use Rattle.subscriptions.proofs.Apart.{apart_changed, capped-leaves}
+use Rattle.subscriptions.proofs.Apart.{capped-leaves}
+use Rattle.subscriptions.proofs.BySid.{one_gone, sids_ended}
 use Rattle.subscriptions.proofs.subscriptions.Subscriptions.limit_one.Goals as goal
 
 pub invariant_of-self : goal.invariant_of-self
 invariant_of-self c =
-    let es = c.self.inside.by_id.entries in
-    let now = ap (λ (xs : Entries). values_of xs) c.take_out.ensures ∙ ended_at (capped c.args.most) c.args.id es c.cap_at.new.by_id.entries c.self.invariant.0 c.cap_at.result c.cap_at.ensures c.if-cap_at.true in (
-      subst IsKept (sym c.take_out.ensures) (kept_over (capped c.args.most) c.args.id es c.cap_at.new.by_id.entries c.self.invariant.0 c.cap_at.result c.cap_at.ensures c.if-cap_at.true),
-      subst Apart (sym now) (apart_changed (capped c.args.most) c.args.id (values_of es) (capped-leaves c.args.most) c.self.invariant.1),
-    )
+    let subs = c.self.inside.table in
+    let sids = c.self.inside.sids in
+    subst (λ (xs : List Subscription). AreSidsOf xs sids) (sym c.limit.ensures.after)
+    (sids_ended (capped c.args.most) c.args.id subs [] sids sids (capped-leaves c.args.most) c.known.ensures.apart c.in-None.ensures.ended (λ conn sid. refl) c.self.invariant)
 
-pub invariant_of-self-else-cap_at : goal.invariant_of-self-else-cap_at
-invariant_of-self-else-cap_at c =
-    let es = c.self.inside.by_id.entries in
-    let now = on_at (capped c.args.most) c.args.id es c.cap_at.new.by_id.entries c.self.invariant.0 c.cap_at.result c.cap_at.ensures c.if-cap_at.false in (
-      kept_on (capped c.args.most) c.args.id es c.cap_at.new.by_id.entries c.self.invariant.0 c.cap_at.result ((capped-leaves c.args.most)).id c.cap_at.ensures c.if-cap_at.false,
-      subst Apart (sym now) (apart_changed (capped c.args.most) c.args.id (values_of es) (capped-leaves c.args.most) c.self.invariant.1),
-    )
-
-pub returns-then-cap_at : goal.returns-then-cap_at
-returns-then-cap_at c =
-    ap (λ (xs : Entries). values_of xs) c.take_out.ensures
-    ∙ ended_at (capped c.args.most) c.args.id c.self.inside.by_id.entries c.cap_at.new.by_id.entries c.self.invariant.0 c.cap_at.result c.cap_at.ensures c.if-cap_at.true
-    ∙ ap (λ (ss : List Subscription). unended (map (only (capped c.args.most) c.args.id) ss)) c.self.view_is
-
-pub returns-else-cap_at : goal.returns-else-cap_at
-returns-else-cap_at c =
-    on_at (capped c.args.most) c.args.id c.self.inside.by_id.entries c.cap_at.new.by_id.entries c.self.invariant.0 c.cap_at.result c.cap_at.ensures c.if-cap_at.false
-    ∙ ap (λ (ss : List Subscription). unended (map (only (capped c.args.most) c.args.id) ss)) c.self.view_is
+pub invariant_of-self-in-Some : goal.invariant_of-self-in-Some
+invariant_of-self-in-Some c =
+    let subs = c.self.inside.table in
+    let sids = c.self.inside.sids in
+    let gone = c.in-Some.gone in
+    subst (λ (xs : List Subscription). AreSidsOf xs c.remove.new.self) (sym c.limit.ensures.after)
+    (sids_ended (capped c.args.most) c.args.id subs (gone ∷ []) sids c.remove.new.self (capped-leaves c.args.most) c.known.ensures.apart c.in-Some.ensures.ended (one_gone sids c.remove.new.self gone c.remove.ensures) c.self.invariant)

@@ -1,24 +1,27 @@
-use Rattle.std.proofs.Common.{◌≡◌, ◌∙◌, ◌==◌, ℕ, Bool, not, filter, ap, sym, subst, rules}
-use Rattle.std.specs.Map.{values_of}
-use Rattle.std.proofs.lemmas.Map.Made.{filter_same_pairs}
+-- what the connection has are the ids of its subscriptions
+use Rattle.std.proofs.Common.{◌==◌, ◌∙◌, List, filter, not, sym, ap, subst}
+use Rattle.subscriptions.specs.BySid.{id_in, AreSidsOf}
 use Rattle.subscriptions.specs.declared.subscription.Subscription.{Subscription}
-use Rattle.subscriptions.specs.Kept.{IsKept, Apart}
-use Rattle.subscriptions.proofs.Entries.{Entries, values-filter, kept-filter}
-use Rattle.subscriptions.proofs.Apart.{apart_kept}
+use Rattle.subscriptions.proofs.BySid.{none_gone, own_gone, sids_closed}
 use Rattle.subscriptions.proofs.subscriptions.Subscriptions.remove.Goals as goal
 
-pub invariant_of-self : goal.invariant_of-self
-invariant_of-self c =
-    let es = c.self.inside.by_id.entries in
-    let p : Subscription → Bool = λ s. not (s.conn == c.args.conn) in
-    let now : c.retain.new.self.entries ≡ filter (λ (e : ℕ × Subscription). p e.1) es = filter_same_pairs _ (λ (e : ℕ × Subscription). p e.1) _ (λ k v b w f' t. search rules) _ _ c.retain.ensures.filtered in (
-      subst IsKept (sym now) (kept-filter (λ (e : ℕ × Subscription). p e.1) es c.self.invariant.0),
-      subst Apart (sym (ap (λ (xs : Entries). values_of xs) now ∙ values-filter p es)) (apart_kept p (values_of es) c.self.invariant.1),
-    )
+pub returns-in-None : goal.returns-in-None
+returns-in-None c =
+    let conn = c.args.conn in
+    none_gone conn c.self.inside.table (λ sid. ap (λ o. id_in o sid) c.in-None.ensures.own ∙ c.self.invariant.each conn sid)
+    ∙ ap (λ (ss : List Subscription). filter (λ (s : Subscription). not (s.conn == conn)) ss) c.self.view_is
 
-pub returns : goal.returns
-returns c =
-    let es = c.self.inside.by_id.entries in
-    let p : Subscription → Bool = λ s. not (s.conn == c.args.conn) in
-    let now : c.retain.new.self.entries ≡ filter (λ (e : ℕ × Subscription). p e.1) es = filter_same_pairs _ (λ (e : ℕ × Subscription). p e.1) _ (λ k v b w f' t. search rules) _ _ c.retain.ensures.filtered in
-    ap (λ (xs : Entries). values_of xs) now ∙ values-filter p es ∙ ap (filter p) c.self.view_is
+pub invariant_of-self-in-Some : goal.invariant_of-self-in-Some
+invariant_of-self-in-Some c =
+    let conn = c.args.conn in
+    let subs = c.self.inside.table in
+    let left = c.take_each.ensures.left ∙ own_gone conn c.in-Some.own subs c.known.ensures.apart c.take_each.ensures.unique (λ sid. ap (λ o. id_in o sid) c.in-Some.ensures.own ∙ c.self.invariant.each conn sid) in
+    subst (λ (xs : List Subscription). AreSidsOf xs c.take.new.self) (sym left) (sids_closed conn subs c.self.inside.sids c.take.new.self c.in-Some.ensures.left c.self.invariant)
+
+pub returns-in-Some : goal.returns-in-Some
+returns-in-Some c =
+    let conn = c.args.conn in
+    let subs = c.self.inside.table in
+    c.take_each.ensures.left
+    ∙ own_gone conn c.in-Some.own subs c.known.ensures.apart c.take_each.ensures.unique (λ sid. ap (λ o. id_in o sid) c.in-Some.ensures.own ∙ c.self.invariant.each conn sid)
+    ∙ ap (λ (ss : List Subscription). filter (λ (s : Subscription). not (s.conn == conn)) ss) c.self.view_is

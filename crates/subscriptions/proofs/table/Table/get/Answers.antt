@@ -2,7 +2,7 @@ use Rattle.std.proofs.Common.{◌∙◌, ◌==◌, ap, List}
 use Rattle.std.specs.Prelude.{find}
 use Rattle.subscriptions.specs.declared.subscription.Subscription.{Subscription}
 use Rattle.subscriptions.proofs.Entries.{found_is}
-use Rattle.subscriptions.proofs.subscriptions.Subscriptions.get.Goals as goal
+use Rattle.subscriptions.proofs.table.Table.get.Goals as goal
 
 pub returns : goal.returns
 returns c =

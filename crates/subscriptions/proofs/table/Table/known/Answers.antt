@@ -4,7 +4,7 @@ use Rattle.subscriptions.specs.Kept.{Apart}
 use Rattle.subscriptions.specs.declared.subscription.Subscription.{Subscription}
 use Rattle.subscriptions.proofs.Entries.{going}
 use Rattle.subscriptions.proofs.Known.{ids_rise, sids_differ, none_ended}
-use Rattle.subscriptions.proofs.subscriptions.Subscriptions.known.Goals as goal
+use Rattle.subscriptions.proofs.table.Table.known.Goals as goal
 
 pub returns-clause-ids : goal.returns-clause-ids
 returns-clause-ids c = ids_rise c.args.self.now (subst Apart c.self.view_is c.self.invariant.1)

@@ -1,0 +1,48 @@
+use Rattle.std.proofs.Common.{◌≡◌, ◌∙◌, ◌<◌, ◌++◌, ◌∷◌, [], ap, sym, refl, subst, List, false}
+use Rattle.std.specs.Prelude.{All}
+use Rattle.std.specs.Map.{values_of}
+use Rattle.std.proofs.lemmas.List.{map-append}
+use Rattle.subscriptions.specs.Subscriptions.{stands}
+use Rattle.subscriptions.specs.declared.subscription.Subscription.{Subscription}
+use Rattle.subscriptions.specs.Index.{IsWithout, AreIndexesOf}
+use Rattle.subscriptions.specs.Kept.{IsKept, Apart}
+use Rattle.subscriptions.proofs.Apart.{apart_added}
+use Rattle.subscriptions.proofs.Entries.{Entries, added, kept-added}
+use Rattle.subscriptions.proofs.Indexed.{indexes_added, indexes_undone}
+use Rattle.subscriptions.proofs.table.Table.add.Goals as goal
+
+pub invariant_of-self-in-Ok-insert : goal.invariant_of-self-in-Ok-insert
+invariant_of-self-in-Ok-insert c =
+    let es = c.self.inside.by_id.entries in
+    let s = c.args.subscription in
+    let below : All (λ (x : Subscription). x.id < s.id) (values_of es) = subst (λ (xs : List Subscription). All (λ (x : Subscription). x.id < s.id) xs) (sym c.self.view_is) c.requires.above in
+    let free : stands (values_of es) s.conn s.sid ≡ false = ap (λ (xs : List Subscription). stands xs s.conn s.sid) c.self.view_is ∙ c.requires.free in
+    let now = c.in-Ok-insert.ensures.entries ∙ added s.id es s c.self.invariant.0 below in
+    let all = ap (λ (xs : Entries). values_of xs) now ∙ map-append _ es ((s.id, s) ∷ []) in (
+      subst IsKept (sym now) (kept-added s.id es s c.self.invariant.0 below refl c.requires.going),
+      subst Apart (sym all) (apart_added (values_of es) s c.self.invariant.1 below free),
+      subst (λ (xs : List Subscription). AreIndexesOf xs c.insert.new.self) (sym all) (indexes_added (values_of es) s c.self.inside.trees c.insert.new.self c.in-Ok.ensures.ok c.self.invariant.2),
+    )
+
+pub returns-in-Ok-insert-clause-ok : goal.returns-in-Ok-insert-clause-ok
+returns-in-Ok-insert-clause-ok c =
+    let es = c.self.inside.by_id.entries in
+    let s = c.args.subscription in
+    let below : All (λ (x : Subscription). x.id < s.id) (values_of es) = subst (λ (xs : List Subscription). All (λ (x : Subscription). x.id < s.id) xs) (sym c.self.view_is) c.requires.above in
+    ap (λ (xs : Entries). values_of xs) (c.in-Ok-insert.ensures.entries ∙ added s.id es s c.self.invariant.0 below)
+    ∙ map-append _ es ((s.id, s) ∷ [])
+    ∙ ap (λ (xs : List Subscription). xs ++ s ∷ []) c.self.view_is
+
+-- the map has refused it, so it is taken out of the trees again
+pub invariant_of-self-in-Err-insert : goal.invariant_of-self-in-Err-insert
+invariant_of-self-in-Err-insert c =
+    let es = c.self.inside.by_id.entries in
+    let s = c.args.subscription in
+    let below : All (λ (x : Subscription). x.id < s.id) (values_of es) = subst (λ (xs : List Subscription). All (λ (x : Subscription). x.id < s.id) xs) (sym c.self.view_is) c.requires.above in
+    let same = c.in-Err-insert.ensures.err in
+    let back : c.in-Err-insert.refused.value.1 ≡ s = ap (λ e. e.1) c.in-Err-insert.ensures.value_returned in
+    let less : IsWithout c.insert.new.self s c.remove.new.self = rw back at c.remove.ensures in (
+      subst IsKept (sym same) c.self.invariant.0,
+      subst (λ (xs : Entries). Apart (values_of xs)) (sym same) c.self.invariant.1,
+      subst (λ (xs : Entries). AreIndexesOf (values_of xs) c.remove.new.self) (sym same) (indexes_undone (values_of es) s c.self.inside.trees c.insert.new.self c.remove.new.self below c.in-Ok.ensures.ok less c.self.invariant.2),
+    )

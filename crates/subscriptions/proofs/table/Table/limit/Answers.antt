@@ -1,0 +1,54 @@
+-- a change of the entry of that id, which goes where it has ended
+use Rattle.std.proofs.Common.{◌∙◌, ap, sym, subst, List, map, filter}
+use Rattle.std.specs.Map.{values_of}
+use Rattle.subscriptions.specs.Limit.{has_ended, unended}
+use Rattle.subscriptions.specs.declared.subscription.Subscription.{Subscription}
+use Rattle.subscriptions.specs.Changes.{only, capped}
+use Rattle.subscriptions.specs.Index.{AreIndexesOf, if_any}
+use Rattle.subscriptions.specs.Kept.{IsKept, Apart}
+use Rattle.subscriptions.proofs.Entries.{Entries}
+use Rattle.subscriptions.proofs.Ends.{ended_at, on_at, kept_on, kept_over, one_ends, none_ends}
+use Rattle.subscriptions.proofs.Apart.{apart_changed, capped-leaves}
+use Rattle.subscriptions.proofs.Indexed.{indexes_on, indexes_over, capped-is_of}
+use Rattle.subscriptions.proofs.table.Table.limit.Goals as goal
+
+pub invariant_of-self : goal.invariant_of-self
+invariant_of-self c =
+    let es = c.self.inside.by_id.entries in
+    let now = ap (λ (xs : Entries). values_of xs) c.take_out.ensures.entries ∙ ended_at (capped c.args.most) c.args.id es c.cap_at.new.by_id.entries c.self.invariant.0 c.cap_at.result c.cap_at.ensures c.if-cap_at.true in (
+      subst IsKept (sym c.take_out.ensures.entries) (kept_over (capped c.args.most) c.args.id es c.cap_at.new.by_id.entries c.self.invariant.0 c.cap_at.result c.cap_at.ensures c.if-cap_at.true),
+      subst Apart (sym now) (apart_changed (capped c.args.most) c.args.id (values_of es) (capped-leaves c.args.most) c.self.invariant.1),
+      subst (λ (xs : Entries). AreIndexesOf (values_of xs) c.take_out.new.trees) (sym c.take_out.ensures.entries)
+          (indexes_over (capped c.args.most) (capped-is_of c.args.most) c.args.id es c.cap_at.new.by_id.entries c.self.invariant.0 c.cap_at.result c.self.inside.trees c.self.invariant.2 c.take_out.new.trees c.cap_at.ensures c.if-cap_at.true c.take_out.ensures.trees),
+    )
+
+pub invariant_of-self-else-cap_at : goal.invariant_of-self-else-cap_at
+invariant_of-self-else-cap_at c =
+    let es = c.self.inside.by_id.entries in
+    let now = on_at (capped c.args.most) c.args.id es c.cap_at.new.by_id.entries c.self.invariant.0 c.cap_at.result c.cap_at.ensures c.if-cap_at.false in (
+      kept_on (capped c.args.most) c.args.id es c.cap_at.new.by_id.entries c.self.invariant.0 c.cap_at.result ((capped-leaves c.args.most)).id c.cap_at.ensures c.if-cap_at.false,
+      subst Apart (sym now) (apart_changed (capped c.args.most) c.args.id (values_of es) (capped-leaves c.args.most) c.self.invariant.1),
+      indexes_on (capped c.args.most) (capped-is_of c.args.most) c.args.id es c.cap_at.new.by_id.entries c.self.invariant.0 c.cap_at.result c.self.inside.trees c.self.invariant.2 c.cap_at.ensures c.if-cap_at.false,
+    )
+
+pub returns-then-cap_at-clause-after : goal.returns-then-cap_at-clause-after
+returns-then-cap_at-clause-after c =
+    ap (λ (xs : Entries). values_of xs) c.take_out.ensures.entries
+    ∙ ended_at (capped c.args.most) c.args.id c.self.inside.by_id.entries c.cap_at.new.by_id.entries c.self.invariant.0 c.cap_at.result c.cap_at.ensures c.if-cap_at.true
+    ∙ ap (λ (ss : List Subscription). unended (map (only (capped c.args.most) c.args.id) ss)) c.self.view_is
+
+pub returns-else-cap_at-clause-after : goal.returns-else-cap_at-clause-after
+returns-else-cap_at-clause-after c =
+    on_at (capped c.args.most) c.args.id c.self.inside.by_id.entries c.cap_at.new.by_id.entries c.self.invariant.0 c.cap_at.result c.cap_at.ensures c.if-cap_at.false
+    ∙ ap (λ (ss : List Subscription). unended (map (only (capped c.args.most) c.args.id) ss)) c.self.view_is
+
+pub returns-then-cap_at-clause-ended : goal.returns-then-cap_at-clause-ended
+returns-then-cap_at-clause-ended c =
+    ap if_any c.take_out.ensures.gone
+    ∙ one_ends (capped c.args.most) c.args.id c.self.inside.by_id.entries c.cap_at.new.by_id.entries c.self.invariant.0 c.cap_at.result c.cap_at.ensures c.if-cap_at.true
+    ∙ ap (λ (ss : List Subscription). filter has_ended (map (only (capped c.args.most) c.args.id) ss)) c.self.view_is
+
+pub returns-else-cap_at-clause-ended : goal.returns-else-cap_at-clause-ended
+returns-else-cap_at-clause-ended c =
+    none_ends (capped c.args.most) c.args.id c.self.inside.by_id.entries c.cap_at.new.by_id.entries c.self.invariant.0 c.cap_at.result c.cap_at.ensures c.if-cap_at.false
+    ∙ ap (λ (ss : List Subscription). filter has_ended (map (only (capped c.args.most) c.args.id) ss)) c.self.view_is

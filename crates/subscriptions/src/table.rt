@@ -1,0 +1,225 @@
+//! The standing subscriptions by their ids, and the trees that find them by subject.
+ghost use Rattle.std.specs.Prelude.{◌≡◌, ◌==◌};
+
+use crate::address::address;
+use crate::change::{bump_at, cap_at, forget_failing, take_out};
+use crate::sids::Own;
+use crate::trees::Trees;
+use crate::{Keeps, Subscription};
+use events::{Addressed, Message};
+use lists::{NoMemory, Shared};
+use std::alloc::Global;
+use std::collections::BTreeMap;
+use std::collections::btree_map::Values;
+use std::hash::RandomState;
+use std::marker::Model;
+
+/// The standing subscriptions, seen as a list, oldest first. The trees are the list's index: they find those that have a
+/// subject.
+#[derive(Drop)]
+pub(crate) struct Table {
+    by_id: BTreeMap<u64, Subscription>,
+    trees: Trees,
+}
+
+impl Model for Table {
+    ghost use Rattle.std.specs.Prelude.{List};
+    ghost use Rattle.std.specs.Map.{values_of};
+    ghost use Rattle.subscriptions.specs.declared.subscription.Subscription.{Subscription};
+    ghost use Rattle.subscriptions.specs.Index.{AreIndexesOf};
+    ghost use Rattle.subscriptions.specs.Kept.{IsKept, Apart};
+
+    ghost Value = { List Subscription };
+
+    ghost view = { λ subs. values_of subs.by_id.entries };
+
+    ghost invariant = { λ subs. IsKept subs.by_id.entries
+        × Apart (values_of subs.by_id.entries)
+        × AreIndexesOf (values_of subs.by_id.entries) subs.trees };
+}
+
+impl Table {
+    ghost use Rattle.std.specs.Prelude.{◌≡◌, ◌==◌, ◌<◌, ◌++◌, ◌∷◌, [], OnOk, OnErr, IfErr, All, AllPairs, false, length, map, filter, not, find};
+    ghost use Rattle.std.specs.Option.{option_copied};
+    ghost use Rattle.std.specs.Map.Iter.{ShowsInOrder, deref};
+    ghost use Rattle.std.specs.HashMap.{values, IsUnique};
+    ghost use Rattle.subscriptions.specs.declared.subscription.Subscription.{Subscription};
+    ghost use Rattle.subscriptions.specs.Subscriptions.{has_same_sid, stands, having};
+    ghost use Rattle.subscriptions.specs.Addressing.{addressed_to};
+    ghost use Rattle.subscriptions.specs.BySid.{same_sid};
+    ghost use Rattle.subscriptions.specs.Limit.{has_ended, unended};
+    ghost use Rattle.subscriptions.specs.Kept.{Apart};
+    ghost use Rattle.subscriptions.specs.Changes.{only, bumped, capped};
+    ghost use Rattle.subscriptions.specs.Turns.{is_one_of};
+    ghost use Rattle.subscriptions.specs.Index.{found_by, if_any};
+
+    /// No subscriptions.
+    #[tactic(auto, unfolding(crate::specs::Kept::IsKept, crate::specs::Kept::Apart))]
+    pub fn new(alloc: Global, keys: RandomState) -> Table
+        ensures { result ≡ [] }
+    {
+        Table {
+            by_id: BTreeMap::new(alloc),
+            trees: Trees::new(alloc, keys),
+        }
+    }
+
+    /// How many stand.
+    pub fn len(&self) -> usize
+        ensures { result ≡ length self.now }
+    {
+        self.by_id.len()
+    }
+
+    /// Tells what holds of all: the ids rise, no two have one connection and sid, and none has ended.
+    pub fn known(&self)
+        ensures ids { AllPairs (λ (s t : Subscription). s.id < t.id) self.now }
+        ensures sids { AllPairs (λ (s t : Subscription). has_same_sid s t ≡ false) self.now }
+        ensures limits { All (λ (s : Subscription). has_ended s ≡ false) self.now }
+        ensures going { unended self.now ≡ self.now }
+        ensures apart { Apart self.now }
+    {
+        let _ = &self.by_id;
+    }
+
+    /// Them all, oldest first.
+    pub fn values(&self) -> Values<'_, u64, Subscription>
+        ensures all { result ≡ self.now }
+        ensures runs { ShowsInOrder (deref {X = Subscription}) }
+    {
+        self.by_id.values()
+    }
+
+    /// The subscription of that id.
+    pub fn get(&self, id: u64) -> Option<&Subscription>
+        ensures { option_copied result ≡ find (λ (s : Subscription). s.id == id) self.now }
+    {
+        let found = self.by_id.get(&id);
+        found
+    }
+
+    /// Addresses a message to the subscriptions of an account that have its subject, oldest first, and adds these
+    /// deliveries. On `NoMemory` some of them may have been added.
+    pub fn address(
+        &self,
+        account: &[u8],
+        message: &Shared<Message>,
+        all: &mut Vec<Addressed>,
+    ) -> Result<(), NoMemory>
+        ensures { OnOk result (all.new.items ≡ all.old.items
+            ++ map (addressed_to message.now) (having account.now message.now.subject self.now)) }
+    {
+        let found = self.trees.matching(account, message.get().subject())?;
+        self.address_each(found.as_slice(), message, all)?;
+        Ok(())
+    }
+
+    /// Adds the deliveries for the subscriptions of these ids.
+    #[tactic(auto, using(crate::proofs::Indexed::found_first))]
+    fn address_each(
+        &self,
+        ids: &[u64],
+        message: &Shared<Message>,
+        all: &mut Vec<Addressed>,
+    ) -> Result<(), NoMemory>
+        ensures { OnOk result (all.new.items ≡ all.old.items ++ map (addressed_to message.now) (found_by self.now ids.now)) }
+    {
+        for id in ids {
+            self.address_one(*id, message, all)?;
+        }
+        Ok(())
+    }
+
+    /// Adds the delivery for the subscription of an id.
+    fn address_one(
+        &self,
+        id: u64,
+        message: &Shared<Message>,
+        all: &mut Vec<Addressed>,
+    ) -> Result<(), NoMemory>
+        ensures { OnOk result (all.new.items ≡ all.old.items ++ map (addressed_to message.now) (found_by self.now (id ∷ []))) }
+    {
+        match self.get(id) {
+            None => Ok(()),
+            Some(subscription) => {
+                all.push(address(message, subscription)?)?;
+                Ok(())
+            }
+        }
+    }
+
+    /// Adds a subscription, the youngest of all. Where memory could not be had it is handed back, and nothing has
+    /// changed.
+    pub fn add(&mut self, subscription: Subscription) -> Result<(), Subscription>
+        requires above { All (λ (s : Subscription). s.id < subscription.id) self.old }
+        requires free { stands self.old subscription.conn subscription.sid ≡ false }
+        requires going { has_ended subscription ≡ false }
+        ensures ok { OnOk result (self.new ≡ self.old ++ subscription ∷ []) }
+        ensures err { OnErr result (self.new ≡ self.old) }
+        ensures back { IfErr result (λ refused. refused ≡ subscription) }
+    {
+        match self.trees.insert(&subscription) {
+            Err(_) => Err(subscription),
+            Ok(()) => match self.by_id.insert(subscription.id, subscription) {
+                Ok(_) => Ok(()),
+                Err(refused) => {
+                    let back = refused.value.1;
+                    self.trees.remove(&back);
+                    Err(back)
+                }
+            },
+        }
+    }
+
+    /// A limit for the subscription of that id, which ends where it has reached it. Answers the one that has ended.
+    pub fn limit(&mut self, id: u64, most: Option<u64>) -> Option<Subscription>
+        ensures after { self.new ≡ unended (map (only (capped most) id) self.old) }
+        ensures ended { if_any result ≡ filter has_ended (map (only (capped most) id) self.old) }
+    {
+        if cap_at(&mut self.by_id, id, most) {
+            take_out(&mut self.by_id, &mut self.trees, id)
+        } else {
+            None
+        }
+    }
+
+    /// One message more for the subscription of that id, which ends where that was the last that it was to receive.
+    /// Answers the one that has ended.
+    pub fn count(&mut self, id: u64) -> Option<Subscription>
+        ensures after { self.new ≡ unended (map (only bumped id) self.old) }
+        ensures ended { if_any result ≡ filter has_ended (map (only bumped id) self.old) }
+    {
+        if bump_at(&mut self.by_id, id) {
+            take_out(&mut self.by_id, &mut self.trees, id)
+        } else {
+            None
+        }
+    }
+
+    /// Takes the subscription of that id out, if it stands.
+    fn take(&mut self, id: u64)
+        ensures { self.new ≡ filter (λ (s : Subscription). not (s.id == id)) self.old }
+    {
+        let _gone = take_out(&mut self.by_id, &mut self.trees, id);
+    }
+
+    /// Takes the subscriptions of a connection's ids out.
+    #[tactic(auto, using(crate::proofs::BySid::one_out, crate::proofs::BySid::none_out))]
+    pub fn take_each(&mut self, own: &Own)
+        ensures left { self.new ≡ filter (λ (s : Subscription). not (is_one_of (values own.now) s)) self.old }
+        ensures unique { IsUnique same_sid own.now }
+    {
+        for id in own.values() {
+            self.take(*id);
+        }
+    }
+
+    /// Removes those that don't pass a test.
+    pub fn keep<K: Keeps>(&mut self, test: &K)
+        ensures { self.new ≡ filter (K.keeps test.now) self.old }
+    {
+        forget_failing(&mut self.trees, &self.by_id, test);
+        self.by_id
+            .retain(|_, subscription| test.keeps(subscription));
+    }
+}
