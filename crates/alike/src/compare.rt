@@ -1,0 +1,401 @@
+//! Whether two entries are equal. Each of these answers yes of equal values alone.
+ghost use Rattle.std.specs.Prelude.{◌≡◌};
+ghost use Rattle.std.specs.Bool.{OnTrue};
+ghost use Rattle.std.specs.Option.{option_copied};
+
+use bytes::Bytes;
+use events::{Command, Delivery, Entry, Event, Item, Message, Met, Outcome, Removed};
+use lists::{Items, Pieces, Shared, SharedText};
+use permissions::{By, Verdict};
+use policy_doc::{AccountDoc, Direction, NamedAccount, PermDoc, PermEntry, PolicyDoc, UserDoc};
+use ready::Ready;
+use subjects::{Pattern, Subject};
+
+/// What can be compared with another of its kind.
+pub trait Alike {
+    /// Whether it is found equal to the other.
+    fn is_like(&self, other: &Self) -> bool
+        ensures { OnTrue result (self.now ≡ other.now) };
+}
+
+impl Alike for u64 {
+    fn is_like(&self, other: &u64) -> bool {
+        *self == *other
+    }
+}
+
+impl<T: Alike> Alike for Option<T> {
+    fn is_like(&self, other: &Option<T>) -> bool {
+        match self {
+            None => match other {
+                None => true,
+                Some(_) => false,
+            },
+            Some(one) => match other {
+                None => false,
+                Some(two) => one.is_like(two),
+            },
+        }
+    }
+}
+
+impl<T: Alike> Alike for Shared<T> {
+    fn is_like(&self, other: &Shared<T>) -> bool {
+        self.get().is_like(other.get())
+    }
+}
+
+impl<T: Alike> Alike for Items<T> {
+    fn is_like(&self, other: &Items<T>) -> bool {
+        are_alike(self.as_slice(), other.as_slice())
+    }
+}
+
+impl Alike for Met {
+    fn is_like(&self, other: &Met) -> bool {
+        are_alike(self.as_slice(), other.as_slice())
+    }
+}
+
+/// Whether two lists have the same elements in the same order.
+fn are_alike<T: Alike>(all: &[T], others: &[T]) -> bool
+    ensures { OnTrue result (all.now ≡ others.now) }
+{
+    if all.len() != others.len() {
+        return false;
+    }
+    for index in 0..all.len() {
+        if !all[index].is_like(&others[index]) {
+            return false;
+        }
+    }
+    true
+}
+
+#[tactic(auto, using(crate::proofs::Equal::same_bytes))]
+fn are_same_bytes(one: &[u8], other: &[u8]) -> bool
+    ensures { OnTrue result (one.now ≡ other.now) }
+{
+    one == other
+}
+
+/// Whether two texts have the same pieces.
+fn are_same_pieces(mut some: Pieces, mut others: Pieces) -> bool
+    ensures { OnTrue result (some.entry ≡ others.entry) }
+{
+    while let Some(piece) = some.next_piece() {
+        match others.next_piece() {
+            None => return false,
+            Some(other) => {
+                if !are_same_bytes(piece, other) {
+                    return false;
+                }
+            }
+        }
+    }
+    others.next_piece().is_none()
+}
+
+impl Alike for Bytes {
+    fn is_like(&self, other: &Bytes) -> bool {
+        are_same_bytes(self.as_slice(), other.as_slice())
+    }
+}
+
+impl Alike for SharedText {
+    fn is_like(&self, other: &SharedText) -> bool {
+        are_same_bytes(self.as_slice(), other.as_slice())
+    }
+}
+
+impl Alike for Pattern {
+    fn is_like(&self, other: &Pattern) -> bool {
+        are_same_pieces(self.tokens(), other.tokens())
+    }
+}
+
+impl Alike for Subject {
+    fn is_like(&self, other: &Subject) -> bool {
+        are_same_pieces(self.tokens(), other.tokens())
+    }
+}
+
+/// Whether both are there and alike, or neither is there.
+fn are_alike_where_given(one: Option<&Subject>, other: Option<&Subject>) -> bool
+    ensures { OnTrue result (option_copied one.entry ≡ option_copied other.entry) }
+{
+    match one {
+        None => other.is_none(),
+        Some(one) => match other {
+            None => false,
+            Some(other) => one.is_like(other),
+        },
+    }
+}
+
+impl Alike for Message {
+    fn is_like(&self, other: &Message) -> bool {
+        self.subject().is_like(other.subject())
+            && are_alike_where_given(self.reply(), other.reply())
+            && are_same_bytes(self.head(), other.head())
+            && are_same_bytes(self.payload(), other.payload())
+    }
+}
+
+impl Alike for Verdict {
+    fn is_like(&self, other: &Verdict) -> bool {
+        match self {
+            Verdict::Allowed(one) => match other {
+                Verdict::Allowed(two) => one.is_like(two),
+                _ => false,
+            },
+            Verdict::DeniedBy(one) => match other {
+                Verdict::DeniedBy(two) => *one == *two,
+                _ => false,
+            },
+            Verdict::NoAllow => match other {
+                Verdict::NoAllow => true,
+                _ => false,
+            },
+        }
+    }
+}
+
+impl Alike for By {
+    fn is_like(&self, other: &By) -> bool {
+        match self {
+            By::All => match other {
+                By::All => true,
+                _ => false,
+            },
+            By::Index(one) => match other {
+                By::Index(two) => *one == *two,
+                _ => false,
+            },
+        }
+    }
+}
+
+impl Alike for Delivery {
+    fn is_like(&self, other: &Delivery) -> bool {
+        self.message.is_like(&other.message) && self.sid.is_like(&other.sid)
+    }
+}
+
+impl Alike for Item {
+    fn is_like(&self, other: &Item) -> bool {
+        match self {
+            Item::Entered { conn, sid } => match other {
+                Item::Entered {
+                    conn: number,
+                    sid: name,
+                } => *conn == *number && sid.is_like(name),
+                _ => false,
+            },
+            Item::Full { conn, sid } => match other {
+                Item::Full {
+                    conn: number,
+                    sid: name,
+                } => *conn == *number && sid.is_like(name),
+                _ => false,
+            },
+        }
+    }
+}
+
+impl Alike for Removed {
+    fn is_like(&self, other: &Removed) -> bool {
+        self.id == other.id
+            && self.conn == other.conn
+            && self.sid.is_like(&other.sid)
+            && self.verdict.is_like(&other.verdict)
+    }
+}
+
+impl Alike for Outcome {
+    fn is_like(&self, other: &Outcome) -> bool {
+        match self {
+            Outcome::Connected => match other {
+                Outcome::Connected => true,
+                _ => false,
+            },
+            Outcome::AuthViolation => match other {
+                Outcome::AuthViolation => true,
+                _ => false,
+            },
+            Outcome::Subscribed => match other {
+                Outcome::Subscribed => true,
+                _ => false,
+            },
+            Outcome::SameSid => match other {
+                Outcome::SameSid => true,
+                _ => false,
+            },
+            Outcome::SubLimit => match other {
+                Outcome::SubLimit => true,
+                _ => false,
+            },
+            Outcome::Denied(one) => match other {
+                Outcome::Denied(two) => one.is_like(two),
+                _ => false,
+            },
+            Outcome::Published(one, met) => match other {
+                Outcome::Published(two, found) => one.is_like(two) && met.is_like(found),
+                _ => false,
+            },
+            Outcome::Taken(one, missed) => match other {
+                Outcome::Taken(two, lost) => one.is_like(two) && *missed == *lost,
+                _ => false,
+            },
+            Outcome::Unsubscribed => match other {
+                Outcome::Unsubscribed => true,
+                _ => false,
+            },
+            Outcome::Closed => match other {
+                Outcome::Closed => true,
+                _ => false,
+            },
+            Outcome::Reloaded { gone, removed } => match other {
+                Outcome::Reloaded {
+                    gone: left,
+                    removed: lost,
+                } => gone.is_like(left) && removed.is_like(lost),
+                _ => false,
+            },
+        }
+    }
+}
+
+impl Alike for Command {
+    fn is_like(&self, other: &Command) -> bool {
+        match self {
+            Command::Connect {
+                conn,
+                user,
+                password,
+                echo,
+            } => match other {
+                Command::Connect {
+                    conn: number,
+                    user: name,
+                    password: word,
+                    echo: sound,
+                } => {
+                    *conn == *number
+                        && user.is_like(name)
+                        && password.is_like(word)
+                        && *echo == *sound
+                }
+                _ => false,
+            },
+            Command::Sub { conn, subject, sid } => match other {
+                Command::Sub {
+                    conn: number,
+                    subject: pattern,
+                    sid: name,
+                } => { *conn == *number && subject.is_like(pattern) && sid.is_like(name) }
+                _ => false,
+            },
+            Command::Unsub { conn, sid, most } => match other {
+                Command::Unsub {
+                    conn: number,
+                    sid: name,
+                    most: limit,
+                } => { *conn == *number && sid.is_like(name) && most.is_like(limit) }
+                _ => false,
+            },
+            Command::Pub {
+                conn,
+                message,
+                word,
+            } => match other {
+                Command::Pub {
+                    conn: number,
+                    message: sent,
+                    word: drawn,
+                } => { *conn == *number && message.is_like(sent) && *word == *drawn }
+                _ => false,
+            },
+            Command::Take { conn, most } => match other {
+                Command::Take {
+                    conn: number,
+                    most: limit,
+                } => *conn == *number && *most == *limit,
+                _ => false,
+            },
+            Command::Close { conn } => match other {
+                Command::Close { conn: number } => *conn == *number,
+                _ => false,
+            },
+            Command::Reload(one) => match other {
+                Command::Reload(two) => one.is_like(two),
+                _ => false,
+            },
+        }
+    }
+}
+
+impl Alike for Event {
+    fn is_like(&self, other: &Event) -> bool {
+        self.now == other.now && self.what.is_like(&other.what)
+    }
+}
+
+impl Alike for Entry {
+    fn is_like(&self, other: &Entry) -> bool {
+        self.number == other.number
+            && self.epoch == other.epoch
+            && self.outcome.is_like(&other.outcome)
+            && self.event.is_like(&other.event)
+    }
+}
+
+impl Alike for Ready {
+    fn is_like(&self, other: &Ready) -> bool {
+        self.policy().doc().is_like(other.policy().doc())
+    }
+}
+
+impl Alike for PolicyDoc {
+    fn is_like(&self, other: &PolicyDoc) -> bool {
+        are_alike(self.accounts.as_slice(), other.accounts.as_slice())
+    }
+}
+
+impl Alike for NamedAccount {
+    fn is_like(&self, other: &NamedAccount) -> bool {
+        self.name.is_like(&other.name) && self.account.is_like(&other.account)
+    }
+}
+
+impl Alike for AccountDoc {
+    fn is_like(&self, other: &AccountDoc) -> bool {
+        self.users.is_like(&other.users)
+    }
+}
+
+impl Alike for UserDoc {
+    fn is_like(&self, other: &UserDoc) -> bool {
+        self.user.is_like(&other.user)
+            && self.password.is_like(&other.password)
+            && self.permissions.is_like(&other.permissions)
+    }
+}
+
+impl Alike for PermDoc {
+    fn is_like(&self, other: &PermDoc) -> bool {
+        self.publish.is_like(&other.publish) && self.subscribe.is_like(&other.subscribe)
+    }
+}
+
+impl Alike for Direction {
+    fn is_like(&self, other: &Direction) -> bool {
+        self.allow.is_like(&other.allow) && self.deny.is_like(&other.deny)
+    }
+}
+
+impl Alike for PermEntry {
+    fn is_like(&self, other: &PermEntry) -> bool {
+        self.subject.is_like(&other.subject)
+    }
+}

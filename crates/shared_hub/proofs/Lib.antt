@@ -1,0 +1,2 @@
+mod Genuine
+mod Verdicts

@@ -1,0 +1,41 @@
+-- An event entered by a seat (docs/GUARANTEE.md, "Threads").
+use Rattle.std.specs.Prelude.{◌≡◌, ◌+◌, ◌≤◌, ◌⊎◌, ◌++◌, ◌∷◌, [], ℕ, List, Result, Ok, Err}
+use Rattle.events.specs.declared.event.Event.{Event}
+use Rattle.events.specs.declared.answer.Entry.{Entry}
+use Rattle.events.specs.declared.refusal.HubRefusal.{HubRefusal}
+use Rattle.events.specs.declared.refusal.HubRefusal.TheVariants.{NoMemory}
+use Rattle.world.specs.Transition.{IsRefusal}
+use Rattle.hub.specs.History.{State, stepped}
+use Rattle.shared_hub.specs.Receipts.{Receipt}
+
+-- One step of the hub, whose receipt has the entry and the policy in force after it; or a refusal that changes nothing
+-- and hands the event back. It is the step's, or want of memory for the receipt.
+abbrev pub IsEntered : State → Event → Result Receipt (Event × HubRefusal) → State → Type 0
+IsEntered s e (Ok r) after = (stepped s e ≡ Ok (r.entry, after)) × (r.policy ≡ after.world.policy)
+IsEntered s e (Err refused) after =
+    (refused.0 ≡ e) × (after ≡ s) × ((refused.1 ≡ NoMemory) ⊎ IsRefusal (stepped s e) refused.1)
+
+-- What a seat knows of an answered event: its entry has the event, it is one more of the seat's, and since the run opened
+-- at least as many entries were made as the seat has.
+abbrev pub IsCounted : ℕ → Event → ℕ → Entry → ℕ → Type 0
+IsCounted opening e before a after = (a.event ≡ e) × (after ≡ before + 1) × (opening + after ≤ a.number)
+
+-- An event that a seat has submitted: with a receipt it is counted; a refusal hands it back, and the seat is as before.
+abbrev pub IsSubmitted : ℕ → ℕ → Event → Result Receipt (Event × HubRefusal) → ℕ → Type 0
+IsSubmitted opening before e (Ok r) after = IsCounted opening e before r.entry after
+IsSubmitted opening before e (Err refused) after = (refused.0 ≡ e) × (after ≡ before)
+
+-- What a port keeps: the seat's count, and the receipts of what was answered, oldest first.
+pub record Kept : Type 0 where
+  pub count : ℕ
+  pub receipts : List Receipt
+
+abbrev pub kept : ℕ → List Receipt → Kept
+kept count receipts = record { count = count; receipts = receipts }
+
+-- An event that a port has submitted. With an answer, one more receipt is kept behind the others, and has that answer.
+abbrev pub IsKept : ℕ → Kept → Event → Result Entry (Event × HubRefusal) → Kept → Type 0
+IsKept opening before e (Ok a) after =
+    IsCounted opening e before.count a after.count
+    × ((r : Receipt) × (r.entry ≡ a) × (after.receipts ≡ before.receipts ++ r ∷ []))
+IsKept opening before e (Err refused) after = after ≡ before

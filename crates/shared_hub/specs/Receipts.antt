@@ -1,0 +1,55 @@
+-- What a receipt holds, and what it keeps of it (docs/GUARANTEE.md, "Threads").
+use Rattle.std.specs.Prelude.{◌==◌, Bool, true, false}
+use Rattle.std.specs.List.{list_any}
+use Rattle.policy_doc.specs.declared.document.PolicyDoc.{PolicyDoc}
+use Rattle.permissions.specs.Verdicts.{publish_verdict, subscribe_verdict, is_allowed}
+use Rattle.permissions.specs.declared.verdict.By.{By}
+use Rattle.permissions.specs.declared.verdict.By.TheVariants.{All as AllowsAll, Index}
+use Rattle.permissions.specs.declared.verdict.Verdict.{Verdict}
+use Rattle.permissions.specs.declared.verdict.Verdict.TheVariants.{Allowed, DeniedBy, NoAllow}
+use Rattle.ready.specs.Users.{users_of}
+use Rattle.ready.specs.declared.ready.User.{User}
+use Rattle.events.specs.declared.event.Command.{Command}
+use Rattle.events.specs.declared.event.Command.TheVariants.{Sub, Pub}
+use Rattle.events.specs.declared.answer.Outcome.{Outcome}
+use Rattle.events.specs.declared.answer.Outcome.TheVariants.{Subscribed, Denied, Published}
+use Rattle.events.specs.declared.answer.Entry.{Entry}
+
+-- the entry of an answered event, and the policy in force after it
+pub record Receipt : Type 0 where
+  pub entry : Entry
+  pub policy : PolicyDoc
+
+abbrev pub receipt : Entry → PolicyDoc → Receipt
+receipt e doc = record { entry = e; policy = doc }
+
+-- ---- the verdict that an outcome tells
+
+abbrev pub same_by : By → By → Bool
+same_by AllowsAll AllowsAll = true
+same_by (Index i) (Index j) = i == j
+same_by _ _ = false
+
+abbrev pub same_verdict : Verdict → Verdict → Bool
+same_verdict (Allowed a) (Allowed b) = same_by a b
+same_verdict (DeniedBy i) (DeniedBy j) = i == j
+same_verdict NoAllow NoAllow = true
+same_verdict _ _ = false
+
+-- whether a user has this verdict on what a command asks for; only a Sub and a Pub ask permissions
+abbrev pub has_verdict : Command → Verdict → User → Bool
+has_verdict (Sub conn p sid) v u = same_verdict (subscribe_verdict u.rules p) v
+has_verdict (Pub conn m word) v u = same_verdict (publish_verdict u.rules m.subject) v
+has_verdict _ v u = false
+
+-- whether a user may have the subscription that a command asks for
+abbrev pub may_have : Command → User → Bool
+may_have (Sub conn p sid) u = is_allowed (subscribe_verdict u.rules p)
+may_have _ u = false
+
+-- Whether the policy has a user with the verdict that an outcome tells. Subscribed, Denied and Published tell one.
+abbrev pub is_of_policy : PolicyDoc → Command → Outcome → Bool
+is_of_policy doc c Subscribed = list_any (may_have c) (users_of doc)
+is_of_policy doc c (Denied v) = list_any (has_verdict c v) (users_of doc)
+is_of_policy doc c (Published by items) = list_any (has_verdict c (Allowed by)) (users_of doc)
+is_of_policy doc c _ = true

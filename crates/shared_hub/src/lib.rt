@@ -1,0 +1,16 @@
+//! One hub for many threads: its lock, the seats that enter events, and the receipts of what was answered
+//! (docs/GUARANTEE.md, "Threads").
+#![tactic(auto)]
+
+mod audit;
+mod desk;
+mod port;
+mod receipt;
+mod shared;
+
+pub use audit::{Audit, AuditFault};
+pub use desk::{Desk, Run, Seat};
+pub use port::SharedPort;
+pub use receipt::Receipt;
+pub use shared::{Parts, Shared};
+pub use std::sync::ledger::Blank;

@@ -1,0 +1,92 @@
+ghost use Rattle.std.specs.Prelude.{◌≡◌};
+
+use crate::{Receipt, Run, Seat, Shared};
+use hub::{Answer, Event, HubRefusal, Port};
+use std::alloc::Global;
+use std::mem;
+use std::sync::Wait;
+
+/// A port of one seat to a hub that threads share. It keeps the receipt of each answer until it is taken out.
+#[derive(Drop)]
+pub struct SharedPort<'a, L: Run, R: Wait> {
+    rt: &'a R,
+    alloc: Global,
+    shared: &'a Shared<L>,
+    seat: Seat<L>,
+    receipts: Vec<Receipt>,
+}
+
+impl<'a, L: Run, R: Wait> SharedPort<'a, L, R> {
+    ghost use Rattle.std.specs.Prelude.{◌≡◌, []};
+
+    /// A port that has kept no receipt.
+    pub fn new(
+        rt: &'a R,
+        alloc: Global,
+        shared: &'a Shared<L>,
+        seat: Seat<L>,
+    ) -> SharedPort<'a, L, R>
+        ensures count { result.seat.count ≡ seat.count }
+        ensures none { result.receipts.items ≡ [] }
+    {
+        SharedPort {
+            rt,
+            alloc,
+            shared,
+            seat,
+            receipts: Vec::new(alloc),
+        }
+    }
+
+    /// Hands out all receipts that are kept, oldest first, and keeps none.
+    pub fn take_receipts(&mut self) -> Vec<Receipt>
+        ensures all { result.items ≡ self.old.receipts.items }
+        ensures none { self.new.receipts.items ≡ [] }
+        ensures count { self.new.seat.count ≡ self.old.seat.count }
+    {
+        mem::replace(&mut self.receipts, Vec::new(self.alloc))
+    }
+
+    /// The seat, and the receipts that are kept.
+    pub fn into_parts(self) -> (Seat<L>, Vec<Receipt>)
+        ensures count { result.0.count ≡ self.entry.seat.count }
+        ensures all { result.1.items ≡ self.entry.receipts.items }
+    {
+        let SharedPort { seat, receipts, .. } = self;
+        (seat, receipts)
+    }
+}
+
+impl<L: Run, R: Wait> Port for SharedPort<'_, L, R> {
+    ghost use Rattle.shared_hub.specs.Entering.{kept, IsKept};
+
+    ghost place = { λ port. 0 };
+
+    ghost steps = { λ old event result new. IsKept L.opening (kept old.seat.count old.receipts.items) event result (kept new.seat.count new.receipts.items) };
+
+    fn submit(&mut self, event: Event) -> Result<Answer, (Event, HubRefusal)> {
+        if self.receipts.reserve(1).is_err() {
+            return Err((event, HubRefusal::NoMemory));
+        }
+        match self.shared.submit_as(self.rt, &mut self.seat, event) {
+            Ok(receipt) => {
+                let answer = another(self.rt, receipt.parts().0);
+                self.receipts.push_reserved(receipt);
+                Ok(answer)
+            }
+            Err(refused) => Err(refused),
+        }
+    }
+}
+
+/// One more handle on an answer. Where as many stand as can be counted, it waits until one is let go.
+fn another<R: Wait>(rt: &R, answer: &Answer) -> Answer
+    ensures { result ≡ answer.now }
+{
+    for _ in rt.forever() {
+        if let Ok(again) = answer.again() {
+            return again;
+        }
+    }
+    unreachable!()
+}
