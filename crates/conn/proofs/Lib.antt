@@ -1,4 +1,3 @@
-mod Lists
 mod Parsing
 mod Reading
 mod Runs

@@ -1,9 +1,7 @@
 -- Drains: what a Take gives, and its texts (NATS documentation, "Client Protocol", "MSG", "HMSG";
 -- docs/PROTOCOL.md, "Deliveries").
-use Rattle.std.specs.Prelude.{◌≡◌, ◌==◌, ◌&&◌, ◌⊎◌, ℕ, Bool, true, false, not, List, [], ◌++◌, length, Option, Some, None, Result, Ok, Err, if◌then◌else◌}
+use Rattle.std.specs.Prelude.{◌≡◌, ◌⊎◌, ℕ, Bool, true, false, List, [], ◌++◌, Option, Some, None, Result, Ok, Err}
 use Rattle.std.specs.List.{flat_map}
-use Rattle.subjects.specs.Subject.{Token, text_of}
-use Rattle.wire_write.specs.Texts.{msg_line, hmsg_line}
 use Rattle.wire_write.specs.Errors.{err_line}
 use Rattle.wire_write.specs.declared.error.ServerError.TheVariants as error
 use Rattle.events.specs.declared.event.Command.TheVariants as command
@@ -20,21 +18,10 @@ use Rattle.conn.specs.declared.drain.Written.{Written}
 use Rattle.conn.specs.declared.drain.Written.TheVariants.{All, Closes, Short}
 use Rattle.conn.specs.Replies.{closed_from, takes_headers}
 use Rattle.conn.specs.Turns.{Steps, event, IsAnswered}
-use Rattle.conn.specs.Owing.{Owed, owed_by}
+use Rattle.pending.specs.Owing.{Owed, owed_by}
+pub use Rattle.pending.specs.Texts.{delivery_text}
 
 -- ---- texts
-
--- the text of a subject to answer on
-abbrev pub reply_subject_text : Option (List Token) → Option (List ℕ)
-reply_subject_text None = None
-reply_subject_text (Some subject) = Some (text_of subject)
-
--- the text of a delivery; a client that has not declared headers is sent the payload alone
-abbrev pub delivery_text : Bool → Delivery → List ℕ
-delivery_text headers d =
-    if headers && not (length d.message.head == 0)
-    then hmsg_line (text_of d.message.subject) d.sid (reply_subject_text d.message.reply) d.message.head d.message.payload
-    else msg_line (text_of d.message.subject) d.sid (reply_subject_text d.message.reply) d.message.payload
 
 -- the texts of deliveries
 abbrev pub texts : Bool → List Delivery → List ℕ

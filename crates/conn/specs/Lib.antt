@@ -2,6 +2,5 @@ pub mod Replies
 pub mod Plans
 pub mod Turns
 pub mod Serving
-pub mod Owing
 pub mod Drains
 pub mod Calls

@@ -1,18 +1,11 @@
 -- The turns of frames, in order, and the frames that a piece completes (docs/GUARANTEE.md, "A connection").
-use Rattle.std.specs.Prelude.{◌≡◌, ℕ, Bool, true, false, List, [], ◌∷◌, ◌++◌, Option, Some, None, if◌then◌else◌}
+use Rattle.std.specs.Prelude.{◌≡◌, ℕ, Bool, true, false, List, [], ◌∷◌, ◌++◌, Option, Some, None}
 use Rattle.wire_read.specs.declared.frame.Frame.{Frame}
-use Rattle.wire_read.specs.Framing.{Reader, frames_of}
+pub use Rattle.pending.specs.Reading.{frames_after, reader_after}
 use Rattle.conn.specs.declared.stage.Stage.{Stage}
 use Rattle.conn.specs.declared.output.Stall.{Stall}
 use Rattle.conn.specs.Replies.{is_closed}
 use Rattle.conn.specs.Turns.{Steps, Draws, Turned, Goes, Stalls, IsTurn}
-
--- the frames that a piece completes, and the reader after it. A stream with a fault gives no more.
-abbrev pub frames_after : Reader → List ℕ → List Frame
-frames_after r piece = if r.failed then [] else (frames_of (r.rest ++ piece)).frames
-
-abbrev pub reader_after : Reader → List ℕ → Reader
-reader_after r piece = if r.failed then r else (let f = frames_of (r.rest ++ piece) in record { rest = f.rest; failed = f.failed })
 
 -- where a connection is between two turns: the word is that of the next frame, where it has drawn one
 pub record Spot (P W : Type 0) : Type 0 where

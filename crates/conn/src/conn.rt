@@ -1,7 +1,5 @@
 use crate::drain::drain;
-use crate::frames::Frames;
 use crate::output::{Output, Stall};
-use crate::owed::Owed;
 use crate::stage::Stage;
 use crate::submit::submit;
 use crate::turn::serve;
@@ -9,6 +7,7 @@ use crate::words::Words;
 use connect_opts::info_text;
 use events::{Answer, Command, Event, HubRefusal, Port};
 use lists::NoMemory;
+use pending::{Frames, Owed};
 use std::alloc::Global;
 use std::marker::Model;
 use wire_read::FrameReader;

@@ -2,14 +2,13 @@
 ghost use Rattle.std.specs.Prelude.{◌≡◌, [], OnOk};
 ghost use Rattle.conn.specs.Drains.{IsWritten, IsTold, IsTaken, drain_of};
 
-use crate::delivery::write_delivery;
 use crate::output::Stall;
-use crate::owed::Owed;
 use crate::stage::Stage;
 use crate::submit::submit;
 use crate::text::{Text, put_text, write_text};
 use events::{Answer, Command, Event, HubRefusal, Port};
 use lists::NoMemory;
+use pending::{Owed, write_delivery};
 use std::alloc::Global;
 use wire_write::ServerError;
 

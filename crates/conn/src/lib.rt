@@ -3,11 +3,8 @@
 #![tactic(auto)]
 
 mod conn;
-mod delivery;
 mod drain;
-mod frames;
 mod output;
-mod owed;
 mod plan;
 mod reply;
 mod stage;

@@ -26,11 +26,11 @@ pub enum Plan {
     Publishes(Shared<Message>),
 }
 
-/// The subject of a text, if it is one.
-fn subject_of(alloc: Global, text: &[u8]) -> Result<Option<Subject>, NoMemory>
+/// The subject of a text, if it is one. It shares the text.
+fn subject_of(text: &Bytes) -> Result<Option<Subject>, NoMemory>
     ensures { IfOk result (λ subject. subject ≡ subject_if text.now) }
 {
-    match Subject::parse(alloc, text) {
+    match Subject::from_bytes(text.clone()?) {
         Ok(subject) => Ok(Some(subject)),
         Err(error) => {
             if error.is_no_memory() {
@@ -59,15 +59,12 @@ fn pattern_of(alloc: Global, text: &[u8]) -> Result<Option<Pattern>, NoMemory>
 }
 
 /// The subject to answer on: none where a message names none, and where it names no subject there is no answer.
-fn reply_subject_of(
-    alloc: Global,
-    text: &Option<Bytes>,
-) -> Result<Option<Option<Subject>>, NoMemory>
+fn reply_subject_of(text: &Option<Bytes>) -> Result<Option<Option<Subject>>, NoMemory>
     ensures { IfOk result (λ reply. reply ≡ reply_subject_if text.now) }
 {
     match text {
         None => Ok(Some(None)),
-        Some(text) => match subject_of(alloc, text.as_slice())? {
+        Some(text) => match subject_of(text)? {
             None => Ok(None),
             Some(subject) => Ok(Some(Some(subject))),
         },
@@ -89,16 +86,6 @@ fn own_text(alloc: Global, text: &Bytes) -> Result<SharedText, NoMemory>
     Ok(own)
 }
 
-/// The same of a text that may be there.
-fn own_text_if(alloc: Global, text: &Option<Bytes>) -> Result<Option<SharedText>, NoMemory>
-    ensures { IfOk result (λ own. own ≡ text.now) }
-{
-    match text {
-        None => Ok(None),
-        Some(text) => Ok(Some(own_text(alloc, text)?)),
-    }
-}
-
 /// A CONNECT of a client that has not shown who it is.
 fn plan_connect(alloc: Global, conn: u64, text: &[u8]) -> Result<Plan, NoMemory>
     ensures { IfOk result (λ plan. plan ≡ connect_plan conn (opts_of text.now)) }
@@ -114,8 +101,8 @@ fn plan_connect(alloc: Global, conn: u64, text: &[u8]) -> Result<Plan, NoMemory>
             } = opts;
             let command = Command::Connect {
                 conn,
-                user: own_text_if(alloc, &user)?,
-                password: own_text(alloc, &password)?,
+                user,
+                password,
                 echo,
             };
             Ok(Plan::Asks(command, Stage::Connected { verbose, headers }))
@@ -138,9 +125,9 @@ fn plan_publish(
 ) -> Result<Plan, NoMemory>
     ensures { IfOk result (λ plan. plan ≡ publish_plan stage subject.now reply.now head payload.now) }
 {
-    match subject_of(alloc, subject.as_slice())? {
+    match subject_of(subject)? {
         None => Ok(plan_of_error(ServerError::InvalidSubject, stage)),
-        Some(subject) => match reply_subject_of(alloc, reply)? {
+        Some(subject) => match reply_subject_of(reply)? {
             None => Ok(plan_of_error(ServerError::InvalidSubject, stage)),
             Some(reply) => {
                 let message = Message::new(subject, reply, head, payload.clone()?);

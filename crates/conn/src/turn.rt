@@ -5,7 +5,6 @@ ghost use Rattle.conn.specs.Turns.{turned, turn_after, line_of, outcome_of, IsWo
 ghost use Rattle.conn.specs.Replies.{room_of};
 ghost use Rattle.conn.specs.Serving.{spot, served, Serves};
 
-use crate::frames::Frames;
 use crate::output::Stall;
 use crate::plan::{Plan, plan_of};
 use crate::reply::{Reply, reply_to_outcome, reply_to_refusal, room_of};
@@ -14,6 +13,7 @@ use crate::submit::submit;
 use crate::text::put_text;
 use crate::words::Words;
 use events::{Answer, Command, Event, HubRefusal, Port};
+use pending::Frames;
 use std::alloc::Global;
 use wire_read::Frame;
 
@@ -120,6 +120,22 @@ pub struct Served {
     pub stall: Option<Stall>,
 }
 
+impl Served {
+    ghost use Rattle.std.specs.Prelude.{◌≡◌};
+
+    /// Turns that write this, leave the connection at this stage, and the next frame with this word.
+    fn new(bytes: Vec<u8>, stage: Stage, word: Option<u64>, stall: Option<Stall>) -> Served
+        ensures { result ≡ record { bytes = bytes; stage = stage; word = word; stall = stall } }
+    {
+        Served {
+            bytes,
+            stage,
+            word,
+            stall,
+        }
+    }
+}
+
 /// Frames in order, until one stalls or closes the connection. What stalls is left, with the frames behind it;
 /// after a closing text the rest is dropped.
 pub fn serve<P: Port, W: Words>(
@@ -141,23 +157,13 @@ pub fn serve<P: Port, W: Words>(
     while let Some(frame) = frames.first() {
         if stage.is_closed() {
             frames.clear();
-            return Served {
-                bytes,
-                stage,
-                word,
-                stall: None,
-            };
+            return Served::new(bytes, stage, word, None);
         }
         match take_turn(
             alloc, conn, now, port, words, stage, word, frame, &mut bytes,
         ) {
             Turn::Stalls(stall, kept) => {
-                return Served {
-                    bytes,
-                    stage,
-                    word: kept,
-                    stall: Some(stall),
-                };
+                return Served::new(bytes, stage, kept, Some(stall));
             }
             Turn::Goes(reply) => {
                 put_text(&mut bytes, reply.text);
@@ -167,10 +173,5 @@ pub fn serve<P: Port, W: Words>(
         }
         frames.drop_first();
     }
-    Served {
-        bytes,
-        stage,
-        word,
-        stall: None,
-    }
+    Served::new(bytes, stage, word, None)
 }

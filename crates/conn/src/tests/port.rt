@@ -1,7 +1,7 @@
 ghost use Rattle.std.specs.Prelude.{◌≡◌, ⊤};
 
 use crate::Words;
-use events::{Answer, Command, Delivery, Entry, Event, HubRefusal, Outcome, Port, Sid};
+use events::{Answer, Command, Delivery, Entry, Event, HubRefusal, Met, Outcome, Port, Sid};
 use lists::{Copying, Items, NoMemory, Shared};
 use permissions::By;
 use std::alloc::Global;
@@ -60,7 +60,10 @@ impl OneSession {
             Command::Connect { .. } => Ok(Outcome::Connected),
             Command::Sub { .. } => Ok(Outcome::Subscribed),
             Command::Unsub { .. } => Ok(Outcome::Unsubscribed),
-            Command::Pub { .. } => Ok(Outcome::Published(By::All, Items::new(self.alloc))),
+            Command::Pub { .. } => Ok(Outcome::Published(
+                By::All,
+                Met::from_vec(Vec::new(self.alloc)),
+            )),
             Command::Take { .. } => {
                 let mut taken = Vec::new(self.alloc);
                 for delivery in self.waiting.as_slice() {

@@ -5,7 +5,9 @@ use events::{Answer, Command, Event, HubRefusal};
 use hub::{Caps, Hub, Ready};
 use policy_doc::{Accounts, Policy, PolicyDoc};
 use std::alloc::Global;
+use std::hash::RandomState;
 use std::process::Abort;
+use std::random::RandomSource;
 use std::test::Fail;
 
 /// What a test does with a connection, one after the other.
@@ -34,15 +36,16 @@ struct Talk {
 
 /// That the calls tell this: what they write, with a mark where the connection is closed and where the history is full.
 /// A call that memory lacked for is made again, so one growth that is refused changes nothing of what is told.
-pub(crate) fn assert_told<R: Abort + AllocGlobal>(
+pub(crate) fn assert_told<R: Abort + AllocGlobal + RandomSource>(
     rt: &R,
     history: usize,
     asks: &[Ask<'_>],
     want: &[u8],
 ) -> Result<(), Fail> {
-    let mut talk = match Talk::over(rt.alloc(), history) {
+    let keys = RandomState::new(rt)?;
+    let mut talk = match Talk::over(rt.alloc(), keys, history) {
         Some(talk) => talk,
-        None => Talk::over(rt.alloc(), history).ok_or("no hub is open")?,
+        None => Talk::over(rt.alloc(), keys, history).ok_or("no hub is open")?,
     };
     for ask in asks {
         talk.ask(*ask)?;
@@ -52,14 +55,14 @@ pub(crate) fn assert_told<R: Abort + AllocGlobal>(
 }
 
 impl Talk {
-    fn over(alloc: Global, history: usize) -> Option<Talk> {
+    fn over(alloc: Global, keys: RandomState, history: usize) -> Option<Talk> {
         let policy = Policy::builtin(alloc).ok()?;
         let ready = Ready::of(alloc, policy).ok()?;
         let caps = Caps {
             outbox: 16,
             history,
         };
-        let hub = Hub::new(alloc, ready, caps).ok()?;
+        let hub = Hub::new(alloc, ready, caps, keys).ok()?;
         let told = Vec::with_capacity(alloc, 512).ok()?;
         Some(Talk {
             alloc,

@@ -1,6 +1,6 @@
 -- one more delivery is written
 use Rattle.std.proofs.Common.{◌∙◌, ap}
-use Rattle.conn.specs.Owing.{Owed}
+use Rattle.pending.specs.Owing.{Owed}
 use Rattle.conn.proofs.Written.{written_more}
 use Rattle.conn.proofs.drain.write_front.Goals as goal
 

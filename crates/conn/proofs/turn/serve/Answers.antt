@@ -2,6 +2,7 @@
 use Rattle.std.proofs.Common.{◌≡◌, ◌∙◌, ◌++◌, None, Some, List, ℕ, drop, sym, subst, ap}
 use Rattle.wire_read.specs.declared.frame.Frame.{Frame}
 use Rattle.conn.specs.Replies.{told, text_line}
+use Rattle.conn.specs.declared.turn.Served.{Served}
 use Rattle.conn.specs.Serving.{spot, served, Serves}
 use Rattle.conn.proofs.Runs.{Completes, completes_goes, completes_stalls, completes_closed, completes_end}
 use Rattle.conn.proofs.turn.serve.Goals as goal
@@ -10,22 +11,26 @@ pub returns-then-is_closed-clause-served : goal.returns-then-is_closed-clause-se
 returns-then-is_closed-clause-served g c =
     let start = spot c.args.port.now c.args.words.now c.args.stage c.args.word in
     let at = spot c.loop-frame.port c.loop-frame.words c.loop-frame.stage c.loop-frame.word in
-    subst (λ (x : List Frame). Serves g.P.Port.steps g.W.Words.draws c.args.now c.args.conn c.args.frames.now start (served c.loop-frame.bytes.items x None at))
+    subst (λ (s : Served). Serves g.P.Port.steps g.W.Words.draws c.args.now c.args.conn c.args.frames.now start (served s.bytes.items c.clear.new.self s.stall (spot c.loop-frame.port c.loop-frame.words s.stage s.word)))
+    (sym c.new.ensures)
+    (subst (λ (x : List Frame). Serves g.P.Port.steps g.W.Words.draws c.args.now c.args.conn c.args.frames.now start (served c.loop-frame.bytes.items x None at))
     (sym c.clear.ensures)
     (completes_closed g.P.Port.steps g.W.Words.draws c.args.now c.args.conn c.args.frames.now start c.loop-frame.bytes.items at
     c.loop-frame.frames c.in-Some.frame.now (drop 1 c.loop-frame.frames) c.in-Some.ensures c.loop-frame.invariant.turns
-    (sym c.is_closed.ensures ∙ c.if-is_closed.true))
+    (sym c.is_closed.ensures ∙ c.if-is_closed.true)))
 
 pub returns-in-Stalls-clause-served : goal.returns-in-Stalls-clause-served
 returns-in-Stalls-clause-served g c =
     let start = spot c.args.port.now c.args.words.now c.args.stage c.args.word in
     let at = spot c.loop-frame.port c.loop-frame.words c.loop-frame.stage c.loop-frame.word in
     let after = spot c.take_turn.new.port c.take_turn.new.words c.loop-frame.stage c.in-Stalls.kept in
-    subst (λ (x : List ℕ). Serves g.P.Port.steps g.W.Words.draws c.args.now c.args.conn c.args.frames.now start (served x c.loop-frame.frames (Some c.in-Stalls.stall) after))
+    subst (λ (s : Served). Serves g.P.Port.steps g.W.Words.draws c.args.now c.args.conn c.args.frames.now start (served s.bytes.items c.loop-frame.frames s.stall (spot c.take_turn.new.port c.take_turn.new.words s.stage s.word)))
+    (sym c.new-in-Stalls.ensures)
+    (subst (λ (x : List ℕ). Serves g.P.Port.steps g.W.Words.draws c.args.now c.args.conn c.args.frames.now start (served x c.loop-frame.frames (Some c.in-Stalls.stall) after))
     (sym {A = List ℕ} c.take_turn.ensures.out)
     (completes_stalls g.P.Port.steps g.W.Words.draws c.args.now c.args.conn c.args.frames.now start c.loop-frame.bytes.items at
     c.loop-frame.frames c.in-Some.frame.now (drop 1 c.loop-frame.frames) c.in-Stalls.stall c.in-Stalls.kept c.take_turn.new.port c.take_turn.new.words
-    c.in-Some.ensures c.loop-frame.invariant.turns (sym c.is_closed.ensures ∙ c.if-is_closed.false) c.in-Stalls.ensures.turn)
+    c.in-Some.ensures c.loop-frame.invariant.turns (sym c.is_closed.ensures ∙ c.if-is_closed.false) c.in-Stalls.ensures.turn))
 
 pub loop-frame-preserved : goal.loop-frame-preserved
 loop-frame-preserved g c =
@@ -47,5 +52,7 @@ pub returns-clause-served : goal.returns-clause-served
 returns-clause-served g c =
     let start = spot c.args.port.now c.args.words.now c.args.stage c.args.word in
     let at = spot c.loop-frame.port c.loop-frame.words c.loop-frame.stage c.loop-frame.word in
-    completes_end g.P.Port.steps g.W.Words.draws c.args.now c.args.conn c.args.frames.now start c.loop-frame.bytes.items at
-    c.loop-frame.frames c.in_default.ensures c.loop-frame.invariant.turns
+    subst (λ (s : Served). Serves g.P.Port.steps g.W.Words.draws c.args.now c.args.conn c.args.frames.now start (served s.bytes.items c.loop-frame.frames s.stall (spot c.loop-frame.port c.loop-frame.words s.stage s.word)))
+    (sym c.new-2.ensures)
+    (completes_end g.P.Port.steps g.W.Words.draws c.args.now c.args.conn c.args.frames.now start c.loop-frame.bytes.items at
+    c.loop-frame.frames c.in_default.ensures c.loop-frame.invariant.turns)

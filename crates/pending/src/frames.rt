@@ -1,6 +1,6 @@
 // The frames that wait for their turn.
 ghost use Rattle.std.specs.Prelude.{◌≡◌, ◌++◌, ◌∷◌, [], drop, OnOk, OnErr, MatchOption};
-ghost use Rattle.conn.specs.Serving.{frames_after, reader_after};
+ghost use Rattle.pending.specs.Reading.{frames_after, reader_after};
 
 use lists::NoMemory;
 use std::alloc::Global;

@@ -1,6 +1,6 @@
 // What a Take gave and is not written yet.
 ghost use Rattle.std.specs.Prelude.{◌≡◌};
-ghost use Rattle.conn.specs.Owing.{deliveries_of, missed_in};
+ghost use Rattle.pending.specs.Owing.{deliveries_of, missed_in};
 
 use events::{Answer, Delivery, Outcome};
 use std::marker::Model;
@@ -17,7 +17,7 @@ pub struct Owed {
 
 impl Model for Owed {
     ghost use Rattle.std.specs.Prelude.{drop};
-    ghost use Rattle.conn.specs.Owing.{Owed, deliveries_of};
+    ghost use Rattle.pending.specs.Owing.{Owed, deliveries_of};
 
     ghost Value = { Owed };
 
@@ -26,7 +26,7 @@ impl Model for Owed {
 
 impl Owed {
     ghost use Rattle.std.specs.Prelude.{◌≡◌, ◌∷◌, [], drop, MatchOption};
-    ghost use Rattle.conn.specs.Owing.{owing_nothing, owed_by};
+    ghost use Rattle.pending.specs.Owing.{owing_nothing, owed_by};
 
     /// Nothing.
     pub fn new() -> Owed

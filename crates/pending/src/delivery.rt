@@ -1,6 +1,6 @@
 // The text of a delivery.
 ghost use Rattle.std.specs.Prelude.{◌≡◌, ◌++◌, OnOk, OnErr, option_copied};
-ghost use Rattle.conn.specs.Drains.{delivery_text, reply_subject_text};
+ghost use Rattle.pending.specs.Texts.{delivery_text, reply_subject_text};
 
 use events::{Delivery, Message};
 use lists::NoMemory;

@@ -1,0 +1,10 @@
+//! What waits at a connection: frames for their turn, and deliveries for their texts.
+#![tactic(auto)]
+
+mod delivery;
+mod frames;
+mod owed;
+
+pub use delivery::write_delivery;
+pub use frames::Frames;
+pub use owed::Owed;
