@@ -8,8 +8,8 @@ use Rattle.script.specs.declared.fault.PlayFault.{PlayFault}
 use Rattle.script.specs.declared.fault.PlayFault.TheVariants.{ScriptTooLong}
 use Rattle.natsd.specs.Tasks.{done_by, input_of, IsLongScript, IsShortScript}
 use Rattle.natsd.specs.Words.{kinds_of, name_in, IsReading}
-use Rattle.natsd.specs.declared.status.UnreadWords.{UnreadWords}
-use Rattle.natsd.specs.declared.status.UnreadWords.TheVariants as unread
+use Rattle.natsd.specs.declared.status.StartFault.{StartFault}
+use Rattle.natsd.specs.declared.status.StartFault.TheVariants as start
 use Rattle.natsd.specs.declared.words.Task.{Task}
 use Rattle.natsd.specs.declared.words.WordsFault.{WordsFault}
 use Rattle.natsd.specs.declared.words.WordsFault.TheVariants.{WrongLine, NoMemory}
@@ -79,12 +79,13 @@ abbrev pub IsWordsRun : List (List ℕ) → Reads → Writes → Writes → ℕ 
 IsWordsRun words source sink errors status =
     (read : Result Task WordsFault) × IsReading (kinds_of words) (name_in words) read × IsReadingRun read source sink errors status
 
--- the words could not be had
-abbrev pub IsUnreadRun : UnreadWords → Writes → Writes → ℕ → Type 0
-IsUnreadRun unread.NotUtf8 sink errors status =
+-- the program could not start
+abbrev pub IsFailedStart : StartFault → Writes → Writes → ℕ → Type 0
+IsFailedStart start.NotUtf8 sink errors status =
     IsUnwritten sink × IsMistake 2 (codes "error: a word of the command line isn't UTF-8\n") errors status
-IsUnreadRun unread.NoMemory sink errors status = IsUnwritten sink × IsMistake 1 (codes "no memory\n") errors status
+IsFailedStart start.NoMemory sink errors status = IsUnwritten sink × IsMistake 1 (codes "no memory\n") errors status
+IsFailedStart start.NoKeys sink errors status = IsUnwritten sink × IsMistake 1 (codes "no random keys\n") errors status
 
-abbrev pub IsRun : {W : Type 0} → (W → List (List ℕ)) → Result W UnreadWords → Reads → Writes → Writes → ℕ → Type 0
-IsRun texts (Ok words) source sink errors status = IsWordsRun (texts words) source sink errors status
-IsRun texts (Err fault) source sink errors status = IsUnreadRun fault sink errors status
+abbrev pub IsRun : {S : Type 0} → (S → List (List ℕ)) → Result S StartFault → Reads → Writes → Writes → ℕ → Type 0
+IsRun words (Ok begun) source sink errors status = IsWordsRun (words begun) source sink errors status
+IsRun words (Err fault) source sink errors status = IsFailedStart fault sink errors status

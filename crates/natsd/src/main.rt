@@ -9,27 +9,38 @@ mod tests;
 mod words;
 
 use devices::{ReadSource, WriteSink};
-use status::{UnreadWords, run};
+use status::{Start, StartFault, run};
+use std::hash::RandomState;
 use std::process::ExitCode;
+use std::random::RandomSource;
 use std::rt::Env;
 use std::{env, io};
 
 fn main(rt: HostRuntime) -> ExitCode {
-    let words = words_of(&rt);
+    let start = start(&rt);
     let mut source = ReadSource::new(rt.reader());
     let mut sink = WriteSink::new(io::writer(&rt));
     let mut errors = WriteSink::new(rt.stderr());
-    let status = run(rt.alloc(), &words, &mut source, &mut sink, &mut errors);
+    let status = run(rt.alloc(), &start, &mut source, &mut sink, &mut errors);
     ExitCode::from(status)
 }
 
-/// The words of the command line, or why they could not be had.
-fn words_of<R: Env + AllocGlobal>(rt: &R) -> Result<Vec<String>, UnreadWords> {
+/// What the program is started with, or why it can't be had.
+fn start<R: Env + RandomSource + AllocGlobal>(rt: &R) -> Result<Start<String>, StartFault> {
+    let words = words_of(rt)?;
+    match RandomState::new(rt) {
+        Ok(keys) => Ok(Start { words, keys }),
+        Err(_) => Err(StartFault::NoKeys),
+    }
+}
+
+/// The words of the command line.
+fn words_of<R: Env + AllocGlobal>(rt: &R) -> Result<Vec<String>, StartFault> {
     match env::args(rt) {
         Ok(args) => match args.collect(rt.alloc()) {
             Ok(words) => Ok(words),
-            Err(_) => Err(UnreadWords::NoMemory),
+            Err(_) => Err(StartFault::NoMemory),
         },
-        Err(error) => Err(UnreadWords::of(error.kind())),
+        Err(error) => Err(StartFault::of_words(error.kind())),
     }
 }

@@ -12,30 +12,42 @@ use devices::{Sink, Source, write_all};
 use script::{PlayFault, play};
 use std::alloc::Global;
 use std::convert::AsStr;
+use std::hash::RandomState;
 use std::io;
 
-/// Why the words of the command line could not be had.
-#[derive(Clone, Copy, Debug, PartialEq, Eq)]
-pub enum UnreadWords {
-    /// A word isn't UTF-8.
-    NotUtf8,
-    /// Memory could not be had.
-    NoMemory,
+/// What the program is started with.
+#[derive(Drop)]
+pub struct Start<S> {
+    /// The words of the command line, the program's name first.
+    pub words: Vec<S>,
+    /// Keys that clients can't know, for the tables whose keys they choose.
+    pub keys: RandomState,
 }
 
-impl UnreadWords {
+/// Why the program can't start.
+#[derive(Clone, Copy, Debug, PartialEq, Eq)]
+pub enum StartFault {
+    /// A word of the command line isn't UTF-8.
+    NotUtf8,
+    /// Memory for the words could not be had.
+    NoMemory,
+    /// The system gave no random keys.
+    NoKeys,
+}
+
+impl StartFault {
     ghost use Rattle.std.specs.Prelude.{◌≡◌, ◌≢◌};
     ghost use Rattle.std.specs.declared.io.ErrorKind.TheVariants.{OutOfMemory};
 
     /// What an error of the system's says of the words.
-    pub fn of(kind: io::ErrorKind) -> UnreadWords
-        ensures memory { kind ≡ OutOfMemory → result ≡ UnreadWords.NoMemory }
-        ensures other { kind ≢ OutOfMemory → result ≡ UnreadWords.NotUtf8 }
+    pub fn of_words(kind: io::ErrorKind) -> StartFault
+        ensures memory { kind ≡ OutOfMemory → result ≡ StartFault.NoMemory }
+        ensures other { kind ≢ OutOfMemory → result ≡ StartFault.NotUtf8 }
     {
         if kind == io::ErrorKind::OutOfMemory {
-            return UnreadWords::NoMemory;
+            return StartFault::NoMemory;
         }
-        UnreadWords::NotUtf8
+        StartFault::NotUtf8
     }
 }
 
@@ -89,6 +101,7 @@ fn show<W: Sink>(text: &str, sink: &mut W) -> Result<u8, PlayFault>
 /// of what the task writes.
 pub fn run_task<R: Source, W: Sink>(
     alloc: Global,
+    keys: RandomState,
     task: &Task,
     source: &mut R,
     sink: &mut W,
@@ -104,7 +117,7 @@ pub fn run_task<R: Source, W: Sink>(
     ensures too_long { result ≡ Err PlayFault.ScriptTooLong → IsLongScript task.now (R.remaining source.old) (R.reads source.old) (R.reads source.new) }
 {
     match task {
-        Task::Play => play(alloc, source, sink),
+        Task::Play => play(alloc, keys, source, sink),
         Task::Check => match check(alloc, source, sink) {
             Ok(status) => Ok(status),
             Err(fault) => Err(PlayFault::from(fault)),
@@ -117,6 +130,7 @@ pub fn run_task<R: Source, W: Sink>(
 /// Does a task, and tells its fault.
 fn run_and_tell<R: Source, W: Sink, E: Sink>(
     alloc: Global,
+    keys: RandomState,
     task: &Task,
     source: &mut R,
     sink: &mut W,
@@ -127,7 +141,7 @@ fn run_and_tell<R: Source, W: Sink, E: Sink>(
         (writes (W.contents sink.old) (W.contents sink.new) (W.failed sink.old) (W.failed sink.new))
         (writes (E.contents errors.old) (E.contents errors.new) (E.failed errors.old) (E.failed errors.new)) result }
 {
-    match run_task(alloc, task, source, sink) {
+    match run_task(alloc, keys, task, source, sink) {
         Ok(status) => status,
         Err(fault) => tell_fault(errors, fault),
     }
@@ -136,6 +150,7 @@ fn run_and_tell<R: Source, W: Sink, E: Sink>(
 /// Does what words ask for, and answers the status.
 fn run_words<S: AsStr, R: Source, W: Sink, E: Sink>(
     alloc: Global,
+    keys: RandomState,
     words: &[S],
     source: &mut R,
     sink: &mut W,
@@ -147,7 +162,7 @@ fn run_words<S: AsStr, R: Source, W: Sink, E: Sink>(
         (writes (E.contents errors.old) (E.contents errors.new) (E.failed errors.old) (E.failed errors.new)) result }
 {
     match read_words(alloc, words) {
-        Ok(task) => run_and_tell(alloc, &task, source, sink, errors),
+        Ok(task) => run_and_tell(alloc, keys, &task, source, sink, errors),
         Err(fault) => match fault {
             WordsFault::WrongLine(text) => tell(errors, text.as_str().as_bytes(), 2),
             WordsFault::NoMemory => tell(errors, b"no memory\n", 1),
@@ -158,29 +173,37 @@ fn run_words<S: AsStr, R: Source, W: Sink, E: Sink>(
 /// The program: does what the words of its command line ask for, and answers its status.
 ///
 /// The status is the task's, 0 or 1, with nothing on the error sink. A fault of the task has status 1, and so has want
-/// of memory for the words; a wrong line, or a word that isn't UTF-8, has status 2. Each is told on the error sink, as
-/// far as that can be written.
+/// of memory for the words or of random keys; a wrong line, or a word that isn't UTF-8, has status 2. Each is told on
+/// the error sink, as far as that can be written.
 pub fn run<S: AsStr, R: Source, W: Sink, E: Sink>(
     alloc: Global,
-    words: &Result<Vec<S>, UnreadWords>,
+    start: &Result<Start<S>, StartFault>,
     source: &mut R,
     sink: &mut W,
     errors: &mut E,
 ) -> u8
-    ensures { IsRun (λ all. map S.text all.items) words.now
+    ensures { IsRun (λ begun. map S.text begun.words.items) start.now
         (reads (R.remaining source.old) (R.reads source.old) (R.reads source.new) (R.failed source.old) (R.failed source.new))
         (writes (W.contents sink.old) (W.contents sink.new) (W.failed sink.old) (W.failed sink.new))
         (writes (E.contents errors.old) (E.contents errors.new) (E.failed errors.old) (E.failed errors.new)) result }
 {
-    match words {
-        Ok(words) => run_words(alloc, words.as_slice(), source, sink, errors),
+    match start {
+        Ok(start) => run_words(
+            alloc,
+            start.keys,
+            start.words.as_slice(),
+            source,
+            sink,
+            errors,
+        ),
         Err(fault) => match fault {
-            UnreadWords::NotUtf8 => tell(
+            StartFault::NotUtf8 => tell(
                 errors,
                 b"error: a word of the command line isn't UTF-8\n",
                 2,
             ),
-            UnreadWords::NoMemory => tell(errors, b"no memory\n", 1),
+            StartFault::NoMemory => tell(errors, b"no memory\n", 1),
+            StartFault::NoKeys => tell(errors, b"no random keys\n", 1),
         },
     }
 }

@@ -1,4 +1,3 @@
-pub mod Numbers
 pub mod Answering
 pub mod Turning
 pub mod Calls

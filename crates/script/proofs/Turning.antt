@@ -1,10 +1,9 @@
 -- The turns of frames over a hub, where memory is enough.
 use Rattle.std.proofs.Common.{◌≡◌, ◌∙◌, ◌∷◌, [], ℕ, List, Bool, true, false, Option, Some, None, Result, Ok, Err, inl, inr, cond, ap, sym, refl}
 use Rattle.wire_read.specs.declared.frame.Frame.{Frame}
-use Rattle.hub.specs.History.{State, IsStep}
+use Rattle.hub.specs.History.{State}
 use Rattle.events.specs.declared.event.Event.{Event}
 use Rattle.events.specs.declared.event.Command.TheVariants as command
-use Rattle.events.specs.declared.answer.Entry.{Entry}
 use Rattle.events.specs.declared.answer.Outcome.{Outcome}
 use Rattle.events.specs.declared.refusal.HubRefusal.{HubRefusal}
 use Rattle.events.specs.declared.refusal.HubRefusal.TheVariants as refusal

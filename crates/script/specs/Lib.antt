@@ -1,6 +1,3 @@
-pub mod Escapes
-pub mod Script
-pub mod Output
 pub mod Fault
 pub mod Server
 pub mod Session

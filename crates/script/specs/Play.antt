@@ -8,23 +8,25 @@ use Rattle.wire_write.specs.Texts.{info_line}
 use Rattle.connect_opts.specs.Info.{info_text}
 use Rattle.world.specs.Shown.{waiting_of}
 use Rattle.hub.specs.declared.hub.Caps.{Caps}
+use Rattle.events.specs.declared.answer.Entry.{Entry}
 use Rattle.conn.specs.declared.output.Stall.{Stall}
 use Rattle.conn.specs.Calls.{new_connection}
 use Rattle.conn.specs.Replies.{is_closed, is_connected}
-use Rattle.script.specs.Server.{Serving, opening, with_policy, with_caps}
+use Rattle.script.specs.Server.{Serving, opening, with_policy, with_caps, installed}
 use Rattle.script.specs.Session.{Call, bytes_call, drain_call, end_call}
 use Rattle.reload.specs.Reload.{prepared}
 use Rattle.reload.specs.Fault.{fault_line}
 use Rattle.reload.specs.declared.fault.ReloadFault.{ReloadFault}
-use Rattle.script.specs.Script.{line_of, part_after}
-use Rattle.script.specs.Output.{shown_line, closed_line, refused_line, full_line}
+use Rattle.script_text.specs.Lines.{line_of, part_after}
+use Rattle.script_text.specs.Output.{shown_line, closed_line, refused_line, full_line}
+use Rattle.script_text.specs.Reloads.{reload_text}
 use Rattle.script.specs.declared.client.Client.{Client}
-use Rattle.script.specs.declared.lines.Line.{Line}
-use Rattle.script.specs.declared.lines.Line.TheVariants as line
-use Rattle.script.specs.declared.lines.ClientLine.{ClientLine}
-use Rattle.script.specs.declared.lines.ClientLine.TheVariants.{Sends, Holds, Frees, Ends}
-use Rattle.script.specs.declared.lines.Part.{Part}
-use Rattle.script.specs.declared.lines.Part.TheVariants.{Head, Capped, Body}
+use Rattle.script_text.specs.declared.lines.Line.{Line}
+use Rattle.script_text.specs.declared.lines.Line.TheVariants as line
+use Rattle.script_text.specs.declared.lines.ClientLine.{ClientLine}
+use Rattle.script_text.specs.declared.lines.ClientLine.TheVariants.{Sends, Holds, Frees, Ends}
+use Rattle.script_text.specs.declared.lines.Part.{Part}
+use Rattle.script_text.specs.declared.lines.Part.TheVariants.{Head, Capped, Body}
 
 -- the line of what a connection was sent, if it was sent anything
 abbrev pub shown_if : ℕ → List ℕ → List ℕ
@@ -195,11 +197,22 @@ policy_line_effect number Head text w ks = policy_effect (prepared text) w ks
 policy_line_effect number Capped text w ks = policy_effect (prepared text) w ks
 policy_line_effect number Body text w ks = refused_effect number w ks
 
+-- a policy that comes into force: what the hub tells of it; where its history is full the script stops
+abbrev pub reload_told : Option Entry × Serving → List Client → Effect
+reload_told (Some entry, w) ks = effect (reload_text entry) ks w false
+reload_told (None, w) ks = effect full_line ks w true
+
+-- a text that is no policy prints the line of its fault, and changes nothing
+abbrev pub reload_effect : Result PolicyDoc ReloadFault → Serving → List Client → Effect
+reload_effect (Ok doc) w ks = reload_told (installed doc w) ks
+reload_effect (Err fault) w ks = effect (fault_line fault ++ codes "\n") ks w false
+
 -- what a line itself does
 abbrev pub line_effect : ℕ → Part → Line → Serving → List Client → Effect
 line_effect number part line.Skip w ks = effect [] ks w false
 line_effect number part (line.Caps outbox history) w ks = caps_effect number part (record { outbox = outbox; history = history }) w ks
 line_effect number part (line.Policy text) w ks = policy_line_effect number part text w ks
+line_effect number part (line.Reload text) w ks = reload_effect (prepared text) w ks
 line_effect number part (line.Open conn) w ks =
     if is_open ks conn then refused_effect number w ks
     else effect (shown_line conn (info_line (info_text conn))) (with_client (new_client conn) ks) w false

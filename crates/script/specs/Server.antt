@@ -1,13 +1,15 @@
 -- The server of a script: its hub, the moment of its events and the words that they take (docs/SCRIPT.md, "Lines").
-use Rattle.std.specs.Prelude.{◌≡◌, ◌∷◌, ℕ, List, [], Result, Ok, Err}
+use Rattle.std.specs.Prelude.{◌≡◌, ◌∷◌, ℕ, List, [], Option, Some, None, Result, Ok, Err}
 use Rattle.policy_doc.specs.declared.document.PolicyDoc.{PolicyDoc}
 use Rattle.policy_doc.specs.Document.{builtin_doc}
 use Rattle.hub.specs.History.{State, opening_state, stepped}
 use Rattle.hub.specs.declared.hub.Caps.{Caps}
 use Rattle.events.specs.declared.event.Event.{Event}
+use Rattle.events.specs.declared.event.Command.TheVariants.{Reload}
 use Rattle.events.specs.declared.answer.Entry.{Entry}
 use Rattle.events.specs.declared.answer.Outcome.{Outcome}
 use Rattle.events.specs.declared.refusal.HubRefusal.{HubRefusal}
+use Rattle.conn.specs.Turns.{event}
 
 -- the hub, what it was given at its opening, the moment of the next event, and the words that messages still take
 pub record Serving : Type 0 where
@@ -41,6 +43,15 @@ by_step s (Err e) = (Err e, s)
 
 unfoldable pub heard : State → Event → Result Outcome HubRefusal × State
 heard s e = by_step s (stepped s e)
+
+-- A policy comes into force, by one event at the script's moment: the event's entry, and the server after it. The one
+-- thing that refuses it is a history that is full; there is no entry then, and the server is as it was.
+abbrev pub installed_by : Serving → Result (Entry × State) HubRefusal → Option Entry × Serving
+installed_by w (Ok r) = (Some r.0, record w { hub = r.1 })
+installed_by w (Err full) = (None, w)
+
+unfoldable pub installed : PolicyDoc → Serving → Option Entry × Serving
+installed policy w = installed_by w (stepped w.hub (event w.moment (Reload policy)))
 
 -- the first of the words, 0 where none is left, and the words behind it
 abbrev pub first_word : List ℕ → ℕ

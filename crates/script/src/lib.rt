@@ -2,11 +2,9 @@
 #![tactic(auto)]
 
 mod client;
-mod escapes;
 mod fault;
-mod lines;
-mod output;
 mod player;
+mod policies;
 mod server;
 #[cfg(test)]
 mod tests;

@@ -3,24 +3,23 @@ ghost use Rattle.std.specs.Prelude.{◌≡◌, ◌≤◌, List, IfOk, OnOk, nat_
 ghost use Rattle.std.specs.List.{position_or_len};
 ghost use Rattle.std.specs.Io.KnownBytes.{Appends, IsAtEnd};
 ghost use Rattle.script.specs.declared.client.Client.{Client};
-ghost use Rattle.script.specs.declared.lines.Part.{Part};
-ghost use Rattle.reload.specs.Reload.{prepared};
-ghost use Rattle.script.specs.Play.{drained, done_in, is_open, with_client, caps_effect, policy_effect, policy_line_effect, line_effect, still_open, line_and_drains, IsEffect, output_of};
+ghost use Rattle.script_text.specs.declared.lines.Part.{Part};
+ghost use Rattle.script.specs.Play.{drained, done_in, is_open, with_client, caps_effect, line_effect, still_open, line_and_drains, IsEffect, output_of};
 ghost use Rattle.script.specs.Server.{Serving};
 ghost use Rattle.devices.specs.Device.{AppendsFront};
 ghost use Rattle.script.specs.Fault.{is_read_failed, is_write_failed, IsShort, IsTooLong};
 
 use crate::client::Client;
 use crate::fault::PlayFault;
-use crate::lines::{ClientLine, Line, Part, read_line};
-use crate::output::{write_fault, write_refused, write_shown};
+use crate::policies::{on_policy, on_reload};
 use crate::server::Server;
 use devices::{Sink, Source, read_within, write_all};
 use hub::Caps;
 use lists::{NoMemory, Pieces};
 use policy_doc::Policy;
-use reload::read_valid_policy;
+use script_text::{ClientLine, Line, Part, read_line, write_refused, write_shown};
 use std::alloc::Global;
+use std::hash::RandomState;
 
 /// Drains every connection, in ascending order.
 fn drain_all(
@@ -149,54 +148,6 @@ fn set_caps(
     }
 }
 
-/// A policy in the place of the built-in one, or the line of its fault.
-fn set_policy(
-    alloc: Global,
-    server: &mut Server,
-    text: &[u8],
-    out: &mut Vec<u8>,
-) -> Result<bool, NoMemory>
-    ensures { (clients : List Client) → IfOk result (λ stops. IsEffect (policy_effect (prepared text.now) server.old clients) out.old.items out.new.items clients server.new stops) }
-{
-    match read_valid_policy(alloc, text) {
-        Ok(policy) => {
-            server.set_policy(alloc, policy)?;
-            Ok(false)
-        }
-        Err(fault) => {
-            write_fault(alloc, out, &fault)?;
-            Ok(true)
-        }
-    }
-}
-
-/// A policy, which comes before all lines but caps.
-fn on_policy(
-    alloc: Global,
-    server: &mut Server,
-    number: u64,
-    part: Part,
-    text: &[u8],
-    out: &mut Vec<u8>,
-) -> Result<bool, NoMemory>
-    ensures { (clients : List Client) → IfOk result (λ stops. IsEffect (policy_line_effect number part text.now server.old clients) out.old.items out.new.items clients server.new stops) }
-{
-    match part {
-        Part::Head => {
-            let stops = set_policy(alloc, server, text, out)?;
-            Ok(stops)
-        }
-        Part::Capped => {
-            let stops = set_policy(alloc, server, text, out)?;
-            Ok(stops)
-        }
-        Part::Body => {
-            write_refused(out, number)?;
-            Ok(true)
-        }
-    }
-}
-
 /// What a line itself does.
 fn on_line(
     alloc: Global,
@@ -221,6 +172,10 @@ fn on_line(
         }
         Line::Policy(text) => {
             let stops = on_policy(alloc, server, number, part, text.as_slice(), out)?;
+            Ok(stops)
+        }
+        Line::Reload(text) => {
+            let stops = on_reload(alloc, server, text.as_slice(), out)?;
             Ok(stops)
         }
         Line::Open(conn) => {
@@ -268,7 +223,12 @@ fn on_line_and_drain(
 }
 
 /// Plays the lines of a script.
-fn play_lines<W: Sink>(alloc: Global, script: &[u8], sink: &mut W) -> Result<u8, PlayFault>
+fn play_lines<W: Sink>(
+    alloc: Global,
+    keys: RandomState,
+    script: &[u8],
+    sink: &mut W,
+) -> Result<u8, PlayFault>
     requires { length script.now ≤ 16777216 }
     ensures meaning { IfOk result (λ status. Appends (W.contents sink.old) (W.contents sink.new) (output_of script.now).text
         × (status ≡ (output_of script.now).status)) }
@@ -278,7 +238,7 @@ fn play_lines<W: Sink>(alloc: Global, script: &[u8], sink: &mut W) -> Result<u8,
     ensures long { result ≢ Err PlayFault.ScriptTooLong }
 {
     let policy = Policy::builtin(alloc)?;
-    let mut server = Server::new(alloc, policy)?;
+    let mut server = Server::new(alloc, keys, policy)?;
     let mut clients = Vec::new(alloc);
     let mut lines = Pieces::of(script, b'\n');
     let mut number = 0u64;
@@ -317,7 +277,7 @@ const MOST_BYTES: usize = 16_777_216;
 const MOST_READS: usize = 1_000_000;
 
 /// Plays a script: reads the source to its end, and writes what the script prints to the sink, line by line
-/// (docs/SCRIPT.md). Answers the status, 0 or 1.
+/// (docs/SCRIPT.md). Answers the status, 0 or 1. What clients choose is hashed under the keys.
 ///
 /// `ReadFailed` and `WriteFailed` come where the device failed in this call, which the clauses tell of a device
 /// that had not failed before; `ScriptTooLong` where the script has more than 16,777,216 bytes, or 1,000,000 reads
@@ -325,6 +285,7 @@ const MOST_READS: usize = 1_000_000;
 /// front of what the script prints.
 pub fn play<R: Source, W: Sink>(
     alloc: Global,
+    keys: RandomState,
     source: &mut R,
     sink: &mut W,
 ) -> Result<u8, PlayFault>
@@ -342,7 +303,7 @@ pub fn play<R: Source, W: Sink>(
 {
     match read_within(alloc, source, MOST_BYTES, MOST_READS)? {
         Some(script) => {
-            let status = play_lines(alloc, script.as_slice(), sink)?;
+            let status = play_lines(alloc, keys, script.as_slice(), sink)?;
             Ok(status)
         }
         None => Err(PlayFault::ScriptTooLong),

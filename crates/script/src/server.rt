@@ -2,15 +2,16 @@
 ghost use Rattle.std.specs.Prelude.{◌≡◌, ◌≤◌, ◌++◌, ◌∷◌, [], false, IfOk, OnOk};
 ghost use Rattle.world.specs.Shown.{waiting_of};
 ghost use Rattle.conn.specs.Replies.{is_closed};
-ghost use Rattle.script.specs.Server.{opened, opening, with_policy, with_caps, IsNextWord};
+ghost use Rattle.script.specs.Server.{opened, opening, with_policy, with_caps, installed, IsNextWord};
 ghost use Rattle.script.specs.Session.{bytes_call, drain_call, end_call, is_memory_stall, IsCall};
 
-use hub::{Caps, Hub, Ready};
+use hub::{Answer, Caps, Command, Event, Hub, HubRefusal, Ready};
 use lists::NoMemory;
 use policy_doc::Policy;
 use session::{Conn, Direct, Output, Stall, Words};
 use std::alloc::Global;
 use std::collections::VecDeque;
+use std::hash::RandomState;
 use std::marker::Model;
 
 /// The words of a script, first to last. Where none is left the word is 0.
@@ -48,6 +49,7 @@ const USUAL: Caps = Caps {
 /// the hub was given at its opening.
 #[derive(Drop)]
 pub struct Server {
+    keys: RandomState,
     hub: Hub,
     caps: Caps,
     moment: u64,
@@ -66,12 +68,14 @@ impl Model for Server {
 }
 
 impl Server {
-    /// A server over a policy, with nobody connected. The moment is 0, and there are no words.
-    pub fn new(alloc: Global, policy: Policy) -> Result<Server, NoMemory>
+    /// A server over a policy, with nobody connected. The moment is 0, and there are no words. The tables of its hubs
+    /// are hashed under the keys.
+    pub fn new(alloc: Global, keys: RandomState, policy: Policy) -> Result<Server, NoMemory>
         ensures { IfOk result (λ server. server ≡ opening policy) }
     {
         Ok(Server {
-            hub: open_hub(alloc, policy, USUAL)?,
+            keys,
+            hub: open_hub(alloc, keys, policy, USUAL)?,
             caps: USUAL,
             moment: 0,
             words: ScriptWords {
@@ -84,7 +88,7 @@ impl Server {
     pub fn set_policy(&mut self, alloc: Global, policy: Policy) -> Result<(), NoMemory>
         ensures { OnOk result (self.new ≡ with_policy policy self.old) }
     {
-        self.hub = open_hub(alloc, policy, self.caps)?;
+        self.hub = open_hub(alloc, self.keys, policy, self.caps)?;
         Ok(())
     }
 
@@ -95,7 +99,7 @@ impl Server {
         ensures { OnOk result (self.new ≡ with_caps caps self.old) }
     {
         let policy = Policy::builtin(alloc)?;
-        self.hub = open_hub(alloc, policy, caps)?;
+        self.hub = open_hub(alloc, self.keys, policy, caps)?;
         self.caps = caps;
         Ok(())
     }
@@ -152,6 +156,23 @@ impl Server {
         Ok(output)
     }
 
+    /// A policy comes into force, by one event at the present moment. Answers the event's entry, and nothing where the
+    /// history is full.
+    #[tactic(auto, unfolding(crate::specs::Server::installed))]
+    pub fn install(&mut self, policy: Ready) -> Result<Option<Answer>, NoMemory>
+        ensures { IfOk result (λ answer. (answer, self.new) ≡ installed policy self.old) }
+    {
+        let event = Event {
+            now: self.moment,
+            what: Command::Reload(policy),
+        };
+        match self.hub.step(event) {
+            Ok(answer) => Ok(Some(answer)),
+            Err((_, HubRefusal::HistoryFull)) => Ok(None),
+            Err((_, _)) => Err(NoMemory),
+        }
+    }
+
     /// How many deliveries wait for the connection's session, and whether one was missed; `None` where it has none.
     pub fn waiting(&self, conn: u64) -> Option<(usize, bool)>
         ensures { result ≡ waiting_of self.now.hub.world conn }
@@ -161,13 +182,13 @@ impl Server {
 }
 
 /// A hub over a policy, with nobody connected.
-fn open_hub(alloc: Global, policy: Policy, caps: Caps) -> Result<Hub, NoMemory>
+fn open_hub(alloc: Global, keys: RandomState, policy: Policy, caps: Caps) -> Result<Hub, NoMemory>
     requires low { 1 ≤ caps.outbox }
     requires high { caps.outbox ≤ 65536 }
     ensures { IfOk result (λ hub. hub ≡ opened caps policy) }
 {
     match Ready::of(alloc, policy) {
-        Ok(ready) => match Hub::new(alloc, ready, caps) {
+        Ok(ready) => match Hub::new(alloc, ready, caps, keys) {
             Ok(hub) => Ok(hub),
             Err((_, refused)) => Err(refused),
         },

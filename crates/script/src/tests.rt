@@ -1,7 +1,9 @@
 use crate::{PlayFault, play};
 use devices::{FailAt, ReadSource, WriteSink};
+use std::hash::RandomState;
 use std::io;
 use std::io::Read;
+use std::test::Fail;
 
 const SCRIPT: &[u8] = br#"open 1
 send 1 CONNECT {"user":"demo","pass":"demo","verbose":false}\r\n
@@ -36,7 +38,8 @@ impl Read for Bytewise {
 }
 
 #[test]
-fn devices_that_fail(rt: HostRuntime) {
+fn devices_that_fail(rt: HostRuntime) -> Result<(), Fail> {
+    let keys = RandomState::new(&rt)?;
     for (read, write, answer, written) in [
         (9, 9, Ok(0), PRINTS.len()),
         (0, 9, Err(PlayFault::ReadFailed), 0),
@@ -47,31 +50,34 @@ fn devices_that_fail(rt: HostRuntime) {
         let mut printed = Vec::new(rt.alloc());
         let mut source = FailAt::new(ReadSource::new(SCRIPT), read);
         let mut sink = FailAt::new(WriteSink::new(&mut printed), write);
-        assert!(rt; play(rt.alloc(), &mut source, &mut sink) == answer);
+        assert!(rt; play(rt.alloc(), keys, &mut source, &mut sink) == answer);
         assert_eq!(rt; printed.as_slice(), &PRINTS[..written]);
     }
     // A sink that takes nothing more has failed.
     let mut room = [0; 9];
     let mut sink = WriteSink::new(&mut room[..]);
-    let answer = play(rt.alloc(), &mut ReadSource::new(SCRIPT), &mut sink);
+    let answer = play(rt.alloc(), keys, &mut ReadSource::new(SCRIPT), &mut sink);
     assert!(rt; answer == Err(PlayFault::WriteFailed));
     assert_eq!(rt; room.as_slice(), b"1< INFO {".as_slice());
+    Ok(())
 }
 
 #[test]
-fn scripts_that_are_too_long(rt: HostRuntime) {
+fn scripts_that_are_too_long(rt: HostRuntime) -> Result<(), Fail> {
+    let keys = RandomState::new(&rt)?;
     for (bytes, answer) in [
         (16_777_216, Ok(0)),
         (16_777_217, Err(PlayFault::ScriptTooLong)),
     ] {
         let mut source = ReadSource::new(io::repeat(b'#').take(bytes));
         let mut sink = WriteSink::new(Vec::new(rt.alloc()));
-        assert!(rt; play(rt.alloc(), &mut source, &mut sink) == answer);
+        assert!(rt; play(rt.alloc(), keys, &mut source, &mut sink) == answer);
     }
     // The read that finds the end is the 1,000,000th, or would be the next.
     for (left, answer) in [(999_999, Ok(0)), (1_000_000, Err(PlayFault::ScriptTooLong))] {
         let mut source = ReadSource::new(Bytewise { left });
         let mut sink = WriteSink::new(Vec::new(rt.alloc()));
-        assert!(rt; play(rt.alloc(), &mut source, &mut sink) == answer);
+        assert!(rt; play(rt.alloc(), keys, &mut source, &mut sink) == answer);
     }
+    Ok(())
 }

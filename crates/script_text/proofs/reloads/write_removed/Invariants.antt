@@ -1,0 +1,7 @@
+use Rattle.std.proofs.Common.{◌≡◌, ◌++◌, drop, flat_map}
+use Rattle.script_text.specs.Reloads.{removed_line}
+use Rattle.script_text.proofs.reloads.write_removed.Given as goal
+
+-- the lines so far, and those of what is left, are all lines
+abbrev pub invariant-loop-one : goal.invariant-loop-one
+invariant-loop-one l = l.out.items ++ flat_map removed_line (drop l.one-index l.removed) ≡ l.fn.out.items ++ flat_map removed_line l.removed

@@ -1,0 +1,11 @@
+//! The text of scripts: what each line of one says, and how what is printed is written (docs/SCRIPT.md).
+#![tactic(auto)]
+
+mod escapes;
+mod lines;
+mod output;
+mod reloads;
+
+pub use lines::{ClientLine, Line, Part, read_line};
+pub use output::{write_closed, write_full, write_refused, write_shown};
+pub use reloads::write_reload;
