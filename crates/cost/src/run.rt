@@ -1,0 +1,108 @@
+//! A run: what stands beside the publisher, and then its messages.
+use crate::fault::CostFault;
+use crate::scenario::Scenario;
+use crate::server::Server;
+use session::Conn;
+use std::alloc::Global;
+use std::hash::RandomState;
+
+/// How many messages a piece of the publisher's stream has. A Take has room for them all.
+const PIECE: u64 = 50;
+
+/// How many subscriptions one connection makes.
+const MOST: u64 = 4_000;
+
+/// Connections that subscribe to the subject of the messages.
+fn open_receivers(alloc: Global, server: &mut Server, count: u64) -> Result<Vec<Conn>, CostFault> {
+    let mut receivers = Vec::new(alloc);
+    for _ in 0..count {
+        let mut client = server.open()?;
+        server.feed(&mut client, b"SUB foo 1\r\n")?;
+        receivers.push(client)?;
+    }
+    Ok(receivers)
+}
+
+/// Subscriptions of one connection, each to a subject of its own.
+fn open_subscriber(
+    alloc: Global,
+    server: &mut Server,
+    first: u64,
+    end: u64,
+) -> Result<(), CostFault> {
+    let mut client = server.open()?;
+    for each in first..end {
+        let line = format!(in alloc; "SUB other.{each} {each}\r\n")?;
+        server.feed(&mut client, line.as_bytes())?;
+    }
+    Ok(())
+}
+
+/// What stands and has nothing to do with the messages.
+fn open_others(alloc: Global, server: &mut Server, scenario: Scenario) -> Result<(), CostFault> {
+    for _ in 0..scenario.sessions {
+        server.open()?;
+    }
+    for first in (0..scenario.subscriptions).step_by(4_000) {
+        open_subscriber(
+            alloc,
+            server,
+            first,
+            scenario.subscriptions.min(first.saturating_add(MOST)),
+        )?;
+    }
+    Ok(())
+}
+
+/// A piece of messages.
+fn piece(alloc: Global) -> Result<Vec<u8>, CostFault> {
+    let mut piece = Vec::new(alloc);
+    for _ in 0..PIECE {
+        piece.extend_from_slice(b"PUB foo 16\r\n0123456789abcdef\r\n")?;
+    }
+    Ok(piece)
+}
+
+/// Publishes pieces of messages, and drains the receivers after each.
+fn publish(
+    server: &mut Server,
+    receivers: &mut [Conn],
+    piece: &[u8],
+    pieces: u64,
+) -> Result<(), CostFault> {
+    let mut publisher = server.open()?;
+    for _ in 0..pieces {
+        server.feed(&mut publisher, piece)?;
+        drain_all(server, receivers)?;
+    }
+    Ok(())
+}
+
+/// A Take for each.
+fn drain_all(server: &mut Server, receivers: &mut [Conn]) -> Result<(), CostFault> {
+    for client in receivers.iter_mut() {
+        server.drain(client)?;
+    }
+    Ok(())
+}
+
+/// How many bytes the clients are sent where so many messages are published, in pieces of 50, of which the last is
+/// whole too.
+pub fn publish_in(
+    alloc: Global,
+    keys: RandomState,
+    scenario: Scenario,
+    messages: u64,
+) -> Result<u64, CostFault> {
+    let mut server = Server::new(alloc, keys, scenario.allows)?;
+    open_others(alloc, &mut server, scenario)?;
+    let mut receivers = open_receivers(alloc, &mut server, scenario.receivers)?;
+    let piece = piece(alloc)?;
+    publish(
+        &mut server,
+        receivers.as_mut_slice(),
+        piece.as_slice(),
+        messages / PIECE,
+    )?;
+    Ok(server.sent())
+}

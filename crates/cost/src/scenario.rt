@@ -1,0 +1,54 @@
+/// What stands beside the publisher when it begins.
+#[derive(Clone, Copy, Debug, PartialEq, Eq)]
+pub struct Scenario {
+    /// Connections that subscribe to the subject of the messages.
+    pub receivers: u64,
+    /// Connections that have a session and subscribe to nothing.
+    pub sessions: u64,
+    /// Subscriptions to subjects of their own.
+    pub subscriptions: u64,
+    /// Entries of the publisher's allow list, of which the last allows the messages; 0 where it has no list.
+    pub allows: u64,
+}
+
+/// One receiver, and nothing else.
+const TO_ONE: Scenario = Scenario {
+    receivers: 1,
+    sessions: 0,
+    subscriptions: 0,
+    allows: 0,
+};
+
+impl Scenario {
+    /// The scenario of a name.
+    pub fn named(name: &str) -> Option<Scenario> {
+        match name {
+            "nobody" => Some(Scenario {
+                receivers: 0,
+                ..TO_ONE
+            }),
+            "one" => Some(TO_ONE),
+            "eight" => Some(Scenario {
+                receivers: 8,
+                ..TO_ONE
+            }),
+            "sessions" => Some(Scenario {
+                sessions: 1_000,
+                ..TO_ONE
+            }),
+            "subscriptions" => Some(Scenario {
+                subscriptions: 1_000,
+                ..TO_ONE
+            }),
+            "more-subscriptions" => Some(Scenario {
+                subscriptions: 8_000,
+                ..TO_ONE
+            }),
+            "allows" => Some(Scenario {
+                allows: 1_000,
+                ..TO_ONE
+            }),
+            _ => None,
+        }
+    }
+}

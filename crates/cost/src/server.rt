@@ -1,0 +1,99 @@
+//! The server of a run: its hub, and what its clients are sent.
+use crate::fault::CostFault;
+use crate::policy::policy_of;
+use hub::{Caps, Hub};
+use session::{Conn, Direct, Output, Words};
+use std::alloc::Global;
+use std::hash::RandomState;
+
+/// How many deliveries a Take asks for.
+const TAKE: usize = 64;
+
+const CONNECT: &[u8] = b"CONNECT {\"user\":\"demo\",\"pass\":\"demo\",\"verbose\":false}\r\n";
+
+/// Words that nothing looks at.
+#[derive(Drop)]
+struct Zeros;
+
+impl Words for Zeros {
+    ghost use Rattle.std.specs.Prelude.{◌≡◌};
+
+    ghost draws = { λ _ word _. word ≡ 0 };
+
+    fn next(&mut self) -> u64 {
+        0
+    }
+}
+
+/// A hub, and how much its clients were sent.
+#[derive(Drop)]
+pub struct Server {
+    alloc: Global,
+    hub: Hub,
+    /// The number of the latest connection.
+    last: u64,
+    /// How many bytes were sent.
+    sent: u64,
+}
+
+impl Server {
+    ghost use Rattle.std.specs.Prelude.{◌≡◌, IfOk};
+
+    /// A server with nobody connected, whose only user may publish by so many allow entries, or everything at 0.
+    pub fn new(alloc: Global, keys: RandomState, allows: u64) -> Result<Server, CostFault>
+        ensures { IfOk result (λ server. server.sent ≡ 0) }
+    {
+        let caps = Caps {
+            outbox: 1024,
+            history: usize::MAX,
+        };
+        let ready = policy_of(alloc, allows)?;
+        let hub = Hub::new(alloc, ready, caps, keys)
+            .ok()
+            .ok_or(CostFault::NoMemory)?;
+        Ok(Server {
+            alloc,
+            hub,
+            last: 0,
+            sent: 0,
+        })
+    }
+
+    /// How many bytes were sent.
+    pub fn sent(&self) -> u64
+        ensures { result ≡ self.now.sent }
+    {
+        self.sent
+    }
+
+    /// A connection whose CONNECT was accepted.
+    pub fn open(&mut self) -> Result<Conn, CostFault> {
+        self.last = self.last.saturating_add(1);
+        let mut client = Conn::new(self.alloc, self.last);
+        self.feed(&mut client, CONNECT)?;
+        Ok(client)
+    }
+
+    /// Bytes of a client.
+    pub fn feed(&mut self, client: &mut Conn, bytes: &[u8]) -> Result<(), CostFault> {
+        let mut port = Direct::new(&mut self.hub);
+        let output = client.on_bytes(self.alloc, &mut port, bytes, 0, &mut Zeros);
+        self.note(&output)
+    }
+
+    /// A Take for a client.
+    pub fn drain(&mut self, client: &mut Conn) -> Result<(), CostFault> {
+        let mut port = Direct::new(&mut self.hub);
+        let output = client.drain(self.alloc, &mut port, TAKE, 0);
+        self.note(&output)
+    }
+
+    /// Counts what was sent, unless the call stopped the connection.
+    fn note(&mut self, output: &Output) -> Result<(), CostFault> {
+        if output.close || output.stall.is_some() {
+            return Err(CostFault::Stopped);
+        }
+        self.sent = self.sent.saturating_add(output.bytes.len() as u64);
+        Ok(())
+    }
+}
