@@ -19,16 +19,12 @@ use subjects::{Pattern, Subject};
 pub enum Ask {
     /// The connection, the user and the password.
     Connect(u64, &'static str, &'static str),
-    /// A Connect of no user.
-    ConnectNobody(u64),
     /// The connection, the subject and the sid.
     Sub(u64, &'static str, &'static str),
     /// The connection, the sid and the limit, if there is one.
     Unsub(u64, &'static str, Option<u64>),
-    /// The connection, the subject and the payload.
-    Pub(u64, &'static str, &'static str),
     /// The connection, the subject, the reply, the header block and the payload.
-    PubWhole(u64, &'static str, &'static str, &'static str, &'static str),
+    Pub(u64, &'static str, &'static str, &'static str, &'static str),
     /// The connection, and how many deliveries at most.
     Take(u64, usize),
     Close(u64),
@@ -43,11 +39,10 @@ pub enum Ask {
     History,
 }
 
-/// Asserts what a hub over the policy tells when it is asked so.
+/// Asserts what a hub over the built-in policy tells when it is asked so.
 pub(crate) fn tells<R: Abort + RandomSource>(
     rt: &R,
     alloc: Global,
-    given: Given,
     caps: Caps,
     asks: &[Ask],
     want: &str,
@@ -55,23 +50,17 @@ pub(crate) fn tells<R: Abort + RandomSource>(
     requires low { 1 ≤ caps.outbox }
     requires high { caps.outbox ≤ 65536 }
 {
-    let told = told(alloc, RandomState::new(rt)?, given, caps, asks)?;
+    let told = told(alloc, RandomState::new(rt)?, caps, asks)?;
     assert_eq!(rt; told.as_str(), want);
     Ok(())
 }
 
 /// What is told: the epoch, number and outcome of each answer, or the refusal; and what was looked at.
-fn told(
-    alloc: Global,
-    keys: RandomState,
-    given: Given,
-    caps: Caps,
-    asks: &[Ask],
-) -> Result<String, Fail>
+fn told(alloc: Global, keys: RandomState, caps: Caps, asks: &[Ask]) -> Result<String, Fail>
     requires low { 1 ≤ caps.outbox }
     requires high { caps.outbox ≤ 65536 }
 {
-    let mut talk = Talk::over(alloc, keys, given.ready(alloc)?, caps)?;
+    let mut talk = Talk::over(alloc, keys, Given::Builtin.ready(alloc)?, caps)?;
     for ask in asks {
         talk.ask(*ask)?;
     }
@@ -208,15 +197,12 @@ fn publish(
     alloc: Global,
     conn: u64,
     subject: &str,
-    reply: Option<&str>,
+    reply: &str,
     head: &str,
     body: &str,
 ) -> Result<Command, Fail> {
     let subject = Subject::parse(alloc, subject.as_bytes())?;
-    let reply = match reply {
-        Some(reply) => Some(Subject::parse(alloc, reply.as_bytes())?),
-        None => None,
-    };
+    let reply = Some(Subject::parse(alloc, reply.as_bytes())?);
     let message = Message::new(subject, reply, bytes(alloc, head)?, bytes(alloc, body)?);
     Ok(Command::Pub {
         conn,
@@ -229,21 +215,14 @@ fn publish(
 pub(crate) fn command(alloc: Global, ask: Ask) -> Result<Command, Fail> {
     match ask {
         Ask::Connect(conn, user, password) => connect(alloc, conn, user, password),
-        Ask::ConnectNobody(conn) => Ok(Command::Connect {
-            conn,
-            user: None,
-            password: shared(alloc, "demo")?,
-            echo: true,
-        }),
         Ask::Sub(conn, subject, sid) => subscribe(alloc, conn, subject, sid),
         Ask::Unsub(conn, sid, most) => Ok(Command::Unsub {
             conn,
             sid: shared(alloc, sid)?,
             most,
         }),
-        Ask::Pub(conn, subject, body) => publish(alloc, conn, subject, None, "", body),
-        Ask::PubWhole(conn, subject, reply, head, body) => {
-            publish(alloc, conn, subject, Some(reply), head, body)
+        Ask::Pub(conn, subject, reply, head, body) => {
+            publish(alloc, conn, subject, reply, head, body)
         }
         Ask::Take(conn, most) => Ok(Command::Take { conn, most }),
         Ask::Close(conn) => Ok(Command::Close { conn }),

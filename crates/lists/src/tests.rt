@@ -1,4 +1,4 @@
-use crate::{Copying, Items, NoMemory, Pieces};
+use crate::{Copying, Items, NoMemory};
 use std::alloc::Global;
 use std::test::Fail;
 
@@ -26,23 +26,4 @@ fn items_are_a_vector_in_order(rt: HostRuntime) -> Result<(), Fail> {
     assert!(rt; none.is_empty());
     assert!(rt; none.copy(rt.alloc())?.is_empty());
     Ok(())
-}
-
-#[test]
-fn want_of_memory_has_a_text(rt: HostRuntime) -> Result<(), Fail> {
-    let text = format!(in rt.alloc(); "{NoMemory}")?;
-    assert_eq!(rt; text.as_str(), "no memory");
-    Ok(())
-}
-
-#[test]
-fn pieces_of_a_text(rt: HostRuntime) {
-    let mut pieces = Pieces::of(b"a..b.", b'.');
-    assert_eq!(rt; pieces.next_piece(), Some(b"a".as_slice()));
-    assert_eq!(rt; pieces.again().next_piece(), Some(b"".as_slice()));
-    assert_eq!(rt; pieces.next_piece(), Some(b"".as_slice()));
-    assert_eq!(rt; pieces.next_piece(), Some(b"b".as_slice()));
-    assert_eq!(rt; pieces.next_piece(), Some(b"".as_slice()));
-    assert_eq!(rt; pieces.next_piece(), None);
-    assert_eq!(rt; pieces.next_piece(), None);
 }

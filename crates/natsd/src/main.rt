@@ -4,8 +4,6 @@
 mod check;
 mod fault;
 mod status;
-#[cfg(test)]
-mod tests;
 mod words;
 
 use devices::{ReadSource, WriteSink};

@@ -1,8 +1,6 @@
 use crate::{PlayFault, play};
 use devices::{FailAt, ReadSource, WriteSink};
 use std::hash::RandomState;
-use std::io;
-use std::io::Read;
 use std::test::Fail;
 
 const SCRIPT: &[u8] = br#"open 1
@@ -19,23 +17,6 @@ const PRINTS: &[u8] =
 1< PONG\r\n
 1< MSG foo 1 2\r\nhi\r\n
 "#;
-
-/// Bytes `#`, one a read, so many of them.
-#[derive(Drop)]
-struct Bytewise {
-    left: usize,
-}
-
-impl Read for Bytewise {
-    fn read(&mut self, buf: &mut [u8]) -> io::Result<usize> {
-        if self.left == 0 || buf.is_empty() {
-            return Ok(0);
-        }
-        buf[0] = b'#';
-        self.left -= 1;
-        Ok(1)
-    }
-}
 
 #[test]
 fn devices_that_fail(rt: HostRuntime) -> Result<(), Fail> {
@@ -59,25 +40,5 @@ fn devices_that_fail(rt: HostRuntime) -> Result<(), Fail> {
     let answer = play(rt.alloc(), keys, &mut ReadSource::new(SCRIPT), &mut sink);
     assert!(rt; answer == Err(PlayFault::WriteFailed));
     assert_eq!(rt; room.as_slice(), b"1< INFO {".as_slice());
-    Ok(())
-}
-
-#[test]
-fn scripts_that_are_too_long(rt: HostRuntime) -> Result<(), Fail> {
-    let keys = RandomState::new(&rt)?;
-    for (bytes, answer) in [
-        (16_777_216, Ok(0)),
-        (16_777_217, Err(PlayFault::ScriptTooLong)),
-    ] {
-        let mut source = ReadSource::new(io::repeat(b'#').take(bytes));
-        let mut sink = WriteSink::new(Vec::new(rt.alloc()));
-        assert!(rt; play(rt.alloc(), keys, &mut source, &mut sink) == answer);
-    }
-    // The read that finds the end is the 1,000,000th, or would be the next.
-    for (left, answer) in [(999_999, Ok(0)), (1_000_000, Err(PlayFault::ScriptTooLong))] {
-        let mut source = ReadSource::new(Bytewise { left });
-        let mut sink = WriteSink::new(Vec::new(rt.alloc()));
-        assert!(rt; play(rt.alloc(), keys, &mut source, &mut sink) == answer);
-    }
     Ok(())
 }

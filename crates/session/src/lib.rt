@@ -10,5 +10,3 @@ pub use direct::Direct;
 pub use events::Port;
 pub use laws::{any_calls, any_calls_direct};
 
-#[cfg(test)]
-mod tests;

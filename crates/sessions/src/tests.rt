@@ -83,16 +83,6 @@ fn in_words(alloc: Global, sessions: &Sessions) -> Result<String, Fail> {
     Ok(words)
 }
 
-/// Whether the oldest delivery that waits for a connection is for its subscription of that id.
-fn sid_in_front(sessions: &Sessions, conn: u64, sid: &[u8]) -> Result<bool, Fail> {
-    let session = sessions.find(conn).ok_or("no session")?;
-    let front = session.outbox.front(1)?;
-    match front.first() {
-        None => Ok(false),
-        Some(delivery) => Ok(delivery.sid.as_slice() == sid),
-    }
-}
-
 /// The items, as in `7 entered`.
 fn items_in_words(alloc: Global, items: &[Item]) -> Result<String, Fail> {
     let mut words = String::new(alloc);
@@ -125,25 +115,6 @@ fn a_plan_counts_the_room(rt: HostRuntime) -> Result<(), Fail> {
     sessions.hand_over_all(&mut all);
     let words = in_words(alloc, &sessions)?;
     assert_eq!(rt; words.as_str(), "7: 1, missed\n3: 2, missed\n5: 0\n");
-    Ok(())
-}
-
-#[test]
-fn sessions_come_and_go(rt: HostRuntime) -> Result<(), Fail> {
-    let alloc = rt.alloc();
-    let ready = ready(alloc, &[(b"a", b"a"), (b"b", b"b"), (b"c", b"c")])?;
-    let mut sessions = three(alloc, &ready)?;
-    sessions.hand_over(addressed(alloc, 3, b"1")?);
-    sessions.hand_over(addressed(alloc, 3, b"2")?);
-    sessions.hand_over(addressed(alloc, 3, b"3")?);
-    assert!(rt; sid_in_front(&sessions, 3, b"1")?);
-    sessions.drain(3, 1);
-    sessions.remove(7);
-    assert!(rt; sessions.find(7).is_none());
-    assert_eq!(rt; sessions.len(), 2);
-    sessions.known();
-    let words = in_words(alloc, &sessions)?;
-    assert_eq!(rt; words.as_str(), "3: 1\n5: 0\n");
     Ok(())
 }
 

@@ -53,36 +53,6 @@ fn reached(rt: &HostRuntime, tree: &Sublist, text: &str) -> Result<String, Fail>
 }
 
 #[test]
-fn a_subject_reaches_its_patterns_by_age(rt: HostRuntime) -> Result<(), Fail> {
-    let mut tree = Sublist::new(rt.alloc(), RandomState::new(&rt)?);
-    for (text, id) in [
-        (">", 9),
-        ("orders.*", 4),
-        ("orders.new", 7),
-        ("orders.>", 2),
-        ("orders.new", 1),
-        ("*.new", 8),
-        ("orders", 3),
-        ("orders.new.eu", 5),
-    ] {
-        assert_eq!(rt;
-            answer(&rt, &mut tree, Ask::Insert, text, id)?,
-            "added",
-            "{text}"
-        );
-    }
-    for (text, want) in [
-        ("orders.new", "[1, 2, 4, 7, 8, 9]"),
-        ("orders", "[3, 9]"),
-        ("orders.new.eu", "[2, 5, 9]"),
-        ("stock.new", "[8, 9]"),
-    ] {
-        assert_eq!(rt; reached(&rt, &tree, text)?.as_str(), want, "{text}");
-    }
-    Ok(())
-}
-
-#[test]
 fn a_pair_stands_once(rt: HostRuntime) -> Result<(), Fail> {
     let mut tree = Sublist::new(rt.alloc(), RandomState::new(&rt)?);
     for (ask, text, id, want) in [
