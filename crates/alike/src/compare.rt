@@ -1,7 +1,9 @@
-//! Whether two entries are equal. Each of these answers yes of equal values alone.
+//! Whether two entries are equal: each of these answers yes exactly where the values are.
 ghost use Rattle.std.specs.Prelude.{◌≡◌};
-ghost use Rattle.std.specs.Bool.{OnTrue};
+ghost use Rattle.std.specs.Bool.{Decides};
 ghost use Rattle.std.specs.Option.{option_copied};
+ghost use Rattle.events.specs.declared.answer.Outcome.TheVariants.{Published, Taken, Reloaded};
+ghost use Rattle.events.specs.declared.event.Command.TheVariants.{Connect, Sub, Unsub, Pub, Take, Close, Reload};
 
 use bytes::Bytes;
 use events::{Command, Delivery, Entry, Event, Item, Message, Met, Outcome, Removed};
@@ -13,9 +15,9 @@ use subjects::{Pattern, Subject};
 
 /// What can be compared with another of its kind.
 pub trait Alike {
-    /// Whether it is found equal to the other.
+    /// Whether it is equal to the other.
     fn is_like(&self, other: &Self) -> bool
-        ensures { OnTrue result (self.now ≡ other.now) };
+        ensures { Decides result (self.now ≡ other.now) };
 }
 
 impl Alike for u64 {
@@ -59,7 +61,7 @@ impl Alike for Met {
 
 /// Whether two lists have the same elements in the same order.
 fn are_alike<T: Alike>(all: &[T], others: &[T]) -> bool
-    ensures { OnTrue result (all.now ≡ others.now) }
+    ensures { Decides result (all.now ≡ others.now) }
 {
     if all.len() != others.len() {
         return false;
@@ -72,16 +74,15 @@ fn are_alike<T: Alike>(all: &[T], others: &[T]) -> bool
     true
 }
 
-#[tactic(auto, using(crate::proofs::Equal::same_bytes))]
 fn are_same_bytes(one: &[u8], other: &[u8]) -> bool
-    ensures { OnTrue result (one.now ≡ other.now) }
+    ensures { Decides result (one.now ≡ other.now) }
 {
     one == other
 }
 
 /// Whether two texts have the same pieces.
 fn are_same_pieces(mut some: Pieces, mut others: Pieces) -> bool
-    ensures { OnTrue result (some.entry ≡ others.entry) }
+    ensures { Decides result (some.entry ≡ others.entry) }
 {
     while let Some(piece) = some.next_piece() {
         match others.next_piece() {
@@ -122,7 +123,7 @@ impl Alike for Subject {
 
 /// Whether both are there and alike, or neither is there.
 fn are_alike_where_given(one: Option<&Subject>, other: Option<&Subject>) -> bool
-    ensures { OnTrue result (option_copied one.entry ≡ option_copied other.entry) }
+    ensures { Decides result (option_copied one.entry ≡ option_copied other.entry) }
 {
     match one {
         None => other.is_none(),
@@ -239,14 +240,8 @@ impl Alike for Outcome {
                 Outcome::Denied(two) => one.is_like(two),
                 _ => false,
             },
-            Outcome::Published(one, met) => match other {
-                Outcome::Published(two, found) => one.is_like(two) && met.is_like(found),
-                _ => false,
-            },
-            Outcome::Taken(one, missed) => match other {
-                Outcome::Taken(two, lost) => one.is_like(two) && *missed == *lost,
-                _ => false,
-            },
+            Outcome::Published(by, items) => is_published(other, *by, items),
+            Outcome::Taken(deliveries, missed) => is_taken(other, deliveries, *missed),
             Outcome::Unsubscribed => match other {
                 Outcome::Unsubscribed => true,
                 _ => false,
@@ -255,14 +250,38 @@ impl Alike for Outcome {
                 Outcome::Closed => true,
                 _ => false,
             },
-            Outcome::Reloaded { gone, removed } => match other {
-                Outcome::Reloaded {
-                    gone: left,
-                    removed: lost,
-                } => gone.is_like(left) && removed.is_like(lost),
-                _ => false,
-            },
+            Outcome::Reloaded { gone, removed } => is_reloaded(other, gone, removed),
         }
+    }
+}
+
+/// Whether a message was accepted by this rule, and met these subscriptions.
+fn is_published(outcome: &Outcome, rule: By, met: &Met) -> bool
+    ensures { Decides result (outcome.now ≡ Published rule met.now) }
+{
+    match outcome {
+        Outcome::Published(by, items) => by.is_like(&rule) && items.is_like(met),
+        _ => false,
+    }
+}
+
+/// Whether these deliveries left an outbox, and whether it had lost one.
+fn is_taken(outcome: &Outcome, left: &Items<Delivery>, lost: bool) -> bool
+    ensures { Decides result (outcome.now ≡ Taken left.now lost) }
+{
+    match outcome {
+        Outcome::Taken(deliveries, missed) => deliveries.is_like(left) && *missed == lost,
+        _ => false,
+    }
+}
+
+/// Whether a reload has closed these sessions and removed these subscriptions.
+fn is_reloaded(outcome: &Outcome, closed: &Items<u64>, lost: &Items<Removed>) -> bool
+    ensures { Decides result (outcome.now ≡ Reloaded closed.now lost.now) }
+{
+    match outcome {
+        Outcome::Reloaded { gone, removed } => gone.is_like(closed) && removed.is_like(lost),
+        _ => false,
     }
 }
 
@@ -274,64 +293,100 @@ impl Alike for Command {
                 user,
                 password,
                 echo,
-            } => match other {
-                Command::Connect {
-                    conn: number,
-                    user: name,
-                    password: word,
-                    echo: sound,
-                } => {
-                    *conn == *number
-                        && user.is_like(name)
-                        && password.is_like(word)
-                        && *echo == *sound
-                }
-                _ => false,
-            },
-            Command::Sub { conn, subject, sid } => match other {
-                Command::Sub {
-                    conn: number,
-                    subject: pattern,
-                    sid: name,
-                } => { *conn == *number && subject.is_like(pattern) && sid.is_like(name) }
-                _ => false,
-            },
-            Command::Unsub { conn, sid, most } => match other {
-                Command::Unsub {
-                    conn: number,
-                    sid: name,
-                    most: limit,
-                } => { *conn == *number && sid.is_like(name) && most.is_like(limit) }
-                _ => false,
-            },
+            } => is_connect(other, *conn, user, password, *echo),
+            Command::Sub { conn, subject, sid } => is_sub(other, *conn, subject, sid),
+            Command::Unsub { conn, sid, most } => is_unsub(other, *conn, sid, most),
             Command::Pub {
                 conn,
                 message,
                 word,
-            } => match other {
-                Command::Pub {
-                    conn: number,
-                    message: sent,
-                    word: drawn,
-                } => { *conn == *number && message.is_like(sent) && *word == *drawn }
-                _ => false,
-            },
-            Command::Take { conn, most } => match other {
-                Command::Take {
-                    conn: number,
-                    most: limit,
-                } => *conn == *number && *most == *limit,
-                _ => false,
-            },
-            Command::Close { conn } => match other {
-                Command::Close { conn: number } => *conn == *number,
-                _ => false,
-            },
-            Command::Reload(one) => match other {
-                Command::Reload(two) => one.is_like(two),
-                _ => false,
-            },
+            } => is_pub(other, *conn, message, *word),
+            Command::Take { conn, most } => is_take(other, *conn, *most),
+            Command::Close { conn } => is_close(other, *conn),
+            Command::Reload(ready) => is_reload(other, ready),
         }
+    }
+}
+
+fn is_connect(
+    command: &Command,
+    number: u64,
+    name: &Option<SharedText>,
+    word: &SharedText,
+    own: bool,
+) -> bool
+    ensures { Decides result (command.now ≡ Connect number name.now word.now own) }
+{
+    match command {
+        Command::Connect {
+            conn,
+            user,
+            password,
+            echo,
+        } => { *conn == number && user.is_like(name) && password.is_like(word) && *echo == own }
+        _ => false,
+    }
+}
+
+fn is_sub(command: &Command, number: u64, pattern: &Shared<Pattern>, id: &SharedText) -> bool
+    ensures { Decides result (command.now ≡ Sub number pattern.now id.now) }
+{
+    match command {
+        Command::Sub { conn, subject, sid } => {
+            *conn == number && subject.is_like(pattern) && sid.is_like(id)
+        }
+        _ => false,
+    }
+}
+
+fn is_unsub(command: &Command, number: u64, id: &SharedText, limit: &Option<u64>) -> bool
+    ensures { Decides result (command.now ≡ Unsub number id.now limit.now) }
+{
+    match command {
+        Command::Unsub { conn, sid, most } => {
+            *conn == number && sid.is_like(id) && most.is_like(limit)
+        }
+        _ => false,
+    }
+}
+
+fn is_pub(command: &Command, number: u64, sent: &Shared<Message>, drawn: u64) -> bool
+    ensures { Decides result (command.now ≡ Pub number sent.now drawn) }
+{
+    match command {
+        Command::Pub {
+            conn,
+            message,
+            word,
+        } => *conn == number && message.is_like(sent) && *word == drawn,
+        _ => false,
+    }
+}
+
+fn is_take(command: &Command, number: u64, limit: usize) -> bool
+    ensures { Decides result (command.now ≡ Take number limit) }
+{
+    match command {
+        Command::Take { conn, most } => *conn == number && *most == limit,
+        _ => false,
+    }
+}
+
+fn is_close(command: &Command, number: u64) -> bool
+    ensures { Decides result (command.now ≡ Close number) }
+{
+    match command {
+        Command::Close { conn } => *conn == number,
+        _ => false,
+    }
+}
+
+fn is_reload(command: &Command, policy: &Ready) -> bool
+    ensures { Decides result (command.now ≡ Reload policy.now) }
+{
+    match command {
+        Command::Reload(ready) => ready.is_like(policy),
+        _ => false,
     }
 }
 

@@ -1,4 +1,4 @@
-//! Whether two entries are found equal, and all that an entry has.
+//! Whether two entries are equal, and all that an entry has.
 #![tactic(auto)]
 
 mod compare;
