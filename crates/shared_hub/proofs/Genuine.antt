@@ -26,15 +26,17 @@ genuine-more history rs i r within good stands apart =
       once = all_pairs_push (λ (q s : Receipt). q.entry.number ≢ s.entry.number) (take i rs) x good.once apart;
     }
 
--- the one that isn't found
-pub mismatch-at : (history : List Entry) (rs : List Receipt) (i : ℕ) (r : Receipt) → i < length rs → AreGenuine history (take i rs) → IsMismatch history rs (get_or rs i r).entry.number
-mismatch-at history rs i r within good = record {
+-- the first that is out of place
+pub mismatch-at : (history : List Entry) (rs : List Receipt) (i : ℕ) (r : Receipt) → i < length rs → AreGenuine history (take i rs) → ¬ (Stands history (get_or rs i r) × HasNone (take i rs) (get_or rs i r).entry.number) →
+    IsMismatch history rs (get_or rs i r).entry.number
+mismatch-at history rs i r within good wrong = record {
   before = take i rs;
   receipt = get_or rs i r;
   after = drop (i + 1) rs;
   list = sym (take-append-drop i rs) ∙ ap (λ (l : List Receipt). take i rs ++ l) (drop_more rs i r within);
   is = refl;
   genuine = good;
+  wrong = wrong;
 }
 
 -- ---- how many entries

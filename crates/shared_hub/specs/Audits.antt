@@ -1,5 +1,5 @@
 -- The closing audit: each receipt against the history (docs/GUARANTEE.md, "Threads").
-use Rattle.std.specs.Prelude.{◌≡◌, ◌≢◌, ◌-◌, ◌++◌, ◌∷◌, ℕ, List, Option, Some, None, All, AllPairs, slice_get}
+use Rattle.std.specs.Prelude.{◌≡◌, ◌≢◌, ◌≤◌, ◌-◌, ◌++◌, ◌∷◌, ℕ, List, Option, Some, None, All, AllPairs, slice_get}
 use Rattle.events.specs.declared.answer.Entry.{Entry}
 use Rattle.shared_hub.specs.Receipts.{Receipt}
 use Rattle.shared_hub.specs.declared.audit.AuditFault.{AuditFault}
@@ -7,7 +7,7 @@ use Rattle.shared_hub.specs.declared.audit.AuditFault.TheVariants.{SeatMissing, 
 
 -- the entry of a receipt stands in the history at its number. Numbers begin at 1
 abbrev pub Stands : List Entry → Receipt → Type 0
-Stands history r = slice_get history (r.entry.number - 1) ≡ Some r.entry
+Stands history r = (1 ≤ r.entry.number) × (slice_get history (r.entry.number - 1) ≡ Some r.entry)
 
 -- no receipt of the list has the number
 abbrev pub HasNone : List Receipt → ℕ → Type 0
@@ -18,7 +18,7 @@ pub record AreGenuine (history : List Entry) (receipts : List Receipt) : Type 0 
   pub stand : All (Stands history) receipts
   pub once : AllPairs (λ (q r : Receipt). q.entry.number ≢ r.entry.number) receipts
 
--- the number of a receipt of the list, before which each stands in the history and none comes twice
+-- the number of the first receipt of the list that doesn't stand in the history, or whose number an earlier one has
 pub record IsMismatch (history : List Entry) (receipts : List Receipt) (number : ℕ) : Type 0 where
   pub before : List Receipt
   pub receipt : Receipt
@@ -26,15 +26,16 @@ pub record IsMismatch (history : List Entry) (receipts : List Receipt) (number :
   pub list : receipts ≡ before ++ receipt ∷ after
   pub is : receipt.entry.number ≡ number
   pub genuine : AreGenuine history before
+  pub wrong : ¬ (Stands history receipt × HasNone before receipt.entry.number)
 
--- what a look through the receipts finds: that all are genuine, or the first that isn't found to be
+-- what a look through the receipts finds: that all are genuine, or the first that isn't
 abbrev pub IsFound : List Entry → List Receipt → Option ℕ → Type 0
 IsFound history receipts None = AreGenuine history receipts
 IsFound history receipts (Some number) = IsMismatch history receipts number
 
--- Where an audit is refused: not all seats were handed in; all were, and a receipt is not found in the history; or
--- memory could not be had.
-abbrev pub IsDue : ℕ → ℕ → List Receipt → AuditFault → Type 0
-IsDue seats handed receipts SeatMissing = handed ≢ seats
-IsDue seats handed receipts (ReceiptMismatch number) = (handed ≡ seats) × ((history : List Entry) × IsMismatch history receipts number)
-IsDue seats handed receipts NoMemory = handed ≡ seats
+-- Where an audit is refused: not all seats were handed in; all were, and a receipt is out of place in the history; or all
+-- is well, and memory could not be had.
+abbrev pub IsDue : List Entry → ℕ → ℕ → List Receipt → AuditFault → Type 0
+IsDue history seats handed receipts SeatMissing = handed ≢ seats
+IsDue history seats handed receipts (ReceiptMismatch number) = (handed ≡ seats) × IsMismatch history receipts number
+IsDue history seats handed receipts NoMemory = (handed ≡ seats) × AreGenuine history receipts

@@ -1,6 +1,6 @@
 //! The closing audit.
 ghost use Rattle.std.specs.Prelude.{◌≡◌, ◌+◌, sum};
-ghost use Rattle.std.specs.Bool.{OnTrue, OnFalse};
+ghost use Rattle.std.specs.Bool.{Decides};
 ghost use Rattle.shared_hub.specs.Audits.{Stands, HasNone, IsFound};
 
 use crate::{Receipt, Run};
@@ -66,23 +66,23 @@ pub(crate) fn first_mismatch(history: &[Answer], receipts: &[Receipt]) -> Option
     ensures { IsFound history.now receipts.now result }
 {
     for (index, receipt) in receipts.iter().enumerate() {
-        if is_out_of_place(history, &receipts[..index], receipt) {
+        if !is_in_place(history, &receipts[..index], receipt) {
             return Some(receipt.number());
         }
     }
     None
 }
 
-/// Whether a receipt behind others isn't found in the history, or one of them has its number.
-fn is_out_of_place(history: &[Answer], before: &[Receipt], receipt: &Receipt) -> bool
-    ensures { OnFalse result (Stands history.now receipt.now × HasNone before.now receipt.now.entry.number) }
+/// Whether a receipt behind others stands in the history, and none of them has its number.
+fn is_in_place(history: &[Answer], before: &[Receipt], receipt: &Receipt) -> bool
+    ensures { Decides result (Stands history.now receipt.now × HasNone before.now receipt.now.entry.number) }
 {
-    !(is_entered(history, receipt) && is_first(before, receipt.number()))
+    is_entered(history, receipt) && is_first(before, receipt.number())
 }
 
-/// Whether the receipt's entry is found in the history at its number.
+/// Whether the receipt's entry stands in the history at its number.
 fn is_entered(history: &[Answer], receipt: &Receipt) -> bool
-    ensures { OnTrue result (Stands history.now receipt.now) }
+    ensures { Decides result (Stands history.now receipt.now) }
 {
     let entry = receipt.parts().0.get();
     match entry.number.checked_sub(1) {
@@ -96,7 +96,7 @@ fn is_entered(history: &[Answer], receipt: &Receipt) -> bool
 
 /// Whether no receipt of the list has the number.
 fn is_first(receipts: &[Receipt], number: u64) -> bool
-    ensures { OnTrue result (HasNone receipts.now number) }
+    ensures { Decides result (HasNone receipts.now number) }
 {
     for receipt in receipts {
         if receipt.number() == number {

@@ -7,10 +7,12 @@ mod desk;
 mod port;
 mod receipt;
 mod shared;
+mod unlocked;
 
 pub use audit::{Audit, AuditFault};
 pub use desk::{Desk, Run, Seat};
 pub use port::SharedPort;
 pub use receipt::Receipt;
-pub use shared::{Parts, Shared};
+pub use shared::Shared;
 pub use std::sync::ledger::Blank;
+pub use unlocked::{Parts, Unlocked};

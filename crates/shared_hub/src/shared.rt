@@ -2,6 +2,7 @@
 ghost use Rattle.std.specs.Prelude.{◌≡◌, ◌<◌, ◌≤◌, ℕ};
 
 use crate::audit::{Audit, AuditFault};
+use crate::unlocked::{Parts, Unlocked};
 use crate::{Desk, Receipt, Run, Seat};
 use hub::{Event, Hub, HubRefusal};
 use lists::NoMemory;
@@ -13,24 +14,19 @@ use std::sync::{Mutex, Wait};
 #[derive(Drop)]
 pub struct Shared<L: Run> {
     desk: Mutex<Desk<L>>,
-    /// How many seats there are.
-    seats: u64,
-    /// What is left of the ledger once each seat has its part. The parts come together here at the end.
-    rest: Share<L>,
-    ghost all: { seats ≡ L.seats },
-    ghost none: { rest.parts ≡ 0 },
-    ghost nothing: { rest.amount ≡ 0 },
+    rest: Rest<L>,
 }
 
-/// What an audit that is refused hands back.
+/// What is left of the ledger once each seat has its part. The parts come together here at the end.
 #[derive(Drop)]
-pub struct Parts<L: Run> {
-    /// The hub under its lock.
-    pub shared: Shared<L>,
-    /// The seats that were handed in.
-    pub seats: Vec<Seat<L>>,
-    /// The receipts that were handed in.
-    pub receipts: Vec<Receipt>,
+pub(crate) struct Rest<L: Run> {
+    /// How many seats there are.
+    pub(crate) seats: u64,
+    /// The share of no part.
+    pub(crate) share: Share<L>,
+    ghost all: { seats ≡ L.seats },
+    ghost none: { share.parts ≡ 0 },
+    ghost nothing: { share.amount ≡ 0 },
 }
 
 impl<L: Run> Shared<L> {
@@ -60,12 +56,22 @@ impl<L: Run> Shared<L> {
         };
         let (desk, mut rest) = Desk::open(alloc, blank, hub);
         seat_all(&mut rest, &mut made, seats);
-        let shared = Shared {
+        let rest = Rest { seats, share: rest };
+        Ok((Shared::of(desk, rest), made))
+    }
+
+    /// A desk under its lock, with what is left of its ledger.
+    pub(crate) fn of(desk: Desk<L>, rest: Rest<L>) -> Shared<L> {
+        Shared {
             desk: Mutex::new(desk),
-            seats,
             rest,
-        };
-        Ok((shared, made))
+        }
+    }
+
+    /// Takes the hub out of its lock.
+    pub fn unlock(self) -> Unlocked<L> {
+        let Shared { desk, rest } = self;
+        Unlocked::of(desk.into_inner(), rest)
     }
 
     /// Enters an event while the lock is held. With a receipt the seat has one more; a refusal hands the event back. What
@@ -83,10 +89,8 @@ impl<L: Run> Shared<L> {
         (seat, result)
     }
 
-    /// The closing audit, with all seats and any receipts. With an audit its history is legal and has as many entries since
-    /// the run opened as the seats count together, and each receipt stands in it once, at its number. Else it hands back all
-    /// that it was given: `SeatMissing` where not all seats were handed in; `ReceiptMismatch` with the number of the first
-    /// receipt that doesn't stand in the history, or came earlier in the list; `NoMemory` where memory could not be had.
+    /// The closing audit of what was under the lock, as `Unlocked::finish` tells. Where it is refused, the fault is one of
+    /// the run that is handed back.
     pub fn finish(
         self,
         alloc: Global,
@@ -98,62 +102,10 @@ impl<L: Run> Shared<L> {
         ensures entries { IfOk result (λ audit. length audit.hub.entries ≡ L.opening + sum audit.counts) }
         ensures counts { IfOk result (λ audit. audit.counts ≡ map (λ s. s.count) seats.items) }
         ensures receipts { IfOk result (λ audit. AreGenuine audit.hub.entries receipts.items) }
-        ensures due { IfErr result (λ refused. IsDue L.seats (vec_len seats) receipts.items refused.0) }
+        ensures due { IfErr result (λ refused. IsDue refused.1.run.desk.hub.entries L.seats (vec_len seats) receipts.items refused.0) }
         ensures back { IfErr result (λ refused. (refused.1.seats ≡ seats) × (refused.1.receipts ≡ receipts)) }
     {
-        if seats.len() as u64 != self.seats {
-            return Err((
-                AuditFault::SeatMissing,
-                Parts {
-                    shared: self,
-                    seats,
-                    receipts,
-                },
-            ));
-        }
-        let Shared {
-            desk,
-            seats: count,
-            rest,
-        } = self;
-        let desk = desk.into_inner();
-        if let Some(number) = desk.mismatch(receipts.as_slice()) {
-            let shared = Shared {
-                desk: Mutex::new(desk),
-                seats: count,
-                rest,
-            };
-            return Err((
-                AuditFault::ReceiptMismatch(number),
-                Parts {
-                    shared,
-                    seats,
-                    receipts,
-                },
-            ));
-        }
-        match Vec::with_capacity(alloc, seats.len()) {
-            Ok(room) => {
-                let audit = desk.close(rest, seats, room);
-                audit.known();
-                Ok(audit)
-            }
-            Err(_) => {
-                let shared = Shared {
-                    desk: Mutex::new(desk),
-                    seats: count,
-                    rest,
-                };
-                Err((
-                    AuditFault::NoMemory,
-                    Parts {
-                        shared,
-                        seats,
-                        receipts,
-                    },
-                ))
-            }
-        }
+        self.unlock().finish(alloc, seats, receipts)
     }
 
     /// `submit` with a seat that is lent.

@@ -1,21 +1,26 @@
 -- the receipt at the index is out of place, or goes with those before it
 use Rattle.std.proofs.Common.{ℕ, sym, subst, take}
-use Rattle.std.proofs.lemmas.Bool.Decides.{when_false}
+use Rattle.std.proofs.lemmas.Bool.Decides.{not_from_Decides}
 use Rattle.shared_hub.specs.Receipts.{Receipt}
 use Rattle.shared_hub.specs.Audits.{Stands, HasNone, IsMismatch}
 use Rattle.shared_hub.proofs.Genuine.{genuine-more, mismatch-at}
 use Rattle.shared_hub.proofs.audit.first_mismatch.Goals as goal
 
-pub returns-then-is_out_of_place : goal.returns-then-is_out_of_place
-returns-then-is_out_of_place c =
-    let P : Receipt → Type 0 = λ x. IsMismatch c.args.history.now c.args.receipts.now x.entry.number in
-    let Q : ℕ → Type 0 = λ n. IsMismatch c.args.history.now c.args.receipts.now n in
+pub returns-then-not-is_in_place : goal.returns-then-not-is_in_place
+returns-then-not-is_in_place c =
+    let history = c.args.history.now in
+    let before = take c.loop-index.index c.args.receipts.now in
+    let P : Receipt → Type 0 = λ x. IsMismatch history c.args.receipts.now x.entry.number in
+    let Q : ℕ → Type 0 = λ n. IsMismatch history c.args.receipts.now n in
+    let Wrong : Receipt → Type 0 = λ x. ¬ (Stands history x × HasNone before x.entry.number) in
+    let wrong = not_from_Decides c.is_in_place.result c.is_in_place.ensures c.if-not-is_in_place.true in
     subst Q (sym c.number.ensures) (subst P (sym c.index-receipts-index.is)
-    (mismatch-at c.args.history.now c.args.receipts.now c.loop-index.index c.index-receipts-index.result c.loop-index-test.true c.loop-index.invariant))
+    (mismatch-at history c.args.receipts.now c.loop-index.index c.index-receipts-index.result c.loop-index-test.true c.loop-index.invariant (subst Wrong c.index-receipts-index.is wrong)))
 
 pub loop-index-preserved : goal.loop-index-preserved
 loop-index-preserved c =
-    let fits = when_false _ _ c.if-is_out_of_place.false c.is_out_of_place.ensures in
+    let history = c.args.history.now in
+    let fits = c.is_in_place.ensures.0 c.if-not-is_in_place.false in
     let P : Receipt → Type 0 = λ x. HasNone (take c.loop-index.index c.args.receipts.now) x.entry.number in
-    genuine-more c.args.history.now c.args.receipts.now c.loop-index.index c.index-receipts-index.result c.loop-index-test.true c.loop-index.invariant
-    (subst (Stands c.args.history.now) c.index-receipts-index.is fits.0) (subst P c.index-receipts-index.is fits.1)
+    genuine-more history c.args.receipts.now c.loop-index.index c.index-receipts-index.result c.loop-index-test.true c.loop-index.invariant
+    (subst (Stands history) c.index-receipts-index.is fits.0) (subst P c.index-receipts-index.is fits.1)
