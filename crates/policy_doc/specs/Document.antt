@@ -3,7 +3,7 @@ use Rattle.std.specs.Prelude.{◌∷◌, ◌++◌, ◌+◌, ℕ, Bool, List, [],
 use Rattle.std.specs.List.{flat_map, list_any, IsDistinct}
 use Rattle.std.specs.Option.{option_map, option_map_or}
 use Rattle.std.specs.Str.{bytes_eq}
-use Rattle.subjects.specs.Subject.{Token}
+use Rattle.subjects.specs.Subject.{Token, text_of}
 use Rattle.policy_doc.specs.Accounts.{Name}
 use Rattle.policy_doc.specs.declared.fault.Place.{Place}
 use Rattle.policy_doc.specs.declared.fault.PolicyFault.{PolicyFault}
@@ -70,9 +70,17 @@ twin_place earlier account (a ∷ more) =
 abbrev pub policy_fault : PolicyDoc → Option PolicyFault
 policy_fault doc = option_map DuplicateUser (twin_place [] 0 doc.accounts)
 
--- an entry for the subjects of a pattern
+-- a plain entry for the subjects of a pattern
 abbrev pub entry_of : List Token → PermEntry
-entry_of tokens = record { subject = tokens }
+entry_of tokens = record { subject = tokens; queue = None }
+
+abbrev pub queue_text : Option (List Token) → List ℕ
+queue_text None = []
+queue_text (Some queue) = codes " " ++ text_of queue
+
+-- an entry as it is printed: its pattern, and behind one space its queue part if it has one
+abbrev pub entry_text : PermEntry → List ℕ
+entry_text e = text_of e.subject ++ queue_text e.queue
 
 -- all below foo but foo.bar
 abbrev pub limited_direction : Direction

@@ -71,6 +71,7 @@ fn sole_entry(alloc: Global, text: &[u8]) -> Result<Items<PermEntry>, NoMemory>
     let mut entries = Vec::with_capacity(alloc, 1)?;
     entries.push(PermEntry {
         subject: pattern_of(alloc, text)?,
+        queue: None,
     })?;
     Ok(Items::from_vec(entries))
 }

@@ -82,11 +82,34 @@ pub struct Direction {
     pub deny: Items<PermEntry>,
 }
 
-/// An entry of an allow or a deny list.
+/// An entry of an allow or a deny list. In a publish list it is plain: what it has for a queue part isn't looked at.
 #[derive(Debug, Drop)]
 pub struct PermEntry {
     /// The pattern whose subjects the entry has.
     pub subject: Pattern,
+    /// The queue part: the pattern of the queue names that the entry is for. A plain entry has none.
+    pub queue: Option<Pattern>,
+}
+
+impl PermEntry {
+    ghost use Rattle.std.specs.Prelude.{◌≡◌, ◌++◌, OnOk};
+    ghost use Rattle.policy_doc.specs.Document.{entry_text};
+
+    /// Appends the entry's text: its pattern, and behind one space its queue part if it has one. `NoMemory` where
+    /// memory could not be had; then a part of it may have been appended.
+    pub fn write_to(&self, out: &mut Vec<u8>) -> Result<(), NoMemory>
+        ensures { OnOk result (out.new.items ≡ out.old.items ++ entry_text self.now) }
+    {
+        out.extend_from_slice(self.subject.bytes())?;
+        match &self.queue {
+            None => Ok(()),
+            Some(queue) => {
+                out.extend_from_slice(b" ")?;
+                out.extend_from_slice(queue.bytes())?;
+                Ok(())
+            }
+        }
+    }
 }
 
 impl Copying for PolicyDoc {
@@ -152,8 +175,13 @@ impl Copying for Direction {
 
 impl Copying for PermEntry {
     fn copy(&self, alloc: Global) -> Result<PermEntry, NoMemory> {
+        let queue = match &self.queue {
+            Some(queue) => Some(queue.copy(alloc)?),
+            None => None,
+        };
         Ok(PermEntry {
             subject: self.subject.copy(alloc)?,
+            queue,
         })
     }
 }

@@ -72,10 +72,10 @@ fn direction_in_words(alloc: Global, direction: &Direction) -> Result<String, Fa
 }
 
 fn entries_in_words(alloc: Global, entries: &[PermEntry]) -> Result<String, Fail> {
-    let mut words = String::new(alloc);
+    let mut words = Vec::new(alloc);
     for entry in entries {
-        words.push_str(" ")?;
-        words.push_str(text(entry.subject.bytes())?)?;
+        words.extend_from_slice(b" ")?;
+        entry.write_to(&mut words)?;
     }
     Ok(words)
 }
