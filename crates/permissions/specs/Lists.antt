@@ -1,31 +1,26 @@
 -- A user's permission lists (NATS documentation, "Authorization"; docs/POLICY.md, "Permissions").
-use Rattle.std.specs.Prelude.{List, [], map, Option, Some, None}
-use Rattle.std.specs.Option.{option_map}
-use Rattle.subjects.specs.Subject.{Token}
+use Rattle.std.specs.Prelude.{◌||◌, Bool, false, not, List, [], Option, Some, None, is_some}
+use Rattle.subjects.specs.Subject.{Token, in_set}
 use Rattle.policy_doc.specs.declared.document.UserDoc.{UserDoc}
 use Rattle.policy_doc.specs.declared.document.PermDoc.{PermDoc}
 use Rattle.policy_doc.specs.declared.document.Direction.{Direction}
 use Rattle.policy_doc.specs.declared.document.PermEntry.{PermEntry}
 
--- the tokens of an entry's pattern
+-- an entry: a pattern, and the pattern of the queue names that it is for, if it has a queue part
 abbrev pub Entry : Type 0
-Entry = List Token
+Entry = PermEntry
 
 -- the lists of one direction: no allow list allows all that isn't denied
-pub record Rules : Type 0 where
-  pub allow : Option (List Entry)
-  pub deny : List Entry
+abbrev pub Rules : Type 0
+Rules = Direction
 
 -- the lists of a user
-pub record Lists : Type 0 where
-  pub publish : Rules
-  pub subscribe : Rules
+abbrev pub Lists : Type 0
+Lists = PermDoc
 
-abbrev pub subject_of : PermEntry → Entry
-subject_of e = e.subject
-
-abbrev pub rules_of : Direction → Rules
-rules_of d = record { allow = option_map (map subject_of) d.allow; deny = map subject_of d.deny }
+-- the queue that a subscription names, if it names one
+abbrev pub Queue : Type 0
+Queue = Option (List Token)
 
 -- nothing is denied, and no allow list is given
 abbrev pub open_rules : Rules
@@ -34,7 +29,29 @@ open_rules = record { allow = None; deny = [] }
 -- without permissions everything is allowed
 abbrev pub lists_of_permissions : Option PermDoc → Lists
 lists_of_permissions None = record { publish = open_rules; subscribe = open_rules }
-lists_of_permissions (Some p) = record { publish = rules_of p.publish; subscribe = rules_of p.subscribe }
+lists_of_permissions (Some p) = p
 
 abbrev pub lists_of : UserDoc → Lists
 lists_of user = lists_of_permissions user.permissions
+
+-- ---- entries by their queue parts
+
+abbrev pub is_queued : Entry → Bool
+is_queued e = is_some e.queue
+
+abbrev pub is_plain : Entry → Bool
+is_plain e = not (is_queued e)
+
+-- whether a queue part has the queue; neither is there of itself
+abbrev pub has_queue : Option (List Token) → Queue → Bool
+has_queue (Some part) (Some queue) = in_set part queue
+has_queue (Some part) None = false
+has_queue None queue = false
+
+-- an entry with a queue part that has the queue
+abbrev pub names : Queue → Entry → Bool
+names queue e = has_queue e.queue queue
+
+-- an entry for a subscription with the queue, or without one: it is plain, or its queue part has the queue
+abbrev pub is_for : Queue → Entry → Bool
+is_for queue e = is_plain e || names queue e

@@ -1,4 +1,4 @@
-use crate::decision::{first_entry, verdict_of};
+use crate::decision::{Among, first_entry, on_publish, on_subscribe};
 use crate::{By, Verdict};
 use lists::{Copying, NoMemory};
 use policy_doc::{PermDoc, UserDoc};
@@ -25,6 +25,7 @@ impl Model for Compiled {
 
 impl Compiled {
     ghost use Rattle.std.specs.Prelude.{◌≡◌, IfOk};
+    ghost use Rattle.std.specs.Option.{option_copied};
     ghost use Rattle.permissions.specs.Lists.{lists_of};
     ghost use Rattle.permissions.specs.Verdicts.{publish_verdict, subscribe_verdict, delivery_verdict, IsJustifiedPublish, IsJustifiedSubscribe, IsJustifiedDelivery};
 
@@ -53,36 +54,42 @@ impl Compiled {
     {
         match &self.permissions {
             None => Verdict::Allowed(By::All),
-            Some(permissions) => verdict_of(&permissions.publish, subject),
+            Some(permissions) => on_publish(&permissions.publish, subject),
         }
     }
 
-    /// Whether the user may subscribe to a pattern (docs/POLICY.md, "Subscribe"). One entry must cover all
-    /// of its subjects; a deny entry that has only some of them doesn't refuse it. A denial names its reason:
-    /// the least deny entry that covers the pattern, or an allow list none of whose entries covers it.
-    pub fn subscribe(&self, pattern: &Pattern) -> Verdict
-        ensures verdict { result ≡ subscribe_verdict self.now pattern.now }
-        ensures justified { IsJustifiedSubscribe pattern.now self.now.subscribe result }
+    /// Whether the user may subscribe to a pattern, as a member of a queue or without one (docs/POLICY.md,
+    /// "Subscribe"). One entry must cover all of its subjects; a deny entry that has only some of them doesn't
+    /// refuse it. Deny entries are looked at where they are plain or their queue part has the queue. Without a queue
+    /// the plain allow entries decide. With one, where allow entries with queue parts cover the pattern, the least
+    /// of these whose queue part has the queue allows it, and none is `NoQueueAllow` of the least of them; where
+    /// there are none, the plain ones decide. Each denial names its reason.
+    pub fn subscribe(&self, pattern: &Pattern, queue: Option<&Subject>) -> Verdict
+        ensures verdict { result ≡ subscribe_verdict self.now pattern.now (option_copied queue.entry) }
+        ensures justified { IsJustifiedSubscribe pattern.now (option_copied queue.entry) self.now.subscribe result }
     {
         match &self.permissions {
             None => Verdict::Allowed(By::All),
-            Some(permissions) => verdict_of(&permissions.subscribe, pattern),
+            Some(permissions) => on_subscribe(&permissions.subscribe, pattern, queue),
         }
     }
 
-    /// Whether a message on a subject may be sent to a subscription of the user (docs/POLICY.md,
-    /// "Delivery"): `DeniedBy` the least deny entry of its subscribe lists that has the subject, else
-    /// `Allowed(All)`.
-    pub fn admits(&self, subject: &Subject) -> Verdict
-        ensures verdict { result ≡ delivery_verdict self.now subject.now }
-        ensures justified { IsJustifiedDelivery subject.now self.now.subscribe result }
+    /// Whether a message on a subject may be sent to a subscription of the user that has a queue or none
+    /// (docs/POLICY.md, "Delivery"): `DeniedBy` the least deny entry of its subscribe lists that has the subject and
+    /// is plain or has the queue in its queue part, else `Allowed(All)`.
+    pub fn admits(&self, subject: &Subject, queue: Option<&Subject>) -> Verdict
+        ensures verdict { result ≡ delivery_verdict self.now subject.now (option_copied queue.entry) }
+        ensures justified { IsJustifiedDelivery subject.now (option_copied queue.entry) self.now.subscribe result }
     {
         match &self.permissions {
             None => Verdict::Allowed(By::All),
-            Some(permissions) => match first_entry(permissions.subscribe.deny.as_slice(), subject) {
-                Some(index) => Verdict::DeniedBy(index),
-                None => Verdict::Allowed(By::All),
-            },
+            Some(permissions) => {
+                let deny = permissions.subscribe.deny.as_slice();
+                match first_entry(deny, Among::PlainAndNamed, queue, subject) {
+                    Some(index) => Verdict::DeniedBy(index),
+                    None => Verdict::Allowed(By::All),
+                }
+            }
         }
     }
 }

@@ -39,21 +39,24 @@ fn the_limited_user_stays_below_foo(rt: HostRuntime) -> Result<(), Fail> {
         Verdict::DeniedBy(0)
     );
     assert_eq!(rt; own.publish(&subject(&rt, "bar")?), Verdict::NoAllow);
-    assert_eq!(rt; own.subscribe(&pattern(&rt, "foo.*")?), FIRST);
+    assert_eq!(rt; own.subscribe(&pattern(&rt, "foo.*")?, None), FIRST);
     assert_eq!(rt;
-        own.subscribe(&pattern(&rt, "foo.bar")?),
+        own.subscribe(&pattern(&rt, "foo.bar")?, None),
         Verdict::DeniedBy(0)
     );
-    assert_eq!(rt; own.subscribe(&pattern(&rt, ">")?), Verdict::NoAllow);
+    assert_eq!(rt; own.subscribe(&pattern(&rt, ">")?, None), Verdict::NoAllow);
     Ok(())
 }
 
 #[test]
 fn deny_filters_delivery(rt: HostRuntime) -> Result<(), Fail> {
     let own = of_builtin(&rt, b"limited")?.ok_or("no user limited")?;
-    assert_eq!(rt; own.admits(&subject(&rt, "foo.bar")?), Verdict::DeniedBy(0));
-    assert_eq!(rt; own.admits(&subject(&rt, "foo.baz")?), ALL);
-    assert_eq!(rt; own.admits(&subject(&rt, "bar")?), ALL);
+    assert_eq!(rt;
+        own.admits(&subject(&rt, "foo.bar")?, None),
+        Verdict::DeniedBy(0)
+    );
+    assert_eq!(rt; own.admits(&subject(&rt, "foo.baz")?, None), ALL);
+    assert_eq!(rt; own.admits(&subject(&rt, "bar")?, None), ALL);
     Ok(())
 }
 
@@ -62,6 +65,24 @@ fn entries(rt: &HostRuntime, texts: &[&str]) -> Result<Items<PermEntry>, Fail> {
     for text in texts {
         entries.push(PermEntry {
             subject: pattern(rt, text)?,
+            queue: None,
+        })?;
+    }
+    Ok(Items::from_vec(entries))
+}
+
+// The entries of these patterns, each with a queue part if it isn't empty.
+fn queue_entries(rt: &HostRuntime, texts: &[(&str, &str)]) -> Result<Items<PermEntry>, Fail> {
+    let mut entries = Vec::new(rt.alloc());
+    for (subject, queue) in texts {
+        let queue = if queue.is_empty() {
+            None
+        } else {
+            Some(pattern(rt, queue)?)
+        };
+        entries.push(PermEntry {
+            subject: pattern(rt, subject)?,
+            queue,
         })?;
     }
     Ok(Items::from_vec(entries))
@@ -93,7 +114,64 @@ fn the_least_entry_decides(rt: HostRuntime) -> Result<(), Fail> {
         copy.publish(&subject(&rt, "b.e")?),
         Verdict::Allowed(By::Index(1))
     );
-    assert_eq!(rt; copy.subscribe(&pattern(&rt, "a")?), Verdict::NoAllow);
-    assert_eq!(rt; copy.admits(&subject(&rt, "a")?), ALL);
+    assert_eq!(rt; copy.subscribe(&pattern(&rt, "a")?, None), Verdict::NoAllow);
+    assert_eq!(rt; copy.admits(&subject(&rt, "a")?, None), ALL);
+    Ok(())
+}
+
+// What a user is answered on a subscription with a queue.
+fn with_queue(
+    rt: &HostRuntime,
+    own: &Compiled,
+    text: &str,
+    queue: &str,
+) -> Result<Verdict, SubjectError> {
+    let queue = subject(rt, queue)?;
+    Ok(own.subscribe(&pattern(rt, text)?, Some(&queue)))
+}
+
+#[test]
+fn queue_permissions(rt: HostRuntime) -> Result<(), Fail> {
+    let nothing = Direction {
+        allow: Some(entries(&rt, &[])?),
+        deny: entries(&rt, &[])?,
+    };
+    let allow = [
+        ("foo", ""),
+        ("foo", "v1"),
+        ("foo", "v1.>"),
+        ("foo", "*.dev"),
+        ("bar", ""),
+    ];
+    let subscribe = Direction {
+        allow: Some(queue_entries(&rt, &allow)?),
+        deny: queue_entries(&rt, &[("zed", ""), (">", "*.prod")])?,
+    };
+    let own = Compiled::of(rt.alloc(), &user(nothing, subscribe))?;
+    assert_eq!(rt; own.subscribe(&pattern(&rt, "foo")?, None), FIRST);
+    for (queue, want) in [
+        ("v1", Verdict::Allowed(By::Index(1))),
+        ("v1.2", Verdict::Allowed(By::Index(2))),
+        ("x.dev", Verdict::Allowed(By::Index(3))),
+        ("other", Verdict::NoQueueAllow(1)),
+        ("v1.prod", Verdict::DeniedBy(1)),
+    ] {
+        assert_eq!(rt; with_queue(&rt, &own, "foo", queue)?, want);
+    }
+    assert_eq!(rt;
+        with_queue(&rt, &own, "bar", "other")?,
+        Verdict::Allowed(By::Index(4))
+    );
+    assert_eq!(rt; with_queue(&rt, &own, "*", "v1")?, Verdict::NoAllow);
+    let worker = subject(&rt, "v.prod")?;
+    assert_eq!(rt; own.admits(&subject(&rt, "x")?, None), ALL);
+    assert_eq!(rt;
+        own.admits(&subject(&rt, "x")?, Some(&worker)),
+        Verdict::DeniedBy(1)
+    );
+    assert_eq!(rt;
+        own.admits(&subject(&rt, "zed")?, Some(&worker)),
+        Verdict::DeniedBy(0)
+    );
     Ok(())
 }

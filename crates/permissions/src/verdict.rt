@@ -16,8 +16,11 @@ pub enum Verdict {
     Allowed(By),
     /// Refused by the deny entry of this index, the least that has what was asked.
     DeniedBy(usize),
-    /// An allow list is given, and none of its entries has the whole of what was asked.
+    /// An allow list is given, and none of its entries that were looked at has the whole of what was asked.
     NoAllow,
+    /// Of a subscription with a queue: entries with queue parts cover the pattern, this index is the least of them,
+    /// and none of their queue parts has the queue.
+    NoQueueAllow(usize),
 }
 
 impl Verdict {
@@ -31,6 +34,7 @@ impl Verdict {
             Verdict::Allowed(_) => true,
             Verdict::DeniedBy(_) => false,
             Verdict::NoAllow => false,
+            Verdict::NoQueueAllow(_) => false,
         }
     }
 }
