@@ -4,19 +4,20 @@ use Rattle.std.specs.Prelude.{⊤}
 use Rattle.std.specs.Option.{ok_or, option_or, unwrap_or}
 use Rattle.serde_json.specs.Data.{Data, null, boolean, number, string, array, object, Members, no_members}
 use Rattle.serde_json.specs.Find.{get, get_item, as_object}
-use Rattle.subjects.specs.Subject.{tokens_of}
-use Rattle.subjects.specs.Fault.{pattern_fault}
-use Rattle.policy_doc.specs.Document.{entry_of}
 use Rattle.policy_doc.specs.declared.document.NamedAccount.{NamedAccount}
 use Rattle.account_config.specs.declared.fault.ConfigFault.{ConfigFault}
 use Rattle.account_config.specs.declared.fault.ConfigFault.TheVariants.{WrongType, BadSubject, BadName, HashedPassword}
+use Rattle.account_config.specs.declared.entry.Side.{Side}
+use Rattle.account_config.specs.declared.entry.Side.TheVariants.{Publish, Subscribe}
+use Rattle.account_config.specs.Entry.{is_entry_text, entry_written}
 use Rattle.account_config.specs.Fault.{Read, ◌>>=◌}
 use Rattle.account_config.specs.Path.{Path, at_key, at_index}
-use Rattle.account_config.specs.Policy.{text_at, items_at, each, entry_at, entries_at, entries_under, or_empty, lists_at, allow_at, direction_at, spelled_from, permissions_at, permissions_under, has_name_length, is_hashed, required_text_at, user_name_at, password_at, user_permissions_at, user_at, users_at, users_under, account_at, is_account_name, named_account_at, accounts_at, is_version, version_under, document_at}
+use Rattle.account_config.specs.Policy.{text_at, items_at, each, entry_from, entry_at, entries_at, entries_under, or_empty, lists_at, allow_at, direction_at, spelled_from, permissions_at, permissions_under, has_name_length, is_hashed, required_text_at, user_name_at, password_at, user_permissions_at, user_at, users_at, users_under, account_at, is_account_name, named_account_at, accounts_at, is_version, version_under, document_at}
 use Rattle.account_config.specs.Place.{Place, itself, unknown, missing, under, named, Faults, IsReading}
 use Rattle.account_config.specs.Standing.{unless_found, in_value, in_spelled, object_faults, text_faults, list_faults, entry_faults, entries_faults, direction_keys, direction_faults, permission_keys, user_keys, account_keys, account_faults, accounts_faults, version_faults, top_keys}
 use Rattle.account_config.specs.Written.{text_in, list_in, entry_in, entries_in, lists_in, direction_in, permissions_in, user_in, account_in, accounts_in, document_in}
 use Rattle.account_config.proofs.Order.{IsOrdered, Meets, under-ordered}
+use Rattle.account_config.proofs.Entries.{entry_is}
 use Rattle.account_config.proofs.First.{IsClear, go_on, whole, first_itself, same_faults, mapped}
 use Rattle.account_config.proofs.Objects.{then_object, none_left}
 use Rattle.account_config.proofs.Each.{Reads, each_from, in_accounts, accounts_read}
@@ -72,57 +73,56 @@ optional_read faults written reader reads path d up = mapped (faults path d) (λ
 
 -- ---- permissions
 
-entry_read : Reads entry_faults entry_in entry_at
+entry_read : (side : Side) → Reads (entry_faults side) (entry_in side) (entry_at side)
 unfolding entry_at
-entry_read path d up =
-    text_read (λ text. not (is_some (pattern_fault text))) BadSubject (λ text. entry_of (tokens_of text)) path _ (λ text. turned (is_some (pattern_fault text)) _ _) d
+entry_read side path d up = text_read (is_entry_text side) BadSubject (entry_written side) path (entry_from side path) (entry_is side path) d
 
-entries_read : Reads entries_faults entries_in entries_at
+entries_read : (side : Side) → Reads (entries_faults side) (entries_in side) (entries_at side)
 unfolding entries_at
-entries_read path null up = list_read entry_faults entry_in entry_at entry_read path null up
-entries_read path (boolean b) up = list_read entry_faults entry_in entry_at entry_read path (boolean b) up
-entries_read path (number n) up = list_read entry_faults entry_in entry_at entry_read path (number n) up
-entries_read path (string s) up = mapped (entry_faults path (string s)) (λ x. x ∷ []) (entry_in (string s)) (entry_at path (string s)) (entry_read path (string s) up)
-entries_read path (array ds) up = list_read entry_faults entry_in entry_at entry_read path (array ds) up
-entries_read path (object ms) up = list_read entry_faults entry_in entry_at entry_read path (object ms) up
+entries_read side path null up = list_read (entry_faults side) (entry_in side) (entry_at side) (entry_read side) path null up
+entries_read side path (boolean b) up = list_read (entry_faults side) (entry_in side) (entry_at side) (entry_read side) path (boolean b) up
+entries_read side path (number n) up = list_read (entry_faults side) (entry_in side) (entry_at side) (entry_read side) path (number n) up
+entries_read side path (string s) up = mapped (entry_faults side path (string s)) (λ x. x ∷ []) (entry_in side (string s)) (entry_at side path (string s)) (entry_read side path (string s) up)
+entries_read side path (array ds) up = list_read (entry_faults side) (entry_in side) (entry_at side) (entry_read side) path (array ds) up
+entries_read side path (object ms) up = list_read (entry_faults side) (entry_in side) (entry_at side) (entry_read side) path (object ms) up
 
-entries_under_read : (path : Path) (found : Option Data) → Meets IsOrdered found → IsReading (in_value entries_faults path found) (option_map entries_in found) (entries_under path found)
-entries_under_read path None up = (λ p. refl, refl)
-entries_under_read path (Some d) up = optional_read entries_faults entries_in entries_at entries_read path d up
+entries_under_read : (side : Side) (path : Path) (found : Option Data) → Meets IsOrdered found → IsReading (in_value (entries_faults side) path found) (option_map (entries_in side) found) (entries_under side path found)
+entries_under_read side path None up = (λ p. refl, refl)
+entries_under_read side path (Some d) up = optional_read (entries_faults side) (entries_in side) (entries_at side) (entries_read side) path d up
 
-lists_read : (path : Path) (ms : Members) → IsOrdered (object ms) → IsReading (object_faults direction_keys path (object ms)) (lists_in (object ms)) (lists_at path (object ms))
+lists_read : (side : Side) (path : Path) (ms : Members) → IsOrdered (object ms) → IsReading (object_faults (direction_keys side) path (object ms)) (lists_in side (object ms)) (lists_at side path (object ms))
 unfolding lists_at
-lists_read path ms up =
+lists_read side path ms up =
     let d : Data = object ms in
-    then_object direction_keys path d (lists_in d) _ up λ clear.
-    go_on _ 0 (option_map entries_in (get (codes "allow") d)) (lists_in d) (entries_under (at_key path (codes "allow")) (get (codes "allow") d)) _ clear (entries_under_read _ _ (under-ordered (codes "allow") d up)) λ clear.
-    go_on _ 1 (option_map entries_in (get (codes "deny") d)) (lists_in d) (entries_under (at_key path (codes "deny")) (get (codes "deny") d)) _ clear (entries_under_read _ _ (under-ordered (codes "deny") d up)) λ clear.
-    (none_left direction_keys path d clear, refl)
+    then_object (direction_keys side) path d (lists_in side d) _ up λ clear.
+    go_on _ 0 (option_map (entries_in side) (get (codes "allow") d)) (lists_in side d) (entries_under side (at_key path (codes "allow")) (get (codes "allow") d)) _ clear (entries_under_read side _ _ (under-ordered (codes "allow") d up)) λ clear.
+    go_on _ 1 (option_map (entries_in side) (get (codes "deny") d)) (lists_in side d) (entries_under side (at_key path (codes "deny")) (get (codes "deny") d)) _ clear (entries_under_read side _ _ (under-ordered (codes "deny") d up)) λ clear.
+    (none_left (direction_keys side) path d clear, refl)
 
-direction_read : Reads direction_faults lists_in direction_at
+direction_read : (side : Side) → Reads (direction_faults side) (lists_in side) (direction_at side)
 unfolding allow_at
-direction_read path null up = mapped (entries_faults path null) _ (entries_in null) (entries_at path null) (entries_read path null up)
-direction_read path (boolean b) up = mapped (entries_faults path (boolean b)) _ (entries_in (boolean b)) (entries_at path (boolean b)) (entries_read path (boolean b) up)
-direction_read path (number n) up = mapped (entries_faults path (number n)) _ (entries_in (number n)) (entries_at path (number n)) (entries_read path (number n) up)
-direction_read path (string s) up = mapped (entries_faults path (string s)) _ (entries_in (string s)) (entries_at path (string s)) (entries_read path (string s) up)
-direction_read path (array ds) up = mapped (entries_faults path (array ds)) _ (entries_in (array ds)) (entries_at path (array ds)) (entries_read path (array ds) up)
-direction_read path (object ms) up = lists_read path ms up
+direction_read side path null up = mapped (entries_faults side path null) _ (entries_in side null) (entries_at side path null) (entries_read side path null up)
+direction_read side path (boolean b) up = mapped (entries_faults side path (boolean b)) _ (entries_in side (boolean b)) (entries_at side path (boolean b)) (entries_read side path (boolean b) up)
+direction_read side path (number n) up = mapped (entries_faults side path (number n)) _ (entries_in side (number n)) (entries_at side path (number n)) (entries_read side path (number n) up)
+direction_read side path (string s) up = mapped (entries_faults side path (string s)) _ (entries_in side (string s)) (entries_at side path (string s)) (entries_read side path (string s) up)
+direction_read side path (array ds) up = mapped (entries_faults side path (array ds)) _ (entries_in side (array ds)) (entries_at side path (array ds)) (entries_read side path (array ds) up)
+direction_read side path (object ms) up = lists_read side path ms up
 
-spelled_read : (long short : Path) (found other : Option Data) → Meets IsOrdered found → Meets IsOrdered other →
-    IsReading (in_spelled direction_faults long short found other) (direction_in (option_or found other)) (spelled_from long short found other)
-spelled_read long short None None up up' = (λ p. refl, refl)
-spelled_read long short None (Some d) up up' = direction_read short d up'
-spelled_read long short (Some d) None up up' = direction_read long d up
-spelled_read long short (Some d) (Some e) up up' = first_itself _ _ refl
+spelled_read : (side : Side) (long short : Path) (found other : Option Data) → Meets IsOrdered found → Meets IsOrdered other →
+    IsReading (in_spelled (direction_faults side) long short found other) (direction_in side (option_or found other)) (spelled_from side long short found other)
+spelled_read side long short None None up up' = (λ p. refl, refl)
+spelled_read side long short None (Some d) up up' = direction_read side short d up'
+spelled_read side long short (Some d) None up up' = direction_read side long d up
+spelled_read side long short (Some d) (Some e) up up' = first_itself _ _ refl
 
 permissions_read : Reads (object_faults permission_keys) permissions_in permissions_at
 unfolding permissions_at
 permissions_read path d up =
     then_object permission_keys path d (permissions_in d) _ up λ clear.
-    go_on _ 0 (direction_in (option_or (get (codes "publish") d) (get (codes "pub") d))) (permissions_in d) _ _ clear
-    (spelled_read _ _ _ _ (under-ordered (codes "publish") d up) (under-ordered (codes "pub") d up)) λ clear.
-    go_on _ 1 (direction_in (option_or (get (codes "subscribe") d) (get (codes "sub") d))) (permissions_in d) _ _ clear
-    (spelled_read _ _ _ _ (under-ordered (codes "subscribe") d up) (under-ordered (codes "sub") d up)) λ clear.
+    go_on _ 0 (direction_in Publish (option_or (get (codes "publish") d) (get (codes "pub") d))) (permissions_in d) _ _ clear
+    (spelled_read Publish _ _ _ _ (under-ordered (codes "publish") d up) (under-ordered (codes "pub") d up)) λ clear.
+    go_on _ 1 (direction_in Subscribe (option_or (get (codes "subscribe") d) (get (codes "sub") d))) (permissions_in d) _ _ clear
+    (spelled_read Subscribe _ _ _ _ (under-ordered (codes "subscribe") d up) (under-ordered (codes "sub") d up)) λ clear.
     (none_left permission_keys path d clear, refl)
 
 -- ---- users

@@ -7,10 +7,9 @@ use Rattle.std.specs.Str.{bytes_eq}
 use Rattle.serde_json.specs.Data.{Data, Items, no_items, item, Members, no_members, member}
 use Rattle.serde_json.specs.Find.{get, as_str, as_array, as_object, as_number, as_u64}
 use Rattle.json_text.specs.Json.{json_of}
-use Rattle.subjects.specs.Subject.{tokens_of}
+use Rattle.subjects.specs.Subject.{Token, tokens_of}
 use Rattle.subjects.specs.Fault.{pattern_fault}
 use Rattle.policy_doc.specs.Accounts.{with_account}
-use Rattle.policy_doc.specs.Document.{entry_of}
 use Rattle.policy_doc.specs.declared.document.PolicyDoc.{PolicyDoc}
 use Rattle.policy_doc.specs.declared.document.NamedAccount.{NamedAccount}
 use Rattle.policy_doc.specs.declared.document.AccountDoc.{AccountDoc}
@@ -19,8 +18,11 @@ use Rattle.policy_doc.specs.declared.document.PermDoc.{PermDoc}
 use Rattle.policy_doc.specs.declared.document.Direction.{Direction}
 use Rattle.policy_doc.specs.declared.document.PermEntry.{PermEntry}
 use Rattle.account_config.specs.declared.fault.ConfigFault.TheVariants.{TooLarge, NotJson, WrongType, BadSubject, BadName, HashedPassword}
+use Rattle.account_config.specs.declared.entry.Side.{Side}
+use Rattle.account_config.specs.declared.entry.Side.TheVariants.{Publish, Subscribe}
 use Rattle.account_config.specs.Fault.{Read, ◌>>=◌}
 use Rattle.account_config.specs.Path.{Path, at_key, at_index}
+use Rattle.account_config.specs.Entry.{entry_parts}
 use Rattle.account_config.specs.Object.{Row, judged, members_at, required_at}
 
 -- ---- the tables: a key of each object, and whether it must be there
@@ -58,30 +60,47 @@ each reader path i (item d ds) = do
 
 -- ---- permissions
 
--- an entry is a pattern; one with a space, as a queue's part would need, is none
-abbrev pub entry_from : Path → List ℕ → Read PermEntry
-entry_from path text = if is_some (pattern_fault text) then Err (BadSubject path) else Ok (entry_of (tokens_of text))
+abbrev pub pattern_from : Path → List ℕ → Read (List Token)
+pattern_from path text = if is_some (pattern_fault text) then Err (BadSubject path) else Ok (tokens_of text)
 
-unfoldable pub entry_at : Path → Data → Read PermEntry
-entry_at path d = do
+abbrev pub queue_from : Path → Option (List ℕ) → Read (Option (List Token))
+queue_from path None = Ok None
+queue_from path (Some text) = do
+  queue ← pattern_from path text
+  Ok (Some queue)
+
+-- a pattern, and a queue part if there is one
+abbrev pub parts_from : Path → List ℕ × Option (List ℕ) → Read PermEntry
+parts_from path parts = do
+  subject ← pattern_from path parts.0
+  queue ← queue_from path parts.1
+  Ok (record { subject = subject; queue = queue })
+
+-- in a publish list an entry is a pattern alone
+abbrev pub entry_from : Side → Path → List ℕ → Read PermEntry
+entry_from Publish path text = parts_from path (text, None)
+entry_from Subscribe path text = parts_from path (entry_parts text)
+
+unfoldable pub entry_at : Side → Path → Data → Read PermEntry
+entry_at side path d = do
   text ← text_at path d
-  entry_from path text
+  entry_from side path text
 
 -- one entry that is a text, or a list of them
-unfoldable pub entries_at : Path → Data → Read (List PermEntry)
-entries_at path d =
+unfoldable pub entries_at : Side → Path → Data → Read (List PermEntry)
+entries_at side path d =
     if is_some (as_str d) then (do
-      entry ← entry_at path d
+      entry ← entry_at side path d
       Ok (entry ∷ []))
     else (do
       items ← items_at path d
-      each entry_at path 0 items)
+      each (entry_at side) path 0 items)
 
 -- the entries under a key, if it is there
-abbrev pub entries_under : Path → Option Data → Read (Option (List PermEntry))
-entries_under path None = Ok None
-entries_under path (Some d) = do
-  entries ← entries_at path d
+abbrev pub entries_under : Side → Path → Option Data → Read (Option (List PermEntry))
+entries_under side path None = Ok None
+entries_under side path (Some d) = do
+  entries ← entries_at side path d
   Ok (Some entries)
 
 abbrev pub or_empty : {X : Type 0} → Option (List X) → List X
@@ -89,37 +108,37 @@ or_empty None = []
 or_empty (Some xs) = xs
 
 -- an allow and a deny list, each if it is there
-unfoldable pub lists_at : Path → Data → Read Direction
-lists_at path d = do
+unfoldable pub lists_at : Side → Path → Data → Read Direction
+lists_at side path d = do
   known ← judged direction_rows path d
-  allow ← entries_under (at_key path (codes "allow")) (get (codes "allow") d)
-  deny ← entries_under (at_key path (codes "deny")) (get (codes "deny") d)
+  allow ← entries_under side (at_key path (codes "allow")) (get (codes "allow") d)
+  deny ← entries_under side (at_key path (codes "deny")) (get (codes "deny") d)
   Ok (record { allow = allow; deny = or_empty deny })
 
 -- a text or a list of texts is an allow list
-unfoldable pub allow_at : Path → Data → Read Direction
-allow_at path d = do
-  entries ← entries_at path d
+unfoldable pub allow_at : Side → Path → Data → Read Direction
+allow_at side path d = do
+  entries ← entries_at side path d
   Ok (record { allow = Some entries; deny = [] })
 
-abbrev pub direction_at : Path → Data → Read Direction
-direction_at path d = if is_some (as_object d) then lists_at path d else allow_at path d
+abbrev pub direction_at : Side → Path → Data → Read Direction
+direction_at side path d = if is_some (as_object d) then lists_at side path d else allow_at side path d
 
 -- a direction has two spellings of its key, of which one may be there; without either it allows all
-abbrev pub spelled_from : Path → Path → Option Data → Option Data → Read Direction
-spelled_from long short None None = Ok (record { allow = None; deny = [] })
-spelled_from long short (Some d) None = direction_at long d
-spelled_from long short None (Some d) = direction_at short d
-spelled_from long short (Some d) (Some e) = Err (WrongType short)
+abbrev pub spelled_from : Side → Path → Path → Option Data → Option Data → Read Direction
+spelled_from side long short None None = Ok (record { allow = None; deny = [] })
+spelled_from side long short (Some d) None = direction_at side long d
+spelled_from side long short None (Some d) = direction_at side short d
+spelled_from side long short (Some d) (Some e) = Err (WrongType short)
 
-abbrev pub spelled_at : List ℕ → List ℕ → Path → Data → Read Direction
-spelled_at long short path d = spelled_from (at_key path long) (at_key path short) (get long d) (get short d)
+abbrev pub spelled_at : Side → List ℕ → List ℕ → Path → Data → Read Direction
+spelled_at side long short path d = spelled_from side (at_key path long) (at_key path short) (get long d) (get short d)
 
 unfoldable pub permissions_at : Path → Data → Read PermDoc
 permissions_at path d = do
   known ← judged permission_rows path d
-  publish ← spelled_at (codes "publish") (codes "pub") path d
-  subscribe ← spelled_at (codes "subscribe") (codes "sub") path d
+  publish ← spelled_at Publish (codes "publish") (codes "pub") path d
+  subscribe ← spelled_at Subscribe (codes "subscribe") (codes "sub") path d
   Ok (record { publish = publish; subscribe = subscribe })
 
 abbrev pub permissions_under : Path → Option Data → Read (Option PermDoc)

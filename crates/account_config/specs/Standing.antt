@@ -3,9 +3,11 @@ use Rattle.std.specs.Prelude.{◌&&◌, ◌||◌, ◌∷◌, ℕ, zero, suc, Boo
 use Rattle.std.specs.Str.{bytes_eq}
 use Rattle.serde_json.specs.Data.{Data}
 use Rattle.serde_json.specs.Find.{get, at, as_str, as_array, as_object}
-use Rattle.subjects.specs.Fault.{pattern_fault}
+use Rattle.account_config.specs.declared.entry.Side.{Side}
+use Rattle.account_config.specs.declared.entry.Side.TheVariants.{Publish, Subscribe}
 use Rattle.account_config.specs.declared.fault.ConfigFault.{ConfigFault}
 use Rattle.account_config.specs.declared.fault.ConfigFault.TheVariants.{UnknownKey, WrongType, BadSubject, BadName, HashedPassword}
+use Rattle.account_config.specs.Entry.{is_entry_text}
 use Rattle.account_config.specs.Path.{Path, at_key, at_index}
 use Rattle.account_config.specs.Place.{itself, unknown, missing, under, named, Faults}
 use Rattle.account_config.specs.Policy.{has_name_length, is_account_name, is_hashed, is_version}
@@ -84,24 +86,24 @@ list_faults faults path d _ = None
 
 -- ---- what a policy has, from the inside out
 
-abbrev pub entry_faults : Path → Data → Faults
-entry_faults = text_faults (λ text. not (is_some (pattern_fault text))) BadSubject
+abbrev pub entry_faults : Side → Path → Data → Faults
+entry_faults side = text_faults (is_entry_text side) BadSubject
 
 -- one entry, or a list of them
-abbrev pub entries_faults : Path → Data → Faults
-entries_faults path d = if is_some (as_str d) then entry_faults path d else list_faults entry_faults path d
+abbrev pub entries_faults : Side → Path → Data → Faults
+entries_faults side path d = if is_some (as_str d) then entry_faults side path d else list_faults (entry_faults side) path d
 
-abbrev pub direction_keys : List Key
-direction_keys = optional (codes "allow") entries_faults ∷ optional (codes "deny") entries_faults ∷ []
+abbrev pub direction_keys : Side → List Key
+direction_keys side = optional (codes "allow") (entries_faults side) ∷ optional (codes "deny") (entries_faults side) ∷ []
 
 -- an object, or entries to be allowed
-abbrev pub direction_faults : Path → Data → Faults
-direction_faults path d = if is_some (as_object d) then object_faults direction_keys path d else entries_faults path d
+abbrev pub direction_faults : Side → Path → Data → Faults
+direction_faults side path d = if is_some (as_object d) then object_faults (direction_keys side) path d else entries_faults side path d
 
 abbrev pub permission_keys : List Key
 permission_keys =
-    spelled (codes "publish") (codes "pub") direction_faults
-    ∷ spelled (codes "subscribe") (codes "sub") direction_faults ∷ []
+    spelled (codes "publish") (codes "pub") (direction_faults Publish)
+    ∷ spelled (codes "subscribe") (codes "sub") (direction_faults Subscribe) ∷ []
 
 abbrev pub user_keys : List Key
 user_keys =

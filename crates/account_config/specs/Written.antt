@@ -3,9 +3,7 @@ use Rattle.std.specs.Prelude.{◌≡◌, ◌≢◌, ◌∷◌, ℕ, Bool, true, 
 use Rattle.std.specs.Option.{option_map, option_or, unwrap_or}
 use Rattle.serde_json.specs.Data.{Data, null, Items, no_items, item, Members, no_members, member}
 use Rattle.serde_json.specs.Find.{get, as_str, as_array, as_object}
-use Rattle.subjects.specs.Subject.{tokens_of}
 use Rattle.policy_doc.specs.Accounts.{with_account}
-use Rattle.policy_doc.specs.Document.{entry_of}
 use Rattle.policy_doc.specs.declared.document.PolicyDoc.{PolicyDoc}
 use Rattle.policy_doc.specs.declared.document.NamedAccount.{NamedAccount}
 use Rattle.policy_doc.specs.declared.document.AccountDoc.{AccountDoc}
@@ -14,6 +12,9 @@ use Rattle.policy_doc.specs.declared.document.PermDoc.{PermDoc}
 use Rattle.policy_doc.specs.declared.document.Direction.{Direction}
 use Rattle.policy_doc.specs.declared.document.PermEntry.{PermEntry}
 use Rattle.account_config.specs.declared.fault.ConfigFault.TheVariants.{TooLarge, NotJson, NoMemory}
+use Rattle.account_config.specs.declared.entry.Side.{Side}
+use Rattle.account_config.specs.declared.entry.Side.TheVariants.{Publish, Subscribe}
+use Rattle.account_config.specs.Entry.{entry_written}
 use Rattle.account_config.specs.Fault.{Read}
 use Rattle.account_config.specs.Place.{IsReading}
 use Rattle.account_config.specs.Standing.{policy_faults}
@@ -34,27 +35,27 @@ list_in written d = each_in written (unwrap_or (as_array d) no_items)
 abbrev pub value_under : List ℕ → Data → Data
 value_under key d = unwrap_or (get key d) null
 
-abbrev pub entry_in : Data → PermEntry
-entry_in d = entry_of (tokens_of (text_in d))
+abbrev pub entry_in : Side → Data → PermEntry
+entry_in side d = entry_written side (text_in d)
 
-abbrev pub entries_in : Data → List PermEntry
-entries_in d = if is_some (as_str d) then entry_in d ∷ [] else list_in entry_in d
+abbrev pub entries_in : Side → Data → List PermEntry
+entries_in side d = if is_some (as_str d) then entry_in side d ∷ [] else list_in (entry_in side) d
 
 -- an object has an allow and a deny list, each if it is there; anything else is an allow list
-abbrev pub lists_in : Data → Direction
-lists_in d =
+abbrev pub lists_in : Side → Data → Direction
+lists_in side d =
     if is_some (as_object d)
-    then record { allow = option_map entries_in (get (codes "allow") d); deny = or_empty (option_map entries_in (get (codes "deny") d)) }
-    else record { allow = Some (entries_in d); deny = [] }
+    then record { allow = option_map (entries_in side) (get (codes "allow") d); deny = or_empty (option_map (entries_in side) (get (codes "deny") d)) }
+    else record { allow = Some (entries_in side d); deny = [] }
 
-abbrev pub direction_in : Option Data → Direction
-direction_in None = record { allow = None; deny = [] }
-direction_in (Some d) = lists_in d
+abbrev pub direction_in : Side → Option Data → Direction
+direction_in side None = record { allow = None; deny = [] }
+direction_in side (Some d) = lists_in side d
 
 abbrev pub permissions_in : Data → PermDoc
 permissions_in d = record {
-  publish = direction_in (option_or (get (codes "publish") d) (get (codes "pub") d));
-  subscribe = direction_in (option_or (get (codes "subscribe") d) (get (codes "sub") d));
+  publish = direction_in Publish (option_or (get (codes "publish") d) (get (codes "pub") d));
+  subscribe = direction_in Subscribe (option_or (get (codes "subscribe") d) (get (codes "sub") d));
 }
 
 abbrev pub user_in : Data → UserDoc

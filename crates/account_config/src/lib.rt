@@ -4,6 +4,7 @@
 mod account;
 mod direction;
 mod document;
+mod entry;
 mod fault;
 mod object;
 mod paths;

@@ -4,7 +4,7 @@ use std::test::Fail;
 #[test]
 fn a_document_is_what_was_written(rt: HostRuntime) -> Result<(), Fail> {
     let text = r#"{"version":1,"accounts":{"B":{"users":[
-        {"user":"u","password":"p","permissions":{"pub":"a.*","subscribe":{"deny":["b",">"]}}},
+        {"user":"u","password":"p","permissions":{"pub":"a.*","subscribe":{"deny":["b",">   w.*"]}}},
         {"user":"w","password":""}]},"A":{"users":[]}}}"#;
     let doc = read_policy(rt.alloc(), text.as_bytes())?;
     let accounts = doc.accounts.as_slice();
@@ -27,6 +27,9 @@ fn a_document_is_what_was_written(rt: HostRuntime) -> Result<(), Fail> {
     let deny = permissions.subscribe.deny.as_slice();
     assert_eq!(rt; deny.len(), 2);
     assert_eq!(rt; deny[0].subject.bytes(), b"b".as_slice());
+    assert!(rt; deny[0].queue.is_none());
     assert_eq!(rt; deny[1].subject.bytes(), b">".as_slice());
+    let queue = deny[1].queue.as_ref().ok_or("no queue part")?;
+    assert_eq!(rt; queue.bytes(), b"w.*".as_slice());
     Ok(())
 }

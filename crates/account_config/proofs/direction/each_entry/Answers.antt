@@ -7,5 +7,5 @@ use Rattle.account_config.proofs.direction.each_entry.Goals as goal
 pub loop-index-preserved : goal.loop-index-preserved
 loop-index-preserved c =
     let e : c.push.new.self.items ≡ c.loop-index.entries.items ++ c.in_ok-entry.entry ∷ [] = c.in_ok-push.ensures.items in
-    rw e (goes_on entry_at c.args.path.now c.loop-index.entries.items c.args.values.now c.loop-index.index c.index-values-index.result c.in_ok-entry.entry (each entry_at c.args.path.now 0 (items_view c.args.values.now))
+    rw e (goes_on (entry_at c.args.side) c.args.path.now c.loop-index.entries.items c.args.values.now c.loop-index.index c.index-values-index.result c.in_ok-entry.entry (each (entry_at c.args.side) c.args.path.now 0 (items_view c.args.values.now))
     c.loop-index-test.true c.index-values-index.is (search rules) c.loop-index.invariant)

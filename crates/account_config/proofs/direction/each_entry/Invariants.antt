@@ -6,4 +6,4 @@ use Rattle.account_config.proofs.Lists.{from_index}
 use Rattle.account_config.proofs.direction.each_entry.Given as goal
 
 abbrev pub invariant-loop-index : goal.invariant-loop-index
-invariant-loop-index l = from_index entry_at l.path l.entries.items l.index l.values ≡ each entry_at l.path 0 (items_view l.values)
+invariant-loop-index l = from_index (entry_at l.side) l.path l.entries.items l.index l.values ≡ each (entry_at l.side) l.path 0 (items_view l.values)

@@ -1,10 +1,10 @@
 use Rattle.std.proofs.Common.{◌∙◌, sym, ap, Err, rules}
 use Rattle.account_config.specs.declared.fault.ConfigFault.TheVariants.{BadSubject}
 use Rattle.account_config.proofs.Entries.{parsed, refused}
-use Rattle.account_config.proofs.direction.entry_from.Goals as goal
+use Rattle.account_config.proofs.entry.pattern_from.Goals as goal
 
 pub returns-in-Ok : goal.returns-in-Ok
-returns-in-Ok c = parsed c.args.path.now c.args.text.now c.in-Ok.subject c.in-Ok.ensures.tokens
+returns-in-Ok c = parsed c.args.path.now c.args.text.now c.in-Ok.pattern c.in-Ok.ensures.tokens
 
 pub returns-in_ok-copy-in-Err : goal.returns-in_ok-copy-in-Err
 returns-in_ok-copy-in-Err c = λ _. refused c.args.path.now c.args.text.now c.in-Err.error c.in-Err.ensures.tokens (sym c.is_no_memory.ensures ∙ c.if-is_no_memory.false)
