@@ -2,3 +2,4 @@ pub mod Subject
 pub mod Fault
 pub mod Outside
 pub mod Shape
+pub mod Equal

@@ -1,8 +1,12 @@
+ghost use Rattle.std.specs.Cmp.{partial_equiv_from_equiv};
+ghost use Rattle.subjects.specs.Equal.{same_subject, same_subject-equiv, hashed, hashed-alike};
+
 use crate::tokens::tokens_in;
 use crate::{SubjectError, faults};
 use bytes::Bytes;
 use lists::{Copying, NoMemory, Pieces};
 use std::alloc::Global;
+use std::hash::{Hash, Hasher};
 use std::marker::Model;
 
 /// A concrete subject of at most 512 tokens, as a message has it. A clause sees its tokens.
@@ -74,5 +78,29 @@ impl Copying for Subject {
         Ok(Subject {
             text: self.text.clone()?,
         })
+    }
+}
+
+impl PartialEq for Subject {
+    ghost eq = { same_subject };
+
+    ghost laws = { partial_equiv_from_equiv same_subject-equiv };
+
+    fn eq(&self, other: &Self) -> bool {
+        self.text == other.text
+    }
+}
+
+impl Eq for Subject {
+    ghost laws = { same_subject-equiv };
+}
+
+impl Hash for Subject {
+    ghost hash_input = { hashed };
+
+    ghost respects_eq = { hashed-alike };
+
+    fn hash<H: Hasher>(&self, state: &mut H) {
+        self.bytes().hash(state);
     }
 }

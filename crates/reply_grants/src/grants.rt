@@ -1,0 +1,83 @@
+use crate::Terms;
+use crate::marks::{MOST, Mark, Marks, count_answer, drop_dead, dropped, is_live, put};
+use indexmap::IndexMap;
+use lists::NoMemory;
+use std::alloc::Global;
+use std::hash::RandomState;
+use std::marker::Model;
+use subjects::Subject;
+
+/// The reply subjects that a user may answer on, at most 1,024. A clause sees the grants from the oldest to the youngest.
+#[derive(Drop)]
+pub struct Grants {
+    marks: Marks,
+    /// How many of them, the oldest, were dropped.
+    gone: usize,
+}
+
+impl Model for Grants {
+    ghost use Rattle.std.specs.Prelude.{List, length};
+    ghost use Rattle.indexmap.specs.IndexMap.{spare};
+    ghost use Rattle.reply_grants.specs.Grants.{Grant};
+    ghost use Rattle.reply_grants.specs.Window.{IsKept, window};
+
+    ghost Value = { List Grant };
+
+    ghost view = { λ g. window g.gone g.marks.entries };
+
+    ghost invariant = { λ g. IsKept 1024 g.gone (length g.marks.entries) (spare g.marks) };
+}
+
+impl Grants {
+    ghost use Rattle.std.specs.Prelude.{◌≡◌, ◌≤◌, [], IfOk, length, filter};
+    ghost use Rattle.reply_grants.specs.Grants.{has_live, after_note, after_answer};
+    ghost use Rattle.reply_grants.specs.Grants as grants;
+
+    /// No grants, with room for as many as may stand: nothing takes memory from here on. Others choose the reply
+    /// subjects, so they are hashed under keys that others can't know. `NoMemory` where the room could not be had.
+    pub fn with_room(alloc: Global, keys: RandomState) -> Result<Grants, NoMemory>
+        ensures { IfOk result (λ all. all ≡ []) }
+    {
+        Ok(Grants {
+            marks: IndexMap::with_capacity_and_hasher(alloc, 2 * MOST, keys)?,
+            gone: 0,
+        })
+    }
+
+    /// Tells what holds of all: at most 1,024 stand. It does nothing when it runs.
+    pub fn known(&self)
+        ensures { length self.now ≤ 1024 }
+    {
+        let _ = &self.marks;
+    }
+
+    /// Notes a grant for a reply subject, the youngest of all, in the place of the one that it has. Where 1,024 others
+    /// stand the oldest is dropped.
+    pub fn note(&mut self, subject: Subject, now: u64)
+        ensures { self.new ≡ after_note subject now self.old }
+    {
+        let gone = put(&mut self.marks, self.gone, subject, Mark::new(now));
+        self.gone = dropped(gone, self.marks.len());
+    }
+
+    /// Whether a grant for the subject is live under these terms. Without terms none is.
+    pub fn live(&self, subject: &Subject, now: u64, terms: Option<Terms>) -> bool
+        ensures { result ≡ has_live subject.now now terms self.now }
+    {
+        is_live(&self.marks, self.gone, subject, now, terms)
+    }
+
+    /// Counts an answer on the subject's grant, if it has one.
+    pub fn spend(&mut self, subject: &Subject)
+        ensures { self.new ≡ after_answer subject.now self.old }
+    {
+        count_answer(&mut self.marks, subject);
+    }
+
+    /// Drops the grants that aren't live under these terms.
+    pub fn prune(&mut self, now: u64, terms: Option<Terms>)
+        ensures { self.new ≡ filter (grants.is_live now terms) self.old }
+    {
+        self.gone = drop_dead(&mut self.marks, self.gone, now, terms);
+    }
+}

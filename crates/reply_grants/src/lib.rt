@@ -1,0 +1,11 @@
+//! The reply subjects that a user may answer on: since when, and how many answers have passed.
+#![tactic(auto)]
+
+mod grants;
+mod marks;
+mod terms;
+#[cfg(test)]
+mod tests;
+
+pub use grants::Grants;
+pub use terms::Terms;
