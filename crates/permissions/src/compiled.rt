@@ -26,7 +26,7 @@ impl Model for Compiled {
 impl Compiled {
     ghost use Rattle.std.specs.Prelude.{◌≡◌, IfOk};
     ghost use Rattle.std.specs.Option.{option_copied};
-    ghost use Rattle.permissions.specs.Lists.{lists_of};
+    ghost use Rattle.permissions.specs.Lists.{lists_of, lists_of_permissions};
     ghost use Rattle.permissions.specs.Verdicts.{publish_verdict, subscribe_verdict, delivery_verdict, IsJustifiedPublish, IsJustifiedSubscribe, IsJustifiedDelivery};
 
     /// The lists of a user's permissions; a user without permissions may do everything.
@@ -43,6 +43,16 @@ impl Compiled {
                     permissions: Some(shared),
                 })
             }
+        }
+    }
+
+    /// The permissions that these lists are of; `None` where everything is allowed without any.
+    pub fn permissions(&self) -> Option<&PermDoc>
+        ensures { lists_of_permissions (option_copied result) ≡ self.now }
+    {
+        match &self.permissions {
+            None => None,
+            Some(permissions) => Some(permissions),
         }
     }
 
