@@ -4,10 +4,12 @@
 mod carry_out;
 mod change;
 mod decide;
+mod plain;
 mod reload;
 mod route;
 mod standing;
 mod world;
 
+pub use plain::PlainWorld;
 pub use standing::Standing;
 pub use world::World;
