@@ -3,16 +3,16 @@ use Rattle.std.proofs.Common.{◌≡◌, ◌∙◌, ◌≤◌, ◌||◌, ℕ, Bo
 use Rattle.std.specs.Prelude.{nat_le}
 use Rattle.std.proofs.lemmas.Bool.{leb-false}
 use Rattle.std.proofs.lemmas.List.{length-append}
-use Rattle.policy_doc.specs.declared.document.PolicyDoc.{PolicyDoc}
 use Rattle.events.specs.declared.event.Event.{Event}
 use Rattle.events.specs.declared.answer.Entry.{Entry}
 use Rattle.events.specs.declared.answer.Outcome.{Outcome}
 use Rattle.events.specs.declared.refusal.HubRefusal.{HubRefusal}
 use Rattle.events.specs.declared.refusal.HubRefusal.TheVariants.{HistoryFull}
-use Rattle.world.specs.World.{World, opening_world}
+use Rattle.world.specs.World.{World}
 use Rattle.world.specs.Transition.{transition, entry_of, IsReasoned, IsRefusal}
 use Rattle.hub.specs.Sound.{IsSound}
 use Rattle.hub.specs.History.{State, is_history_full, remembered, IsStep, IsEntry, IsLegalRun}
+use Rattle.hub.specs.Segments.{IsReached}
 use Rattle.hub.specs.Guarantee.{KeepsGuarantee}
 use Rattle.hub.proofs.Guaranteed.{IsMoved, moved-by, guaranteed}
 
@@ -23,25 +23,22 @@ legal-push w [] mid e next run is = (next, subst (λ (v : World). IsEntry v e ne
 legal-push w (x ∷ es) mid e next run is = (run.0, run.1, legal-push run.0 es mid e next run.2 is)
 
 -- a hub by its parts
-abbrev pub state_of : PolicyDoc → World → ℕ → List Entry → State
-state_of policy w most es = record { world = w; opening = opening_world policy w.capacity; most = most; entries = es }
+abbrev pub state_of : World → World → ℕ → List Entry → State
+state_of opening w most es = record { world = w; opening = opening; most = most; entries = es }
 
 -- an answered step, by what it was made of
-pub record IsEntered (policy : PolicyDoc) (w : World) (most : ℕ) (es : List Entry) (e : Event) (a : Entry) (after : World) (entries : List Entry) : Type 0 where
+pub record IsEntered (opening : World) (w : World) (most : ℕ) (es : List Entry) (e : Event) (a : Entry) (after : World) (entries : List Entry) : Type 0 where
   pub sound : IsSound w
-  pub run : IsLegalRun (opening_world policy w.capacity) es w
-  pub room : is_history_full (state_of policy w most es) ≡ false
+  pub reached : IsReached opening
+  pub run : IsLegalRun opening es w
+  pub room : is_history_full (state_of opening w most es) ≡ false
   pub step : transition w e ≡ Ok (a.outcome, after)
   pub answer : a ≡ entry_of a.outcome after e
   pub reason : IsReasoned w e.what a.outcome
   pub entered : entries ≡ es ++ a ∷ []
 
-moved-is : (policy : PolicyDoc) (w : World) (most : ℕ) (es : List Entry) (e : Event) (a : Entry) (after : World) (entries : List Entry) → IsEntered policy w most es e a after entries → IsMoved w e a.outcome after
-moved-is policy w most es e a after entries is = moved-by w e a.outcome after is.sound is.step is.reason
-
--- no step changes the capacity
-capacity-stays : (w : World) (e : Event) (o : Outcome) (after : World) → IsMoved w e o after → after.capacity ≡ w.capacity
-capacity-stays w e o after m = ap (λ (v : World). v.capacity) m.others
+moved-is : (opening : World) (w : World) (most : ℕ) (es : List Entry) (e : Event) (a : Entry) (after : World) (entries : List Entry) → IsEntered opening w most es e a after entries → IsMoved w e a.outcome after
+moved-is opening w most es e a after entries is = moved-by w e a.outcome after is.sound is.step is.reason
 
 -- the answer is an entry from the world before to the world after
 entry-is : (w : World) (e : Event) (a : Entry) (after : World) → IsMoved w e a.outcome after → transition w e ≡ Ok (a.outcome, after) → a ≡ entry_of a.outcome after e → IsEntry w a after
@@ -60,34 +57,32 @@ room-left : (most : ℕ) (es : List Entry) (x : Entry) → nat_le most (length e
 room-left most es x room = omega (arith, length-append es (x ∷ []), leb-false most (length es) room)
 
 -- what every hub keeps, stays
-pub kept-step : (policy : PolicyDoc) (w : World) (most : ℕ) (es : List Entry) (e : Event) (a : Entry) (after : World) (entries : List Entry) → IsEntered policy w most es e a after entries →
-    IsSound after × IsLegalRun (opening_world policy after.capacity) entries after × (length entries ≤ most)
-kept-step policy w most es e a after entries is =
-    let m = moved-is policy w most es e a after entries is in (
+pub kept-step : (opening : World) (w : World) (most : ℕ) (es : List Entry) (e : Event) (a : Entry) (after : World) (entries : List Entry) → IsEntered opening w most es e a after entries →
+    IsSound after × IsLegalRun opening entries after × (length entries ≤ most) × IsReached opening
+kept-step opening w most es e a after entries is =
+    let m = moved-is opening w most es e a after entries is in (
       m.sound,
-      subst (λ (n : ℕ). IsLegalRun (opening_world policy n) entries after) (sym (capacity-stays w e a.outcome after m))
-          (subst (λ (l : List Entry). IsLegalRun (opening_world policy w.capacity) l after) (sym is.entered)
-          (legal-push (opening_world policy w.capacity) es w a after is.run (entry-is w e a after m is.step is.answer))),
+      subst (λ (l : List Entry). IsLegalRun opening l after) (sym is.entered)
+          (legal-push opening es w a after is.run (entry-is w e a after m is.step is.answer)),
       subst (λ (l : List Entry). length l ≤ most) (sym is.entered) (room-left most es a (no-or _ _ is.room)),
+      is.reached,
     )
 
 -- it is the step of the state
-pub entered-step : (policy : PolicyDoc) (w : World) (most : ℕ) (es : List Entry) (e : Event) (a : Entry) (after : World) (entries : List Entry) → IsEntered policy w most es e a after entries →
-    IsStep (state_of policy w most es) e (Ok a) (state_of policy after most entries)
-entered-step policy w most es e a after entries is =
-    let s = state_of policy w most es in
-    let m = moved-is policy w most es e a after entries is in
+pub entered-step : (opening : World) (w : World) (most : ℕ) (es : List Entry) (e : Event) (a : Entry) (after : World) (entries : List Entry) → IsEntered opening w most es e a after entries →
+    IsStep (state_of opening w most es) e (Ok a) (state_of opening after most entries)
+entered-step opening w most es e a after entries is =
+    let s = state_of opening w most es in
     ap (λ (b : Bool). cond b (Err HistoryFull) (remembered s e (transition w e))) is.room
     ∙ ap (remembered s e) is.step
     ∙ ap (λ (b : Entry). Ok (b, record s { world = after; entries = es ++ b ∷ [] })) (sym is.answer)
-    ∙ ap (λ (n : ℕ). Ok (a, record { world = after; opening = opening_world policy n; most = most; entries = es ++ a ∷ [] })) (sym (capacity-stays w e a.outcome after m))
-    ∙ ap (λ (l : List Entry). Ok (a, state_of policy after most l)) (sym is.entered)
+    ∙ ap (λ (l : List Entry). Ok (a, state_of opening after most l)) (sym is.entered)
 
 -- and keeps the guarantee
-pub entered-guaranteed : (policy : PolicyDoc) (w : World) (most : ℕ) (es : List Entry) (e : Event) (a : Entry) (after : World) (entries : List Entry) → IsEntered policy w most es e a after entries →
-    KeepsGuarantee (state_of policy w most es) e (Ok a) (state_of policy after most entries)
-entered-guaranteed policy w most es e a after entries is =
-    guaranteed (state_of policy w most es) e (Ok a) (state_of policy after most entries) is.sound (entered-step policy w most es e a after entries is) is.reason
+pub entered-guaranteed : (opening : World) (w : World) (most : ℕ) (es : List Entry) (e : Event) (a : Entry) (after : World) (entries : List Entry) → IsEntered opening w most es e a after entries →
+    KeepsGuarantee (state_of opening w most es) e (Ok a) (state_of opening after most entries)
+entered-guaranteed opening w most es e a after entries is =
+    guaranteed (state_of opening w most es) e (Ok a) (state_of opening after most entries) is.sound (entered-step opening w most es e a after entries is) is.reason
 
 -- ---- a refused step
 
@@ -97,14 +92,14 @@ remembered-refusal s e (Ok done) refusal is = is
 remembered-refusal s e (Err cause) refusal is = is
 
 -- it keeps the guarantee, where there was room
-pub refused-guaranteed : (policy : PolicyDoc) (w : World) (most : ℕ) (es : List Entry) (e : Event) (refusal : HubRefusal) (after : World) (entries : List Entry) → IsSound w →
-    is_history_full (state_of policy w most es) ≡ false → IsRefusal (transition w e) refusal → after ≡ w → entries ≡ es →
-    KeepsGuarantee (state_of policy w most es) e (Err (e, refusal)) (state_of policy after most entries)
-refused-guaranteed policy w most es e refusal after entries sound room is same_world same_entries =
-    let s = state_of policy w most es in
-    guaranteed s e (Err (e, refusal)) (state_of policy after most entries) sound (
+pub refused-guaranteed : (opening : World) (w : World) (most : ℕ) (es : List Entry) (e : Event) (refusal : HubRefusal) (after : World) (entries : List Entry) → IsSound w →
+    is_history_full (state_of opening w most es) ≡ false → IsRefusal (transition w e) refusal → after ≡ w → entries ≡ es →
+    KeepsGuarantee (state_of opening w most es) e (Err (e, refusal)) (state_of opening after most entries)
+refused-guaranteed opening w most es e refusal after entries sound room is same_world same_entries =
+    let s = state_of opening w most es in
+    guaranteed s e (Err (e, refusal)) (state_of opening after most entries) sound (
       refl,
-      ap (λ (v : World). state_of policy v most entries) same_world ∙ ap (λ (l : List Entry). state_of policy w most l) same_entries,
+      ap (λ (v : World). state_of opening v most entries) same_world ∙ ap (λ (l : List Entry). state_of opening w most l) same_entries,
       subst (λ (b : Bool). IsRefusal (cond b (Err HistoryFull) (remembered s e (transition w e))) refusal) (sym room)
           (remembered-refusal s e (transition w e) refusal is),
     )

@@ -8,4 +8,5 @@ pub mod Reloads
 pub mod Guaranteed
 pub mod Counts
 pub mod Legal
+pub mod Parts
 pub mod Runs

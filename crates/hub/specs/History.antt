@@ -12,7 +12,7 @@ use Rattle.world.specs.Transition.{transition, entry_of, IsRefusal}
 -- a hub: the world that its tables show, and its history
 pub record State : Type 0 where
   pub world : World
-  -- the world that it opened with
+  -- the world before its entries: the one that it opened with, or that of its last rotation
   pub opening : World
   -- how many entries it may hold
   pub most : ℕ
@@ -23,6 +23,10 @@ pub record State : Type 0 where
 abbrev pub opening_state : PolicyDoc → ℕ → ℕ → State
 opening_state policy capacity most =
     record { world = opening_world policy capacity; opening = opening_world policy capacity; most = most; entries = [] }
+
+-- nobody is connected, and nothing has happened
+abbrev pub IsOpening : World → Type 0
+IsOpening w = w ≡ opening_world w.policy w.capacity
 
 -- ---- a step
 

@@ -1,5 +1,6 @@
 pub mod Sound
 pub mod History
+pub mod Segments
 pub mod Run
 pub mod InForce
 pub mod Guarantee

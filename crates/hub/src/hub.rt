@@ -1,13 +1,15 @@
 //! One step of the world, which is remembered, and a run of steps.
+use crate::Segment;
 use events::{Answer, Event, HubRefusal};
-use lists::{Copying, Items, NoMemory};
+use lists::{Copying, Items, NoMemory, Shared};
 use policy_doc::Policy;
 use ready::Ready;
 use std::alloc::Global;
 use std::collections::VecDeque;
 use std::hash::RandomState;
 use std::marker::Model;
-use world::{Standing, World};
+use std::mem;
+use world::{PlainWorld, Standing, World};
 
 /// What a hub is given once, at its opening.
 #[derive(Clone, Copy, Debug)]
@@ -18,44 +20,47 @@ pub struct Caps {
     pub history: usize,
 }
 
-/// The world, and the history of its steps. A clause sees the world, the one that it opened with, and the entries. Of
-/// every hub it holds that the policy in force refuses no standing subscription, that the entries are a legal run, and
-/// what else `known` tells.
+/// The world, and the history of its steps since its opening or last rotation. A clause sees the world, the one before
+/// the entries, and the entries. Of every hub it holds that the policy in force refuses no standing subscription, that
+/// the entries are a legal run, and what else `known` tells.
 #[derive(Drop)]
 pub struct Hub {
     alloc: Global,
     world: World,
-    /// The policy that the hub opened with.
-    opening: Ready,
+    /// The world before the entries.
+    opening: Shared<PlainWorld>,
     most: usize,
     entries: Vec<Answer>,
 }
 
 impl Model for Hub {
     ghost use Rattle.std.specs.Prelude.{◌≤◌, length};
-    ghost use Rattle.world.specs.World.{opening_world};
     ghost use Rattle.hub.specs.Sound.{IsSound};
     ghost use Rattle.hub.specs.History.{State, IsLegalRun};
+    ghost use Rattle.hub.specs.Segments.{IsReached};
 
     ghost Value = { State };
 
     ghost view = { λ h. record {
       world = h.world;
-      opening = opening_world h.opening h.world.capacity;
+      opening = h.opening;
       most = h.most;
       entries = h.entries.items;
     } };
 
     ghost invariant = { λ h. IsSound h.world
-        × IsLegalRun (opening_world h.opening h.world.capacity) h.entries.items h.world
-        × (length h.entries.items ≤ h.most) };
+        × IsLegalRun h.opening h.entries.items h.world
+        × (length h.entries.items ≤ h.most)
+        × IsReached h.opening };
 }
 
 impl Hub {
-    ghost use Rattle.std.specs.Prelude.{◌≡◌, ◌≤◌, IfOk, IfErr, All, length};
-    ghost use Rattle.world.specs.World.{opening_world};
+    ghost use Rattle.std.specs.Prelude.{◌≡◌, ◌≤◌, ◌++◌, List, IfOk, IfErr, OnOk, OnErr, All, length};
+    ghost use Rattle.events.specs.declared.answer.Entry.{Entry};
+    ghost use Rattle.world.specs.World as worlds;
     ghost use Rattle.hub.specs.Sound.{IsSound};
-    ghost use Rattle.hub.specs.History.{opening_state, is_history_full, IsLegalRun, IsStep};
+    ghost use Rattle.hub.specs.History.{opening_state, is_history_full, IsOpening, IsLegalRun, IsStep};
+    ghost use Rattle.hub.specs.Segments.{IsReached, held, rotated};
 
     /// A hub over a policy, with nobody connected and nothing to remember. `NoMemory` hands the policy back. Clients
     /// choose the tokens of subjects, so the tables of tokens are hashed under keys that they can't know.
@@ -71,11 +76,15 @@ impl Hub {
         ensures ok { IfOk result (λ hub. hub ≡ opening_state ready caps.outbox caps.history) }
         ensures err { IfErr result (λ refused. refused.0 ≡ ready) }
     {
-        let opening = match ready.copy(alloc) {
-            Ok(opening) => opening,
+        let back = match ready.copy(alloc) {
+            Ok(back) => back,
             Err(refused) => return Err((ready, refused)),
         };
         let world = World::new(alloc, ready, caps.outbox, keys)?;
+        let opening = match keep(alloc, &world) {
+            Ok(opening) => opening,
+            Err(refused) => return Err((back, refused)),
+        };
         Ok(Hub {
             alloc,
             world,
@@ -93,15 +102,19 @@ impl Hub {
     /// refuses no standing subscription, each of which is of its user's account; at most 4,096 sessions stand, each of
     /// a user of that policy; no connection has two sessions, two subscriptions of one sid, or more than 4,096
     /// subscriptions; no outbox holds more than the hub's capacity; the ids of subscriptions rise, and none is above
-    /// the last number. And the history is legal: its entries lead, one by one, from the world that the hub opened
-    /// with to the present one. They are no more than it may hold. Each standing subscription has its SUB among them,
-    /// and has received as many messages as have entered for it since.
+    /// the last number. And the history is legal: its entries lead, one by one, from the world before them to the
+    /// present one. They are no more than it may hold. The world before them was reached by a legal run from one in
+    /// which nothing had happened; with number 0 it is such a world. Whatever entries led to it: each standing
+    /// subscription has its SUB among those and the hub's, and has received as many messages as have entered for it
+    /// since.
     pub fn known(&self)
         ensures sound { IsSound self.now.world }
-        ensures opening { self.now.opening ≡ opening_world self.now.opening.policy self.now.world.capacity }
+        ensures reached { IsReached self.now.opening }
+        ensures opening { self.now.opening.number ≡ 0 → IsOpening self.now.opening }
         ensures legal { IsLegalRun self.now.opening self.now.entries self.now.world }
         ensures room { length self.now.entries ≤ self.now.most }
-        ensures counts { All (IsCounted self.now.entries) self.now.world.subscriptions }
+        ensures counts { (first : worlds.World) (past : List Entry) → IsOpening first → IsLegalRun first past self.now.opening
+            → All (IsCounted (past ++ self.now.entries)) self.now.world.subscriptions }
     {
         // The loan tells the prover what the type keeps.
         let _ = &self.world;
@@ -195,8 +208,24 @@ impl Hub {
         answers
     }
 
-    /// The entries, oldest first: one for each event that was answered. They lead, one by one, from the world that the
-    /// hub opened with to the present one.
+    /// Hands out the history so far, and goes on with none: the segment has the entries, the world before them and the
+    /// present one, from which the hub goes on. The tables stay as they are, and numbers go on. It takes as long as a
+    /// copy of the tables, however long the history is. On `NoMemory` nothing has changed.
+    #[tactic(auto, unfolding(crate::specs::History::IsLegalRun))]
+    pub fn rotate(&mut self) -> Result<Segment, NoMemory>
+        ensures segment { IfOk result (λ segment. segment ≡ held self.old) }
+        ensures ok { OnOk result (self.new ≡ rotated self.old) }
+        ensures err { OnErr result (self.new ≡ self.old) }
+    {
+        let closing = keep(self.alloc, &self.world)?;
+        let next = closing.again()?;
+        let entries = mem::replace(&mut self.entries, Vec::new(self.alloc));
+        let opening = mem::replace(&mut self.opening, next);
+        Ok(Segment::of(opening, entries, closing))
+    }
+
+    /// The entries since the opening or last rotation, oldest first: one for each event that was answered. They lead,
+    /// one by one, from the world before them to the present one.
     pub fn history(&self) -> &[Answer]
         ensures entries { result.now ≡ self.now.entries }
         ensures legal { IsLegalRun self.now.opening result.now self.now.world }
@@ -241,7 +270,16 @@ impl Hub {
     }
 }
 
-ghost use Rattle.std.specs.Prelude.{◌≡◌, ◌<◌, ◌++◌, ◌∷◌, [], vec_len, vec_capacity};
+ghost use Rattle.std.specs.Prelude.{◌≡◌, ◌<◌, ◌++◌, ◌∷◌, [], IfOk, vec_len, vec_capacity};
+
+/// A world as it is, to be shared by the parts of a history that meet there.
+fn keep(alloc: Global, world: &World) -> Result<Shared<PlainWorld>, NoMemory>
+    ensures { IfOk result (λ kept. kept ≡ world.now) }
+{
+    let plain = world.plain()?;
+    let kept = Shared::new(alloc, plain)?;
+    Ok(kept)
+}
 
 /// Enters what is kept of an event behind all entries, in the place that it has there, and gives what is told.
 fn enter(entries: &mut Vec<Answer>, told: Answer, kept: Answer) -> Answer

@@ -2,6 +2,7 @@
 #![tactic(auto)]
 
 mod hub;
+mod segment;
 
 pub use events::{
     Answer, Command, Delivery, Entry, Event, HubRefusal, Item, Message, Met, Outcome, Port,
@@ -9,4 +10,5 @@ pub use events::{
 };
 pub use hub::{Caps, Hub};
 pub use ready::{Ready, User};
-pub use world::Standing;
+pub use segment::Segment;
+pub use world::{PlainWorld, Standing};

@@ -15,6 +15,7 @@ is_entered c =
     subst Q (sym c.enter.ensures.answer)
     (record {
       sound = c.self.invariant.0;
+      reached = c.self.invariant.3;
       run = c.self.invariant.1;
       room = subst P (sym c.self.view_is) room;
       step = c.in-Ok.ensures.step.0;
