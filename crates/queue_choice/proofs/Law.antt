@@ -10,7 +10,7 @@ use Rattle.queue_choice.specs.Choices.{name_of, names_of, same_name, group, chos
 use Rattle.queue_choice.proofs.Names.{same-is, same-itself, Once, once-names, any-names}
 
 -- what stands at a place of a filter passes the test, and stands in the list
-picked : {X : Type 0} (p : X → Bool) (xs : List X) (i : ℕ) (x : X) → slice_get (filter p xs) i ≡ Some x → (p x ≡ true) × Contains xs x
+pub picked : {X : Type 0} (p : X → Bool) (xs : List X) (i : ℕ) (x : X) → slice_get (filter p xs) i ≡ Some x → (p x ≡ true) × Contains xs x
 picked p [] i x e = absurd (cc)
 picked p (y ∷ xs) i x e = elim (cases_Bool (p y)) [
   | inl t ↦ here t i (λ j at. picked p xs j x at) (rw t at e)

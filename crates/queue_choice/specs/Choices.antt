@@ -21,7 +21,7 @@ names_of [] = []
 names_of (m ∷ ms) = name_of m ∷ filter (λ name. not (same_name (name_of m) name)) (names_of ms)
 
 -- of a group with n members by age, member number (word mod 2^32) mod n, counted from 0
-abbrev pub chosen : ℕ → List Member → Option Member
+abbrev pub chosen : {X : Type 0} → ℕ → List X → Option X
 chosen word members = slice_get members (word % 2 ^ 32 % length members)
 
 -- one of each queue group is chosen: each queue name that a member has exactly once, and who is chosen is a member
