@@ -7,6 +7,7 @@ use permissions::{By, Verdict};
 use std::alloc::Global;
 use std::marker::Model;
 use std::slice;
+use subjects::Subject;
 
 /// A message on its way to one subscription. All deliveries of a message share it.
 #[derive(Debug, Drop)]
@@ -33,6 +34,8 @@ pub struct Addressed {
     pub id: u64,
     /// The connection whose session has it.
     pub conn: u64,
+    /// The queue group that it is a member of, if it is of one.
+    pub queue: Option<Subject>,
     /// What is sent.
     pub delivery: Delivery,
 }

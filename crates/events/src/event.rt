@@ -4,7 +4,7 @@ use crate::message::Message;
 use lists::{Copying, NoMemory, Shared, SharedText};
 use ready::Ready;
 use std::alloc::Global;
-use subjects::Pattern;
+use subjects::{Pattern, Subject};
 
 /// A client's own id of a subscription.
 pub type Sid = SharedText;
@@ -29,10 +29,11 @@ pub enum Command {
         password: SharedText,
         echo: bool,
     },
-    /// A subscription under the client's own id for it (SUB).
+    /// A subscription under the client's own id for it (SUB). With a queue name it is a member of that queue group.
     Sub {
         conn: u64,
         subject: Shared<Pattern>,
+        queue: Option<Subject>,
         sid: Sid,
     },
     /// The end of a subscription (UNSUB): at once, or once it has received `most` messages since its SUB. The limit
@@ -42,8 +43,8 @@ pub enum Command {
         sid: Sid,
         most: Option<u64>,
     },
-    /// A message for whoever subscribes to its subject (PUB, HPUB). The word, which is drawn by the caller, has no
-    /// effect yet: it is to choose the members of queue groups.
+    /// A message for whoever subscribes to its subject (PUB, HPUB). The word, which is drawn by the caller, chooses the
+    /// members of queue groups.
     Pub {
         conn: u64,
         message: Shared<Message>,
@@ -77,9 +78,15 @@ impl Copying for Command {
                 password: password.again()?,
                 echo: *echo,
             }),
-            Command::Sub { conn, subject, sid } => Ok(Command::Sub {
+            Command::Sub {
+                conn,
+                subject,
+                queue,
+                sid,
+            } => Ok(Command::Sub {
                 conn: *conn,
                 subject: subject.again()?,
+                queue: queue.copy(alloc)?,
                 sid: sid.again()?,
             }),
             Command::Unsub { conn, sid, most } => Ok(Command::Unsub {

@@ -145,8 +145,10 @@ impl Sessions {
         let Addressed {
             id: _,
             conn,
+            queue,
             delivery,
         } = next;
+        drop(queue);
         match self.place_of(conn) {
             None => {}
             Some(place) => self.list[place].offer(delivery),

@@ -61,6 +61,7 @@ fn addressed(alloc: Global, conn: u64, sid: &[u8]) -> Result<Addressed, Fail> {
     Ok(Addressed {
         id: 1,
         conn,
+        queue: None,
         delivery: Delivery {
             message: Shared::new(alloc, message)?,
             sid: SharedText::of(alloc, sid)?,

@@ -1,5 +1,5 @@
 -- The standing subscriptions as a list, oldest first (docs/GUARANTEE.md, "The world").
-use Rattle.std.specs.Prelude.{◌==◌, ◌&&◌, ℕ, List, Bool, None, filter, length, nat_eq, nat_le}
+use Rattle.std.specs.Prelude.{◌==◌, ◌&&◌, ℕ, List, Bool, Option, None, filter, length, nat_eq, nat_le}
 use Rattle.std.specs.List.{list_any}
 use Rattle.std.specs.Cmp.Lexicographic.{pointwise}
 use Rattle.subjects.specs.Subject.{Token, in_set}
@@ -26,8 +26,9 @@ abbrev pub has_all : List Subscription → ℕ → Bool
 has_all subs conn = nat_le 4096 (length (of_connection conn subs))
 
 -- a subscription that has received nothing yet, without a limit
-abbrev pub subscription_of : ℕ → ℕ → List ℕ → List Token → List ℕ → Subscription
-subscription_of id conn account p sid = record { id = id; conn = conn; account = account; subject = p; sid = sid; received = 0; most = None }
+abbrev pub subscription_of : ℕ → ℕ → List ℕ → List Token → Option (List Token) → List ℕ → Subscription
+subscription_of id conn account p queue sid =
+    record { id = id; conn = conn; account = account; subject = p; queue = queue; sid = sid; received = 0; most = None }
 
 -- whether a subscription is of the account and has the subject
 abbrev pub has_subject : List ℕ → List Token → Subscription → Bool

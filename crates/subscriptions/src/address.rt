@@ -4,10 +4,12 @@ ghost use Rattle.subscriptions.specs.Addressing.{addressed_to};
 
 use crate::Subscription;
 use events::{Addressed, Delivery, Message};
-use lists::{NoMemory, Shared};
+use lists::{Copying, NoMemory, Shared};
+use std::alloc::Global;
 
 /// The message on its way to a subscription. It is not copied: the delivery is one more owner.
 pub(crate) fn address(
+    alloc: Global,
     message: &Shared<Message>,
     subscription: &Subscription,
 ) -> Result<Addressed, NoMemory>
@@ -16,6 +18,7 @@ pub(crate) fn address(
     Ok(Addressed {
         id: subscription.id,
         conn: subscription.conn,
+        queue: subscription.queue.copy(alloc)?,
         delivery: Delivery {
             message: message.again()?,
             sid: subscription.sid.again()?,

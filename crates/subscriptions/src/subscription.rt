@@ -1,7 +1,7 @@
 use bytes::Bytes;
 use events::Sid;
 use lists::Shared;
-use subjects::Pattern;
+use subjects::{Pattern, Subject};
 
 /// A subscription that stands.
 #[derive(Drop)]
@@ -14,6 +14,8 @@ pub struct Subscription {
     pub account: Bytes,
     /// What it asks for.
     pub subject: Shared<Pattern>,
+    /// The queue group that it is a member of, if it is of one.
+    pub queue: Option<Subject>,
     /// The client's own id for it.
     pub sid: Sid,
     /// How many messages it has received since its SUB. It stays at 2^64 - 1.

@@ -11,7 +11,7 @@ use std::alloc::Global;
 use std::collections::btree_map::Values;
 use std::hash::RandomState;
 use std::marker::Model;
-use subjects::Pattern;
+use subjects::{Pattern, Subject};
 
 /// How many subscriptions of a connection may stand.
 const SUBSCRIPTIONS: usize = 4096;
@@ -122,6 +122,7 @@ impl Subscriptions {
     /// deliveries. On `NoMemory` some of them may have been added.
     pub fn address(
         &self,
+        alloc: Global,
         account: &[u8],
         message: &Shared<Message>,
         all: &mut Vec<Addressed>,
@@ -129,22 +130,24 @@ impl Subscriptions {
         ensures { OnOk result (all.new.items ≡ all.old.items
             ++ map (addressed_to message.now) (having account.now message.now.subject self.now)) }
     {
-        self.table.address(account, message, all)?;
+        self.table.address(alloc, account, message, all)?;
         Ok(())
     }
 
-    /// Adds a subscription, the youngest of all. On `NoMemory` nothing has changed.
+    /// Adds a subscription, the youngest of all, which with a queue name is a member of that queue group. On `NoMemory`
+    /// nothing has changed.
     pub fn add(
         &mut self,
         id: u64,
         conn: u64,
         account: Bytes,
         subject: Shared<Pattern>,
+        queue: Option<Subject>,
         sid: Sid,
     ) -> Result<(), NoMemory>
         requires above { All (λ (s : Subscription). s.id < id) self.old }
         requires free { stands self.old conn sid ≡ false }
-        ensures ok { OnOk result (self.new ≡ self.old ++ subscription_of id conn account subject sid ∷ []) }
+        ensures ok { OnOk result (self.new ≡ self.old ++ subscription_of id conn account subject queue sid ∷ []) }
         ensures err { OnErr result (self.new ≡ self.old) }
     {
         let subscription = Subscription {
@@ -152,6 +155,7 @@ impl Subscriptions {
             conn,
             account,
             subject,
+            queue,
             sid,
             received: 0,
             most: None,

@@ -102,6 +102,7 @@ impl Table {
     /// deliveries. On `NoMemory` some of them may have been added.
     pub fn address(
         &self,
+        alloc: Global,
         account: &[u8],
         message: &Shared<Message>,
         all: &mut Vec<Addressed>,
@@ -110,7 +111,7 @@ impl Table {
             ++ map (addressed_to message.now) (having account.now message.now.subject self.now)) }
     {
         let found = self.trees.matching(account, message.get().subject())?;
-        self.address_each(found.as_slice(), message, all)?;
+        self.address_each(alloc, found.as_slice(), message, all)?;
         Ok(())
     }
 
@@ -118,6 +119,7 @@ impl Table {
     #[tactic(auto, using(crate::proofs::Indexed::found_first))]
     fn address_each(
         &self,
+        alloc: Global,
         ids: &[u64],
         message: &Shared<Message>,
         all: &mut Vec<Addressed>,
@@ -125,7 +127,7 @@ impl Table {
         ensures { OnOk result (all.new.items ≡ all.old.items ++ map (addressed_to message.now) (found_by self.now ids.now)) }
     {
         for id in ids {
-            self.address_one(*id, message, all)?;
+            self.address_one(alloc, *id, message, all)?;
         }
         Ok(())
     }
@@ -133,6 +135,7 @@ impl Table {
     /// Adds the delivery for the subscription of an id.
     fn address_one(
         &self,
+        alloc: Global,
         id: u64,
         message: &Shared<Message>,
         all: &mut Vec<Addressed>,
@@ -142,7 +145,7 @@ impl Table {
         match self.get(id) {
             None => Ok(()),
             Some(subscription) => {
-                all.push(address(message, subscription)?)?;
+                all.push(address(alloc, message, subscription)?)?;
                 Ok(())
             }
         }

@@ -24,7 +24,7 @@ fn adds(
     let own = sid(rt, own)?;
     let is_above = all.values().all(|subscription| subscription.id < id);
     if is_above && !all.stands(conn, &own) {
-        all.add(id, conn, account, subject, own)?;
+        all.add(id, conn, account, subject, None, own)?;
         Ok(true)
     } else {
         Ok(false)
@@ -71,7 +71,7 @@ fn a_message_is_counted_where_it_has_entered(rt: HostRuntime) -> Result<(), Fail
     let message = Message::new(subject, None, Bytes::new(), Bytes::new());
     let message = Shared::new(rt.alloc(), message)?;
     let mut found = Vec::new(rt.alloc());
-    all.address(b"a", &message, &mut found)?;
+    all.address(rt.alloc(), b"a", &message, &mut found)?;
     assert_eq!(rt; found.len(), 2);
     all.limit(7, &sid(&rt, "x")?, Some(1));
     all.limit(7, &sid(&rt, "y")?, Some(1));
@@ -97,7 +97,7 @@ fn reached(rt: &HostRuntime, all: &Subscriptions, account: &str) -> Result<Strin
     let message = Message::new(subject, None, Bytes::new(), Bytes::new());
     let message = Shared::new(rt.alloc(), message)?;
     let mut found = Vec::new(rt.alloc());
-    all.address(account.as_bytes(), &message, &mut found)?;
+    all.address(rt.alloc(), account.as_bytes(), &message, &mut found)?;
     let mut ids = Vec::new(rt.alloc());
     for addressed in found.as_slice() {
         ids.push(addressed.id)?;

@@ -7,14 +7,14 @@ use Rattle.subscriptions.proofs.subscriptions.Subscriptions.add.Goals as goal
 
 pub invariant_of-self-in-Ok : goal.invariant_of-self-in-Ok
 invariant_of-self-in-Ok c =
-    let s = subscription_of c.args.id c.args.conn c.args.account c.args.subject c.args.sid in
+    let s = subscription_of c.args.id c.args.conn c.args.account c.args.subject c.args.queue c.args.sid in
     let free : stands c.self.inside.table s.conn s.sid ≡ false = ap (λ (xs : List Subscription). stands xs s.conn s.sid) c.self.view_is ∙ c.requires.free in
     subst (λ (xs : List Subscription). AreSidsOf xs c.insert.new.self) (sym c.in-Ok.ensures.ok) (sids_added c.self.inside.table s free c.self.inside.sids c.insert.new.self c.in_ok-insert.ensures.ok c.self.invariant)
 
 -- the table has refused it, so its sid is taken out again
 pub invariant_of-self-in-Err : goal.invariant_of-self-in-Err
 invariant_of-self-in-Err c =
-    let s = subscription_of c.args.id c.args.conn c.args.account c.args.subject c.args.sid in
+    let s = subscription_of c.args.id c.args.conn c.args.account c.args.subject c.args.queue c.args.sid in
     let free : stands c.self.inside.table s.conn s.sid ≡ false = ap (λ (xs : List Subscription). stands xs s.conn s.sid) c.self.view_is ∙ c.requires.free in
     let less : IsWithout c.insert.new.self s c.remove.new.self = subst (λ (x : Subscription). IsWithout c.insert.new.self x c.remove.new.self) c.in-Err.ensures.back c.remove.ensures in
     subst (λ (xs : List Subscription). AreSidsOf xs c.remove.new.self) (sym c.in-Err.ensures.err)
