@@ -7,13 +7,13 @@ use Rattle.permissions.specs.declared.verdict.Verdict.{Verdict}
 use Rattle.ready.specs.declared.ready.User.{User}
 use Rattle.sessions.specs.declared.session.Session.{Session}
 
-pub subscribe_reason : (o : Option Session) (z : Session) (p q : List Token) (v : Verdict) → Some z ≡ o → p ≡ q → v ≡ subscribe_verdict z.user.rules p →
-    IsJustifiedSubscribe p z.user.rules.subscribe v → IfSome o (λ (z : Session). IsJustifiedSubscribe q z.user.rules.subscribe (subscribe_verdict z.user.rules q))
-subscribe_reason o z p q v is same which h =
-    let P : Option Session → Type 0 = λ o. IfSome o (λ (z : Session). IsJustifiedSubscribe q z.user.rules.subscribe (subscribe_verdict z.user.rules q)) in
-    let Q : List Token → Type 0 = λ t. IsJustifiedSubscribe t z.user.rules.subscribe (subscribe_verdict z.user.rules t) in
-    let R : Verdict → Type 0 = λ x. IsJustifiedSubscribe p z.user.rules.subscribe x in
-    subst P is (subst Q same (subst R which h))
+pub subscribe_reason : (o : Option Session) (z : Session) (p p' : List Token) (q : Option (List Token)) (v : Verdict) → Some z ≡ o → p ≡ p' → v ≡ subscribe_verdict z.user.rules p q →
+    IsJustifiedSubscribe p q z.user.rules.subscribe v → IfSome o (λ (z : Session). IsJustifiedSubscribe p' q z.user.rules.subscribe (subscribe_verdict z.user.rules p' q))
+subscribe_reason o z p p' q v is same-p which h =
+    let P : Option Session → Type 0 = λ o. IfSome o (λ (z : Session). IsJustifiedSubscribe p' q z.user.rules.subscribe (subscribe_verdict z.user.rules p' q)) in
+    let Q : List Token → Type 0 = λ t. IsJustifiedSubscribe t q z.user.rules.subscribe (subscribe_verdict z.user.rules t q) in
+    let R : Verdict → Type 0 = λ x. IsJustifiedSubscribe p q z.user.rules.subscribe x in
+    subst P is (subst Q same-p (subst R which h))
 
 pub publish_reason : (o : Option Session) (z : Session) (s t : List Token) (v : Verdict) → Some z ≡ o → s ≡ t → v ≡ publish_verdict z.user.rules s →
     IsJustifiedPublish s z.user.rules.publish v → IfSome o (λ (z : Session). IsJustifiedPublish t z.user.rules.publish (publish_verdict z.user.rules t))
@@ -23,10 +23,10 @@ publish_reason o z s t v is same which h =
     let R : Verdict → Type 0 = λ x. IsJustifiedPublish s z.user.rules.publish x in
     subst P is (subst Q same (subst R which h))
 
-pub verdict_reason : (o : Option User) (u : User) (p q : List Token) (v : Verdict) → Some u ≡ o → p ≡ q → v ≡ subscribe_verdict u.rules p →
-    IsJustifiedSubscribe p u.rules.subscribe v → IfSome o (λ (u : User). IsJustifiedSubscribe q u.rules.subscribe (subscribe_verdict u.rules q))
-verdict_reason o u p q v is same which h =
-    let P : Option User → Type 0 = λ o. IfSome o (λ (u : User). IsJustifiedSubscribe q u.rules.subscribe (subscribe_verdict u.rules q)) in
-    let Q : List Token → Type 0 = λ t. IsJustifiedSubscribe t u.rules.subscribe (subscribe_verdict u.rules t) in
-    let R : Verdict → Type 0 = λ x. IsJustifiedSubscribe p u.rules.subscribe x in
-    subst P is (subst Q same (subst R which h))
+pub verdict_reason : (o : Option User) (u : User) (p p' : List Token) (q : Option (List Token)) (v : Verdict) → Some u ≡ o → p ≡ p' → v ≡ subscribe_verdict u.rules p q →
+    IsJustifiedSubscribe p q u.rules.subscribe v → IfSome o (λ (u : User). IsJustifiedSubscribe p' q u.rules.subscribe (subscribe_verdict u.rules p' q))
+verdict_reason o u p p' q v is same-p which h =
+    let P : Option User → Type 0 = λ o. IfSome o (λ (u : User). IsJustifiedSubscribe p' q u.rules.subscribe (subscribe_verdict u.rules p' q)) in
+    let Q : List Token → Type 0 = λ t. IsJustifiedSubscribe t q u.rules.subscribe (subscribe_verdict u.rules t q) in
+    let R : Verdict → Type 0 = λ x. IsJustifiedSubscribe p q u.rules.subscribe x in
+    subst P is (subst Q same-p (subst R which h))

@@ -12,12 +12,12 @@ pub open_deliveries : (zs : List Session) (z : Session) (m : Message) (subs : Li
     filter (is_open zs z m.subject) (map (addressed_to m) (having z.user.account m.subject subs))
     ≡ map (addressed_to m) (filter (is_admitted zs z (own_view z m)) subs)
 open_deliveries zs z m [] = refl
-open_deliveries zs z m (s ∷ subs) = here (has_subject z.user.account m.subject s) (is_open_to zs z m.subject s.conn) refl (open_deliveries zs z m subs)
+open_deliveries zs z m (s ∷ subs) = here (has_subject z.user.account m.subject s) (is_open_to zs z m.subject s.conn s.queue) refl (open_deliveries zs z m subs)
   where
     rest : List Subscription
     rest = having z.user.account m.subject subs
 
-    here : (b c : Bool) → is_open_to zs z m.subject s.conn ≡ c →
+    here : (b c : Bool) → is_open_to zs z m.subject s.conn s.queue ≡ c →
         filter (is_open zs z m.subject) (map (addressed_to m) rest) ≡ map (addressed_to m) (filter (is_admitted zs z (own_view z m)) subs) →
         filter (is_open zs z m.subject) (map (addressed_to m) (cond b (s ∷ rest) rest))
         ≡ map (addressed_to m) (cond (b && c) (s ∷ filter (is_admitted zs z (own_view z m)) subs) (filter (is_admitted zs z (own_view z m)) subs))

@@ -34,8 +34,8 @@ items_in _ = []
 abbrev pub done : World → Change → Outcome → World
 done w Nothing o = w
 done w (Open z) o = record w { sessions = w.sessions ++ z ∷ [] }
-done w (Stand conn account p sid) o =
-    record w { subscriptions = w.subscriptions ++ subscription_of (w.number + 1) conn account p sid ∷ [] }
+done w (Stand conn account p queue sid) o =
+    record w { subscriptions = w.subscriptions ++ subscription_of (w.number + 1) conn account p queue sid ∷ [] }
 done w (Limit conn sid most) o = record w { subscriptions = unended (map (limited conn sid most) w.subscriptions) }
 done w (Deliver all) o =
     record w { sessions = (delivered all w.sessions).0; subscriptions = unended (map (counted (items_in o)) w.subscriptions) }
@@ -54,7 +54,7 @@ done w (Install doc users) o = record w {
 abbrev pub IsFit : World → Change → Outcome → Type 0
 IsFit w Nothing o = Unit {0}
 IsFit w (Open z) o = session_of w.sessions z.conn ≡ None
-IsFit w (Stand conn account p sid) o = stands w.subscriptions conn sid ≡ false
+IsFit w (Stand conn account p queue sid) o = stands w.subscriptions conn sid ≡ false
 IsFit w (Limit conn sid most) o = Unit {0}
 IsFit w (Deliver all) o = (items_in o ≡ (delivered all w.sessions).1) × AreAddressed all w.subscriptions
 IsFit w (Drain conn most) o = Unit {0}

@@ -21,10 +21,10 @@ abbrev pub user_after : PolicyDoc → Option Session → Option User
 user_after doc None = None
 user_after doc (Some z) = user_again_of doc z
 
--- the verdict on a pattern, where there is a user
+-- the verdict on a subscription, with its queue, where there is a user
 abbrev pub verdict_for : Option User → Subscription → Option Verdict
 verdict_for None sub = None
-verdict_for (Some u) sub = Some (subscribe_verdict u.rules sub.subject)
+verdict_for (Some u) sub = Some (subscribe_verdict u.rules sub.subject sub.queue)
 
 -- the verdict of the policy on a subscription, if its session stays
 abbrev pub verdict_after : PolicyDoc → List Session → Subscription → Option Verdict
@@ -67,7 +67,7 @@ reloaded w doc = (
 -- the verdict on a subscription, if its session stays, has its reason in the lists of the user
 abbrev pub IsReasonedVerdict : PolicyDoc → List Session → Subscription → Type 0
 IsReasonedVerdict doc zs sub =
-    IfSome (user_after doc (session_of zs sub.conn)) (λ (u : User). IsJustifiedSubscribe sub.subject u.rules.subscribe (subscribe_verdict u.rules sub.subject))
+    IfSome (user_after doc (session_of zs sub.conn)) (λ (u : User). IsJustifiedSubscribe sub.subject sub.queue u.rules.subscribe (subscribe_verdict u.rules sub.subject sub.queue))
 
 -- a valid policy, and a reason for each verdict
 abbrev pub IsReasonedReload : PolicyDoc → List Session → List Subscription → Type 0

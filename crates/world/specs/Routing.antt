@@ -1,6 +1,7 @@
 -- Whom a message reaches (docs/GUARANTEE.md, "Delivery").
-use Rattle.std.specs.Prelude.{◌&&◌, ◌||◌, ◌==◌, ℕ, List, Bool, false, Option, Some, None, filter, map, not}
-use Rattle.subjects.specs.Subject.{Token}
+use Rattle.std.specs.Prelude.{◌&&◌, ◌||◌, ◌==◌, ℕ, List, Bool, true, false, Option, Some, None, filter, map, not}
+use Rattle.subjects.specs.Subject.{Token, text_of}
+use Rattle.queue_choice.specs.Choices.{same_name, chosen}
 use Rattle.permissions.specs.Verdicts.{delivery_verdict, is_allowed}
 use Rattle.events.specs.Messages.{Message}
 use Rattle.events.specs.declared.answer.Addressed.{Addressed}
@@ -22,38 +23,72 @@ pub record View : Type 0 where
 abbrev pub own_view : Session → Message → View
 own_view publisher m = record { account = publisher.user.account; message = m }
 
--- the permissions of a session let the subject through
-abbrev pub lets_through : List Token → Option Session → Bool
-lets_through s None = false
-lets_through s (Some z) = is_allowed (delivery_verdict z.user.rules s)
+-- the permissions of a session let the subject through, to a subscription with this queue name or with none
+abbrev pub lets_through : List Token → Option (List Token) → Option Session → Bool
+lets_through s queue None = false
+lets_through s queue (Some z) = is_allowed (delivery_verdict z.user.rules s queue)
 
 -- a session without echo isn't sent its own messages
 abbrev pub may_hear : Session → ℕ → Bool
 may_hear publisher conn = publisher.echo || not (conn == publisher.conn)
 
--- whether a connection may be sent a message of the publisher on the subject
-abbrev pub is_open_to : List Session → Session → List Token → ℕ → Bool
-is_open_to zs publisher s conn = may_hear publisher conn && lets_through s (session_of zs conn)
+-- whether a connection may be sent a message of the publisher on the subject, for a subscription with this queue name or
+-- with none
+abbrev pub is_open_to : List Session → Session → List Token → ℕ → Option (List Token) → Bool
+is_open_to zs publisher s conn queue = may_hear publisher conn && lets_through s queue (session_of zs conn)
 
--- the same of a delivery, by the connection that it is for
+-- the same of a delivery, by the subscription that it is for
 abbrev pub is_open : List Session → Session → List Token → Addressed → Bool
-is_open zs publisher s a = is_open_to zs publisher s a.conn
+is_open zs publisher s a = is_open_to zs publisher s a.conn a.queue
 
 -- a subscription is admitted where it is of the account and has the subject, may hear the publisher, and its session's
 -- permissions let the message through
 abbrev pub is_admitted : List Session → Session → View → Subscription → Bool
-is_admitted zs publisher v sub = has_subject v.account v.message.subject sub && is_open_to zs publisher v.message.subject sub.conn
+is_admitted zs publisher v sub = has_subject v.account v.message.subject sub && is_open_to zs publisher v.message.subject sub.conn sub.queue
 
--- the subscriptions that a message is for, oldest first
+-- the subscriptions that a message may be sent to, oldest first
 abbrev pub admitted : World → Session → View → List Subscription
 admitted w publisher v = filter (is_admitted w.sessions publisher v) w.subscriptions
 
--- the deliveries of a view, oldest subscription first
-abbrev pub deliveries : World → Session → View → List Addressed
-deliveries w publisher v = map (addressed_to v.message) (admitted w publisher v)
+-- ---- queue groups (NATS documentation, "Queue Groups")
+
+-- whether a subscription is of the queue group of that name, whatever its pattern
+abbrev pub is_named : List ℕ → Option (List Token) → Bool
+is_named name None = false
+is_named name (Some queue) = same_name name (text_of queue)
+
+abbrev pub is_member : List ℕ → Subscription → Bool
+is_member name sub = is_named name sub.queue
+
+-- the members of a queue group, oldest first
+abbrev pub members : List ℕ → List Subscription → List Subscription
+members name subs = filter (is_member name) subs
+
+-- whether a subscription is this one
+abbrev pub is_the : Option Subscription → Subscription → Bool
+is_the None sub = false
+is_the (Some one) sub = one.id == sub.id
+
+-- A plain subscription is served; of each queue group the member that the word chooses is, and no other.
+abbrev pub is_served_by : ℕ → List Subscription → Subscription → Option (List Token) → Bool
+is_served_by word subs sub None = true
+is_served_by word subs sub (Some queue) = is_the (chosen word (members (text_of queue) subs)) sub
+
+abbrev pub is_served : ℕ → List Subscription → Subscription → Bool
+is_served word subs sub = is_served_by word subs sub sub.queue
+
+-- of the admitted the plain ones and the chosen members, oldest first
+abbrev pub served : ℕ → List Subscription → List Subscription
+served word subs = filter (is_served word subs) subs
+
+-- ---- deliveries
+
+-- the deliveries of a view, oldest subscription first. Who is chosen is so before room is looked at.
+abbrev pub deliveries : World → Session → View → ℕ → List Addressed
+deliveries w publisher v word = map (addressed_to v.message) (served word (admitted w publisher v))
 
 -- the view is delivered: what each of those that it is for met, and the world after it. Each subscription that the
 -- message has entered for counts it, and ends where that was the last that it was to receive.
-abbrev pub routed : World → Session → View → List Item × World
-routed w publisher v = let after = delivered (deliveries w publisher v) w.sessions in
+abbrev pub routed : World → Session → View → ℕ → List Item × World
+routed w publisher v word = let after = delivered (deliveries w publisher v word) w.sessions in
     (after.1, record w { sessions = after.0; subscriptions = unended (map (counted after.1) w.subscriptions) })

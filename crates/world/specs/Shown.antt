@@ -8,7 +8,7 @@ use Rattle.world.specs.World.{World}
 use Rattle.world.specs.declared.standing.Standing.{Standing}
 
 abbrev pub standing_of : Subscription → Standing
-standing_of s = record { id = s.id; conn = s.conn; subject = s.subject; sid = s.sid; received = s.received; most = s.most }
+standing_of s = record { id = s.id; conn = s.conn; subject = s.subject; queue = s.queue; sid = s.sid; received = s.received; most = s.most }
 
 -- how much waits in a session's outbox, and whether a delivery was missed
 abbrev pub waiting_in : Session → ℕ × Bool

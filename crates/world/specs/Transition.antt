@@ -3,7 +3,7 @@ use Rattle.std.specs.Prelude.{◌==◌, ◌+◌, ◌∷◌, ◌++◌, ◌≡◌,
 use Rattle.subjects.specs.Subject.{Token}
 use Rattle.permissions.specs.Verdicts.{publish_verdict, subscribe_verdict, IsJustifiedPublish, IsJustifiedSubscribe}
 use Rattle.permissions.specs.declared.verdict.Verdict.{Verdict}
-use Rattle.permissions.specs.declared.verdict.Verdict.TheVariants.{Allowed, DeniedBy, NoAllow}
+use Rattle.permissions.specs.declared.verdict.Verdict.TheVariants.{Allowed, DeniedBy, NoAllow, NoQueueAllow}
 use Rattle.ready.specs.Users.{user_with_password}
 use Rattle.ready.specs.declared.ready.User.{User}
 use Rattle.events.specs.Messages.{Message}
@@ -31,13 +31,14 @@ connected w conn echo (Some u) =
     (Connected, record w { sessions = w.sessions ++ new_session conn u echo w.capacity ∷ [] })
 
 -- the verdict first, then whether the id is taken, then whether the connection has all that it may have
-abbrev pub subscribed : World → ℕ → List ℕ → List Token → List ℕ → Verdict → Outcome × World
-subscribed w conn account p sid (Allowed by) =
+abbrev pub subscribed : World → ℕ → List ℕ → List Token → Option (List Token) → List ℕ → Verdict → Outcome × World
+subscribed w conn account p queue sid (Allowed by) =
     if stands w.subscriptions conn sid then (SameSid, w)
     else if has_all w.subscriptions conn then (SubLimit, w)
-    else (Subscribed, record w { subscriptions = w.subscriptions ++ subscription_of (w.number + 1) conn account p sid ∷ [] })
-subscribed w conn account p sid (DeniedBy i) = (Denied (DeniedBy i), w)
-subscribed w conn account p sid NoAllow = (Denied NoAllow, w)
+    else (Subscribed, record w { subscriptions = w.subscriptions ++ subscription_of (w.number + 1) conn account p queue sid ∷ [] })
+subscribed w conn account p queue sid (DeniedBy i) = (Denied (DeniedBy i), w)
+subscribed w conn account p queue sid NoAllow = (Denied NoAllow, w)
+subscribed w conn account p queue sid (NoQueueAllow i) = (Denied (NoQueueAllow i), w)
 
 -- a subscription takes a limit, and ends where it has reached it; an id that none has changes nothing
 abbrev pub unsubscribed : World → ℕ → List ℕ → Option ℕ → Outcome × World
@@ -45,10 +46,11 @@ unsubscribed w conn sid most =
     (Unsubscribed, record w { subscriptions = unended (map (limited conn sid most) w.subscriptions) })
 
 -- the verdict first, then the message to whom it is for, which count it
-abbrev pub published : World → Session → Message → Verdict → Outcome × World
-published w z m (Allowed by) = let after = routed w z (own_view z m) in (Published by after.0, after.1)
-published w z m (DeniedBy i) = (Denied (DeniedBy i), w)
-published w z m NoAllow = (Denied NoAllow, w)
+abbrev pub published : World → Session → Message → ℕ → Verdict → Outcome × World
+published w z m word (Allowed by) = let after = routed w z (own_view z m) word in (Published by after.0, after.1)
+published w z m word (DeniedBy i) = (Denied (DeniedBy i), w)
+published w z m word NoAllow = (Denied NoAllow, w)
+published w z m word (NoQueueAllow i) = (Denied (NoQueueAllow i), w)
 
 -- the oldest deliveries of a session, and whether one was missed since the last Take
 abbrev pub taken : World → ℕ → ℕ → Session → Outcome × World
@@ -73,11 +75,11 @@ in_new_session w None r = if nat_le 4096 (length w.sessions) then Err SessionLim
 abbrev pub moved : World → Command → Result (Outcome × World) HubRefusal
 moved w (Connect conn user password echo) =
     in_new_session w (session_of w.sessions conn) (connected w conn echo (user_with_password w.policy user password))
-moved w (Sub conn p sid) =
-    in_session (session_of w.sessions conn) (λ z. subscribed w conn z.user.account p sid (subscribe_verdict z.user.rules p))
+moved w (Sub conn p queue sid) =
+    in_session (session_of w.sessions conn) (λ z. subscribed w conn z.user.account p queue sid (subscribe_verdict z.user.rules p queue))
 moved w (Unsub conn sid most) = in_session (session_of w.sessions conn) (λ z. unsubscribed w conn sid most)
 moved w (Pub conn m word) =
-    in_session (session_of w.sessions conn) (λ z. published w z m (publish_verdict z.user.rules m.subject))
+    in_session (session_of w.sessions conn) (λ z. published w z m word (publish_verdict z.user.rules m.subject))
 moved w (Take conn most) = in_session (session_of w.sessions conn) (taken w conn most)
 moved w (Close conn) = in_session (session_of w.sessions conn) (λ z. closed w conn)
 moved w (Reload doc) = Ok (reloaded w doc)
@@ -128,8 +130,8 @@ IsMoved w e (Err r) after = (after ≡ w) × IsRefusal (moved w e.what) r
 -- deny entry lacks some of what was asked, or the least that has all of it is named; and so on of the allow list. So
 -- have those of a reload, whose policy is valid.
 abbrev pub IsReasoned : World → Command → Outcome → Type 0
-IsReasoned w (Sub conn p sid) o =
-    IfSome (session_of w.sessions conn) (λ (z : Session). IsJustifiedSubscribe p z.user.rules.subscribe (subscribe_verdict z.user.rules p))
+IsReasoned w (Sub conn p queue sid) o =
+    IfSome (session_of w.sessions conn) (λ (z : Session). IsJustifiedSubscribe p queue z.user.rules.subscribe (subscribe_verdict z.user.rules p queue))
 IsReasoned w (Pub conn m word) o =
     IfSome (session_of w.sessions conn) (λ (z : Session). IsJustifiedPublish m.subject z.user.rules.publish (publish_verdict z.user.rules m.subject))
 IsReasoned w (Reload doc) (Reloaded gone removed) = IsReasonedReload doc w.sessions w.subscriptions

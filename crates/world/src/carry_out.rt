@@ -33,10 +33,11 @@ impl World {
                 conn,
                 account,
                 subject,
+                queue,
                 sid,
             } => {
                 self.subscriptions
-                    .add(self.number + 1, conn, account, subject, sid)?;
+                    .add(self.number + 1, conn, account, subject, queue, sid)?;
                 Ok(())
             }
             Change::Limit { conn, sid, most } => {

@@ -5,7 +5,7 @@ use lists::{Items, Shared};
 use ready::{Ready, User};
 use sessions::Session;
 use std::collections::VecDeque;
-use subjects::Pattern;
+use subjects::{Pattern, Subject};
 
 /// What is to be done for a command. All memory that it takes is had, but for the one growth of a new session or
 /// subscription, which comes first.
@@ -20,6 +20,7 @@ pub(crate) enum Change {
         conn: u64,
         account: Bytes,
         subject: Shared<Pattern>,
+        queue: Option<Subject>,
         sid: Sid,
     },
     /// A subscription takes a limit.

@@ -3,16 +3,17 @@ ghost use Rattle.std.specs.Prelude.{◌≡◌, IfOk, IfErr};
 
 use crate::change::{Change, Decided};
 use crate::reload::{Prepared, prepare};
-use crate::route::address_all;
+use crate::verdict::on_subscription;
 use crate::world::World;
 use bytes::Bytes;
 use events::{Command, HubRefusal, Message, Outcome, Sid};
-use lists::{Items, NoMemory, Shared, SharedText};
+use lists::{Copying, Items, NoMemory, Shared, SharedText};
 use permissions::Verdict;
 use ready::Ready;
 use sessions::Session;
+use std::alloc::Global;
 use std::mem;
-use subjects::Pattern;
+use subjects::{Pattern, Subject};
 
 /// How many sessions may stand.
 pub(crate) const SESSIONS: usize = 4096;
@@ -30,17 +31,20 @@ fn unchanged(outcome: Outcome) -> Decided
 
 /// A subscription is to stand: what it holds has one more owner.
 fn stand(
+    alloc: Global,
     conn: u64,
     account: &Bytes,
     subject: &Shared<Pattern>,
+    queue: &Option<Subject>,
     sid: &Sid,
 ) -> Result<Change, NoMemory>
-    ensures { IfOk result (λ made. made ≡ change.Stand conn account.now subject.now sid.now) }
+    ensures { IfOk result (λ made. made ≡ change.Stand conn account.now subject.now queue.now sid.now) }
 {
     Ok(Change::Stand {
         conn,
         account: account.clone()?,
         subject: subject.again()?,
+        queue: queue.copy(alloc)?,
         sid: sid.again()?,
     })
 }
@@ -48,11 +52,9 @@ fn stand(
 ghost use Rattle.world.specs.declared.change.Change.TheVariants as change;
 
 impl World {
-    ghost use Rattle.std.specs.Prelude.{ℕ, ◌≡◌, IfOk};
-    ghost use Rattle.permissions.specs.Verdicts.{publish_verdict};
+    ghost use Rattle.std.specs.Prelude.{◌≡◌, IfOk};
     ghost use Rattle.events.specs.declared.event.Command.TheVariants as command;
-    ghost use Rattle.sessions.specs.Sessions.{session_of};
-    ghost use Rattle.world.specs.Transition.{moved, published, in_session, IsReasoned};
+    ghost use Rattle.world.specs.Transition.{moved, IsReasoned};
     ghost use Rattle.world.specs.Changes.{IsDecided};
 
     /// What a command comes to: what is told of it, and what is to be done; or why it is refused. Nothing has changed
@@ -69,13 +71,18 @@ impl World {
                 password,
                 echo,
             } => self.connect(*conn, user, password, *echo),
-            Command::Sub { conn, subject, sid } => self.subscribe(*conn, subject, sid),
+            Command::Sub {
+                conn,
+                subject,
+                queue,
+                sid,
+            } => self.subscribe(*conn, subject, queue, sid),
             Command::Unsub { conn, sid, most } => self.unsubscribe(*conn, sid, *most),
             Command::Pub {
                 conn,
                 message,
-                word: _,
-            } => self.publish(*conn, message),
+                word,
+            } => self.publish(*conn, message, *word),
             Command::Take { conn, most } => self.take(*conn, *most),
             Command::Close { conn } => self.close(*conn),
             Command::Reload(ready) => self.reload(ready),
@@ -116,14 +123,15 @@ impl World {
         &self,
         conn: u64,
         subject: &Shared<Pattern>,
+        queue: &Option<Subject>,
         sid: &Sid,
     ) -> Result<Decided, HubRefusal>
-        ensures decided { IsDecided self.now (moved self.now (command.Sub conn subject.now sid.now)) result }
-        ensures reason { IfOk result (λ d. IsReasoned self.now (command.Sub conn subject.now sid.now) d.outcome) }
+        ensures decided { IsDecided self.now (moved self.now (command.Sub conn subject.now queue.now sid.now)) result }
+        ensures reason { IfOk result (λ d. IsReasoned self.now (command.Sub conn subject.now queue.now sid.now) d.outcome) }
     {
         match self.sessions.find(conn) {
             None => Err(HubRefusal::NoSession),
-            Some(session) => match session.user.rules.subscribe(subject.get()) {
+            Some(session) => match on_subscription(&session.user.rules, subject.get(), queue) {
                 Verdict::Allowed(_) => {
                     if self.subscriptions.stands(conn, sid) {
                         return Ok(unchanged(Outcome::SameSid));
@@ -131,7 +139,14 @@ impl World {
                     if self.subscriptions.has_all(conn) {
                         return Ok(unchanged(Outcome::SubLimit));
                     }
-                    let change = stand(conn, &session.user.account, subject, sid)?;
+                    let change = stand(
+                        self.alloc,
+                        conn,
+                        &session.user.account,
+                        subject,
+                        queue,
+                        sid,
+                    )?;
                     Ok(Decided {
                         outcome: Outcome::Subscribed,
                         change,
@@ -141,6 +156,9 @@ impl World {
                     Ok(unchanged(Outcome::Denied(Verdict::DeniedBy(index))))
                 }
                 Verdict::NoAllow => Ok(unchanged(Outcome::Denied(Verdict::NoAllow))),
+                Verdict::NoQueueAllow(index) => {
+                    Ok(unchanged(Outcome::Denied(Verdict::NoQueueAllow(index))))
+                }
             },
         }
     }
@@ -161,24 +179,29 @@ impl World {
     }
 
     /// A message to whom it is for, where the user's permissions allow it.
-    fn publish(&mut self, conn: u64, message: &Shared<Message>) -> Result<Decided, HubRefusal>
-        ensures decided { IsDecided self.old (in_session (session_of self.old.sessions conn) (λ z. published self.old z message.now (publish_verdict z.user.rules message.now.subject))) result }
-        ensures reason { IfOk result (λ d. (word : ℕ) → IsReasoned self.old (command.Pub conn message.now word) d.outcome) }
+    fn publish(
+        &mut self,
+        conn: u64,
+        message: &Shared<Message>,
+        word: u64,
+    ) -> Result<Decided, HubRefusal>
+        ensures decided { IsDecided self.old (moved self.old (command.Pub conn message.now word)) result }
+        ensures reason { IfOk result (λ d. IsReasoned self.old (command.Pub conn message.now word) d.outcome) }
         ensures same { self.new ≡ self.old }
     {
         let room = mem::replace(&mut self.deliveries, Vec::new(self.alloc));
         let (by, all) = match self.sessions.find(conn) {
             None => return Err(HubRefusal::NoSession),
             Some(session) => match session.user.rules.publish(message.get().subject()) {
-                Verdict::Allowed(by) => (
-                    by,
-                    address_all(&self.sessions, &self.subscriptions, session, message, room)?,
-                ),
+                Verdict::Allowed(by) => (by, self.address_all(session, message, word, room)?),
                 Verdict::DeniedBy(index) => {
                     return Ok(unchanged(Outcome::Denied(Verdict::DeniedBy(index))));
                 }
                 Verdict::NoAllow => {
                     return Ok(unchanged(Outcome::Denied(Verdict::NoAllow)));
+                }
+                Verdict::NoQueueAllow(index) => {
+                    return Ok(unchanged(Outcome::Denied(Verdict::NoQueueAllow(index))));
                 }
             },
         };

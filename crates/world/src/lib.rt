@@ -5,9 +5,11 @@ mod carry_out;
 mod change;
 mod decide;
 mod plain;
+mod queues;
 mod reload;
 mod route;
 mod standing;
+mod verdict;
 mod world;
 
 pub use plain::PlainWorld;

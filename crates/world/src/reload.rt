@@ -5,6 +5,7 @@ ghost use Rattle.std.specs.Option.{option_copied};
 ghost use Rattle.sessions.specs.Renewal.{user_again_of, closed_conns};
 ghost use Rattle.world.specs.Reload.{user_after, verdict_after, stands_on, removal_after, IsReasonedVerdict, IsReasonedReload};
 
+use crate::verdict::on_subscription;
 use events::Removed;
 use lists::{Copying, NoMemory};
 use permissions::Verdict;
@@ -69,7 +70,11 @@ fn verdict_on(ready: &Ready, sessions: &Sessions, subscription: &Subscription) -
 {
     match user_for(ready, sessions.find(subscription.conn)) {
         None => None,
-        Some(user) => Some(user.rules.subscribe(subscription.subject.get())),
+        Some(user) => Some(on_subscription(
+            &user.rules,
+            subscription.subject.get(),
+            &subscription.queue,
+        )),
     }
 }
 

@@ -2,9 +2,9 @@ ghost use Rattle.std.specs.Prelude.{◌≡◌, IfOk, map};
 ghost use Rattle.world.specs.Shown.{standing_of};
 
 use events::Sid;
-use lists::{Items, NoMemory, Shared};
+use lists::{Copying, Items, NoMemory, Shared};
 use std::alloc::Global;
-use subjects::Pattern;
+use subjects::{Pattern, Subject};
 use subscriptions::{Subscription, Subscriptions};
 
 /// A standing subscription, as it is shown.
@@ -16,6 +16,8 @@ pub struct Standing {
     pub conn: u64,
     /// What it asks for.
     pub subject: Shared<Pattern>,
+    /// The queue group that it is a member of, if it is of one.
+    pub queue: Option<Subject>,
     /// The client's own id for it.
     pub sid: Sid,
     /// How many messages it has received since its SUB. It stays at 2^64 - 1.
@@ -33,18 +35,19 @@ pub(crate) fn standing_all(
 {
     let mut all = Vec::with_capacity(alloc, subscriptions.len())?;
     for subscription in subscriptions.values() {
-        all.push(show_standing(subscription)?)?;
+        all.push(show_standing(alloc, subscription)?)?;
     }
     Ok(Items::from_vec(all))
 }
 
-fn show_standing(subscription: &Subscription) -> Result<Standing, NoMemory>
+fn show_standing(alloc: Global, subscription: &Subscription) -> Result<Standing, NoMemory>
     ensures { IfOk result (λ shown. shown ≡ standing_of subscription.now) }
 {
     Ok(Standing {
         id: subscription.id,
         conn: subscription.conn,
         subject: subscription.subject.again()?,
+        queue: subscription.queue.copy(alloc)?,
         sid: subscription.sid.again()?,
         received: subscription.received,
         most: subscription.most,

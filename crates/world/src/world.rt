@@ -17,6 +17,7 @@ use subscriptions::Subscriptions;
 #[derive(Drop)]
 pub struct World {
     pub(crate) alloc: Global,
+    pub(crate) keys: RandomState,
     pub(crate) ready: Ready,
     pub(crate) capacity: usize,
     pub(crate) epoch: u128,
@@ -59,7 +60,7 @@ impl World {
     ghost use Rattle.world.specs.Shown.{standing_of, waiting_of};
 
     /// The tables over a policy, with nobody connected. `outbox` is how many deliveries may wait for a session. Clients
-    /// choose the tokens of subjects, so the tables of tokens are hashed under keys that they can't know.
+    /// choose the tokens of subjects and the names of queues, so what finds them is hashed under keys that they can't know.
     pub fn new(
         alloc: Global,
         ready: Ready,
@@ -73,6 +74,7 @@ impl World {
     {
         Ok(World {
             alloc,
+            keys,
             ready,
             capacity: outbox,
             epoch: 1,

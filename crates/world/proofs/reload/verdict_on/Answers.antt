@@ -1,9 +1,14 @@
--- the verdict of the user's lists has its reason
+-- the verdict is that of the user's lists, and has its reason
 use Rattle.std.proofs.Common.{◌∙◌, ap}
 use Rattle.world.specs.Reload.{user_after}
 use Rattle.world.proofs.Reasons.{verdict_reason}
+use Rattle.world.proofs.Subscribing.{verdict_is}
 use Rattle.world.proofs.reload.verdict_on.Goals as goal
 
 pub returns-in-Some-clause-reason : goal.returns-in-Some-clause-reason
 returns-in-Some-clause-reason c =
-    verdict_reason _ _ _ _ _ (c.in-Some.ensures ∙ ap (user_after c.args.ready.now) c.find.ensures) c.get.ensures c.subscribe.ensures.verdict c.subscribe.ensures.justified
+    verdict_reason _ _ _ _ _ _ (c.in-Some.ensures ∙ ap (user_after c.args.ready.now) c.find.ensures) c.get.ensures c.on_subscription.ensures.verdict c.on_subscription.ensures.justified
+
+pub returns-in-Some-clause-verdict : goal.returns-in-Some-clause-verdict
+returns-in-Some-clause-verdict c =
+    verdict_is _ _ c.args.subscription.now _ _ (c.in-Some.ensures ∙ ap (user_after c.args.ready.now) c.find.ensures) c.get.ensures c.on_subscription.ensures.verdict

@@ -17,9 +17,9 @@ pub returns-clause-decided : goal.returns-clause-decided
 returns-clause-decided c =
     let h = c.self.inside in
     let before : World = record { capacity = h.capacity; policy = h.ready; epoch = h.epoch; moment = h.moment; sessions = h.sessions; subscriptions = h.subscriptions; number = h.number } in
-    let P : World → Type 0 = λ w. IsDecided w (in_session (session_of w.sessions c.args.conn) (λ z. published w z c.args.message.now (publish_verdict z.user.rules c.args.message.now.subject)))
+    let P : World → Type 0 = λ w. IsDecided w (in_session (session_of w.sessions c.args.conn) (λ z. published w z c.args.message.now c.args.word (publish_verdict z.user.rules c.args.message.now.subject)))
     (Ok record { outcome = Published c.in-Allowed.by c.in_ok-items.items; change = Deliver c.from_vec.result }) in
-    subst P c.self.view_is (published_is before _ _ _ c.subject.result.now c.in-Allowed.by c.from_vec.result c.in_ok-items.items
+    subst P c.self.view_is (published_is before _ _ _ c.args.word c.subject.result.now c.in-Allowed.by c.from_vec.result c.in_ok-items.items
     c.in-Some.ensures
     (c.subject.ensures ∙ ap (λ (m : Message). m.subject) c.get.ensures)
     c.in-Allowed.ensures.verdict
