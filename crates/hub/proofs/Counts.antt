@@ -13,7 +13,7 @@ use Rattle.std.proofs.lemmas.List.Quantifiers.{all_pairs_push}
 use Rattle.std.proofs.lemmas.Slice.Eq.{bytes_eq-Decides}
 use Rattle.subjects.specs.Subject.{Token}
 use Rattle.permissions.specs.declared.verdict.Verdict.{Verdict}
-use Rattle.permissions.specs.declared.verdict.Verdict.TheVariants.{Allowed, DeniedBy, NoAllow}
+use Rattle.permissions.specs.declared.verdict.Verdict.TheVariants.{Allowed, DeniedBy, NoAllow, NoQueueAllow}
 use Rattle.policy_doc.specs.declared.document.PolicyDoc.{PolicyDoc}
 use Rattle.permissions.specs.Verdicts.{publish_verdict, subscribe_verdict}
 use Rattle.ready.specs.Users.{user_with_password}
@@ -34,7 +34,7 @@ use Rattle.subscriptions.specs.Subscriptions.{is_under, stands, has_all, subscri
 use Rattle.subscriptions.specs.Limit.{is_entry_for, has_entered, has_ended, counted, limit_of, limited}
 use Rattle.subscriptions.specs.declared.subscription.Subscription.{Subscription}
 use Rattle.world.specs.World.{World, opening_world, advanced}
-use Rattle.world.specs.Routing.{own_view, is_admitted, admitted}
+use Rattle.world.specs.Routing.{own_view, is_admitted, admitted, is_served, served}
 use Rattle.world.specs.Reload.{stands_on}
 use Rattle.world.specs.Changes.{items_in}
 use Rattle.world.specs.Transition.{connected, subscribed, unsubscribed, published, taken, closed, in_session, in_new_session, moved, numbered}
@@ -64,6 +64,7 @@ record Counts (a : Entry) (s t : Subscription) : Type 0 where
   pub id : t.id ≡ s.id
   pub conn : t.conn ≡ s.conn
   pub subject : t.subject ≡ s.subject
+  pub queue : t.queue ≡ s.queue
   pub sid : t.sid ≡ s.sid
   pub received : (n : ℕ) → s.received ≡ min 18446744073709551615 n → t.received ≡ min 18446744073709551615 (n + told s.conn s.sid a)
 
@@ -75,9 +76,10 @@ counts-more es a s t counts is = record {
   entries = ap (λ l. l ++ a ∷ []) is.entries ∙ append_assoc is.before (is.made ∷ is.since) (a ∷ []);
   number = is.number ∙ sym counts.id;
   command = is.command
-      ∙ ap (λ n. Sub n s.subject s.sid) (sym counts.conn)
-      ∙ ap (λ p. Sub t.conn p s.sid) (sym counts.subject)
-      ∙ ap (λ b. Sub t.conn t.subject b) (sym counts.sid);
+      ∙ ap (λ n. Sub n s.subject s.queue s.sid) (sym counts.conn)
+      ∙ ap (λ p. Sub t.conn p s.queue s.sid) (sym counts.subject)
+      ∙ ap (λ queue. Sub t.conn t.subject queue s.sid) (sym counts.queue)
+      ∙ ap (λ b. Sub t.conn t.subject t.queue b) (sym counts.sid);
   outcome = is.outcome;
   received = counts.received (entered_for s.conn s.sid is.since) is.received
       ∙ ap (min 18446744073709551615) (sym (
@@ -188,7 +190,7 @@ Told es subs = All (IsCounted es) subs × AllPairs (λ (s t : Subscription). has
 -- the entry tells of nobody
 counts-same : (a : Entry) (s : Subscription) → items_told a ≡ [] → Counts a s s
 counts-same a s none =
-    record { id = refl; conn = refl; subject = refl; sid = refl; received = λ n is. same-count _ _ n _ (nothing-told a s.conn s.sid none) is }
+    record { id = refl; conn = refl; subject = refl; queue = refl; sid = refl; received = λ n is. same-count _ _ n _ (nothing-told a s.conn s.sid none) is }
 
 kept : (es : List Entry) (a : Entry) (subs : List Subscription) → items_told a ≡ [] → Told es subs → Told (es ++ a ∷ []) subs
 kept es a subs none t =
@@ -206,16 +208,16 @@ changed es a f subs keeps counts t = (
 )
 
 -- one has come
-added : (es : List Entry) (a : Entry) (conn : ℕ) (account : List ℕ) (p : List Token) (sid : List ℕ) (subs : List Subscription) → a.event.what ≡ Sub conn p sid → a.outcome ≡ Subscribed → stands subs conn sid ≡ false →
-    Told es subs → Told (es ++ a ∷ []) (subs ++ subscription_of a.number conn account p sid ∷ [])
-added es a conn account p sid subs command outcome free t = (
+added : (es : List Entry) (a : Entry) (conn : ℕ) (account : List ℕ) (p : List Token) (queue : Option (List Token)) (sid : List ℕ) (subs : List Subscription) → a.event.what ≡ Sub conn p queue sid → a.outcome ≡ Subscribed → stands subs conn sid ≡ false →
+    Told es subs → Told (es ++ a ∷ []) (subs ++ subscription_of a.number conn account p queue sid ∷ [])
+added es a conn account p queue sid subs command outcome free t = (
   All-push (IsCounted (es ++ a ∷ [])) subs new (kept es a subs (ap items_in outcome) t).0
       (record { before = es; made = a; since = []; entries = refl; number = refl; command = command; outcome = outcome; received = sym (min-zero (2 ^ 64 - 1)) }),
   all_pairs_push (λ (x y : Subscription). has_same_sid x y ≡ false) subs new t.1 (any-none (λ (s : Subscription). has_same_sid s new) subs free),
 )
   where
     new : Subscription
-    new = subscription_of a.number conn account p sid
+    new = subscription_of a.number conn account p queue sid
 
 -- a message was published
 counts-published : (a : Entry) (items : List Item) (s : Subscription) → items_told a ≡ items → length (filter (is_entered_for s.conn s.sid) items) ≡ cond (has_entered items s) 1 0 → Counts a s (counted items s)
@@ -223,6 +225,7 @@ counts-published a items s tells one = record {
   id = keeps.id s;
   conn = keeps.conn s;
   subject = keeps.subject s;
+  queue = keeps.queue s;
   sid = keeps.sid s;
   received = λ n is. received_is (has_entered items s && nat_lt s.received 18446744073709551615)
       ∙ count-one 18446744073709551615 s.received n (has_entered items s) is
@@ -242,6 +245,7 @@ counts-limited a conn sid most s none = record {
   id = keeps.id s;
   conn = keeps.conn s;
   subject = keeps.subject s;
+  queue = keeps.queue s;
   sid = keeps.sid s;
   received = λ n is. either (λ (t : Subscription). t.received) (is_under conn sid s) (record s { most = Some (limit_of most) }) s refl
       ∙ same-count _ _ n _ (nothing-told a s.conn s.sid none) is;
@@ -282,36 +286,37 @@ connect-told es w now conn name password echo = by_session (session_of w.session
     by_session (Some z) = tt
     by_session None = by_limit (nat_le 4096 (length w.sessions))
 
-sub-told : (es : List Entry) (w : World) (now conn : ℕ) (p : List Token) (sid : List ℕ) →
-    Keeps es w (Sub conn p sid) (numbered (w.number + 1) (moved (advanced w now) (Sub conn p sid)))
-sub-told es w now conn p sid = by_session (session_of w.sessions conn)
+sub-told : (es : List Entry) (w : World) (now conn : ℕ) (p : List Token) (queue : Option (List Token)) (sid : List ℕ) →
+    Keeps es w (Sub conn p queue sid) (numbered (w.number + 1) (moved (advanced w now) (Sub conn p queue sid)))
+sub-told es w now conn p queue sid = by_session (session_of w.sessions conn)
   where
     c : Command
-    c = Sub conn p sid
+    c = Sub conn p queue sid
 
     new : Session → Subscription
-    new z = subscription_of (w.number + 1) conn z.user.account p sid
+    new z = subscription_of (w.number + 1) conn z.user.account p queue sid
 
     by_limit : (l : Bool) (z : Session) → stands w.subscriptions conn sid ≡ false →
         Keeps es w c (numbered (w.number + 1) (Ok (cond l (SubLimit, advanced w now) (Subscribed, record (advanced w now) { subscriptions = w.subscriptions ++ new z ∷ [] }))))
     by_limit true z free = silent es w c SubLimit refl
     by_limit false z free = λ a command outcome number t.
-        subst (λ n. Told (es ++ a ∷ []) (w.subscriptions ++ subscription_of n conn z.user.account p sid ∷ [])) number
-        (added es a conn z.user.account p sid w.subscriptions command outcome free t)
+        subst (λ n. Told (es ++ a ∷ []) (w.subscriptions ++ subscription_of n conn z.user.account p queue sid ∷ [])) number
+        (added es a conn z.user.account p queue sid w.subscriptions command outcome free t)
 
     by_sid : (b : Bool) (z : Session) → stands w.subscriptions conn sid ≡ b →
         Keeps es w c (numbered (w.number + 1) (Ok (cond b (SameSid, advanced w now) (cond (has_all w.subscriptions conn) (SubLimit, advanced w now) (Subscribed, record (advanced w now) { subscriptions = w.subscriptions ++ new z ∷ [] })))))
     by_sid true z there = silent es w c SameSid refl
     by_sid false z free = by_limit (has_all w.subscriptions conn) z free
 
-    by_verdict : (v : Verdict) (z : Session) → Keeps es w c (numbered (w.number + 1) (Ok (subscribed (advanced w now) conn z.user.account p sid v)))
+    by_verdict : (v : Verdict) (z : Session) → Keeps es w c (numbered (w.number + 1) (Ok (subscribed (advanced w now) conn z.user.account p queue sid v)))
     by_verdict (Allowed by) z = by_sid (stands w.subscriptions conn sid) z refl
     by_verdict (DeniedBy i) z = silent es w c (Denied (DeniedBy i)) refl
     by_verdict NoAllow z = silent es w c (Denied NoAllow) refl
+    by_verdict (NoQueueAllow i) z = silent es w c (Denied (NoQueueAllow i)) refl
 
-    by_session : (o : Option Session) → Keeps es w c (numbered (w.number + 1) (in_session o (λ z. subscribed (advanced w now) conn z.user.account p sid (subscribe_verdict z.user.rules p))))
+    by_session : (o : Option Session) → Keeps es w c (numbered (w.number + 1) (in_session o (λ z. subscribed (advanced w now) conn z.user.account p queue sid (subscribe_verdict z.user.rules p queue))))
     by_session None = tt
-    by_session (Some z) = by_verdict (subscribe_verdict z.user.rules p) z
+    by_session (Some z) = by_verdict (subscribe_verdict z.user.rules p queue) z
 
 unsub-told : (es : List Entry) (w : World) (now conn : ℕ) (sid : List ℕ) (most : Option ℕ) →
     Keeps es w (Unsub conn sid most) (numbered (w.number + 1) (moved (advanced w now) (Unsub conn sid most)))
@@ -330,17 +335,20 @@ pub-told es w now conn m word = by_session (session_of w.sessions conn)
     c : Command
     c = Pub conn m word
 
-    by_verdict : (v : Verdict) (z : Session) → Keeps es w c (numbered (w.number + 1) (Ok (published (advanced w now) z m v)))
+    by_verdict : (v : Verdict) (z : Session) → Keeps es w c (numbered (w.number + 1) (Ok (published (advanced w now) z m word v)))
     by_verdict (Allowed by) z = λ a command outcome number t.
-        let whom : List Subscription = admitted w z (own_view z m) in
+        let all : List Subscription = admitted w z (own_view z m) in
+        let whom : List Subscription = served word all in
         let items : List Item = items_after m whom w.sessions in
-        let apart = AllPairs-filter (λ (x y : Subscription). has_same_sid x y ≡ false) (is_admitted w.sessions z (own_view z m)) w.subscriptions t.1 in
+        let apart = AllPairs-filter (λ (x y : Subscription). has_same_sid x y ≡ false) (is_served word all) all
+        (AllPairs-filter (λ (x y : Subscription). has_same_sid x y ≡ false) (is_admitted w.sessions z (own_view z m)) w.subscriptions t.1) in
         left (es ++ a ∷ []) (λ (s : Subscription). not (has_ended s)) (map (counted items) w.subscriptions)
         (changed es a (counted items) w.subscriptions (counted-keeps items) (λ s. counts-published a items s (ap items_in outcome) (once s whom items (one_each m whom w.sessions) apart)) t)
     by_verdict (DeniedBy i) z = silent es w c (Denied (DeniedBy i)) refl
     by_verdict NoAllow z = silent es w c (Denied NoAllow) refl
+    by_verdict (NoQueueAllow i) z = silent es w c (Denied (NoQueueAllow i)) refl
 
-    by_session : (o : Option Session) → Keeps es w c (numbered (w.number + 1) (in_session o (λ z. published (advanced w now) z m (publish_verdict z.user.rules m.subject))))
+    by_session : (o : Option Session) → Keeps es w c (numbered (w.number + 1) (in_session o (λ z. published (advanced w now) z m word (publish_verdict z.user.rules m.subject))))
     by_session None = tt
     by_session (Some z) = by_verdict (publish_verdict z.user.rules m.subject) z
 
@@ -361,7 +369,7 @@ close-told es w now conn = by_session (session_of w.sessions conn)
 
 step-told : (es : List Entry) (w : World) (now : ℕ) (c : Command) → Keeps es w c (numbered (w.number + 1) (moved (advanced w now) c))
 step-told es w now (Connect conn name password echo) = connect-told es w now conn name password echo
-step-told es w now (Sub conn p sid) = sub-told es w now conn p sid
+step-told es w now (Sub conn p queue sid) = sub-told es w now conn p queue sid
 step-told es w now (Unsub conn sid most) = unsub-told es w now conn sid most
 step-told es w now (Pub conn m word) = pub-told es w now conn m word
 step-told es w now (Take conn most) = take-told es w now conn most

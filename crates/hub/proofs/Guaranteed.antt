@@ -1,14 +1,15 @@
 -- The transition keeps the guarantee, command by command.
-use Rattle.std.proofs.Common.{◌||◌, ◌≡◌, ◌∙◌, ◌==◌, ◌&&◌, ℕ, ◌+◌, ◌-◌, ◌≤◌, Bool, true, false, not, cond, List, [], ◌∷◌, ◌++◌, map, filter, length, get_or, take, drop, Option, Some, None, Result, Ok, Err, ap, sym, refl, subst, arith, max}
+use Rattle.std.proofs.Common.{◌||◌, ◌≡◌, ◌∙◌, ◌==◌, ◌&&◌, ℕ, ◌+◌, ◌-◌, ◌<◌, ◌≤◌, Bool, true, false, not, cond, List, [], ◌∷◌, ◌++◌, map, filter, length, get_or, take, drop, Option, Some, None, Result, Ok, Err, ap, sym, refl, subst, arith, max}
 use Rattle.std.specs.Prelude.{IfSome, IsSomeAnd, is_some, nat_lt, nat_le, nat_eq, IfOk}
 use Rattle.std.specs.Cmp.Lexicographic.{pointwise}
 use Rattle.std.proofs.lemmas.List.{length-append, length-take, length-drop}
 use Rattle.std.proofs.lemmas.List.Elements.{All-weaker}
+use Rattle.std.proofs.lemmas.List.Kept.{AllPairs-filter}
 use Rattle.subjects.specs.Subject.{Token, in_set}
 use Rattle.permissions.specs.Verdicts.{publish_verdict, subscribe_verdict, delivery_verdict, is_allowed, IsJustifiedPublish, IsJustifiedSubscribe, IsJustifiedDelivery}
 use Rattle.permissions.specs.declared.verdict.By.{By}
 use Rattle.permissions.specs.declared.verdict.Verdict.{Verdict}
-use Rattle.permissions.specs.declared.verdict.Verdict.TheVariants.{Allowed, DeniedBy, NoAllow}
+use Rattle.permissions.specs.declared.verdict.Verdict.TheVariants.{Allowed, DeniedBy, NoAllow, NoQueueAllow}
 use Rattle.policy_doc.specs.declared.document.PolicyDoc.{PolicyDoc}
 use Rattle.ready.specs.Users.{user_with_password}
 use Rattle.ready.specs.declared.ready.User.{User}
@@ -30,19 +31,21 @@ use Rattle.subscriptions.specs.Subscriptions.{is_under, stands, has_all, subscri
 use Rattle.subscriptions.specs.Limit.{has_entered, unended, counted, limit_of, limited}
 use Rattle.subscriptions.specs.declared.subscription.Subscription.{Subscription}
 use Rattle.world.specs.World.{World, advanced}
-use Rattle.world.specs.Routing.{own_view, is_admitted, admitted, may_hear, lets_through}
+use Rattle.world.specs.Routing.{own_view, is_admitted, admitted, served, may_hear, lets_through}
+use Rattle.world.proofs.Chosen.{Rising}
 use Rattle.subscriptions.specs.Addressing.{addressed_to}
 use Rattle.world.specs.Transition.{IsReasoned, IsRefusal, connected, subscribed, unsubscribed, published, taken, closed, in_session, in_new_session, moved, numbered, transition}
 use Rattle.hub.specs.Sound.{IsSound, user_behind, user_at, account_of, may_subscribe, HasAllowance}
 use Rattle.hub.specs.InForce.{policy_after, epoch_after}
 use Rattle.hub.specs.History.{State, is_history_full, remembered, stepped, IsStep}
-use Rattle.hub.specs.Guarantee.{accepts, allows, may_publish, may_receive, has_echo, is_for, recipients, IsDenial, HasReason, IsReasonedFor, IsDelivered, IsUntouched, IsEffect, is_connect, is_nobodys, has_session, is_fit, is_in_order, is_due, is_at_limit, IsRouted, KeepsGuarantee, IsGuarded}
+use Rattle.hub.specs.Guarantee.{accepts, allows, may_publish, may_receive, has_echo, is_for, eligible, IsDenial, HasReason, IsReasonedFor, AreServed, IsDelivered, IsUntouched, IsEffect, is_connect, is_nobodys, has_session, is_fit, is_in_order, is_due, is_at_limit, IsRouted, KeepsGuarantee, IsGuarded}
 use Rattle.std.proofs.lemmas.Bool.{eqb-true}
 use Rattle.hub.proofs.Lists.{filter_same_on}
 use Rattle.hub.proofs.Finds.{find-passes}
 use Rattle.hub.proofs.Naming.{user_named-again}
 use Rattle.hub.proofs.Soundness.{next, KeepsSession, KeepsSubscription, either, keeps-where, user_at-session, sound-same, sound-map, unended-same, sound-limits, sound-open, sound-add, sound-close}
 use Rattle.hub.proofs.Reasons.{delivery_justified}
+use Rattle.hub.proofs.Groups.{are_served}
 use Rattle.hub.proofs.Reloads.{in_force, sound-reload}
 use Rattle.sessions.proofs.Changes.{only, with_session-map}
 use Rattle.hub.proofs.Deliveries.{gets, items_after, outboxes, one_each, with_room}
@@ -131,56 +134,57 @@ connect-keeps w now conn name password echo sound = by_session (session_of w.ses
 
 -- ---- Sub
 
-sub-keeps : (w : World) (now conn : ℕ) (p : List Token) (sid : List ℕ) → IsSound w →
-    Keeps w (event now (Sub conn p sid)) (numbered (w.number + 1) (moved (advanced w now) (Sub conn p sid)))
-sub-keeps w now conn p sid sound = by_session (session_of w.sessions conn) refl
+sub-keeps : (w : World) (now conn : ℕ) (p : List Token) (queue : Option (List Token)) (sid : List ℕ) → IsSound w →
+    Keeps w (event now (Sub conn p queue sid)) (numbered (w.number + 1) (moved (advanced w now) (Sub conn p queue sid)))
+sub-keeps w now conn p queue sid sound = by_session (session_of w.sessions conn) refl
   where
     -- the verdict on what is asked has its reason
     Reasoned : Type 0
-    Reasoned = IfSome (session_of w.sessions conn) (λ (y : Session). IsJustifiedSubscribe p y.user.rules.subscribe (subscribe_verdict y.user.rules p))
+    Reasoned = IfSome (session_of w.sessions conn) (λ (y : Session). IsJustifiedSubscribe p queue y.user.rules.subscribe (subscribe_verdict y.user.rules p queue))
 
-    justified : (v : Verdict) (z : Session) → subscribe_verdict z.user.rules p ≡ v → session_of w.sessions conn ≡ Some z → Reasoned → IsJustifiedSubscribe p z.user.rules.subscribe v
+    justified : (v : Verdict) (z : Session) → subscribe_verdict z.user.rules p queue ≡ v → session_of w.sessions conn ≡ Some z → Reasoned → IsJustifiedSubscribe p queue z.user.rules.subscribe v
     justified v z e at reasoned =
-        subst (λ x. IsJustifiedSubscribe p z.user.rules.subscribe x) e
-        (subst (λ o. IfSome o (λ (y : Session). IsJustifiedSubscribe p y.user.rules.subscribe (subscribe_verdict y.user.rules p))) at reasoned)
+        subst (λ x. IsJustifiedSubscribe p queue z.user.rules.subscribe x) e
+        (subst (λ o. IfSome o (λ (y : Session). IsJustifiedSubscribe p queue y.user.rules.subscribe (subscribe_verdict y.user.rules p queue))) at reasoned)
 
-    denied : (v : Verdict) (z : Session) → subscribe_verdict z.user.rules p ≡ v → session_of w.sessions conn ≡ Some z → user_at w conn ≡ Some z.user → Reasoned → IsDenial w (Sub conn p sid) v
+    denied : (v : Verdict) (z : Session) → subscribe_verdict z.user.rules p queue ≡ v → session_of w.sessions conn ≡ Some z → user_at w conn ≡ Some z.user → Reasoned → IsDenial w (Sub conn p queue sid) v
     denied v z e at u reasoned =
-        subst (λ o. IsSomeAnd o (λ (user : User). (v ≡ subscribe_verdict user.rules p) × IsJustifiedSubscribe p user.rules.subscribe v)) (sym u)
+        subst (λ o. IsSomeAnd o (λ (user : User). (v ≡ subscribe_verdict user.rules p queue) × IsJustifiedSubscribe p queue user.rules.subscribe v)) (sym u)
         (sym e, justified v z e at reasoned)
 
-    allowance : (by : By) (z : Session) → subscribe_verdict z.user.rules p ≡ Allowed by → session_of w.sessions conn ≡ Some z → user_at w conn ≡ Some z.user → Reasoned → HasAllowance (user_at w conn) p
-    allowance by z e at u reasoned = subst (λ o. HasAllowance o p) (sym u) (by, justified (Allowed by) z e at reasoned)
+    allowance : (by : By) (z : Session) → subscribe_verdict z.user.rules p queue ≡ Allowed by → session_of w.sessions conn ≡ Some z → user_at w conn ≡ Some z.user → Reasoned → HasAllowance (user_at w conn) p queue
+    allowance by z e at u reasoned = subst (λ o. HasAllowance o p queue) (sym u) (by, justified (Allowed by) z e at reasoned)
 
-    allowed : (v : Verdict) (z : Session) → subscribe_verdict z.user.rules p ≡ v → user_at w conn ≡ Some z.user → may_subscribe (user_at w conn) p ≡ is_allowed v
-    allowed v z e u = ap (λ o. may_subscribe o p) u ∙ ap is_allowed e
+    allowed : (v : Verdict) (z : Session) → subscribe_verdict z.user.rules p queue ≡ v → user_at w conn ≡ Some z.user → may_subscribe (user_at w conn) p queue ≡ is_allowed v
+    allowed v z e u = ap (λ o. may_subscribe o p queue) u ∙ ap is_allowed e
 
     added : Session → List Subscription
-    added z = w.subscriptions ++ subscription_of (w.number + 1) conn z.user.account p sid ∷ []
+    added z = w.subscriptions ++ subscription_of (w.number + 1) conn z.user.account p queue sid ∷ []
 
-    by_limit : (l : Bool) (z : Session) → has_all w.subscriptions conn ≡ l → stands w.subscriptions conn sid ≡ false → user_at w conn ≡ Some z.user → may_subscribe (user_at w conn) p ≡ true → (Reasoned → HasAllowance (user_at w conn) p) → is_fit w (Sub conn p sid) ≡ true →
-        Keeps w (event now (Sub conn p sid)) (numbered (w.number + 1) (Ok (cond l (SubLimit, advanced w now) (Subscribed, record (advanced w now) { subscriptions = added z }))))
-    by_limit true z limit taken u may has fit = answered w now (Sub conn p sid) SubLimit w.sessions w.subscriptions (refl, refl) fit (sym may) has (taken, limit, untouched w now) (λ _. sound-same w now sound)
+    by_limit : (l : Bool) (z : Session) → has_all w.subscriptions conn ≡ l → stands w.subscriptions conn sid ≡ false → user_at w conn ≡ Some z.user → may_subscribe (user_at w conn) p queue ≡ true → (Reasoned → HasAllowance (user_at w conn) p queue) → is_fit w (Sub conn p queue sid) ≡ true →
+        Keeps w (event now (Sub conn p queue sid)) (numbered (w.number + 1) (Ok (cond l (SubLimit, advanced w now) (Subscribed, record (advanced w now) { subscriptions = added z }))))
+    by_limit true z limit taken u may has fit = answered w now (Sub conn p queue sid) SubLimit w.sessions w.subscriptions (refl, refl) fit (sym may) has (taken, limit, untouched w now) (λ _. sound-same w now sound)
     by_limit false z limit taken u may has fit =
-        answered w now (Sub conn p sid) Subscribed w.sessions (added z) (refl, refl) fit (sym may) has
-        (taken, limit, refl, subst (λ o. IsSomeAnd o (λ (user : User). added z ≡ w.subscriptions ++ subscription_of (w.number + 1) conn user.account p sid ∷ [])) (sym u) refl)
-        (λ reasoned. sound-add w now conn z.user.account p sid may (has reasoned) (ap account_of u) taken limit sound)
+        answered w now (Sub conn p queue sid) Subscribed w.sessions (added z) (refl, refl) fit (sym may) has
+        (taken, limit, refl, subst (λ o. IsSomeAnd o (λ (user : User). added z ≡ w.subscriptions ++ subscription_of (w.number + 1) conn user.account p queue sid ∷ [])) (sym u) refl)
+        (λ reasoned. sound-add w now conn z.user.account p queue sid may (has reasoned) (ap account_of u) taken limit sound)
 
-    by_sid : (t : Bool) (z : Session) → stands w.subscriptions conn sid ≡ t → user_at w conn ≡ Some z.user → may_subscribe (user_at w conn) p ≡ true → (Reasoned → HasAllowance (user_at w conn) p) → is_fit w (Sub conn p sid) ≡ true →
-        Keeps w (event now (Sub conn p sid)) (numbered (w.number + 1) (Ok (cond t (SameSid, advanced w now) (cond (has_all w.subscriptions conn) (SubLimit, advanced w now) (Subscribed, record (advanced w now) { subscriptions = added z })))))
-    by_sid true z taken u may has fit = answered w now (Sub conn p sid) SameSid w.sessions w.subscriptions (refl, refl) fit (sym may) has (taken, untouched w now) (λ _. sound-same w now sound)
+    by_sid : (t : Bool) (z : Session) → stands w.subscriptions conn sid ≡ t → user_at w conn ≡ Some z.user → may_subscribe (user_at w conn) p queue ≡ true → (Reasoned → HasAllowance (user_at w conn) p queue) → is_fit w (Sub conn p queue sid) ≡ true →
+        Keeps w (event now (Sub conn p queue sid)) (numbered (w.number + 1) (Ok (cond t (SameSid, advanced w now) (cond (has_all w.subscriptions conn) (SubLimit, advanced w now) (Subscribed, record (advanced w now) { subscriptions = added z })))))
+    by_sid true z taken u may has fit = answered w now (Sub conn p queue sid) SameSid w.sessions w.subscriptions (refl, refl) fit (sym may) has (taken, untouched w now) (λ _. sound-same w now sound)
     by_sid false z taken u may has fit = by_limit (has_all w.subscriptions conn) z refl taken u may has fit
 
-    by_verdict : (v : Verdict) (z : Session) → subscribe_verdict z.user.rules p ≡ v → session_of w.sessions conn ≡ Some z → user_at w conn ≡ Some z.user → is_fit w (Sub conn p sid) ≡ true →
-        Keeps w (event now (Sub conn p sid)) (numbered (w.number + 1) (Ok (subscribed (advanced w now) conn z.user.account p sid v)))
+    by_verdict : (v : Verdict) (z : Session) → subscribe_verdict z.user.rules p queue ≡ v → session_of w.sessions conn ≡ Some z → user_at w conn ≡ Some z.user → is_fit w (Sub conn p queue sid) ≡ true →
+        Keeps w (event now (Sub conn p queue sid)) (numbered (w.number + 1) (Ok (subscribed (advanced w now) conn z.user.account p queue sid v)))
     by_verdict (Allowed by) z e at u fit = by_sid (stands w.subscriptions conn sid) z refl u (allowed (Allowed by) z e u) (allowance by z e at u) fit
-    by_verdict (DeniedBy i) z e at u fit = answered w now (Sub conn p sid) (Denied (DeniedBy i)) w.sessions w.subscriptions (refl, refl) fit (sym (allowed (DeniedBy i) z e u)) (denied (DeniedBy i) z e at u) (untouched w now) (λ _. sound-same w now sound)
-    by_verdict NoAllow z e at u fit = answered w now (Sub conn p sid) (Denied NoAllow) w.sessions w.subscriptions (refl, refl) fit (sym (allowed NoAllow z e u)) (denied NoAllow z e at u) (untouched w now) (λ _. sound-same w now sound)
+    by_verdict (DeniedBy i) z e at u fit = answered w now (Sub conn p queue sid) (Denied (DeniedBy i)) w.sessions w.subscriptions (refl, refl) fit (sym (allowed (DeniedBy i) z e u)) (denied (DeniedBy i) z e at u) (untouched w now) (λ _. sound-same w now sound)
+    by_verdict NoAllow z e at u fit = answered w now (Sub conn p queue sid) (Denied NoAllow) w.sessions w.subscriptions (refl, refl) fit (sym (allowed NoAllow z e u)) (denied NoAllow z e at u) (untouched w now) (λ _. sound-same w now sound)
+    by_verdict (NoQueueAllow i) z e at u fit = answered w now (Sub conn p queue sid) (Denied (NoQueueAllow i)) w.sessions w.subscriptions (refl, refl) fit (sym (allowed (NoQueueAllow i) z e u)) (denied (NoQueueAllow i) z e at u) (untouched w now) (λ _. sound-same w now sound)
 
     by_session : (o : Option Session) → session_of w.sessions conn ≡ o →
-        Keeps w (event now (Sub conn p sid)) (numbered (w.number + 1) (in_session o (λ z. subscribed (advanced w now) conn z.user.account p sid (subscribe_verdict z.user.rules p))))
+        Keeps w (event now (Sub conn p queue sid)) (numbered (w.number + 1) (in_session o (λ z. subscribed (advanced w now) conn z.user.account p queue sid (subscribe_verdict z.user.rules p queue))))
     by_session None e = none-due (session_of w.sessions conn) e
-    by_session (Some z) e = by_verdict (subscribe_verdict z.user.rules p) z refl e (user_at-session w sound conn z e) (is_there (session_of w.sessions conn) z e)
+    by_session (Some z) e = by_verdict (subscribe_verdict z.user.rules p queue) z refl e (user_at-session w sound conn z e) (is_there (session_of w.sessions conn) z e)
 
 -- ---- Pub
 
@@ -217,15 +221,15 @@ admitted-same w conn z m sub sound at owned = by_session (session_of w.sessions 
         let user : user_at w sub.conn ≡ Some y.user = user_at-session w sound sub.conn y e in
         let known : Some sub.account ≡ Some y.user.account = sym owned ∙ ap account_of user in
         let same : sub.account ≡ y.user.account = cc in
-        let lets : Bool = is_allowed (delivery_verdict y.user.rules m.subject) in
-        ap (λ b. (pointwise nat_eq sub.account z.user.account && has) && (b && lets_through m.subject (session_of w.sessions sub.conn))) hears
-        ∙ ap (λ o. (pointwise nat_eq sub.account z.user.account && has) && (heard && lets_through m.subject o)) e
+        let lets : Bool = is_allowed (delivery_verdict y.user.rules m.subject sub.queue) in
+        ap (λ b. (pointwise nat_eq sub.account z.user.account && has) && (b && lets_through m.subject sub.queue (session_of w.sessions sub.conn))) hears
+        ∙ ap (λ o. (pointwise nat_eq sub.account z.user.account && has) && (heard && lets_through m.subject sub.queue o)) e
         ∙ ap (λ (a : List ℕ). (pointwise nat_eq a z.user.account && has) && (heard && lets)) same
         ∙ reordered (pointwise nat_eq y.user.account z.user.account) has heard lets
-        ∙ sym (ap (λ u. (has && heard) && may_receive z.user.account m.subject u) user)
+        ∙ sym (ap (λ u. (has && heard) && may_receive z.user.account m.subject sub.queue u) user)
 
-pub recipients-same : (w : World) (conn : ℕ) (z : Session) (m : Message) → IsSound w → session_of w.sessions conn ≡ Some z → admitted w z (own_view z m) ≡ recipients w conn z.user.account m.subject
-recipients-same w conn z m sound at =
+pub eligible-same : (w : World) (conn : ℕ) (z : Session) (m : Message) → IsSound w → session_of w.sessions conn ≡ Some z → admitted w z (own_view z m) ≡ eligible w conn z.user.account m.subject
+eligible-same w conn z m sound at =
     filter_same_on (is_admitted w.sessions z (own_view z m)) (is_for w conn z.user.account m.subject) w.subscriptions
     (All-weaker (λ (sub : Subscription). account_of (user_at w sub.conn) ≡ Some sub.account) (λ sub. is_admitted w.sessions z (own_view z m) sub ≡ is_for w conn z.user.account m.subject sub)
     (λ sub owned. admitted-same w conn z m sub sound at owned) w.subscriptions sound.accounts)
@@ -245,15 +249,15 @@ gets-keeps capacity m subs = record {
 pub counted-keeps : (items : List Item) → KeepsSubscription (counted items)
 counted-keeps items =
     keeps-where (λ s. has_entered items s && nat_lt s.received 18446744073709551615) (λ (s : Subscription). record s { received = s.received + 1 })
-    (record { id = λ s. refl; conn = λ s. refl; account = λ s. refl; subject = λ s. refl; sid = λ s. refl })
+    (record { id = λ s. refl; conn = λ s. refl; account = λ s. refl; subject = λ s. refl; queue = λ s. refl; sid = λ s. refl })
 
 -- who may be sent a message, is decided with reason
 receiver-reason : (w : World) (s : List Token) (sub : Subscription) → IsReasonedFor w s sub
 receiver-reason w s sub = here (user_at w sub.conn)
   where
-    here : (o : Option User) → IfSome o (λ (u : User). IsJustifiedDelivery s u.rules.subscribe (delivery_verdict u.rules s))
+    here : (o : Option User) → IfSome o (λ (u : User). IsJustifiedDelivery s sub.queue u.rules.subscribe (delivery_verdict u.rules s sub.queue))
     here None = tt
-    here (Some u) = delivery_justified u.rules s
+    here (Some u) = delivery_justified u.rules s sub.queue
 
 pub-keeps : (w : World) (now conn : ℕ) (m : Message) (word : ℕ) → IsSound w →
     Keeps w (event now (Pub conn m word)) (numbered (w.number + 1) (moved (advanced w now) (Pub conn m word)))
@@ -282,36 +286,49 @@ pub-keeps w now conn m word sound = by_session (session_of w.sessions conn) refl
     allowed : (v : Verdict) (z : Session) → publish_verdict z.user.rules m.subject ≡ v → user_at w conn ≡ Some z.user → may_publish (user_at w conn) m.subject ≡ is_allowed v
     allowed v z e u = ap (λ o. may_publish o m.subject) u ∙ ap is_allowed e
 
-    whom : Session → List Subscription
-    whom z = admitted w z (own_view z m)
+    all : Session → List Subscription
+    all z = admitted w z (own_view z m)
 
-    handed : (z : Session) → session_of w.sessions conn ≡ Some z → IsDelivered w m (recipients w conn z.user.account m.subject) (items_after m (whom z) w.sessions) (delivered (map (addressed_to m) (whom z)) w.sessions).0
+    whom : Session → List Subscription
+    whom z = served word (all z)
+
+    rising : (z : Session) → Rising (all z)
+    rising z = AllPairs-filter (λ (s t : Subscription). s.id < t.id) (is_admitted w.sessions z (own_view z m)) w.subscriptions sound.ids
+
+    Handed : Session → List Subscription → Type 0
+    Handed z from =
+        (subs : List Subscription) × AreServed word from subs × IsDelivered w m subs (items_after m (whom z) w.sessions) (delivered (map (addressed_to m) (whom z)) w.sessions).0
+
+    handed : (z : Session) → session_of w.sessions conn ≡ Some z → Handed z (eligible w conn z.user.account m.subject)
     handed z at =
-        subst (λ subs. IsDelivered w m subs (items_after m (whom z) w.sessions) (delivered (map (addressed_to m) (whom z)) w.sessions).0)
-        (recipients-same w conn z m sound at)
-        (record {
-          reasons = λ k d h. receiver-reason w m.subject (get_or w.subscriptions k d);
-          one_each = one_each m (whom z) w.sessions;
-          with_room = with_room m (whom z) w.sessions;
-          outboxes = outboxes m (whom z) w.sessions sound.connections;
-        })
+        subst (Handed z) (eligible-same w conn z m sound at) (
+          whom z,
+          are_served word (all z) (rising z),
+          record {
+            reasons = λ k d h. receiver-reason w m.subject (get_or w.subscriptions k d);
+            one_each = one_each m (whom z) w.sessions;
+            with_room = with_room m (whom z) w.sessions;
+            outboxes = outboxes m (whom z) w.sessions sound.connections;
+          },
+        )
 
     by_verdict : (v : Verdict) (z : Session) → publish_verdict z.user.rules m.subject ≡ v → session_of w.sessions conn ≡ Some z → user_at w conn ≡ Some z.user → is_fit w command ≡ true →
-        Keeps w (event now command) (numbered (w.number + 1) (Ok (published (advanced w now) z m v)))
+        Keeps w (event now command) (numbered (w.number + 1) (Ok (published (advanced w now) z m word v)))
     by_verdict (Allowed by) z e at u fit =
         let zs : List Session = (delivered (map (addressed_to m) (whom z)) w.sessions).0 in
         let items : List Item = items_after m (whom z) w.sessions in
         let subs : List Subscription = unended (map (counted items) w.subscriptions) in
         answered w now command (Published by items) zs subs (refl, refl) fit (sym (allowed (Allowed by) z e u)) (reason by z e at u)
-        (subst (λ o. IsSomeAnd o (λ (user : User). (publish_verdict user.rules m.subject ≡ Allowed by) × IsDelivered w m (recipients w conn user.account m.subject) items zs)) (sym u) (e, handed z at), unended-same (map (counted items) w.subscriptions))
+        (subst (λ o. IsSomeAnd o (λ (user : User). (publish_verdict user.rules m.subject ≡ Allowed by) × Handed z (eligible w conn user.account m.subject))) (sym u) (e, handed z at), unended-same (map (counted items) w.subscriptions))
         (λ _. subst (λ ys. IsSound (next w now ys subs)) (sym (outboxes m (whom z) w.sessions sound.connections))
         (sound-limits (next w now (map (gets m (whom z)) w.sessions) w.subscriptions) (counted items) (counted-keeps items)
         (sound-map w now (gets m (whom z)) (gets-keeps w.capacity m (whom z)) sound)))
     by_verdict (DeniedBy i) z e at u fit = answered w now command (Denied (DeniedBy i)) w.sessions w.subscriptions (refl, refl) fit (sym (allowed (DeniedBy i) z e u)) (denied (DeniedBy i) z e at u) (untouched w now) (λ _. sound-same w now sound)
     by_verdict NoAllow z e at u fit = answered w now command (Denied NoAllow) w.sessions w.subscriptions (refl, refl) fit (sym (allowed NoAllow z e u)) (denied NoAllow z e at u) (untouched w now) (λ _. sound-same w now sound)
+    by_verdict (NoQueueAllow i) z e at u fit = answered w now command (Denied (NoQueueAllow i)) w.sessions w.subscriptions (refl, refl) fit (sym (allowed (NoQueueAllow i) z e u)) (denied (NoQueueAllow i) z e at u) (untouched w now) (λ _. sound-same w now sound)
 
     by_session : (o : Option Session) → session_of w.sessions conn ≡ o →
-        Keeps w (event now command) (numbered (w.number + 1) (in_session o (λ z. published (advanced w now) z m (publish_verdict z.user.rules m.subject))))
+        Keeps w (event now command) (numbered (w.number + 1) (in_session o (λ z. published (advanced w now) z m word (publish_verdict z.user.rules m.subject))))
     by_session None e = none-due (session_of w.sessions conn) e
     by_session (Some z) e = by_verdict (publish_verdict z.user.rules m.subject) z refl e (user_at-session w sound conn z e) (is_there (session_of w.sessions conn) z e)
 
@@ -321,7 +338,7 @@ pub-keeps w now conn m word sound = by_session (session_of w.sessions conn) refl
 pub limited-keeps : (conn : ℕ) (sid : List ℕ) (most : Option ℕ) → KeepsSubscription (limited conn sid most)
 limited-keeps conn sid most =
     keeps-where (is_under conn sid) (λ (s : Subscription). record s { most = Some (limit_of most) })
-    (record { id = λ s. refl; conn = λ s. refl; account = λ s. refl; subject = λ s. refl; sid = λ s. refl })
+    (record { id = λ s. refl; conn = λ s. refl; account = λ s. refl; subject = λ s. refl; queue = λ s. refl; sid = λ s. refl })
 
 unsub-keeps : (w : World) (now conn : ℕ) (sid : List ℕ) (most : Option ℕ) → IsSound w →
     Keeps w (event now (Unsub conn sid most)) (numbered (w.number + 1) (moved (advanced w now) (Unsub conn sid most)))
@@ -396,7 +413,7 @@ reload-keeps w now doc sound = (
 
 moves : (w : World) (now : ℕ) (c : Command) → IsSound w → Keeps w (event now c) (numbered (w.number + 1) (moved (advanced w now) c))
 moves w now (Connect conn name password echo) = connect-keeps w now conn name password echo
-moves w now (Sub conn p sid) = sub-keeps w now conn p sid
+moves w now (Sub conn p queue sid) = sub-keeps w now conn p queue sid
 moves w now (Unsub conn sid most) = unsub-keeps w now conn sid most
 moves w now (Pub conn m word) = pub-keeps w now conn m word
 moves w now (Take conn most) = take-keeps w now conn most

@@ -1,3 +1,4 @@
+pub mod Groups
 pub mod Lists
 pub mod Finds
 pub mod Naming

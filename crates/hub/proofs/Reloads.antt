@@ -16,7 +16,7 @@ use Rattle.policy_doc.specs.Document.{IsValidPolicy}
 use Rattle.policy_doc.specs.declared.document.PolicyDoc.{PolicyDoc}
 use Rattle.permissions.specs.Verdicts.{subscribe_verdict, is_allowed, IsJustifiedSubscribe}
 use Rattle.permissions.specs.declared.verdict.Verdict.{Verdict}
-use Rattle.permissions.specs.declared.verdict.Verdict.TheVariants.{Allowed, DeniedBy, NoAllow}
+use Rattle.permissions.specs.declared.verdict.Verdict.TheVariants.{Allowed, DeniedBy, NoAllow, NoQueueAllow}
 use Rattle.ready.specs.Users.{users_of, user_named, is_same_user, user_again}
 use Rattle.ready.specs.declared.ready.User.{User}
 use Rattle.sessions.specs.Sessions.{session_of}
@@ -190,7 +190,7 @@ conns-apart (z ∷ zs) apart = (others zs (AllPairs-head IsApart z zs apart), co
 
 -- ---- subscriptions
 
-stand-same : (u : Option User) (sub : Subscription) → may_stand (verdict_for u sub) ≡ may_subscribe u sub.subject
+stand-same : (u : Option User) (sub : Subscription) → may_stand (verdict_for u sub) ≡ may_subscribe u sub.subject sub.queue
 stand-same None sub = refl
 stand-same (Some u) sub = refl
 
@@ -218,9 +218,9 @@ after_reload w now doc = record w {
 abbrev user_now : PolicyDoc → List Session → Subscription → Option User
 user_now doc zs sub = user_behind doc (session_of (remaining doc zs) sub.conn)
 
-stands-same : (doc : PolicyDoc) (zs : List Session) (sub : Subscription) → IsValidPolicy doc → AllPairs IsApart zs → stands_on doc zs sub ≡ may_subscribe (user_now doc zs sub) sub.subject
+stands-same : (doc : PolicyDoc) (zs : List Session) (sub : Subscription) → IsValidPolicy doc → AllPairs IsApart zs → stands_on doc zs sub ≡ may_subscribe (user_now doc zs sub) sub.subject sub.queue
 stands-same doc zs sub valid apart =
-    stand-same (user_after doc (session_of zs sub.conn)) sub ∙ ap (λ u. may_subscribe u sub.subject) (sym (user_behind-remaining doc sub.conn zs valid apart))
+    stand-same (user_after doc (session_of zs sub.conn)) sub ∙ ap (λ u. may_subscribe u sub.subject sub.queue) (sym (user_behind-remaining doc sub.conn zs valid apart))
 
 -- ---- accounts
 
@@ -248,18 +248,19 @@ owned-after old doc zs sub valid apart users owned stand =
         by_user z (user_again_of doc z) refl (let same : z.user.account ≡ sub.account = cc in same) may
 
 -- and it has its reason there
-allowed-after : (doc : PolicyDoc) (zs : List Session) (sub : Subscription) → IsValidPolicy doc → AllPairs IsApart zs → IsReasonedVerdict doc zs sub → stands_on doc zs sub ≡ true → HasAllowance (user_now doc zs sub) sub.subject
+allowed-after : (doc : PolicyDoc) (zs : List Session) (sub : Subscription) → IsValidPolicy doc → AllPairs IsApart zs → IsReasonedVerdict doc zs sub → stands_on doc zs sub ≡ true → HasAllowance (user_now doc zs sub) sub.subject sub.queue
 allowed-after doc zs sub valid apart reasoned stand =
-    subst (λ u. HasAllowance u sub.subject) (sym (user_behind-remaining doc sub.conn zs valid apart)) (by_user (user_after doc (session_of zs sub.conn)) reasoned stand)
+    subst (λ u. HasAllowance u sub.subject sub.queue) (sym (user_behind-remaining doc sub.conn zs valid apart)) (by_user (user_after doc (session_of zs sub.conn)) reasoned stand)
   where
-    by_verdict : (u : User) (v : Verdict) → IsJustifiedSubscribe sub.subject u.rules.subscribe v → is_allowed v ≡ true → HasAllowance (Some u) sub.subject
+    by_verdict : (u : User) (v : Verdict) → IsJustifiedSubscribe sub.subject sub.queue u.rules.subscribe v → is_allowed v ≡ true → HasAllowance (Some u) sub.subject sub.queue
     by_verdict u (Allowed by) has may = (by, has)
     by_verdict u (DeniedBy i) has may = absurd (cc)
     by_verdict u NoAllow has may = absurd (cc)
+    by_verdict u (NoQueueAllow i) has may = absurd (cc)
 
-    by_user : (o : Option User) → IfSome o (λ (u : User). IsJustifiedSubscribe sub.subject u.rules.subscribe (subscribe_verdict u.rules sub.subject)) → may_stand (verdict_for o sub) ≡ true → HasAllowance o sub.subject
+    by_user : (o : Option User) → IfSome o (λ (u : User). IsJustifiedSubscribe sub.subject sub.queue u.rules.subscribe (subscribe_verdict u.rules sub.subject sub.queue)) → may_stand (verdict_for o sub) ≡ true → HasAllowance o sub.subject sub.queue
     by_user None has may = absurd (cc)
-    by_user (Some u) has may = by_verdict u (subscribe_verdict u.rules sub.subject) has may
+    by_user (Some u) has may = by_verdict u (subscribe_verdict u.rules sub.subject sub.queue) has may
 
 pub sound-reload : (w : World) (now : ℕ) (doc : PolicyDoc) → IsSound w → IsReasonedReload doc w.sessions w.subscriptions → IsSound (after_reload w now doc)
 sound-reload w now doc sound reasoned = let valid = reasoned.0 in record {
@@ -295,10 +296,10 @@ in_force w now doc sound reasoned =
       stay = stay-same doc w.sessions valid;
       rising = ascending-rises (map connection_of (filter (goes doc) w.sessions)) (conns-apart (filter (goes doc) w.sessions) (AllPairs-filter IsApart (goes doc) w.sessions sound.connections));
       gone = λ conn. gone-same doc conn w.sessions sound.connections;
-      standing = filter_agree (stands_on doc w.sessions) (λ (sub : Subscription). may_subscribe (user_now doc w.sessions sub) sub.subject)
+      standing = filter_agree (stands_on doc w.sessions) (λ (sub : Subscription). may_subscribe (user_now doc w.sessions sub) sub.subject sub.queue)
           (λ sub. stands-same doc w.sessions sub valid sound.connections) w.subscriptions;
       removed = filter_map_agree (removal_after doc w.sessions) (λ (sub : Subscription). removal_for sub (user_now doc w.sessions sub))
           (λ sub. removal-same (user_after doc (session_of w.sessions sub.conn)) sub ∙ ap (removal_for sub) (sym (whom sub))) w.subscriptions;
-      reasons = All-weaker (IsReasonedVerdict doc w.sessions) (λ (sub : Subscription). IfSome (user_now doc w.sessions sub) (λ (u : User). IsJustifiedSubscribe sub.subject u.rules.subscribe (subscribe_verdict u.rules sub.subject)))
-          (λ sub has. subst (λ o. IfSome o (λ (u : User). IsJustifiedSubscribe sub.subject u.rules.subscribe (subscribe_verdict u.rules sub.subject))) (sym (whom sub)) has) w.subscriptions reasoned.1;
+      reasons = All-weaker (IsReasonedVerdict doc w.sessions) (λ (sub : Subscription). IfSome (user_now doc w.sessions sub) (λ (u : User). IsJustifiedSubscribe sub.subject sub.queue u.rules.subscribe (subscribe_verdict u.rules sub.subject sub.queue)))
+          (λ sub has. subst (λ o. IfSome o (λ (u : User). IsJustifiedSubscribe sub.subject sub.queue u.rules.subscribe (subscribe_verdict u.rules sub.subject sub.queue))) (sym (whom sub)) has) w.subscriptions reasoned.1;
     }

@@ -41,10 +41,10 @@ IsApart y z = y.conn ≢ z.conn
 
 -- the facts of a subscription that its connection's user decides
 abbrev IsAllowed : PolicyDoc → List Session → Subscription → Type 0
-IsAllowed doc zs s = may_subscribe (user_behind doc (session_of zs s.conn)) s.subject ≡ true
+IsAllowed doc zs s = may_subscribe (user_behind doc (session_of zs s.conn)) s.subject s.queue ≡ true
 
 abbrev HasReasonHere : PolicyDoc → List Session → Subscription → Type 0
-HasReasonHere doc zs s = HasAllowance (user_behind doc (session_of zs s.conn)) s.subject
+HasReasonHere doc zs s = HasAllowance (user_behind doc (session_of zs s.conn)) s.subject s.queue
 
 abbrev pub IsStillToReceive : Subscription → Type 0
 IsStillToReceive s = is_to_receive s ≡ true
@@ -111,8 +111,8 @@ sound-map w now f keeps sound = record {
   connections = AllPairs-map IsApart f w.sessions (λ y z apart same. apart (sym (keeps.conn y) ∙ same ∙ keeps.conn z)) sound.connections;
   users = All-map (IsOfPolicy w.policy) f w.sessions (λ k d h. of_policy (get_or w.sessions k d) (sound.users k d h));
   outboxes = All-map (HasBound w.capacity) f w.sessions (λ k d h. keeps.outbox _ (sound.outboxes k d h));
-  subscriptions = λ k d h. ap (λ u. may_subscribe u (get_or w.subscriptions k d).subject) (user_is (get_or w.subscriptions k d)) ∙ sound.subscriptions k d h;
-  reasons = λ k d h. subst (λ u. HasAllowance u (get_or w.subscriptions k d).subject) (sym (user_is (get_or w.subscriptions k d))) (sound.reasons k d h);
+  subscriptions = λ k d h. ap (λ u. may_subscribe u (get_or w.subscriptions k d).subject (get_or w.subscriptions k d).queue) (user_is (get_or w.subscriptions k d)) ∙ sound.subscriptions k d h;
+  reasons = λ k d h. subst (λ u. HasAllowance u (get_or w.subscriptions k d).subject (get_or w.subscriptions k d).queue) (sym (user_is (get_or w.subscriptions k d))) (sound.reasons k d h);
   accounts = λ k d h. ap account_of (user_is (get_or w.subscriptions k d)) ∙ sound.accounts k d h;
   limits = sound.limits;
   sids = sound.sids;
@@ -129,8 +129,8 @@ sound-map w now f keeps sound = record {
     user_is s = user-map w.policy f w.sessions keeps.conn keeps.user s.conn
 
 -- a session is opened
-none-allowed : (p : List Token) → may_subscribe None p ≡ true → ⊥
-none-allowed p h = absurd (cc)
+none-allowed : (p : List Token) (queue : Option (List Token)) → may_subscribe None p queue ≡ true → ⊥
+none-allowed p queue h = absurd (cc)
 
 none-owned : (account : List ℕ) → account_of None ≡ Some account → ⊥
 none-owned account h = absurd (cc)
@@ -151,8 +151,8 @@ sound-open w now conn u echo free room is sound = record {
   connections = all_pairs_push IsApart w.sessions (new_session conn u echo w.capacity) sound.connections (λ k d h same. eqb-false _ _ (find-none (λ (z : Session). z.conn == conn) w.sessions free k d h) same);
   users = All-push (IsOfPolicy w.policy) w.sessions (new_session conn u echo w.capacity) sound.users is;
   outboxes = All-push (HasBound w.capacity) w.sessions (new_session conn u echo w.capacity) sound.outboxes (refl, omega arith);
-  subscriptions = λ k d h. known-open (λ v. may_subscribe v (get_or w.subscriptions k d).subject ≡ true) (none-allowed (get_or w.subscriptions k d).subject) w.policy w.sessions (new_session conn u echo w.capacity) (get_or w.subscriptions k d).conn (sound.subscriptions k d h);
-  reasons = λ k d h. known-open (λ v. HasAllowance v (get_or w.subscriptions k d).subject) (λ none. none) w.policy w.sessions (new_session conn u echo w.capacity) (get_or w.subscriptions k d).conn (sound.reasons k d h);
+  subscriptions = λ k d h. known-open (λ v. may_subscribe v (get_or w.subscriptions k d).subject (get_or w.subscriptions k d).queue ≡ true) (none-allowed (get_or w.subscriptions k d).subject (get_or w.subscriptions k d).queue) w.policy w.sessions (new_session conn u echo w.capacity) (get_or w.subscriptions k d).conn (sound.subscriptions k d h);
+  reasons = λ k d h. known-open (λ v. HasAllowance v (get_or w.subscriptions k d).subject (get_or w.subscriptions k d).queue) (λ none. none) w.policy w.sessions (new_session conn u echo w.capacity) (get_or w.subscriptions k d).conn (sound.reasons k d h);
   accounts = λ k d h. known-open (λ v. account_of v ≡ Some (get_or w.subscriptions k d).account) (none-owned (get_or w.subscriptions k d).account) w.policy w.sessions (new_session conn u echo w.capacity) (get_or w.subscriptions k d).conn (sound.accounts k d h);
   limits = sound.limits;
   sids = sound.sids;
@@ -171,9 +171,9 @@ quotas-add subs s room quotas conn =
     here true is = omega (arith, leb-false 4096 (length (of_connection s.conn subs)) room, ap (λ n. length (of_connection n subs)) (eqb-true s.conn conn is))
     here false is = omega (arith, quotas conn)
 
-pub sound-add : (w : World) (now conn : ℕ) (account : List ℕ) (p : List Token) (sid : List ℕ) → may_subscribe (user_at w conn) p ≡ true → HasAllowance (user_at w conn) p → account_of (user_at w conn) ≡ Some account → stands w.subscriptions conn sid ≡ false → has_all w.subscriptions conn ≡ false → IsSound w →
-    IsSound (next w now w.sessions (w.subscriptions ++ subscription_of (w.number + 1) conn account p sid ∷ []))
-sound-add w now conn account p sid may reason owned free room sound = record {
+pub sound-add : (w : World) (now conn : ℕ) (account : List ℕ) (p : List Token) (queue : Option (List Token)) (sid : List ℕ) → may_subscribe (user_at w conn) p queue ≡ true → HasAllowance (user_at w conn) p queue → account_of (user_at w conn) ≡ Some account → stands w.subscriptions conn sid ≡ false → has_all w.subscriptions conn ≡ false → IsSound w →
+    IsSound (next w now w.sessions (w.subscriptions ++ subscription_of (w.number + 1) conn account p queue sid ∷ []))
+sound-add w now conn account p queue sid may reason owned free room sound = record {
   policy = sound.policy;
   limit = sound.limit;
   connections = sound.connections;
@@ -191,7 +191,7 @@ sound-add w now conn account p sid may reason owned free room sound = record {
 }
   where
     added : Subscription
-    added = subscription_of (w.number + 1) conn account p sid
+    added = subscription_of (w.number + 1) conn account p queue sid
 
 -- no connection has more of those that stay than of all
 pub quotas-filter : (p : Subscription → Bool) (subs : List Subscription) → HasQuotas subs → HasQuotas (filter p subs)
@@ -213,8 +213,8 @@ sound-close w now conn sound = record {
   connections = AllPairs-filter IsApart (λ (z : Session). not (z.conn == conn)) w.sessions sound.connections;
   users = All-filter (λ (z : Session). not (z.conn == conn)) (IsOfPolicy w.policy) w.sessions sound.users;
   outboxes = All-filter (λ (z : Session). not (z.conn == conn)) (HasBound w.capacity) w.sessions sound.outboxes;
-  subscriptions = λ k d h. ap (λ u. may_subscribe u (get_or left k d).subject) (user_is k d h) ∙ All-filter stay (IsAllowed w.policy w.sessions) w.subscriptions sound.subscriptions k d h;
-  reasons = λ k d h. subst (λ u. HasAllowance u (get_or left k d).subject) (sym (user_is k d h)) (All-filter stay (HasReasonHere w.policy w.sessions) w.subscriptions sound.reasons k d h);
+  subscriptions = λ k d h. ap (λ u. may_subscribe u (get_or left k d).subject (get_or left k d).queue) (user_is k d h) ∙ All-filter stay (IsAllowed w.policy w.sessions) w.subscriptions sound.subscriptions k d h;
+  reasons = λ k d h. subst (λ u. HasAllowance u (get_or left k d).subject (get_or left k d).queue) (sym (user_is k d h)) (All-filter stay (HasReasonHere w.policy w.sessions) w.subscriptions sound.reasons k d h);
   accounts = λ k d h. ap account_of (user_is k d h) ∙ All-filter stay (IsOwned w.policy w.sessions) w.subscriptions sound.accounts k d h;
   limits = All-filter stay IsStillToReceive w.subscriptions sound.limits;
   sids = AllPairs-filter (λ (s t : Subscription). has_same_sid s t ≡ false) stay w.subscriptions sound.sids;
@@ -239,6 +239,7 @@ pub record KeepsSubscription (f : Subscription → Subscription) : Type 0 where
   pub conn : (s : Subscription) → (f s).conn ≡ s.conn
   pub account : (s : Subscription) → (f s).account ≡ s.account
   pub subject : (s : Subscription) → (f s).subject ≡ s.subject
+  pub queue : (s : Subscription) → (f s).queue ≡ s.queue
   pub sid : (s : Subscription) → (f s).sid ≡ s.sid
 
 -- what is the same of both is the same of whichever is taken
@@ -253,19 +254,22 @@ keeps-where test f keeps = record {
   conn = λ s. either (λ (t : Subscription). t.conn) (test s) (f s) s (keeps.conn s);
   account = λ s. either (λ (t : Subscription). t.account) (test s) (f s) s (keeps.account s);
   subject = λ s. either (λ (t : Subscription). t.subject) (test s) (f s) s (keeps.subject s);
+  queue = λ s. either (λ (t : Subscription). t.queue) (test s) (f s) s (keeps.queue s);
   sid = λ s. either (λ (t : Subscription). t.sid) (test s) (f s) s (keeps.sid s);
 }
 
 allowed-again : (doc : PolicyDoc) (zs : List Session) (f : Subscription → Subscription) → KeepsSubscription f → (s : Subscription) → IsAllowed doc zs s → IsAllowed doc zs (f s)
 allowed-again doc zs f keeps s is =
-    ap (λ n. may_subscribe (user_behind doc (session_of zs n)) (f s).subject) (keeps.conn s)
-    ∙ ap (λ p. may_subscribe (user_behind doc (session_of zs s.conn)) p) (keeps.subject s)
+    ap (λ n. may_subscribe (user_behind doc (session_of zs n)) (f s).subject (f s).queue) (keeps.conn s)
+    ∙ ap (λ p. may_subscribe (user_behind doc (session_of zs s.conn)) p (f s).queue) (keeps.subject s)
+    ∙ ap (λ queue. may_subscribe (user_behind doc (session_of zs s.conn)) s.subject queue) (keeps.queue s)
     ∙ is
 
 reason-again : (doc : PolicyDoc) (zs : List Session) (f : Subscription → Subscription) → KeepsSubscription f → (s : Subscription) → HasReasonHere doc zs s → HasReasonHere doc zs (f s)
 reason-again doc zs f keeps s is =
-    subst (λ n. HasAllowance (user_behind doc (session_of zs n)) (f s).subject) (sym (keeps.conn s))
-    (subst (λ p. HasAllowance (user_behind doc (session_of zs s.conn)) p) (sym (keeps.subject s)) is)
+    subst (λ n. HasAllowance (user_behind doc (session_of zs n)) (f s).subject (f s).queue) (sym (keeps.conn s))
+    (subst (λ p. HasAllowance (user_behind doc (session_of zs s.conn)) p (f s).queue) (sym (keeps.subject s))
+    (subst (λ queue. HasAllowance (user_behind doc (session_of zs s.conn)) s.subject queue) (sym (keeps.queue s)) is))
 
 owned-again : (doc : PolicyDoc) (zs : List Session) (f : Subscription → Subscription) → KeepsSubscription f → (s : Subscription) → IsOwned doc zs s → IsOwned doc zs (f s)
 owned-again doc zs f keeps s is =

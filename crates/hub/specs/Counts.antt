@@ -32,7 +32,7 @@ pub record IsCounted (es : List Entry) (sub : Subscription) : Type 0 where
   pub entries : es ≡ before ++ made ∷ since
   -- it has the entry's number for an id
   pub number : made.number ≡ sub.id
-  pub command : made.event.what ≡ Sub sub.conn sub.subject sub.sid
+  pub command : made.event.what ≡ Sub sub.conn sub.subject sub.queue sub.sid
   pub outcome : made.outcome ≡ Subscribed
   -- the count stays at 2^64 - 1
   pub received : sub.received ≡ min (2 ^ 64 - 1) (entered_for sub.conn sub.sid since)

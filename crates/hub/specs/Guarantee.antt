@@ -1,6 +1,7 @@
 -- The routing guarantee: what each step of a hub keeps, in terms of the policy in force, which is that of the
 -- world before the step (docs/GUARANTEE.md, "The guarantee").
 use Rattle.std.specs.Prelude.{◌≡◌, ◌==◌, ◌+◌, ◌-◌, ◌&&◌, ◌||◌, ◌∷◌, ◌++◌, ℕ, List, [], Bool, true, false, Option, Some, None, Result, Ok, Err, if◌then◌else◌, filter, map, not, length, is_some, All, IfSome, IsSomeAnd, nat_lt, nat_le, nat_eq, max, take, drop}
+use Rattle.std.specs.List.{list_any}
 use Rattle.std.specs.Option.{option_and_then}
 use Rattle.std.specs.Cmp.Lexicographic.{pointwise}
 use Rattle.subjects.specs.Subject.{Token, in_set}
@@ -26,7 +27,9 @@ use Rattle.sessions.specs.declared.session.Session.{Session}
 use Rattle.subscriptions.specs.Subscriptions.{stands, of_connection, has_all, subscription_of}
 use Rattle.subscriptions.specs.Limit.{counted, limited}
 use Rattle.subscriptions.specs.declared.subscription.Subscription.{Subscription}
+use Rattle.queue_choice.specs.Choices.{chosen}
 use Rattle.world.specs.World.{World}
+use Rattle.world.specs.Routing.{is_member, members}
 use Rattle.subscriptions.specs.Addressing.{delivery_to}
 use Rattle.hub.specs.Sound.{IsSound, user_at, may_subscribe, HasAllowance, is_to_receive}
 use Rattle.hub.specs.History.{State, is_history_full}
@@ -58,7 +61,7 @@ may_publish (Some u) s = is_allowed (publish_verdict u.rules s)
 -- a Pub, by the permissions of the connection's user; the others always.
 abbrev pub allows : World → Command → Bool
 allows w (Connect conn name password echo) = is_some (user_with_password w.policy name password)
-allows w (Sub conn p sid) = may_subscribe (user_at w conn) p
+allows w (Sub conn p queue sid) = may_subscribe (user_at w conn) p queue
 allows w (Unsub conn sid most) = true
 allows w (Pub conn m word) = may_publish (user_at w conn) m.subject
 allows w (Take conn most) = true
@@ -69,12 +72,13 @@ allows w (Reload doc) = true
 
 -- A denial is the verdict of the user's permissions in the policy in force, and it has its reason: the entry it
 -- names is the least deny entry that has all that was asked; or no deny entry has it, an allow list is given, and
--- each of its entries lacks some of it. Only a Sub and a Pub are denied.
+-- each of its entries lacks some of it, or, of a Sub with a queue, those that have it are for other queues. Only a Sub
+-- and a Pub are denied.
 abbrev pub IsDenial : World → Command → Verdict → Type 0
 IsDenial w (Connect conn name password echo) v = ⊥
-IsDenial w (Sub conn p sid) v =
-    IsSomeAnd (user_at w conn) (λ (u : User). (v ≡ subscribe_verdict u.rules p)
-    × IsJustifiedSubscribe p u.rules.subscribe v)
+IsDenial w (Sub conn p queue sid) v =
+    IsSomeAnd (user_at w conn) (λ (u : User). (v ≡ subscribe_verdict u.rules p queue)
+    × IsJustifiedSubscribe p queue u.rules.subscribe v)
 IsDenial w (Unsub conn sid most) v = ⊥
 IsDenial w (Pub conn m word) v =
     IsSomeAnd (user_at w conn) (λ (u : User). (v ≡ publish_verdict u.rules m.subject)
@@ -88,41 +92,57 @@ IsDenial w (Reload doc) v = ⊥
 -- that is told.
 abbrev pub HasReason : World → Command → Outcome → Type 0
 HasReason w c (Denied v) = IsDenial w c v
-HasReason w (Sub conn p sid) Subscribed = HasAllowance (user_at w conn) p
-HasReason w (Sub conn p sid) SameSid = HasAllowance (user_at w conn) p
-HasReason w (Sub conn p sid) SubLimit = HasAllowance (user_at w conn) p
+HasReason w (Sub conn p queue sid) Subscribed = HasAllowance (user_at w conn) p queue
+HasReason w (Sub conn p queue sid) SameSid = HasAllowance (user_at w conn) p queue
+HasReason w (Sub conn p queue sid) SubLimit = HasAllowance (user_at w conn) p queue
 HasReason w (Pub conn m word) (Published by items) =
     IsSomeAnd (user_at w conn) (λ (u : User). IsJustifiedPublish m.subject u.rules.publish (Allowed by))
 HasReason w c _ = Unit {0}
 
 -- ---- delivery
 
--- whether a user is of the account, and may be sent a message on the subject
-abbrev pub may_receive : List ℕ → List Token → Option User → Bool
-may_receive account s None = false
-may_receive account s (Some u) = pointwise nat_eq u.account account && is_allowed (delivery_verdict u.rules s)
+-- whether a user is of the account, and may be sent a message on the subject, for a subscription of that queue group or
+-- of none
+abbrev pub may_receive : List ℕ → List Token → Option (List Token) → Option User → Bool
+may_receive account s queue None = false
+may_receive account s queue (Some u) = pointwise nat_eq u.account account && is_allowed (delivery_verdict u.rules s queue)
 
 -- whether a connection is sent its own messages, as its session was asked to
 abbrev pub has_echo : Option Session → Bool
 has_echo None = false
 has_echo (Some z) = z.echo
 
--- a message that a connection publishes, of an account, is for a subscription that has its subject, that isn't the
--- connection's own where it is sent none of its own, and whose user in the policy in force is of that account and
+-- a message that a connection publishes, of an account, may be sent to a subscription that has its subject, that isn't
+-- the connection's own where it is sent none of its own, and whose user in the policy in force is of that account and
 -- may be sent it
 abbrev pub is_for : World → ℕ → List ℕ → List Token → Subscription → Bool
 is_for w conn account s sub =
-    in_set sub.subject s && (has_echo (session_of w.sessions conn) || not (sub.conn == conn)) && may_receive account s (user_at w sub.conn)
+    in_set sub.subject s && (has_echo (session_of w.sessions conn) || not (sub.conn == conn)) && may_receive account s sub.queue (user_at w sub.conn)
 
--- the subscriptions that a message is for, oldest first
-abbrev pub recipients : World → ℕ → List ℕ → List Token → List Subscription
-recipients w conn account s = filter (is_for w conn account s) w.subscriptions
+-- the subscriptions that a message may be sent to, oldest first
+abbrev pub eligible : World → ℕ → List ℕ → List Token → List Subscription
+eligible w conn account s = filter (is_for w conn account s) w.subscriptions
+
+-- a subscription of no queue group
+abbrev pub is_plain : Subscription → Bool
+is_plain sub = not (is_some sub.queue)
+
+-- Whom a message is for, of those that it may be sent to (NATS documentation, "Queue Groups").
+pub record AreServed (word : ℕ) (from subs : List Subscription) : Type 0 where
+  -- some of these, oldest first, and nobody else
+  pub which : Subscription → Bool
+  pub some : subs ≡ filter which from
+  -- each plain one
+  pub plain : filter is_plain subs ≡ filter is_plain from
+  -- and of each queue group with a member among these, whatever their patterns, exactly one: number
+  -- (word mod 2^32) mod n of its n members, by age
+  pub one_each : (name : List ℕ) → list_any (is_member name) from ≡ true → map Some (members name subs) ≡ chosen word (members name from) ∷ []
 
 -- Whether the user behind a subscription may be sent it has its reason: each deny entry of its subscribe lists lacks
 -- the subject, or the least that has it refuses.
 abbrev pub IsReasonedFor : World → List Token → Subscription → Type 0
 IsReasonedFor w s sub =
-    IfSome (user_at w sub.conn) (λ (u : User). IsJustifiedDelivery s u.rules.subscribe (delivery_verdict u.rules s))
+    IfSome (user_at w sub.conn) (λ (u : User). IsJustifiedDelivery s sub.queue u.rules.subscribe (delivery_verdict u.rules s sub.queue))
 
 -- how many more deliveries the outbox of a connection's session has room for
 abbrev pub room_in : Option Session → ℕ
@@ -187,22 +207,23 @@ IsEffect w (Connect conn name password echo) Connected after =
 IsEffect w (Connect conn name password echo) AuthViolation after = IsUntouched w after
 -- the subscription stands, the youngest, of the user's account, where none of that id stood and fewer than 4,096 of the
 -- connection's; else nothing changes
-IsEffect w (Sub conn p sid) Subscribed after =
+IsEffect w (Sub conn p queue sid) Subscribed after =
     (stands w.subscriptions conn sid ≡ false) × (has_all w.subscriptions conn ≡ false) × (after.sessions ≡ w.sessions)
-    × IsSomeAnd (user_at w conn) (λ (u : User). after.subscriptions ≡ w.subscriptions ++ subscription_of after.number conn u.account p sid ∷ [])
-IsEffect w (Sub conn p sid) SameSid after = (stands w.subscriptions conn sid ≡ true) × IsUntouched w after
-IsEffect w (Sub conn p sid) SubLimit after =
+    × IsSomeAnd (user_at w conn) (λ (u : User). after.subscriptions ≡ w.subscriptions ++ subscription_of after.number conn u.account p queue sid ∷ [])
+IsEffect w (Sub conn p queue sid) SameSid after = (stands w.subscriptions conn sid ≡ true) × IsUntouched w after
+IsEffect w (Sub conn p queue sid) SubLimit after =
     (stands w.subscriptions conn sid ≡ false) × (has_all w.subscriptions conn ≡ true) × IsUntouched w after
-IsEffect w (Sub conn p sid) (Denied v) after = IsUntouched w after
+IsEffect w (Sub conn p queue sid) (Denied v) after = IsUntouched w after
 -- the connection's subscription of that id, if one stands, takes the limit, in place of an earlier one, and ends where
 -- it has received as many; no other changes
 IsEffect w (Unsub conn sid most) Unsubscribed after =
     (after.sessions ≡ w.sessions) × (after.subscriptions ≡ filter is_to_receive (map (limited conn sid most) w.subscriptions))
--- the message, by the rule that allows it, to those of the user's account that it is for, and to nobody else; each
+-- the message, by the rule that allows it, to those of the user's account that it is for, and to nobody else: of those
+-- that may be sent it the plain ones, and of each queue group the one that the word chooses, room or not; each
 -- subscription that it has entered for counts it, and ends where that was the last that it was to receive
 IsEffect w (Pub conn m word) (Published by items) after =
     IsSomeAnd (user_at w conn) (λ (u : User). (publish_verdict u.rules m.subject ≡ Allowed by)
-    × IsDelivered w m (recipients w conn u.account m.subject) items after.sessions)
+    × ((subs : List Subscription) × AreServed word (eligible w conn u.account m.subject) subs × IsDelivered w m subs items after.sessions))
     × (after.subscriptions ≡ filter is_to_receive (map (counted items) w.subscriptions))
 IsEffect w (Pub conn m word) (Denied v) after = IsUntouched w after
 -- the oldest deliveries of the connection's session leave its outbox, and what was missed has been told
@@ -225,7 +246,7 @@ IsEffect w command outcome after = ⊥
 -- is nobody's
 abbrev pub connection : Command → Option ℕ
 connection (Connect conn name password echo) = Some conn
-connection (Sub conn p sid) = Some conn
+connection (Sub conn p queue sid) = Some conn
 connection (Unsub conn sid most) = Some conn
 connection (Pub conn m word) = Some conn
 connection (Take conn most) = Some conn
@@ -234,7 +255,7 @@ connection (Reload doc) = None
 
 abbrev pub is_connect : Command → Bool
 is_connect (Connect conn name password echo) = true
-is_connect (Sub conn p sid) = false
+is_connect (Sub conn p queue sid) = false
 is_connect (Unsub conn sid most) = false
 is_connect (Pub conn m word) = false
 is_connect (Take conn most) = false

@@ -20,7 +20,7 @@ use Rattle.hub.specs.Sound.{user_at, may_subscribe}
 -- the policy in force after a command: a reload brings its own, and nothing else changes it
 abbrev pub policy_after : World → Command → PolicyDoc
 policy_after w (Connect conn name password echo) = w.policy
-policy_after w (Sub conn p sid) = w.policy
+policy_after w (Sub conn p queue sid) = w.policy
 policy_after w (Unsub conn sid most) = w.policy
 policy_after w (Pub conn m word) = w.policy
 policy_after w (Take conn most) = w.policy
@@ -30,7 +30,7 @@ policy_after w (Reload doc) = doc
 -- the epoch after a command: a reload begins the next one
 abbrev pub epoch_after : World → Command → ℕ
 epoch_after w (Connect conn name password echo) = w.epoch
-epoch_after w (Sub conn p sid) = w.epoch
+epoch_after w (Sub conn p queue sid) = w.epoch
 epoch_after w (Unsub conn sid most) = w.epoch
 epoch_after w (Pub conn m word) = w.epoch
 epoch_after w (Take conn most) = w.epoch
@@ -55,7 +55,7 @@ under doc z = with_user z (user_named doc z.user.user)
 abbrev pub removal_for : Subscription → Option User → Option Removed
 removal_for sub None = None
 removal_for sub (Some u) =
-    if is_allowed (subscribe_verdict u.rules sub.subject) then None else Some (removed_by sub (subscribe_verdict u.rules sub.subject))
+    if is_allowed (subscribe_verdict u.rules sub.subject sub.queue) then None else Some (removed_by sub (subscribe_verdict u.rules sub.subject sub.queue))
 
 -- A policy that has come into force.
 pub record IsInForce (w : World) (doc : PolicyDoc) (closed : List ℕ) (lost : List Removed) (after : World) : Type 0 where
@@ -66,8 +66,8 @@ pub record IsInForce (w : World) (doc : PolicyDoc) (closed : List ℕ) (lost : L
   pub rising : AllPairs (λ (m n : ℕ). m < n) closed
   pub gone : (conn : ℕ) → list_any (λ (n : ℕ). n == conn) closed ≡ (is_some (session_of w.sessions conn) && not (is_some (session_of after.sessions conn)))
   -- the subscriptions stand on that the policy lets their connections' users have
-  pub standing : after.subscriptions ≡ filter (λ (sub : Subscription). may_subscribe (user_at after sub.conn) sub.subject) w.subscriptions
+  pub standing : after.subscriptions ≡ filter (λ (sub : Subscription). may_subscribe (user_at after sub.conn) sub.subject sub.queue) w.subscriptions
   -- those reported removed are the others of the sessions that stay, oldest first, each by its verdict
   pub removed : lost ≡ filter_map (λ (sub : Subscription). removal_for sub (user_at after sub.conn)) w.subscriptions
   -- and each verdict has its reason, as a denial has
-  pub reasons : All (λ (sub : Subscription). IfSome (user_at after sub.conn) (λ (u : User). IsJustifiedSubscribe sub.subject u.rules.subscribe (subscribe_verdict u.rules sub.subject))) w.subscriptions
+  pub reasons : All (λ (sub : Subscription). IfSome (user_at after sub.conn) (λ (u : User). IsJustifiedSubscribe sub.subject sub.queue u.rules.subscribe (subscribe_verdict u.rules sub.subject sub.queue))) w.subscriptions

@@ -28,15 +28,16 @@ user_at w conn = user_behind w.policy (session_of w.sessions conn)
 abbrev pub account_of : Option User → Option (List ℕ)
 account_of u = option_map (λ (v : User). v.account) u
 
--- whether a user may subscribe to a pattern
-abbrev pub may_subscribe : Option User → List Token → Bool
-may_subscribe None p = false
-may_subscribe (Some u) p = is_allowed (subscribe_verdict u.rules p)
+-- whether a user may subscribe to a pattern, as a member of a queue group or of none
+abbrev pub may_subscribe : Option User → List Token → Option (List Token) → Bool
+may_subscribe None p queue = false
+may_subscribe (Some u) p queue = is_allowed (subscribe_verdict u.rules p queue)
 
--- There is a user who may subscribe to the pattern, and this is why: each deny entry lacks some of it, and no allow
--- list is given, or one of its entries is the least that has all of it.
-abbrev pub HasAllowance : Option User → List Token → Type 0
-HasAllowance user p = IsSomeAnd user (λ (u : User). (by : By) × IsJustifiedSubscribe p u.rules.subscribe (Allowed by))
+-- There is a user who may subscribe to the pattern, as a member of that queue group or of none, and the allowance has
+-- its reason in the user's lists: no deny entry that is for it has all of the pattern, and no allow list is given, or
+-- the entry that is named is the least that may allow it.
+abbrev pub HasAllowance : Option User → List Token → Option (List Token) → Type 0
+HasAllowance user p queue = IsSomeAnd user (λ (u : User). (by : By) × IsJustifiedSubscribe p queue u.rules.subscribe (Allowed by))
 
 -- whether a subscription is still to receive: it has no limit, or has received fewer messages
 abbrev pub is_below : Option ℕ → ℕ → Bool
@@ -63,9 +64,9 @@ pub record IsSound (w : World) : Type 0 where
   -- an outbox holds no more than the hub's capacity
   pub outboxes : All (λ (z : Session). (z.outbox.capacity ≡ w.capacity) × (length z.outbox.waiting ≤ w.capacity)) w.sessions
   -- the policy in force refuses no standing subscription: its connection has a session, whose user may have it
-  pub subscriptions : All (λ (s : Subscription). may_subscribe (user_at w s.conn) s.subject ≡ true) w.subscriptions
+  pub subscriptions : All (λ (s : Subscription). may_subscribe (user_at w s.conn) s.subject s.queue ≡ true) w.subscriptions
   -- and it has its reason
-  pub reasons : All (λ (s : Subscription). HasAllowance (user_at w s.conn) s.subject) w.subscriptions
+  pub reasons : All (λ (s : Subscription). HasAllowance (user_at w s.conn) s.subject s.queue) w.subscriptions
   -- each is of the account that its connection's user has in the policy in force
   pub accounts : All (λ (s : Subscription). account_of (user_at w s.conn) ≡ Some s.account) w.subscriptions
   -- each is still to receive: none has received as many messages as it was to
