@@ -13,7 +13,7 @@ use Rattle.conn.specs.declared.stage.Stage.TheVariants as stage
 use Rattle.conn.specs.declared.plan.Plan.{Plan}
 use Rattle.conn.specs.declared.plan.Plan.TheVariants.{Tells, Asks, Publishes}
 use Rattle.conn.specs.Replies.{text_line, fault_text, closed_from, room_of}
-use Rattle.conn.specs.Plans.{text_plan, connect_plan, message_plan, pattern_plan, subscribe_plan, fresh_plan, connected_plan, plan_of, subject_if, pattern_if, reply_subject_if}
+use Rattle.conn.specs.Plans.{text_plan, connect_plan, message_plan, pattern_plan, fresh_plan, connected_plan, plan_of, subject_if, pattern_if, named_if}
 
 -- what is told without the hub has at most 64 bytes
 abbrev pub IsShort : Plan → Type 0
@@ -36,13 +36,10 @@ message_short s None reply head payload = search rules
 message_short s (Some subject) None head payload = search rules
 message_short s (Some subject) (Some reply) head payload = tt
 
-pattern_short : (conn : ℕ) (s : Stage) (pattern : Option (List Token)) (sid : List ℕ) → IsShort (pattern_plan conn s pattern sid)
-pattern_short conn s None sid = search rules
-pattern_short conn s (Some subject) sid = tt
-
-subscribe_short : (conn : ℕ) (s : Stage) (subject : List ℕ) (queue : Option (List ℕ)) (sid : List ℕ) → IsShort (subscribe_plan conn s subject queue sid)
-subscribe_short conn s subject None sid = pattern_short conn s (pattern_if subject) sid
-subscribe_short conn s subject (Some queue) sid = search rules
+pattern_short : (conn : ℕ) (s : Stage) (pattern : Option (List Token)) (queue : Option (Option (List Token))) (sid : List ℕ) → IsShort (pattern_plan conn s pattern queue sid)
+pattern_short conn s None queue sid = search rules
+pattern_short conn s (Some subject) None sid = search rules
+pattern_short conn s (Some subject) (Some queue) sid = tt
 
 fresh_short : (conn : ℕ) (f : Frame) → IsShort (fresh_plan conn f)
 fresh_short conn (frame.Connect t) = connect_short conn (opts_of t)
@@ -56,10 +53,10 @@ fresh_short conn (frame.Unsub _ _) = search rules
 
 connected_short : (conn : ℕ) (s : Stage) (headers : Bool) (f : Frame) → IsShort (connected_plan conn s headers f)
 connected_short conn s headers (frame.Connect _) = search rules
-connected_short conn s headers (frame.Pub subject reply payload) = message_short s (subject_if subject) (reply_subject_if reply) [] payload
-connected_short conn s true (frame.Hpub subject reply head payload) = message_short s (subject_if subject) (reply_subject_if reply) head payload
+connected_short conn s headers (frame.Pub subject reply payload) = message_short s (subject_if subject) (named_if reply) [] payload
+connected_short conn s true (frame.Hpub subject reply head payload) = message_short s (subject_if subject) (named_if reply) head payload
 connected_short conn s false (frame.Hpub subject reply head payload) = search rules
-connected_short conn s headers (frame.Sub subject queue sid) = subscribe_short conn s subject queue sid
+connected_short conn s headers (frame.Sub subject queue sid) = pattern_short conn s (pattern_if subject) (named_if queue) sid
 connected_short conn s headers (frame.Unsub sid most) = tt
 connected_short conn s headers frame.Ping = search rules
 connected_short conn s headers frame.Pong = search rules
@@ -74,7 +71,8 @@ plan_short conn (stage.Closed session) f = search rules
 pub room_enough : (f : Frame) → 64 ≤ room_of f
 room_enough (frame.Pub subject _ _) = omega arith
 room_enough (frame.Hpub subject _ _ _) = omega arith
-room_enough (frame.Sub subject _ _) = omega arith
+room_enough (frame.Sub subject None _) = omega arith
+room_enough (frame.Sub subject (Some queue) _) = omega arith
 room_enough (frame.Connect _) = omega arith
 room_enough (frame.Unsub _ _) = omega arith
 room_enough frame.Ping = omega arith

@@ -29,14 +29,14 @@ subject_if text = if is_some (subject_fault text) then None else Some (tokens_of
 abbrev pub pattern_if : List ℕ → Option (List Token)
 pattern_if text = if is_some (pattern_fault text) then None else Some (tokens_of text)
 
--- the subject to answer on, if a message names one; nothing where it names one that is no subject
-abbrev pub reply_subject_from : Option (List Token) → Option (Option (List Token))
-reply_subject_from None = None
-reply_subject_from (Some ts) = Some (Some ts)
+-- the subject to answer on, or the queue name, if a frame names one; nothing where it names one that is no subject
+abbrev pub named_from : Option (List Token) → Option (Option (List Token))
+named_from None = None
+named_from (Some ts) = Some (Some ts)
 
-abbrev pub reply_subject_if : Option (List ℕ) → Option (Option (List Token))
-reply_subject_if None = Some None
-reply_subject_if (Some text) = reply_subject_from (subject_if text)
+abbrev pub named_if : Option (List ℕ) → Option (Option (List Token))
+named_if None = Some None
+named_if (Some text) = named_from (subject_if text)
 
 -- ---- plans
 
@@ -59,20 +59,20 @@ message_plan s (Some subject) None head payload = error_plan error.InvalidSubjec
 message_plan s (Some subject) (Some reply) head payload = Publishes (message subject reply head payload)
 
 abbrev pub publish_plan : Stage → List ℕ → Option (List ℕ) → List ℕ → List ℕ → Plan
-publish_plan s subject reply head payload = message_plan s (subject_if subject) (reply_subject_if reply) head payload
+publish_plan s subject reply head payload = message_plan s (subject_if subject) (named_if reply) head payload
 
 -- a message with a header block, which only a client that declared headers may send
 abbrev pub headed_plan : Stage → Bool → List ℕ → Option (List ℕ) → List ℕ → List ℕ → Plan
 headed_plan s headers subject reply head payload = if headers then publish_plan s subject reply head payload else error_plan error.ParserError s
 
--- a subscription, by its pattern. There are no queues yet.
-abbrev pub pattern_plan : ℕ → Stage → Option (List Token) → List ℕ → Plan
-pattern_plan conn s None sid = error_plan error.InvalidSubject s
-pattern_plan conn s (Some subject) sid = Asks (command.Sub conn subject sid) s
+-- a subscription, by its pattern and the name of its queue group, if it names one
+abbrev pub pattern_plan : ℕ → Stage → Option (List Token) → Option (Option (List Token)) → List ℕ → Plan
+pattern_plan conn s None queue sid = error_plan error.InvalidSubject s
+pattern_plan conn s (Some subject) None sid = error_plan error.InvalidSubject s
+pattern_plan conn s (Some subject) (Some queue) sid = Asks (command.Sub conn subject queue sid) s
 
 abbrev pub subscribe_plan : ℕ → Stage → List ℕ → Option (List ℕ) → List ℕ → Plan
-subscribe_plan conn s subject queue sid =
-    if is_some queue then error_plan error.InvalidSubject s else pattern_plan conn s (pattern_if subject) sid
+subscribe_plan conn s subject queue sid = pattern_plan conn s (pattern_if subject) (named_if queue) sid
 
 -- before CONNECT: nothing but CONNECT, PING, PONG and a fault is looked at
 abbrev pub fresh_plan : ℕ → Frame → Plan

@@ -1,5 +1,5 @@
 -- What a client is told (NATS documentation, "Client Protocol"; docs/PROTOCOL.md, "A connection's life").
-use Rattle.std.specs.Prelude.{ℕ, ◌+◌, Bool, true, false, List, [], length, None, Result, Ok, Err, if◌then◌else◌}
+use Rattle.std.specs.Prelude.{ℕ, ◌+◌, Bool, true, false, List, [], length, Option, Some, None, Result, Ok, Err, if◌then◌else◌}
 use Rattle.wire_read.specs.declared.fault.WireFault.{WireFault}
 use Rattle.wire_read.specs.declared.fault.WireFault.TheVariants as fault
 use Rattle.wire_read.specs.declared.frame.Frame.{Frame}
@@ -74,14 +74,19 @@ fault_text fault.Payload = text.Error error.PayloadViolation
 abbrev pub denied_line : Frame → List ℕ
 denied_line (frame.Pub subject _ _) = publish_denied_line subject
 denied_line (frame.Hpub subject _ _ _) = publish_denied_line subject
-denied_line (frame.Sub subject _ _) = subscription_denied_line subject None
+denied_line (frame.Sub subject queue _) = subscription_denied_line subject queue
 denied_line _ = []
+
+-- room enough for the rest of any text about a SUB, which may name a queue
+abbrev pub queue_room : Option (List ℕ) → ℕ
+queue_room None = 64
+queue_room (Some queue) = length queue + 80
 
 -- room enough for any text about a frame
 abbrev pub room_of : Frame → ℕ
 room_of (frame.Pub subject _ _) = length subject + 64
 room_of (frame.Hpub subject _ _ _) = length subject + 64
-room_of (frame.Sub subject _ _) = length subject + 64
+room_of (frame.Sub subject queue _) = length subject + queue_room queue
 room_of _ = 64
 
 -- ---- replies

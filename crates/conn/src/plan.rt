@@ -1,7 +1,7 @@
 // What a frame comes to before the hub is asked.
 ghost use Rattle.std.specs.Prelude.{◌≡◌, IfOk};
 ghost use Rattle.connect_opts.specs.Opts.{opts_of};
-ghost use Rattle.conn.specs.Plans.{plan_of, fresh_plan, connected_plan, connect_plan, publish_plan, headed_plan, subscribe_plan, error_plan, subject_if, pattern_if, reply_subject_if};
+ghost use Rattle.conn.specs.Plans.{plan_of, fresh_plan, connected_plan, connect_plan, publish_plan, headed_plan, subscribe_plan, error_plan, subject_if, pattern_if, named_if};
 
 use crate::reply::{Reply, fault_text, reply_of_error, reply_of_text};
 use crate::stage::Stage;
@@ -42,6 +42,22 @@ fn subject_of(text: &Bytes) -> Result<Option<Subject>, NoMemory>
     }
 }
 
+/// The subject of a text, if it is one, with bytes of its own.
+fn own_subject_of(alloc: Global, text: &[u8]) -> Result<Option<Subject>, NoMemory>
+    ensures { IfOk result (λ subject. subject ≡ subject_if text.now) }
+{
+    match Subject::parse(alloc, text) {
+        Ok(subject) => Ok(Some(subject)),
+        Err(error) => {
+            if error.is_no_memory() {
+                Err(NoMemory)
+            } else {
+                Ok(None)
+            }
+        }
+    }
+}
+
 /// The pattern of a text, if it is one.
 fn pattern_of(alloc: Global, text: &[u8]) -> Result<Option<Pattern>, NoMemory>
     ensures { IfOk result (λ pattern. pattern ≡ pattern_if text.now) }
@@ -60,13 +76,27 @@ fn pattern_of(alloc: Global, text: &[u8]) -> Result<Option<Pattern>, NoMemory>
 
 /// The subject to answer on: none where a message names none, and where it names no subject there is no answer.
 fn reply_subject_of(text: &Option<Bytes>) -> Result<Option<Option<Subject>>, NoMemory>
-    ensures { IfOk result (λ reply. reply ≡ reply_subject_if text.now) }
+    ensures { IfOk result (λ reply. reply ≡ named_if text.now) }
 {
     match text {
         None => Ok(Some(None)),
         Some(text) => match subject_of(text)? {
             None => Ok(None),
             Some(subject) => Ok(Some(Some(subject))),
+        },
+    }
+}
+
+/// The queue name that a SUB names, with bytes of its own, since it may stand for long: none where it names none, and
+/// where it names no subject there is no answer.
+fn queue_of(alloc: Global, text: &Option<Bytes>) -> Result<Option<Option<Subject>>, NoMemory>
+    ensures { IfOk result (λ queue. queue ≡ named_if text.now) }
+{
+    match text {
+        None => Ok(Some(None)),
+        Some(text) => match own_subject_of(alloc, text.as_slice())? {
+            None => Ok(None),
+            Some(queue) => Ok(Some(Some(queue))),
         },
     }
 }
@@ -157,7 +187,7 @@ fn plan_headed(
     }
 }
 
-/// A SUB of a client whose CONNECT was accepted. There are no queues yet.
+/// A SUB of a client whose CONNECT was accepted.
 fn plan_subscribe(
     alloc: Global,
     conn: u64,
@@ -168,16 +198,22 @@ fn plan_subscribe(
 ) -> Result<Plan, NoMemory>
     ensures { IfOk result (λ plan. plan ≡ subscribe_plan conn stage subject.now queue.now sid.now) }
 {
-    if queue.is_some() {
-        return Ok(plan_of_error(ServerError::InvalidSubject, stage));
-    }
     match pattern_of(alloc, subject.as_slice())? {
         None => Ok(plan_of_error(ServerError::InvalidSubject, stage)),
-        Some(pattern) => {
-            let subject = Shared::new(alloc, pattern)?;
-            let sid = own_text(alloc, sid)?;
-            Ok(Plan::Asks(Command::Sub { conn, subject, sid }, stage))
-        }
+        Some(pattern) => match queue_of(alloc, queue)? {
+            None => Ok(plan_of_error(ServerError::InvalidSubject, stage)),
+            Some(queue) => {
+                let subject = Shared::new(alloc, pattern)?;
+                let sid = own_text(alloc, sid)?;
+                let command = Command::Sub {
+                    conn,
+                    subject,
+                    queue,
+                    sid,
+                };
+                Ok(Plan::Asks(command, stage))
+            }
+        },
     }
 }
 

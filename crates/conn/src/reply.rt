@@ -1,10 +1,14 @@
 // What a client is told of an answer.
-ghost use Rattle.std.specs.Prelude.{◌≡◌, ◌≤◌, length};
-ghost use Rattle.conn.specs.Replies.{text_line, told, denied_line, fault_text, reply_to_outcome, reply_to_refusal, reply_of_text, reply_of_error, ok_if, room_of};
+ghost use Rattle.std.specs.Prelude.{◌≡◌, ◌≤◌, ◌+◌, length, IfSome, OnOk};
+ghost use Rattle.std.specs.Vec.{vec_len, vec_capacity};
+ghost use Rattle.std.specs.Option.{option_copied};
+ghost use Rattle.conn.specs.Replies.{text_line, told, denied_line, fault_text, reply_to_outcome, reply_to_refusal, reply_of_text, reply_of_error, ok_if, room_of, queue_room};
 
 use crate::stage::Stage;
 use crate::text::Text;
+use bytes::Bytes;
 use events::{HubRefusal, Outcome};
+use lists::NoMemory;
 use wire_read::{Frame, WireFault};
 use wire_write::ServerError;
 
@@ -15,19 +19,43 @@ pub struct Reply<'a> {
     pub stage: Stage,
 }
 
-/// Room enough for any text about a frame.
-pub fn room_of(frame: &Frame) -> usize
-    ensures { result ≡ room_of frame.now }
+/// Room enough for the rest of any text about a SUB, which may name a queue.
+fn queue_room(queue: &Option<Bytes>) -> usize
+    ensures { result ≡ queue_room queue.now }
+{
+    match queue {
+        None => 64,
+        Some(queue) => queue.len() + 80,
+    }
+}
+
+/// Room enough for any text about a frame; `None` where so much can't be counted.
+fn room_of(frame: &Frame) -> Option<usize>
+    ensures { IfSome result (λ room. room ≡ room_of frame.now) }
 {
     match frame {
-        Frame::Connect(_) => 64,
-        Frame::Pub { subject, .. } => subject.len() + 64,
-        Frame::Hpub { subject, .. } => subject.len() + 64,
-        Frame::Sub { subject, .. } => subject.len() + 64,
-        Frame::Unsub { .. } => 64,
-        Frame::Ping => 64,
-        Frame::Pong => 64,
-        Frame::Fault(_) => 64,
+        Frame::Connect(_) => Some(64),
+        Frame::Pub { subject, .. } => Some(subject.len() + 64),
+        Frame::Hpub { subject, .. } => Some(subject.len() + 64),
+        Frame::Sub { subject, queue, .. } => subject.len().checked_add(queue_room(queue)),
+        Frame::Unsub { .. } => Some(64),
+        Frame::Ping => Some(64),
+        Frame::Pong => Some(64),
+        Frame::Fault(_) => Some(64),
+    }
+}
+
+/// Makes room for any text about a frame. After `NoMemory` nothing has changed.
+pub fn make_room(out: &mut Vec<u8>, frame: &Frame) -> Result<(), NoMemory>
+    ensures room { OnOk result (vec_len out.new + room_of frame.now ≤ vec_capacity out.new) }
+    ensures same { out.new.items ≡ out.old.items }
+{
+    match room_of(frame) {
+        None => Err(NoMemory),
+        Some(room) => {
+            out.reserve(room)?;
+            Ok(())
+        }
     }
 }
 
@@ -49,6 +77,16 @@ fn ok_if(stage: Stage) -> Text<'static>
     }
 }
 
+/// The bytes of a queue name, if there is one.
+fn bytes_of(queue: &Option<Bytes>) -> Option<&[u8]>
+    ensures { option_copied result ≡ queue.now }
+{
+    match queue {
+        None => None,
+        Some(queue) => Some(queue.as_slice()),
+    }
+}
+
 /// That the user may not do what a frame asks.
 fn denied(frame: &Frame) -> Text<'_>
     ensures line { text_line result ≡ denied_line frame.now }
@@ -57,9 +95,9 @@ fn denied(frame: &Frame) -> Text<'_>
     match frame {
         Frame::Pub { subject, .. } => Text::Error(ServerError::PublishDenied(subject.as_slice())),
         Frame::Hpub { subject, .. } => Text::Error(ServerError::PublishDenied(subject.as_slice())),
-        Frame::Sub { subject, .. } => Text::Error(ServerError::SubscriptionDenied {
+        Frame::Sub { subject, queue, .. } => Text::Error(ServerError::SubscriptionDenied {
             subject: subject.as_slice(),
-            queue: None,
+            queue: bytes_of(queue),
         }),
         Frame::Connect(_) => Text::Nothing,
         Frame::Unsub { .. } => Text::Nothing,

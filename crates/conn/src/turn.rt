@@ -7,7 +7,7 @@ ghost use Rattle.conn.specs.Serving.{spot, served, Serves};
 
 use crate::output::Stall;
 use crate::plan::{Plan, plan_of};
-use crate::reply::{Reply, reply_to_outcome, reply_to_refusal, room_of};
+use crate::reply::{Reply, make_room, reply_to_outcome, reply_to_refusal};
 use crate::stage::Stage;
 use crate::submit::submit;
 use crate::text::put_text;
@@ -85,7 +85,7 @@ fn take_turn<'a, P: Port, W: Words>(
         Ok(plan) => plan,
         Err(_) => return Turn::Stalls(Stall::Memory, word),
     };
-    if out.reserve(room_of(frame)).is_err() {
+    if make_room(out, frame).is_err() {
         return Turn::Stalls(Stall::Memory, word);
     }
     match plan {
