@@ -158,6 +158,10 @@ impl Alike for Verdict {
                 Verdict::NoAllow => true,
                 _ => false,
             },
+            Verdict::NoQueueAllow(one) => match other {
+                Verdict::NoQueueAllow(two) => *one == *two,
+                _ => false,
+            },
         }
     }
 }
@@ -294,7 +298,12 @@ impl Alike for Command {
                 password,
                 echo,
             } => is_connect(other, *conn, user, password, *echo),
-            Command::Sub { conn, subject, sid } => is_sub(other, *conn, subject, sid),
+            Command::Sub {
+                conn,
+                subject,
+                queue,
+                sid,
+            } => is_sub(other, *conn, subject, queue, sid),
             Command::Unsub { conn, sid, most } => is_unsub(other, *conn, sid, most),
             Command::Pub {
                 conn,
@@ -328,12 +337,23 @@ fn is_connect(
     }
 }
 
-fn is_sub(command: &Command, number: u64, pattern: &Shared<Pattern>, id: &SharedText) -> bool
-    ensures { Decides result (command.now ≡ Sub number pattern.now id.now) }
+fn is_sub(
+    command: &Command,
+    number: u64,
+    pattern: &Shared<Pattern>,
+    group: &Option<Subject>,
+    id: &SharedText,
+) -> bool
+    ensures { Decides result (command.now ≡ Sub number pattern.now group.now id.now) }
 {
     match command {
-        Command::Sub { conn, subject, sid } => {
-            *conn == number && subject.is_like(pattern) && sid.is_like(id)
+        Command::Sub {
+            conn,
+            subject,
+            queue,
+            sid,
+        } => {
+            *conn == number && subject.is_like(pattern) && queue.is_like(group) && sid.is_like(id)
         }
         _ => false,
     }
@@ -451,6 +471,6 @@ impl Alike for Direction {
 
 impl Alike for PermEntry {
     fn is_like(&self, other: &PermEntry) -> bool {
-        self.subject.is_like(&other.subject)
+        self.subject.is_like(&other.subject) && self.queue.is_like(&other.queue)
     }
 }
