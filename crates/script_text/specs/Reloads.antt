@@ -2,7 +2,7 @@
 use Rattle.std.specs.Prelude.{◌++◌, ℕ, List, [], codes, decimal}
 use Rattle.std.specs.List.{flat_map}
 use Rattle.permissions.specs.declared.verdict.Verdict.{Verdict}
-use Rattle.permissions.specs.declared.verdict.Verdict.TheVariants.{Allowed, DeniedBy, NoAllow}
+use Rattle.permissions.specs.declared.verdict.Verdict.TheVariants.{Allowed, DeniedBy, NoAllow, NoQueueAllow}
 use Rattle.events.specs.declared.answer.Entry.{Entry}
 use Rattle.events.specs.declared.answer.Outcome.{Outcome}
 use Rattle.events.specs.declared.answer.Outcome.TheVariants.{Reloaded}
@@ -17,10 +17,12 @@ epoch_line epoch = codes "epoch " ++ decimal epoch ++ codes "\n"
 abbrev pub gone_line : ℕ → List ℕ
 gone_line conn = codes "gone " ++ decimal conn ++ codes "\n"
 
--- why a subscription is refused: a deny entry by its index, or no allow entry. What is allowed has no words here.
+-- why a subscription is refused: a deny entry by its index, no allow entry, or no allow entry for its queue, by the index
+-- of the least that covers its pattern. What is allowed has no words here.
 abbrev pub refusal_words : Verdict → List ℕ
 refusal_words (DeniedBy i) = codes "denied " ++ decimal i
 refusal_words NoAllow = codes "no allow"
+refusal_words (NoQueueAllow i) = codes "no queue allow " ++ decimal i
 refusal_words (Allowed by) = []
 
 -- the line of a subscription that is removed

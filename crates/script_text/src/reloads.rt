@@ -87,5 +87,14 @@ fn write_refusal(out: &mut Vec<u8>, verdict: Verdict) -> Result<(), NoMemory>
             append(out, b"denied ", digits.format(index).as_bytes(), b"")
         }
         Verdict::NoAllow => Ok(out.extend_from_slice(b"no allow")?),
+        Verdict::NoQueueAllow(index) => {
+            let mut digits = Buffer::new();
+            append(
+                out,
+                b"no queue allow ",
+                digits.format(index).as_bytes(),
+                b"",
+            )
+        }
     }
 }
