@@ -10,7 +10,7 @@ use Rattle.permissions.specs.Verdicts.{publish_verdict, subscribe_verdict}
 use Rattle.permissions.specs.declared.verdict.By.{By}
 use Rattle.permissions.specs.declared.verdict.By.TheVariants.{All as AllowsAll, Index}
 use Rattle.permissions.specs.declared.verdict.Verdict.{Verdict}
-use Rattle.permissions.specs.declared.verdict.Verdict.TheVariants.{Allowed, DeniedBy, NoAllow}
+use Rattle.permissions.specs.declared.verdict.Verdict.TheVariants.{Allowed, DeniedBy, NoAllow, NoQueueAllow}
 use Rattle.ready.specs.Users.{users_of}
 use Rattle.ready.specs.declared.ready.User.{User}
 use Rattle.events.specs.declared.event.Event.{Event}
@@ -37,6 +37,7 @@ same-refl : (v : Verdict) → same_verdict v v ≡ true
 same-refl (Allowed by) = same_by-refl by
 same-refl (DeniedBy i) = grind (arith, nat_tests)
 same-refl NoAllow = refl
+same-refl (NoQueueAllow i) = grind (arith, nat_tests)
 
 -- who is found is one of the list
 found-any : (named test : User → Bool) (us : List User) (u : User) → find named us ≡ Some u → test u ≡ true → list_any test us ≡ true
@@ -57,9 +58,9 @@ some-any : (doc : PolicyDoc) (z : Option Session) (test : User → Bool) (P : Us
 some-any doc z test P None e h passes = absurd h
 some-any doc z test P (Some u) e h passes = behind-any doc test z u e (passes u h)
 
-may-any : (doc : PolicyDoc) (z : Option Session) (conn : ℕ) (p : List Token) (sid : List ℕ) (o : Option User) → user_behind doc z ≡ o → may_subscribe o p ≡ true → list_any (may_have (Sub conn p sid)) (users_of doc) ≡ true
-may-any doc z conn p sid None e may = absurd (cc)
-may-any doc z conn p sid (Some u) e may = behind-any doc (may_have (Sub conn p sid)) z u e may
+may-any : (doc : PolicyDoc) (z : Option Session) (conn : ℕ) (p : List Token) (queue : Option (List Token)) (sid : List ℕ) (o : Option User) → user_behind doc z ≡ o → may_subscribe o p queue ≡ true → list_any (may_have (Sub conn p queue sid)) (users_of doc) ≡ true
+may-any doc z conn p queue sid None e may = absurd (cc)
+may-any doc z conn p queue sid (Some u) e may = behind-any doc (may_have (Sub conn p queue sid)) z u e may
 
 -- a verdict that is the user's
 told-verdict : (v d : Verdict) → d ≡ v → same_verdict v d ≡ true
@@ -75,15 +76,15 @@ told w c Unsubscribed after may reason effect = refl
 told w c Closed after may reason effect = refl
 told w c (Reloaded gone removed) after may reason effect = refl
 told w (Connect conn name password echo) Subscribed after may reason effect = absurd effect
-told w (Sub conn p sid) Subscribed after may reason effect = may-any w.policy (session_of w.sessions conn) conn p sid (user_at w conn) refl (sym may)
+told w (Sub conn p queue sid) Subscribed after may reason effect = may-any w.policy (session_of w.sessions conn) conn p queue sid (user_at w conn) refl (sym may)
 told w (Unsub conn sid most) Subscribed after may reason effect = absurd effect
 told w (Pub conn m word) Subscribed after may reason effect = absurd effect
 told w (Take conn most) Subscribed after may reason effect = absurd effect
 told w (Close conn) Subscribed after may reason effect = absurd effect
 told w (Reload doc) Subscribed after may reason effect = absurd effect
 told w (Connect conn name password echo) (Denied v) after may reason effect = absurd effect
-told w (Sub conn p sid) (Denied v) after may reason effect =
-    some-any w.policy (session_of w.sessions conn) (has_verdict (Sub conn p sid) v) _ (user_at w conn) refl reason (λ u h. told-verdict (subscribe_verdict u.rules p) v h.0)
+told w (Sub conn p queue sid) (Denied v) after may reason effect =
+    some-any w.policy (session_of w.sessions conn) (has_verdict (Sub conn p queue sid) v) _ (user_at w conn) refl reason (λ u h. told-verdict (subscribe_verdict u.rules p queue) v h.0)
 told w (Unsub conn sid most) (Denied v) after may reason effect = absurd effect
 told w (Pub conn m word) (Denied v) after may reason effect =
     some-any w.policy (session_of w.sessions conn) (has_verdict (Pub conn m word) v) _ (user_at w conn) refl reason (λ u h. told-verdict (publish_verdict u.rules m.subject) v h.0)
@@ -91,7 +92,7 @@ told w (Take conn most) (Denied v) after may reason effect = absurd effect
 told w (Close conn) (Denied v) after may reason effect = absurd effect
 told w (Reload doc) (Denied v) after may reason effect = absurd effect
 told w (Connect conn name password echo) (Published by items) after may reason effect = absurd effect
-told w (Sub conn p sid) (Published by items) after may reason effect = absurd effect
+told w (Sub conn p queue sid) (Published by items) after may reason effect = absurd effect
 told w (Unsub conn sid most) (Published by items) after may reason effect = absurd effect
 told w (Pub conn m word) (Published by items) after may reason effect =
     some-any w.policy (session_of w.sessions conn) (has_verdict (Pub conn m word) (Allowed by)) _ (user_at w conn) refl effect.0 (λ u h. told-verdict (publish_verdict u.rules m.subject) (Allowed by) (sym h.0))

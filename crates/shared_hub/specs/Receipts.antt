@@ -6,7 +6,7 @@ use Rattle.permissions.specs.Verdicts.{publish_verdict, subscribe_verdict, is_al
 use Rattle.permissions.specs.declared.verdict.By.{By}
 use Rattle.permissions.specs.declared.verdict.By.TheVariants.{All as AllowsAll, Index}
 use Rattle.permissions.specs.declared.verdict.Verdict.{Verdict}
-use Rattle.permissions.specs.declared.verdict.Verdict.TheVariants.{Allowed, DeniedBy, NoAllow}
+use Rattle.permissions.specs.declared.verdict.Verdict.TheVariants.{Allowed, DeniedBy, NoAllow, NoQueueAllow}
 use Rattle.ready.specs.Users.{users_of}
 use Rattle.ready.specs.declared.ready.User.{User}
 use Rattle.events.specs.declared.event.Command.{Command}
@@ -34,17 +34,18 @@ abbrev pub same_verdict : Verdict → Verdict → Bool
 same_verdict (Allowed a) (Allowed b) = same_by a b
 same_verdict (DeniedBy i) (DeniedBy j) = i == j
 same_verdict NoAllow NoAllow = true
+same_verdict (NoQueueAllow i) (NoQueueAllow j) = i == j
 same_verdict _ _ = false
 
 -- whether a user has this verdict on what a command asks for; only a Sub and a Pub ask permissions
 abbrev pub has_verdict : Command → Verdict → User → Bool
-has_verdict (Sub conn p sid) v u = same_verdict (subscribe_verdict u.rules p) v
+has_verdict (Sub conn p queue sid) v u = same_verdict (subscribe_verdict u.rules p queue) v
 has_verdict (Pub conn m word) v u = same_verdict (publish_verdict u.rules m.subject) v
 has_verdict _ v u = false
 
 -- whether a user may have the subscription that a command asks for
 abbrev pub may_have : Command → User → Bool
-may_have (Sub conn p sid) u = is_allowed (subscribe_verdict u.rules p)
+may_have (Sub conn p queue sid) u = is_allowed (subscribe_verdict u.rules p queue)
 may_have _ u = false
 
 -- Whether the policy has a user with the verdict that an outcome tells. Subscribed, Denied and Published tell one.

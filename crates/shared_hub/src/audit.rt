@@ -30,6 +30,7 @@ pub struct Audit<L: Run> {
     /// How many entries each seat has made, in the order in which the seats were handed in.
     pub counts: Items<u64>,
     ghost counted: { hub.world.number ≡ L.opening + sum counts },
+    ghost whole: { hub.opening.number ≡ 0 },
 }
 
 impl<L: Run> Audit<L> {
@@ -38,7 +39,8 @@ impl<L: Run> Audit<L> {
 
     /// The audit of a hub whose entries since the run opened are as many as the counts tell.
     pub(crate) fn of(hub: Hub, counts: Items<u64>) -> Audit<L>
-        requires { hub.world.number ≡ L.opening + sum counts }
+        requires counted { hub.world.number ≡ L.opening + sum counts }
+        requires whole { hub.opening.number ≡ 0 }
         ensures hub { result.hub ≡ hub }
         ensures counts { result.counts ≡ counts }
     {

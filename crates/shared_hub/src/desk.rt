@@ -54,13 +54,15 @@ impl<L: Run> Seat<L> {
 }
 
 /// What lies under the lock: the hub, and the book that counts its entries since the run opened. Each desk is made of a
-/// blank ledger, and changes by `enter` alone, so nobody who holds the lock can put another in its place.
+/// blank ledger, and changes by `enter` alone, so nobody who holds the lock can put another in its place. Its hub holds
+/// the whole history.
 #[derive(Drop)]
 pub struct Desk<L: Run> {
     alloc: Global,
     hub: Hub,
     book: Book<L>,
     ghost counted: { hub.world.number ≡ L.opening + book.total },
+    ghost whole: { hub.opening.number ≡ 0 },
 }
 
 impl<L: Run> Desk<L> {
@@ -76,6 +78,7 @@ impl<L: Run> Desk<L> {
         requires name { blank.name ≡ L.name }
         requires parts { blank.parts ≡ L.parts }
         requires opening { hub.world.number ≡ L.opening }
+        requires whole { hub.opening.number ≡ 0 }
         ensures hub { result.0.hub ≡ hub }
         ensures parts { result.1.parts ≡ L.parts }
         ensures amount { result.1.amount ≡ 0 }
@@ -92,11 +95,12 @@ impl<L: Run> Desk<L> {
     }
 
     /// Tells what holds of every desk, so whenever the lock is free (docs/GUARANTEE.md, "Threads"): its hub keeps what
-    /// every hub keeps, its history is legal, and the book counts the entries since the run opened.
+    /// every hub keeps, its history is legal and whole, and the book counts the entries since the run opened.
     pub fn known(&self)
         ensures sound { IsSound self.now.hub.world }
         ensures legal { IsLegalRun self.now.hub.opening self.now.hub.entries self.now.hub.world }
         ensures counted { self.now.hub.world.number ≡ L.opening + self.now.book.total }
+        ensures whole { self.now.hub.opening.number ≡ 0 }
     {
         self.hub.known();
     }

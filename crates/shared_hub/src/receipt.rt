@@ -1,11 +1,13 @@
 ghost use Rattle.std.specs.Prelude.{◌≡◌};
 ghost use Rattle.std.specs.List.{list_any};
+ghost use Rattle.permissions.specs.Verdicts.{subscribe_verdict};
 ghost use Rattle.ready.specs.Users.{users_of};
 ghost use Rattle.shared_hub.specs.Receipts.{has_verdict, may_have, same_verdict, is_of_policy as of_policy};
 
 use hub::{Answer, Command, Entry, Outcome, Ready, User};
 use permissions::Verdict;
 use std::marker::Model;
+use subjects::{Pattern, Subject};
 
 /// What a seat was told of one event: the answer, which has the event, and the policy in force after it. It is a few
 /// handles. A clause sees the entry and the policy. Its type keeps that where the outcome is Subscribed, Denied or
@@ -107,12 +109,24 @@ fn some_has_verdict(ready: &Ready, command: &Command, verdict: Verdict) -> bool
         .any(|user| has_verdict(command, verdict, user))
 }
 
+/// The user's verdict on a subscription to a pattern, as a member of that queue group or of none.
+fn on_subscription(user: &User, pattern: &Pattern, queue: &Option<Subject>) -> Verdict
+    ensures { result ≡ subscribe_verdict user.now.rules pattern.now queue.now }
+{
+    match queue {
+        None => user.rules.subscribe(pattern, None),
+        Some(queue) => user.rules.subscribe(pattern, Some(queue)),
+    }
+}
+
 /// Whether the user may have the subscription that a command asks for.
 fn may_have(command: &Command, user: &User) -> bool
     ensures { result ≡ may_have command.now user.now }
 {
     match command {
-        Command::Sub { subject, .. } => user.rules.subscribe(subject.get()).is_allowed(),
+        Command::Sub { subject, queue, .. } => {
+            on_subscription(user, subject.get(), queue).is_allowed()
+        }
         Command::Connect { .. } => false,
         Command::Unsub { .. } => false,
         Command::Pub { .. } => false,
@@ -127,7 +141,9 @@ fn has_verdict(command: &Command, verdict: Verdict, user: &User) -> bool
     ensures { result ≡ has_verdict command.now verdict user.now }
 {
     match command {
-        Command::Sub { subject, .. } => is_same(user.rules.subscribe(subject.get()), verdict),
+        Command::Sub { subject, queue, .. } => {
+            is_same(on_subscription(user, subject.get(), queue), verdict)
+        }
         Command::Pub { message, .. } => is_same(
             user.rules.publish(message.get().subject()),
             verdict,

@@ -35,7 +35,7 @@ impl<L: Run> Shared<L> {
     ghost use Rattle.shared_hub.specs.Entering.{IsSubmitted};
     ghost use Rattle.shared_hub.specs.Audits.{AreGenuine, IsDue};
 
-    /// A hub under its lock, with so many seats, none of which has entered anything. The blank ledger has a part for each,
+    /// A hub under its lock that has handed out no segment, with so many seats, none of which has entered anything. The blank ledger has a part for each,
     /// and is spent, also where want of memory hands the hub back.
     pub fn with_seats(
         alloc: Global,
@@ -46,6 +46,7 @@ impl<L: Run> Shared<L> {
         requires name { blank.name ≡ L.name }
         requires parts { blank.parts ≡ L.parts }
         requires opening { hub.world.number ≡ L.opening }
+        requires whole { hub.opening.number ≡ 0 }
         requires seats { (seats ≡ L.seats) × (L.seats ≡ L.parts) }
         ensures seats { IfOk result (λ opened. vec_len opened.1 ≡ seats) }
         ensures fresh { IfOk result (λ opened. All (λ s. s.count ≡ 0) opened.1.items) }
