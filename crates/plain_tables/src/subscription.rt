@@ -1,7 +1,7 @@
 ghost use Rattle.std.specs.Prelude.{◌≡◌, IfOk};
 
 use alike::Alike;
-use lists::{Items, NoMemory};
+use lists::{Copying, Items, NoMemory};
 use std::alloc::Global;
 use std::marker::Model;
 use subscriptions::{Subscription, Subscriptions};
@@ -22,7 +22,7 @@ impl Model for PlainSubscription {
 
 impl PlainSubscription {
     /// A subscription as it stands. `NoMemory` where memory could not be had.
-    fn of(subscription: &Subscription) -> Result<PlainSubscription, NoMemory>
+    fn of(alloc: Global, subscription: &Subscription) -> Result<PlainSubscription, NoMemory>
         ensures { IfOk result (λ plain. plain ≡ subscription.now) }
     {
         Ok(PlainSubscription {
@@ -31,6 +31,7 @@ impl PlainSubscription {
                 conn: subscription.conn,
                 account: subscription.account.clone()?,
                 subject: subscription.subject.again()?,
+                queue: subscription.queue.copy(alloc)?,
                 sid: subscription.sid.again()?,
                 received: subscription.received,
                 most: subscription.most,
@@ -48,7 +49,7 @@ pub fn plain_subscriptions(
 {
     let mut all = Vec::with_capacity(alloc, subscriptions.len())?;
     for subscription in subscriptions.values() {
-        all.push(PlainSubscription::of(subscription)?)?;
+        all.push(PlainSubscription::of(alloc, subscription)?)?;
     }
     Ok(Items::from_vec(all))
 }
@@ -70,6 +71,7 @@ fn are_same(one: &Subscription, other: &Subscription) -> bool
         && one.sid.is_like(&other.sid)
         && one.account.is_like(&other.account)
         && one.subject.is_like(&other.subject)
+        && one.queue.is_like(&other.queue)
 }
 
 ghost use Rattle.std.specs.Bool.{Decides};

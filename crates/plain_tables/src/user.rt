@@ -1,7 +1,7 @@
 //! Whether two users are equal, each with its permissions.
 ghost use Rattle.std.specs.Prelude.{◌≡◌};
 ghost use Rattle.std.specs.Bool.{Decides};
-ghost use Rattle.permissions.specs.Lists.{rules_of, open_rules};
+ghost use Rattle.permissions.specs.Lists.{open_rules};
 
 use alike::Alike;
 use permissions::Compiled;
@@ -31,8 +31,7 @@ fn are_same_lists(one: &Compiled, other: &Compiled) -> bool
         Some(one) => match other.permissions() {
             None => are_open_lists(one),
             Some(other) => {
-                are_same_rules(&one.publish, &other.publish)
-                    && are_same_rules(&one.subscribe, &other.subscribe)
+                one.publish.is_like(&other.publish) && one.subscribe.is_like(&other.subscribe)
             }
         },
     }
@@ -40,7 +39,7 @@ fn are_same_lists(one: &Compiled, other: &Compiled) -> bool
 
 /// Whether neither direction has a list.
 fn are_open_lists(permissions: &PermDoc) -> bool
-    ensures { Decides result ((rules_of permissions.now.publish ≡ open_rules) × (rules_of permissions.now.subscribe ≡ open_rules)) }
+    ensures { Decides result ((permissions.now.publish ≡ open_rules) × (permissions.now.subscribe ≡ open_rules)) }
 {
     are_open(&permissions.publish) && are_open(&permissions.subscribe)
 }
@@ -48,15 +47,7 @@ fn are_open_lists(permissions: &PermDoc) -> bool
 /// Whether a direction has no allow list and denies nothing.
 #[tactic(auto, using(crate::proofs::Lists::open_by))]
 fn are_open(direction: &Direction) -> bool
-    ensures { Decides result (rules_of direction.now ≡ open_rules) }
+    ensures { Decides result (direction.now ≡ open_rules) }
 {
     direction.allow.is_none() && direction.deny.is_empty()
-}
-
-/// Whether two directions have the same lists.
-#[tactic(auto, using(crate::proofs::Lists::same_rules))]
-fn are_same_rules(one: &Direction, other: &Direction) -> bool
-    ensures { Decides result (rules_of one.now ≡ rules_of other.now) }
-{
-    one.is_like(other)
 }
