@@ -1,7 +1,4 @@
-use crate::{
-    AccountDoc, Accounts, Direction, NamedAccount, PermDoc, PermEntry, Place, Policy, PolicyDoc,
-    PolicyFault, UserDoc,
-};
+use crate::{AccountDoc, Accounts, Direction, NamedAccount, PermDoc, PermEntry, Policy, UserDoc};
 use bytes::Bytes;
 use lists::{Copying, Items, NoMemory};
 use std::alloc::Global;
@@ -72,10 +69,12 @@ fn direction_in_words(alloc: Global, direction: &Direction) -> Result<String, Fa
 }
 
 fn entries_in_words(alloc: Global, entries: &[PermEntry]) -> Result<String, Fail> {
-    let mut words = Vec::new(alloc);
+    let mut words = String::new(alloc);
     for entry in entries {
-        words.extend_from_slice(b" ")?;
-        entry.write_to(&mut words)?;
+        let mut line = Vec::new(alloc);
+        entry.write_to(&mut line)?;
+        words.push_str(" ")?;
+        words.push_str(text(line.as_slice())?)?;
     }
     Ok(words)
 }
@@ -113,56 +112,5 @@ fn the_builtin_policy_has_two_users(rt: HostRuntime) -> Result<(), Fail> {
         words.as_str(),
         "DEMO demo:demo limited:limited (publish allow foo.>, deny foo.bar; subscribe allow foo.>, deny foo.bar)\n"
     );
-    Ok(())
-}
-
-// A document of two accounts with these users.
-fn document(
-    rt: &HostRuntime,
-    first: &[&'static [u8]],
-    second: &[&'static [u8]],
-) -> Result<PolicyDoc, NoMemory> {
-    let mut accounts = Accounts::new(rt.alloc());
-    accounts.insert(Bytes::from_static(b"B"), account(rt, second)?)?;
-    accounts.insert(Bytes::from_static(b"A"), account(rt, first)?)?;
-    Ok(PolicyDoc { accounts })
-}
-
-#[test]
-fn user_names_are_unique_over_all_accounts(rt: HostRuntime) -> Result<(), Fail> {
-    for (first, second, want) in [
-        (
-            [b"a".as_slice(), b"b".as_slice()],
-            [b"c".as_slice(), b"d".as_slice()],
-            None,
-        ),
-        (
-            [b"a".as_slice(), b"a".as_slice()],
-            [b"a".as_slice(), b"a".as_slice()],
-            Some((0, 1)),
-        ),
-        (
-            [b"a".as_slice(), b"b".as_slice()],
-            [b"b".as_slice(), b"b".as_slice()],
-            Some((1, 0)),
-        ),
-        (
-            [b"a".as_slice(), b"b".as_slice()],
-            [b"c".as_slice(), b"c".as_slice()],
-            Some((1, 1)),
-        ),
-        (
-            [b"a".as_slice(), b"A".as_slice()],
-            [b"".as_slice(), b"aa".as_slice()],
-            None,
-        ),
-    ] {
-        let found = match Policy::check(document(&rt, &first, &second)?) {
-            Ok(_) => None,
-            Err((_, PolicyFault::DuplicateUser(Place { account, row }))) => Some((account, row)),
-            Err((_, PolicyFault::NoMemory)) => Some((9, 9)),
-        };
-        assert_eq!(rt; found, want);
-    }
     Ok(())
 }

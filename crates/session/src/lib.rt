@@ -9,4 +9,3 @@ pub use conn::{Conn, Output, Stage, Stall, Words};
 pub use direct::Direct;
 pub use events::Port;
 pub use laws::{any_calls, any_calls_direct};
-

@@ -8,6 +8,3 @@ mod sessions;
 
 pub use session::Session;
 pub use sessions::Sessions;
-
-#[cfg(test)]
-mod tests;

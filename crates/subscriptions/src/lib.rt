@@ -11,6 +11,3 @@ mod trees;
 
 pub use subscription::Subscription;
 pub use subscriptions::{Keeps, Subscriptions};
-
-#[cfg(test)]
-mod tests;
