@@ -3,9 +3,10 @@ ghost use Rattle.std.specs.Prelude.{◌≤◌};
 use crate::policies::Given;
 use bytes::Bytes;
 use hub::{
-    Answer, Caps, Command, Delivery, Event, Hub, HubRefusal, Item, Message, Outcome, Ready, Removed,
+    Answer, Caps, Command, Delivery, Event, Hub, HubRefusal, Item, Message, Outcome, Ready,
+    Removed, Segment,
 };
-use lists::{Copying, Items, Shared, SharedText};
+use lists::{Copying, Items, NoMemory, Shared, SharedText};
 use std::alloc::Global;
 use std::hash::RandomState;
 use std::process::Abort;
@@ -35,8 +36,10 @@ pub enum Ask {
     Waiting(u64),
     /// Tells the standing subscriptions.
     Standing,
-    /// Tells how long the history is, and whether it has what was asked and what was answered.
+    /// Tells how long the history is, and whether it has what was asked and what was answered since the last rotation.
     History,
+    /// A rotation. It tells how many entries the segment has, and the number of the first.
+    Rotate,
 }
 
 /// Asserts what a hub over the built-in policy tells when it is asked so.
@@ -74,7 +77,7 @@ struct Talk {
     hub: Hub,
     now: u64,
     told: String,
-    // The events that were answered, and the answers, a line each.
+    // The events that were answered since the last rotation, and the answers, a line each.
     asked: String,
     answered: String,
 }
@@ -106,6 +109,7 @@ impl Talk {
             Ask::Waiting(conn) => self.tell_waiting(conn),
             Ask::Standing => self.tell_standing(),
             Ask::History => self.tell_history(),
+            Ask::Rotate => self.rotate(),
             _ => {
                 let what = command(self.alloc, ask)?;
                 self.step(&what)
@@ -169,6 +173,20 @@ impl Talk {
             && answers.as_str() == self.answered.as_str();
         self.tell(format!(in self.alloc; "history of {held}, same {same}")?)
     }
+
+    fn rotate(&mut self) -> Result<(), Fail> {
+        let segment = rotate(&mut self.hub)?;
+        self.asked.clear();
+        self.answered.clear();
+        let count = segment.entries().len();
+        let first = segment.first_number();
+        self.tell(format!(in self.alloc; "segment of {count} from {first}")?)
+    }
+}
+
+// A rotation without its clauses.
+fn rotate(hub: &mut Hub) -> Result<Segment, NoMemory> {
+    hub.rotate()
 }
 
 // A step without its clauses: what a test asserts, it computes.
@@ -180,6 +198,7 @@ fn subscribe(alloc: Global, conn: u64, subject: &str, sid: &str) -> Result<Comma
     Ok(Command::Sub {
         conn,
         subject: Shared::new(alloc, Pattern::parse(alloc, subject.as_bytes())?)?,
+        queue: None,
         sid: shared(alloc, sid)?,
     })
 }

@@ -138,3 +138,33 @@ standing [2 1 foo 1]
     );
     Ok(())
 }
+
+#[test]
+fn a_rotation_makes_room_and_numbers_go_on(rt: HostRuntime) -> Result<(), Fail> {
+    let caps = Caps {
+        outbox: 16,
+        history: 2,
+    };
+    let asks = [
+        Ask::Connect(1, "demo", "demo"),
+        Ask::Sub(1, "foo", "1"),
+        Ask::Pub(1, "foo", "r", "", "hi"),
+        Ask::Rotate,
+        Ask::Pub(1, "foo", "r", "", "hi"),
+        Ask::History,
+        Ask::Rotate,
+        Ask::Rotate,
+        Ask::Standing,
+    ];
+    let want = "1.1 connected
+1.2 subscribed
+HistoryFull
+segment of 2 from 1
+1.3 published All, entered 1 1
+history of 1, same true
+segment of 1 from 3
+segment of 0 from 4
+standing [2 1 foo 1]
+";
+    tells(&rt, rt.alloc(), caps, &asks, want)
+}
