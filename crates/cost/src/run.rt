@@ -12,12 +12,25 @@ const PIECE: u64 = 50;
 /// How many subscriptions one connection makes.
 const MOST: u64 = 4_000;
 
+/// The SUB of a receiver.
+fn sub(grouped: bool) -> &'static [u8] {
+    if grouped {
+        b"SUB foo workers 1\r\n"
+    } else {
+        b"SUB foo 1\r\n"
+    }
+}
+
 /// Connections that subscribe to the subject of the messages.
-fn open_receivers(alloc: Global, server: &mut Server, count: u64) -> Result<Vec<Conn>, CostFault> {
+fn open_receivers(
+    alloc: Global,
+    server: &mut Server,
+    scenario: Scenario,
+) -> Result<Vec<Conn>, CostFault> {
     let mut receivers = Vec::new(alloc);
-    for _ in 0..count {
+    for _ in 0..scenario.receivers {
         let mut client = server.open()?;
-        server.feed(&mut client, b"SUB foo 1\r\n")?;
+        server.feed(&mut client, sub(scenario.grouped))?;
         receivers.push(client)?;
     }
     Ok(receivers)
@@ -96,7 +109,7 @@ pub fn publish_in(
 ) -> Result<u64, CostFault> {
     let mut server = Server::new(alloc, keys, scenario.allows)?;
     open_others(alloc, &mut server, scenario)?;
-    let mut receivers = open_receivers(alloc, &mut server, scenario.receivers)?;
+    let mut receivers = open_receivers(alloc, &mut server, scenario)?;
     let piece = piece(alloc)?;
     publish(
         &mut server,

@@ -3,6 +3,8 @@
 pub struct Scenario {
     /// Connections that subscribe to the subject of the messages.
     pub receivers: u64,
+    /// Whether they are the members of one queue group, so that each message goes to one of them.
+    pub grouped: bool,
     /// Connections that have a session and subscribe to nothing.
     pub sessions: u64,
     /// Subscriptions to subjects of their own.
@@ -14,6 +16,7 @@ pub struct Scenario {
 /// One receiver, and nothing else.
 const TO_ONE: Scenario = Scenario {
     receivers: 1,
+    grouped: false,
     sessions: 0,
     subscriptions: 0,
     allows: 0,
@@ -30,6 +33,11 @@ impl Scenario {
             "one" => Some(TO_ONE),
             "eight" => Some(Scenario {
                 receivers: 8,
+                ..TO_ONE
+            }),
+            "group" => Some(Scenario {
+                receivers: 8,
+                grouped: true,
                 ..TO_ONE
             }),
             "sessions" => Some(Scenario {

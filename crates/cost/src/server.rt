@@ -11,17 +11,20 @@ const TAKE: usize = 64;
 
 const CONNECT: &[u8] = b"CONNECT {\"user\":\"demo\",\"pass\":\"demo\",\"verbose\":false}\r\n";
 
-/// Words that nothing looks at.
+/// Words that rise by one, so that each member of a queue group has its turn.
 #[derive(Drop)]
-struct Zeros;
+struct Rising {
+    last: u64,
+}
 
-impl Words for Zeros {
+impl Words for Rising {
     ghost use Rattle.std.specs.Prelude.{◌≡◌};
 
-    ghost draws = { λ _ word _. word ≡ 0 };
+    ghost draws = { λ _ word new. word ≡ new.last };
 
     fn next(&mut self) -> u64 {
-        0
+        self.last = self.last.wrapping_add(1);
+        self.last
     }
 }
 
@@ -30,6 +33,7 @@ impl Words for Zeros {
 pub struct Server {
     alloc: Global,
     hub: Hub,
+    words: Rising,
     /// The number of the latest connection.
     last: u64,
     /// How many bytes were sent.
@@ -54,6 +58,7 @@ impl Server {
         Ok(Server {
             alloc,
             hub,
+            words: Rising { last: 0 },
             last: 0,
             sent: 0,
         })
@@ -77,7 +82,7 @@ impl Server {
     /// Bytes of a client.
     pub fn feed(&mut self, client: &mut Conn, bytes: &[u8]) -> Result<(), CostFault> {
         let mut port = Direct::new(&mut self.hub);
-        let output = client.on_bytes(self.alloc, &mut port, bytes, 0, &mut Zeros);
+        let output = client.on_bytes(self.alloc, &mut port, bytes, 0, &mut self.words);
         self.note(&output)
     }
 
