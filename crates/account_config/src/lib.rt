@@ -8,8 +8,6 @@ mod entry;
 mod fault;
 mod object;
 mod paths;
-#[cfg(test)]
-mod tests;
 mod text;
 mod user;
 

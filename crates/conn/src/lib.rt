@@ -17,6 +17,3 @@ pub use conn::Conn;
 pub use output::{Output, Stall};
 pub use stage::Stage;
 pub use words::Words;
-
-#[cfg(test)]
-mod tests;

@@ -5,8 +5,6 @@ mod asked;
 mod compiled;
 mod decision;
 mod laws;
-#[cfg(test)]
-mod tests;
 mod verdict;
 
 pub use compiled::Compiled;

@@ -6,8 +6,6 @@ mod builtin;
 mod document;
 mod fault;
 mod policy;
-#[cfg(test)]
-mod tests;
 mod unique;
 
 pub use accounts::Accounts;

@@ -6,8 +6,6 @@ mod fault;
 mod player;
 mod policies;
 mod server;
-#[cfg(test)]
-mod tests;
 
 pub use fault::PlayFault;
 pub use player::play;

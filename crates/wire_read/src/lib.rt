@@ -16,8 +16,6 @@ mod reader;
 mod scan;
 mod size;
 mod step;
-#[cfg(test)]
-mod tests;
 
 pub use fault::{FeedError, WireFault};
 pub use frame::Frame;
