@@ -1,5 +1,3 @@
-mod Parsing
 mod Reading
 mod Runs
-mod Short
 mod Written

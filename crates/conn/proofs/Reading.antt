@@ -1,7 +1,7 @@
 -- A piece that is read while the connection is open.
 use Rattle.std.proofs.Common.{◌≡◌, ℕ, List, Bool, true, false, inr}
 use Rattle.conn.specs.declared.output.Output.{Output}
-use Rattle.conn.specs.Replies.{is_closed}
+use Rattle.protocol.specs.Replies.{is_closed}
 use Rattle.conn.specs.Turns.{Steps, Draws}
 use Rattle.conn.specs.Calls.{Connection, IsRead, IsServedAt, IsServed}
 

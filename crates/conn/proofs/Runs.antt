@@ -3,7 +3,7 @@ use Rattle.std.proofs.Common.{◌≡◌, ◌∷◌, ◌++◌, [], ℕ, List, Boo
 use Rattle.std.proofs.lemmas.List.{append_assoc, append-nil}
 use Rattle.wire_read.specs.declared.frame.Frame.{Frame}
 use Rattle.conn.specs.declared.output.Stall.{Stall}
-use Rattle.conn.specs.Replies.{Told, is_closed}
+use Rattle.protocol.specs.Replies.{Told, is_closed}
 use Rattle.conn.specs.Turns.{Steps, Draws, Turned, Goes, Stalls, IsTurn}
 use Rattle.conn.specs.Serving.{Spot, spot, Served, served, rests, behind, UnlessClosed, IsFollowed, Serves}
 

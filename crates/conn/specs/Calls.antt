@@ -9,12 +9,12 @@ use Rattle.events.specs.declared.answer.Delivery.{Delivery}
 use Rattle.events.specs.declared.answer.Outcome.{Outcome}
 use Rattle.events.specs.declared.refusal.HubRefusal.{HubRefusal}
 use Rattle.events.specs.declared.refusal.HubRefusal.TheVariants as refusal
-use Rattle.conn.specs.declared.stage.Stage.{Stage}
-use Rattle.conn.specs.declared.stage.Stage.TheVariants as stage
+use Rattle.protocol.specs.declared.stage.Stage.{Stage}
+use Rattle.protocol.specs.declared.stage.Stage.TheVariants as stage
 use Rattle.conn.specs.declared.output.Output.{Output}
 use Rattle.conn.specs.declared.output.Stall.{Stall}
 use Rattle.conn.specs.declared.output.Stall.TheVariants as stall
-use Rattle.conn.specs.Replies.{is_closed, closed_from}
+use Rattle.protocol.specs.Replies.{is_closed, closed_from}
 use Rattle.conn.specs.Turns.{Steps, Draws, event, IsAnswered}
 use Rattle.conn.specs.Serving.{spot, served, Serves, frames_after, reader_after}
 use Rattle.conn.specs.Drains.{Drains}

@@ -9,14 +9,14 @@ use Rattle.events.specs.declared.answer.Delivery.{Delivery}
 use Rattle.events.specs.declared.answer.Outcome.{Outcome}
 use Rattle.events.specs.declared.refusal.HubRefusal.{HubRefusal}
 use Rattle.events.specs.declared.refusal.HubRefusal.TheVariants as refusal
-use Rattle.conn.specs.declared.stage.Stage.{Stage}
-use Rattle.conn.specs.declared.stage.Stage.TheVariants as stage
+use Rattle.protocol.specs.declared.stage.Stage.{Stage}
+use Rattle.protocol.specs.declared.stage.Stage.TheVariants as stage
 use Rattle.conn.specs.declared.output.Stall.{Stall}
 use Rattle.conn.specs.declared.output.Stall.TheVariants as stall
 use Rattle.conn.specs.declared.drain.Drained.{Drained}
 use Rattle.conn.specs.declared.drain.Written.{Written}
 use Rattle.conn.specs.declared.drain.Written.TheVariants.{All, Closes, Short}
-use Rattle.conn.specs.Replies.{closed_from, takes_headers}
+use Rattle.protocol.specs.Replies.{closed_from, takes_headers}
 use Rattle.conn.specs.Turns.{Steps, event, IsAnswered}
 use Rattle.pending.specs.Owing.{Owed, owed_by}
 pub use Rattle.pending.specs.Texts.{delivery_text}

@@ -1,5 +1,3 @@
-pub mod Replies
-pub mod Plans
 pub mod Turns
 pub mod Serving
 pub mod Drains

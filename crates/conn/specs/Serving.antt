@@ -2,9 +2,9 @@
 use Rattle.std.specs.Prelude.{◌≡◌, ℕ, Bool, true, false, List, [], ◌∷◌, ◌++◌, Option, Some, None}
 use Rattle.wire_read.specs.declared.frame.Frame.{Frame}
 pub use Rattle.pending.specs.Reading.{frames_after, reader_after}
-use Rattle.conn.specs.declared.stage.Stage.{Stage}
+use Rattle.protocol.specs.declared.stage.Stage.{Stage}
 use Rattle.conn.specs.declared.output.Stall.{Stall}
-use Rattle.conn.specs.Replies.{is_closed}
+use Rattle.protocol.specs.Replies.{is_closed}
 use Rattle.conn.specs.Turns.{Steps, Draws, Turned, Goes, Stalls, IsTurn}
 
 -- where a connection is between two turns: the word is that of the next frame, where it has drawn one

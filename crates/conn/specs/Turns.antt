@@ -8,15 +8,15 @@ use Rattle.events.specs.declared.answer.Entry.{Entry}
 use Rattle.events.specs.declared.answer.Outcome.{Outcome}
 use Rattle.events.specs.declared.refusal.HubRefusal.{HubRefusal}
 use Rattle.events.specs.declared.refusal.HubRefusal.TheVariants as refusal
-use Rattle.conn.specs.declared.stage.Stage.{Stage}
+use Rattle.protocol.specs.declared.stage.Stage.{Stage}
 use Rattle.conn.specs.declared.output.Stall.{Stall}
 use Rattle.conn.specs.declared.output.Stall.TheVariants as stall
-use Rattle.conn.specs.declared.plan.Plan.{Plan}
-use Rattle.conn.specs.declared.plan.Plan.TheVariants.{Tells, Asks, Publishes}
+use Rattle.protocol.specs.declared.plan.Plan.{Plan}
+use Rattle.protocol.specs.declared.plan.Plan.TheVariants.{Tells, Asks, Publishes}
 use Rattle.conn.specs.declared.turn.Turn.{Turn}
 use Rattle.conn.specs.declared.turn.Turn.TheVariants as turn
-use Rattle.conn.specs.Replies.{Told, told, text_line, reply_to}
-use Rattle.conn.specs.Plans.{plan_of}
+use Rattle.protocol.specs.Replies.{Told, told, text_line, reply_to}
+use Rattle.protocol.specs.Plans.{plan_of}
 
 -- ---- what a port and the words do
 

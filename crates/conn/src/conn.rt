@@ -1,6 +1,5 @@
 use crate::drain::drain;
 use crate::output::{Output, Stall};
-use crate::stage::Stage;
 use crate::submit::submit;
 use crate::turn::serve;
 use crate::words::Words;
@@ -8,6 +7,7 @@ use connect_opts::info_text;
 use events::{Answer, Command, Event, HubRefusal, Port};
 use lists::NoMemory;
 use pending::{Frames, Owed};
+use protocol::Stage;
 use std::alloc::Global;
 use std::marker::Model;
 use wire_read::FrameReader;

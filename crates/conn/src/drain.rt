@@ -3,12 +3,11 @@ ghost use Rattle.std.specs.Prelude.{◌≡◌, [], OnOk};
 ghost use Rattle.conn.specs.Drains.{IsWritten, IsTold, IsTaken, drain_of};
 
 use crate::output::Stall;
-use crate::stage::Stage;
 use crate::submit::submit;
-use crate::text::{Text, put_text, write_text};
 use events::{Answer, Command, Event, HubRefusal, Port};
 use lists::NoMemory;
 use pending::{Owed, write_delivery};
+use protocol::{Stage, Text, put_text, write_text};
 use std::alloc::Global;
 use wire_write::ServerError;
 

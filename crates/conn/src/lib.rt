@@ -5,15 +5,10 @@
 mod conn;
 mod drain;
 mod output;
-mod plan;
-mod reply;
-mod stage;
 mod submit;
-mod text;
 mod turn;
 mod words;
 
 pub use conn::Conn;
 pub use output::{Output, Stall};
-pub use stage::Stage;
 pub use words::Words;

@@ -2,18 +2,17 @@
 ghost use Rattle.std.specs.Prelude.{◌≡◌, ◌+◌, ◌≤◌, length};
 ghost use Rattle.std.specs.Vec.{vec_len, vec_capacity};
 ghost use Rattle.conn.specs.Turns.{turned, turn_after, line_of, outcome_of, IsWord, IsTurn};
-ghost use Rattle.conn.specs.Replies.{room_of};
+ghost use Rattle.protocol.specs.Replies.{room_of};
 ghost use Rattle.conn.specs.Serving.{spot, served, Serves};
 
 use crate::output::Stall;
-use crate::plan::{Plan, plan_of};
-use crate::reply::{Reply, make_room, reply_to_outcome, reply_to_refusal};
-use crate::stage::Stage;
 use crate::submit::submit;
-use crate::text::put_text;
 use crate::words::Words;
 use events::{Answer, Command, Event, HubRefusal, Port};
 use pending::Frames;
+use protocol::{
+    Plan, Reply, Stage, make_room, plan_of, put_text, reply_to_outcome, reply_to_refusal,
+};
 use std::alloc::Global;
 use wire_read::Frame;
 

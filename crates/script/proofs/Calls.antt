@@ -12,15 +12,15 @@ use Rattle.wire_write.specs.Errors.{err_line}
 use Rattle.wire_write.specs.declared.error.ServerError.TheVariants as error
 use Rattle.conn.specs.declared.output.Output.{Output}
 use Rattle.conn.specs.declared.output.Stall.{Stall}
-use Rattle.conn.specs.declared.stage.Stage.{Stage}
-use Rattle.conn.specs.declared.stage.Stage.TheVariants as stage
+use Rattle.protocol.specs.declared.stage.Stage.{Stage}
+use Rattle.protocol.specs.declared.stage.Stage.TheVariants as stage
 use Rattle.session.specs.declared.direct.Direct.{Direct}
 use Rattle.conn.specs.declared.drain.Written.{Written}
 use Rattle.conn.specs.declared.drain.Written.TheVariants.{All, Closes, Short}
 use Rattle.session.specs.Accounts.{IsPortTo}
 use Rattle.conn.specs.Calls.{Connection, IsNothing, IsRead, IsServedAt, IsServed, IsDrain, IsDrainIf, IsDrainedAt, IsDrained, IsQuiet, IsClosing, IsEnded, Given, nothing, stage_closed, stall_closed}
 use Rattle.conn.specs.Drains.{Drain, Drains, drain_owing_nothing, texts, IsTold, IsTakeTold, stage_after, stall_after}
-use Rattle.conn.specs.Replies.{is_closed, closed_from, takes_headers}
+use Rattle.protocol.specs.Replies.{is_closed, closed_from, takes_headers}
 use Rattle.conn.specs.Serving.{Served, spot, served, frames_after, reader_after}
 use Rattle.conn.specs.Turns.{Steps, event}
 use Rattle.script.specs.Server.{Serving, heard, IsNextWord}

@@ -14,11 +14,11 @@ use Rattle.events.specs.declared.answer.Outcome.{Outcome}
 use Rattle.events.specs.declared.refusal.HubRefusal.{HubRefusal}
 use Rattle.events.specs.declared.refusal.HubRefusal.TheVariants as refusal
 use Rattle.conn.specs.declared.output.Stall.{Stall}
-use Rattle.conn.specs.declared.stage.Stage.{Stage}
-use Rattle.conn.specs.declared.stage.Stage.TheVariants as stage
+use Rattle.protocol.specs.declared.stage.Stage.{Stage}
+use Rattle.protocol.specs.declared.stage.Stage.TheVariants as stage
 use Rattle.conn.specs.Calls.{Connection, stage_closed}
 use Rattle.conn.specs.Drains.{Drain, texts}
-use Rattle.conn.specs.Replies.{is_closed, is_connected, closed_from, takes_headers}
+use Rattle.protocol.specs.Replies.{is_closed, is_connected, closed_from, takes_headers}
 use Rattle.conn.specs.Turns.{event}
 use Rattle.script.specs.Server.{Serving, heard, by_step}
 use Rattle.script.specs.Session.{Call, unchanged, delivered, take_answered, drain_of, drain_if, drain_call, closing, end_call}

@@ -7,12 +7,12 @@ use Rattle.events.specs.declared.event.Command.TheVariants as command
 use Rattle.events.specs.declared.answer.Outcome.{Outcome}
 use Rattle.events.specs.declared.refusal.HubRefusal.{HubRefusal}
 use Rattle.events.specs.declared.refusal.HubRefusal.TheVariants as refusal
-use Rattle.conn.specs.declared.plan.Plan.{Plan}
-use Rattle.conn.specs.declared.plan.Plan.TheVariants.{Tells, Asks, Publishes}
-use Rattle.conn.specs.declared.stage.Stage.{Stage}
+use Rattle.protocol.specs.declared.plan.Plan.{Plan}
+use Rattle.protocol.specs.declared.plan.Plan.TheVariants.{Tells, Asks, Publishes}
+use Rattle.protocol.specs.declared.stage.Stage.{Stage}
 use Rattle.session.specs.Accounts.{IsPortTo}
-use Rattle.conn.specs.Plans.{plan_of}
-use Rattle.conn.specs.Replies.{told, is_closed}
+use Rattle.protocol.specs.Plans.{plan_of}
+use Rattle.protocol.specs.Replies.{told, is_closed}
 use Rattle.conn.specs.Serving.{Spot, spot, Served, served, rests, behind, UnlessClosed, IsFollowed, Serves}
 use Rattle.conn.specs.Turns.{Steps, Turned, Goes, Stalls, turn_after, event, IsAnswered, IsWord, IsPlanned, IsTurn}
 use Rattle.script.specs.Server.{heard, IsNextWord}

@@ -11,7 +11,7 @@ use Rattle.hub.specs.declared.hub.Caps.{Caps}
 use Rattle.events.specs.declared.answer.Entry.{Entry}
 use Rattle.conn.specs.declared.output.Stall.{Stall}
 use Rattle.conn.specs.Calls.{new_connection}
-use Rattle.conn.specs.Replies.{is_closed, is_connected}
+use Rattle.protocol.specs.Replies.{is_closed, is_connected}
 use Rattle.script.specs.Server.{Serving, opening, with_policy, with_caps, installed}
 use Rattle.script.specs.Session.{Call, bytes_call, drain_call, end_call}
 use Rattle.reload.specs.Reload.{prepared}

@@ -14,14 +14,14 @@ use Rattle.events.specs.declared.refusal.HubRefusal.TheVariants as refusal
 use Rattle.conn.specs.declared.output.Output.{Output}
 use Rattle.conn.specs.declared.output.Stall.{Stall}
 use Rattle.conn.specs.declared.output.Stall.TheVariants as stall
-use Rattle.conn.specs.declared.plan.Plan.{Plan}
-use Rattle.conn.specs.declared.plan.Plan.TheVariants.{Tells, Asks, Publishes}
-use Rattle.conn.specs.declared.stage.Stage.{Stage}
-use Rattle.conn.specs.declared.stage.Stage.TheVariants as stage
+use Rattle.protocol.specs.declared.plan.Plan.{Plan}
+use Rattle.protocol.specs.declared.plan.Plan.TheVariants.{Tells, Asks, Publishes}
+use Rattle.protocol.specs.declared.stage.Stage.{Stage}
+use Rattle.protocol.specs.declared.stage.Stage.TheVariants as stage
 use Rattle.conn.specs.Calls.{Connection, stage_closed, stall_closed}
 use Rattle.conn.specs.Drains.{Drain, drain_owing_nothing, texts}
-use Rattle.conn.specs.Plans.{plan_of}
-use Rattle.conn.specs.Replies.{told, is_closed, closed_from, takes_headers}
+use Rattle.protocol.specs.Plans.{plan_of}
+use Rattle.protocol.specs.Replies.{told, is_closed, closed_from, takes_headers}
 use Rattle.conn.specs.Serving.{Spot, spot, Served, served, rests, behind, frames_after, reader_after}
 use Rattle.conn.specs.Turns.{Turned, Goes, Stalls, turn_after, event}
 use Rattle.script.specs.Server.{Serving, heard, first_word, later_words}

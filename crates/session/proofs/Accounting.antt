@@ -6,9 +6,9 @@ use Rattle.std.proofs.lemmas.List.{append_assoc}
 use Rattle.wire_read.specs.declared.frame.Frame.{Frame}
 use Rattle.wire_read.specs.Framing.{framing, first_frames, frames_of, CutAnywhere}
 use Rattle.hub.specs.History.{State}
-use Rattle.conn.specs.declared.stage.Stage.{Stage}
-use Rattle.conn.specs.declared.stage.Stage.TheVariants.{Fresh}
-use Rattle.conn.specs.Replies.{is_closed}
+use Rattle.protocol.specs.declared.stage.Stage.{Stage}
+use Rattle.protocol.specs.declared.stage.Stage.TheVariants.{Fresh}
+use Rattle.protocol.specs.Replies.{is_closed}
 use Rattle.conn.specs.Turns.{Steps, Draws}
 use Rattle.conn.specs.Calls.{Given, given, new_connection}
 use Rattle.session.specs.Happenings.{Happening, Came, comes}

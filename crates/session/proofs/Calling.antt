@@ -6,10 +6,10 @@ use Rattle.wire_read.specs.declared.frame.Frame.{Frame}
 use Rattle.wire_read.specs.Framing.{Reader, framing, frames_of}
 use Rattle.wire_write.specs.Texts.{info_line}
 use Rattle.hub.specs.History.{State}
-use Rattle.conn.specs.declared.stage.Stage.{Stage}
+use Rattle.protocol.specs.declared.stage.Stage.{Stage}
 use Rattle.conn.specs.declared.output.Output.{Output}
 use Rattle.conn.specs.declared.output.Stall.{Stall}
-use Rattle.conn.specs.Replies.{is_closed}
+use Rattle.protocol.specs.Replies.{is_closed}
 use Rattle.conn.specs.Turns.{Steps, Draws}
 use Rattle.conn.specs.Drains.{Drain, Drains}
 use Rattle.conn.specs.Calls.{Connection, Given, given, IsOpenedBy, IsDrain, IsDrainIf, IsDrainedAt}

@@ -9,11 +9,11 @@ use Rattle.events.specs.declared.answer.Outcome.{Outcome}
 use Rattle.events.specs.declared.answer.Outcome.TheVariants as outcome
 use Rattle.events.specs.declared.refusal.HubRefusal.{HubRefusal}
 use Rattle.events.specs.declared.refusal.HubRefusal.TheVariants as refusal
-use Rattle.conn.specs.declared.stage.Stage.{Stage}
-use Rattle.conn.specs.declared.stage.Stage.TheVariants as stage
+use Rattle.protocol.specs.declared.stage.Stage.{Stage}
+use Rattle.protocol.specs.declared.stage.Stage.TheVariants as stage
 use Rattle.conn.specs.declared.output.Output.{Output}
 use Rattle.conn.specs.declared.output.Stall.{Stall}
-use Rattle.conn.specs.Replies.{told_text, is_closed, closed_from}
+use Rattle.protocol.specs.Replies.{told_text, is_closed, closed_from}
 use Rattle.conn.specs.Turns.{Steps, Draws, event, IsAnswered}
 use Rattle.conn.specs.Calls.{Connection, Given, given, nothing, stage_closed, IsQuiet, IsClosing, IsEnded}
 use Rattle.session.specs.Happenings.{Ended, Other, Asked, came, come_of_end}

@@ -5,10 +5,10 @@ use Rattle.std.proofs.lemmas.Bool.{cond-true, cond-false}
 use Rattle.wire_read.specs.declared.frame.Frame.{Frame}
 use Rattle.wire_read.specs.Framing.{Reader, Framing, framing, followed, CutAnywhere}
 use Rattle.hub.specs.History.{State}
-use Rattle.conn.specs.declared.stage.Stage.{Stage}
+use Rattle.protocol.specs.declared.stage.Stage.{Stage}
 use Rattle.conn.specs.declared.output.Output.{Output}
 use Rattle.conn.specs.declared.output.Stall.{Stall}
-use Rattle.conn.specs.Replies.{is_closed}
+use Rattle.protocol.specs.Replies.{is_closed}
 use Rattle.conn.specs.Turns.{Steps, Draws}
 use Rattle.conn.specs.Serving.{Spot, spot, Served, served, Serves, frames_after, reader_after}
 use Rattle.conn.specs.Calls.{Connection, Given, given, IsRead, IsServedAt}

@@ -8,8 +8,8 @@ use Rattle.std.proofs.lemmas.List.Folds.{list_any-append}
 use Rattle.wire_read.specs.declared.frame.Frame.{Frame}
 use Rattle.hub.specs.History.{State}
 use Rattle.events.specs.declared.answer.Delivery.{Delivery}
-use Rattle.conn.specs.declared.stage.Stage.{Stage}
-use Rattle.conn.specs.Replies.{told_text}
+use Rattle.protocol.specs.declared.stage.Stage.{Stage}
+use Rattle.protocol.specs.Replies.{told_text}
 use Rattle.conn.specs.Turns.{Draws}
 use Rattle.session.specs.Happenings.{Happening, framed, sent, took, is_slow, has_missed, Asked, Came, came, come_of, then_came, comes, may_come, IsInOrder}
 use Rattle.session.specs.Accounts.{IsStepped, IsDrawn}

@@ -4,10 +4,10 @@ use Rattle.std.specs.List.{AllByRecursion}
 use Rattle.wire_read.specs.declared.frame.Frame.{Frame}
 use Rattle.hub.specs.History.{State}
 use Rattle.events.specs.declared.answer.Delivery.{Delivery}
-use Rattle.conn.specs.declared.stage.Stage.{Stage}
+use Rattle.protocol.specs.declared.stage.Stage.{Stage}
 use Rattle.conn.specs.declared.output.Stall.{Stall}
-use Rattle.conn.specs.Replies.{Told, is_closed}
-use Rattle.conn.specs.Plans.{plan_of}
+use Rattle.protocol.specs.Replies.{Told, is_closed}
+use Rattle.protocol.specs.Plans.{plan_of}
 use Rattle.conn.specs.Turns.{Steps, Draws, Turned, Goes, Stalls, IsTurn}
 use Rattle.conn.specs.Serving.{Spot, spot, Served, served, rests, behind, UnlessClosed, IsFollowed, Serves}
 use Rattle.session.specs.Happenings.{Happening, Framed}

@@ -11,10 +11,10 @@ use Rattle.events.specs.declared.answer.Outcome.TheVariants as outcome
 use Rattle.events.specs.declared.refusal.HubRefusal.{HubRefusal}
 use Rattle.conn.specs.declared.output.Stall.{Stall}
 use Rattle.conn.specs.declared.output.Stall.TheVariants as stall
-use Rattle.conn.specs.declared.plan.Plan.{Plan}
-use Rattle.conn.specs.declared.plan.Plan.TheVariants.{Tells, Asks, Publishes}
-use Rattle.conn.specs.Replies.{Told, told, is_closed}
-use Rattle.conn.specs.Plans.{plan_of}
+use Rattle.protocol.specs.declared.plan.Plan.{Plan}
+use Rattle.protocol.specs.declared.plan.Plan.TheVariants.{Tells, Asks, Publishes}
+use Rattle.protocol.specs.Replies.{Told, told, is_closed}
+use Rattle.protocol.specs.Plans.{plan_of}
 use Rattle.conn.specs.Turns.{Steps, Draws, Goes, Stalls, event, IsPlanned, IsTurn}
 use Rattle.conn.specs.Serving.{Spot, spot}
 use Rattle.session.specs.Happenings.{Framed, Came, come_of_plan, is_concluded}

@@ -1,7 +1,7 @@
 -- each turn goes on to the next, or ends them all
 use Rattle.std.proofs.Common.{◌≡◌, ◌∙◌, ◌++◌, None, Some, List, ℕ, drop, sym, subst, ap}
 use Rattle.wire_read.specs.declared.frame.Frame.{Frame}
-use Rattle.conn.specs.Replies.{told, text_line}
+use Rattle.protocol.specs.Replies.{told, text_line}
 use Rattle.conn.specs.declared.turn.Served.{Served}
 use Rattle.conn.specs.Serving.{spot, served, Serves}
 use Rattle.conn.proofs.Runs.{Completes, completes_goes, completes_stalls, completes_closed, completes_end}

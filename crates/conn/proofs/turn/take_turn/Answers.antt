@@ -1,7 +1,7 @@
 -- what is told without the hub is short, and there is room for it
 use Rattle.std.proofs.Common.{rules, ◌∙◌, ◌≤◌, sym, subst}
-use Rattle.conn.specs.Replies.{room_of}
-use Rattle.conn.proofs.Short.{IsShort, plan_short, room_enough}
+use Rattle.protocol.specs.Replies.{room_of}
+use Rattle.protocol.proofs.Short.{IsShort, plan_short, room_enough}
 use Rattle.conn.proofs.turn.take_turn.Goals as goal
 
 pub returns-in-Tells-clause-room : goal.returns-in-Tells-clause-room

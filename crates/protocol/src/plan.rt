@@ -1,7 +1,7 @@
 // What a frame comes to before the hub is asked.
 ghost use Rattle.std.specs.Prelude.{◌≡◌, IfOk};
 ghost use Rattle.connect_opts.specs.Opts.{opts_of};
-ghost use Rattle.conn.specs.Plans.{plan_of, fresh_plan, connected_plan, connect_plan, publish_plan, headed_plan, subscribe_plan, error_plan, subject_if, pattern_if, named_if};
+ghost use Rattle.protocol.specs.Plans.{plan_of, fresh_plan, connected_plan, connect_plan, publish_plan, headed_plan, subscribe_plan, error_plan, subject_if, pattern_if, named_if};
 
 use crate::reply::{Reply, fault_text, reply_of_error, reply_of_text};
 use crate::stage::Stage;

@@ -2,7 +2,7 @@
 ghost use Rattle.std.specs.Prelude.{◌≡◌, ◌≤◌, ◌+◌, length, IfSome, OnOk};
 ghost use Rattle.std.specs.Vec.{vec_len, vec_capacity};
 ghost use Rattle.std.specs.Option.{option_copied};
-ghost use Rattle.conn.specs.Replies.{text_line, told, denied_line, fault_text, reply_to_outcome, reply_to_refusal, reply_of_text, reply_of_error, ok_if, room_of, queue_room};
+ghost use Rattle.protocol.specs.Replies.{text_line, told, denied_line, fault_text, reply_to_outcome, reply_to_refusal, reply_of_text, reply_of_error, ok_if, room_of, queue_room};
 
 use crate::stage::Stage;
 use crate::text::Text;

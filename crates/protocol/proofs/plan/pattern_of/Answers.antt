@@ -1,8 +1,8 @@
 -- a text with no fault has its tokens, and one with a fault has none
 use Rattle.std.proofs.Common.{◌∙◌, sym}
 use Rattle.subjects.specs.Fault.{pattern_fault}
-use Rattle.conn.proofs.Parsing.{parsed, refused}
-use Rattle.conn.proofs.plan.pattern_of.Goals as goal
+use Rattle.protocol.proofs.Parsing.{parsed, refused}
+use Rattle.protocol.proofs.plan.pattern_of.Goals as goal
 
 pub returns-in-Ok : goal.returns-in-Ok
 returns-in-Ok c = parsed c.args.text.now (pattern_fault c.args.text.now) c.in-Ok.pattern c.in-Ok.ensures.tokens

@@ -8,12 +8,12 @@ use Rattle.wire_read.specs.declared.frame.Frame.TheVariants as frame
 use Rattle.connect_opts.specs.Opts.{opts_of}
 use Rattle.connect_opts.specs.Read.{Read}
 use Rattle.connect_opts.specs.declared.opts.ConnectOpts.{ConnectOpts}
-use Rattle.conn.specs.declared.stage.Stage.{Stage}
-use Rattle.conn.specs.declared.stage.Stage.TheVariants as stage
-use Rattle.conn.specs.declared.plan.Plan.{Plan}
-use Rattle.conn.specs.declared.plan.Plan.TheVariants.{Tells, Asks, Publishes}
-use Rattle.conn.specs.Replies.{text_line, fault_text, closed_from, room_of}
-use Rattle.conn.specs.Plans.{text_plan, connect_plan, message_plan, pattern_plan, fresh_plan, connected_plan, plan_of, subject_if, pattern_if, named_if}
+use Rattle.protocol.specs.declared.stage.Stage.{Stage}
+use Rattle.protocol.specs.declared.stage.Stage.TheVariants as stage
+use Rattle.protocol.specs.declared.plan.Plan.{Plan}
+use Rattle.protocol.specs.declared.plan.Plan.TheVariants.{Tells, Asks, Publishes}
+use Rattle.protocol.specs.Replies.{text_line, fault_text, closed_from, room_of}
+use Rattle.protocol.specs.Plans.{text_plan, connect_plan, message_plan, pattern_plan, fresh_plan, connected_plan, plan_of, subject_if, pattern_if, named_if}
 
 -- what is told without the hub has at most 64 bytes
 abbrev pub IsShort : Plan → Type 0

@@ -12,13 +12,13 @@ use Rattle.events.specs.Messages.{message}
 use Rattle.connect_opts.specs.Opts.{opts_of}
 use Rattle.connect_opts.specs.Read.{Read}
 use Rattle.connect_opts.specs.declared.opts.ConnectOpts.{ConnectOpts}
-use Rattle.conn.specs.declared.stage.Stage.{Stage}
-use Rattle.conn.specs.declared.stage.Stage.TheVariants as stage
-use Rattle.conn.specs.declared.text.Text.{Text}
-use Rattle.conn.specs.declared.text.Text.TheVariants as text
-use Rattle.conn.specs.declared.plan.Plan.{Plan}
-use Rattle.conn.specs.declared.plan.Plan.TheVariants.{Tells, Asks, Publishes}
-use Rattle.conn.specs.Replies.{closed_from, fault_text, reply_of_text, reply_of_error}
+use Rattle.protocol.specs.declared.stage.Stage.{Stage}
+use Rattle.protocol.specs.declared.stage.Stage.TheVariants as stage
+use Rattle.protocol.specs.declared.text.Text.{Text}
+use Rattle.protocol.specs.declared.text.Text.TheVariants as text
+use Rattle.protocol.specs.declared.plan.Plan.{Plan}
+use Rattle.protocol.specs.declared.plan.Plan.TheVariants.{Tells, Asks, Publishes}
+use Rattle.protocol.specs.Replies.{closed_from, fault_text, reply_of_text, reply_of_error}
 
 -- ---- texts that are parsed
 

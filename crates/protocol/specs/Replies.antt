@@ -12,11 +12,11 @@ use Rattle.events.specs.declared.answer.Outcome.{Outcome}
 use Rattle.events.specs.declared.answer.Outcome.TheVariants as outcome
 use Rattle.events.specs.declared.refusal.HubRefusal.{HubRefusal}
 use Rattle.events.specs.declared.refusal.HubRefusal.TheVariants as refusal
-use Rattle.conn.specs.declared.stage.Stage.{Stage}
-use Rattle.conn.specs.declared.stage.Stage.TheVariants as stage
-use Rattle.conn.specs.declared.text.Text.{Text}
-use Rattle.conn.specs.declared.text.Text.TheVariants as text
-use Rattle.conn.specs.declared.reply.Reply.{Reply}
+use Rattle.protocol.specs.declared.stage.Stage.{Stage}
+use Rattle.protocol.specs.declared.stage.Stage.TheVariants as stage
+use Rattle.protocol.specs.declared.text.Text.{Text}
+use Rattle.protocol.specs.declared.text.Text.TheVariants as text
+use Rattle.protocol.specs.declared.reply.Reply.{Reply}
 
 -- ---- stages
 

@@ -1,9 +1,9 @@
 -- a text with no fault has its tokens, and one with a fault has none
 use Rattle.std.proofs.Common.{◌≡◌, ◌∙◌, ℕ, List, Some, None, sym, subst}
 use Rattle.subjects.specs.Fault.{subject_fault}
-use Rattle.conn.specs.Plans.{subject_if}
-use Rattle.conn.proofs.Parsing.{parsed, refused}
-use Rattle.conn.proofs.plan.subject_of.Goals as goal
+use Rattle.protocol.specs.Plans.{subject_if}
+use Rattle.protocol.proofs.Parsing.{parsed, refused}
+use Rattle.protocol.proofs.plan.subject_of.Goals as goal
 
 pub returns-in-Ok : goal.returns-in-Ok
 returns-in-Ok c =

@@ -1,5 +1,5 @@
 ghost use Rattle.std.specs.Prelude.{◌≡◌};
-ghost use Rattle.conn.specs.Replies.{is_closed, is_connected, closed_from, after_error, takes_headers};
+ghost use Rattle.protocol.specs.Replies.{is_closed, is_connected, closed_from, after_error, takes_headers};
 
 use wire_write::ServerError;
 

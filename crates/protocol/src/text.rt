@@ -1,7 +1,7 @@
 // Texts to the client.
 ghost use Rattle.std.specs.Prelude.{◌≡◌, ◌+◌, ◌++◌, ◌≤◌, length, OnOk, OnErr, ◌<◌};
 ghost use Rattle.std.specs.Vec.{vec_len, vec_capacity};
-ghost use Rattle.conn.specs.Replies.{text_line};
+ghost use Rattle.protocol.specs.Replies.{text_line};
 
 use lists::NoMemory;
 use wire_write::{ServerError, write_err, write_ok, write_pong};

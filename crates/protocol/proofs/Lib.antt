@@ -1,0 +1,2 @@
+mod Parsing
+pub mod Short
