@@ -224,6 +224,20 @@ impl Hub {
         Ok(Segment::of(opening, entries, closing))
     }
 
+    /// The world before the entries: the one that it opened with, or that of its last rotation.
+    pub fn opening(&self) -> &PlainWorld
+        ensures { result.now ≡ self.now.opening }
+    {
+        self.opening.get()
+    }
+
+    /// The number of the last entry, 0 before the first.
+    pub fn number(&self) -> u64
+        ensures { result ≡ self.now.world.number }
+    {
+        self.world.number()
+    }
+
     /// The entries since the opening or last rotation, oldest first: one for each event that was answered. They lead,
     /// one by one, from the world before them to the present one.
     pub fn history(&self) -> &[Answer]
