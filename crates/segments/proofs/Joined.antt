@@ -1,5 +1,5 @@
 -- Parts at whose numbers nothing is wrong are one history.
-use Rattle.std.proofs.Common.{◌≡◌, ◌∙◌, ◌==◌, ◌&&◌, ◌||◌, ◌⊎◌, inl, inr, ⊎_elim, ℕ, suc, zero, ◌+◌, ◌*◌, ◌<◌, ◌≤◌, Bool, true, false, not, cond, List, [], ◌∷◌, ◌++◌, filter, length, get_or, take, drop, ap, sym, refl, subst, arith}
+use Rattle.std.proofs.Common.{◌≡◌, ◌∙◌, ◌==◌, ◌&&◌, ◌||◌, ◌⊎◌, inl, inr, ℕ, suc, zero, ◌+◌, ◌*◌, ◌<◌, ◌≤◌, Bool, true, false, not, cond, List, [], ◌∷◌, ◌++◌, filter, length, get_or, take, drop, ap, sym, refl, subst, arith}
 use Rattle.std.specs.Prelude.{All, nat_lt, nat_le}
 use Rattle.std.specs.List.{list_any}
 use Rattle.std.proofs.lemmas.Bool.{lt-ltb, le-leb, ltb-true, ltb-false, leb-true, leb-false, eqb-true, eq-eqb, ne_eqb}
@@ -10,7 +10,7 @@ use Rattle.events.specs.declared.answer.Entry.{Entry}
 use Rattle.world.specs.World.{World}
 use Rattle.hub.specs.History.{State, IsOpening, IsLegalRun}
 use Rattle.hub.specs.Segments.{Part, IsPart, IsReached, held, first_number}
-use Rattle.segments.specs.Joins.{parts_of, has_number, due, is_empty, place, may_precede, is_between, may_be_before, Begins, is_judged, IsRight, AreOneHistory}
+use Rattle.segments.specs.Joins.{parts_of, has_number, due, is_empty, place, may_precede, is_between, may_be_before, is_judged, IsRight, AreOneHistory}
 use Rattle.hub.proofs.Finds.{any-none}
 use Rattle.hub.proofs.Parts.{legal-append, run-number, opens}
 
@@ -23,10 +23,10 @@ any-nothing t (x ∷ xs) none =
     ap (λ b. b || list_any t xs) (All-head (λ y. t y ≡ false) x xs none) ∙ any-nothing t xs (All-tail (λ y. t y ≡ false) x xs none)
 
 -- one that passes
-abbrev Passes : {X : Type 0} → (X → Bool) → List X → X → Type 0
+abbrev pub Passes : {X : Type 0} → (X → Bool) → List X → X → Type 0
 Passes t xs d = (i : ℕ) × (i < length xs) × (t (get_or xs i d) ≡ true)
 
-any-one : {X : Type 0} (t : X → Bool) (xs : List X) (d : X) → list_any t xs ≡ true → Passes t xs d
+pub any-one : {X : Type 0} (t : X → Bool) (xs : List X) (d : X) → list_any t xs ≡ true → Passes t xs d
 any-one t [] d e = absurd (cc)
 any-one {X} t (x ∷ xs) d e = here (t x) refl e (any-one t xs d)
   where
@@ -120,12 +120,12 @@ due-above last n h = by (nat_lt 0 n) (nat_le n last) refl h
 -- ---- parts
 
 -- a part without entries ends where it begins, and one with entries ends above
-abbrev Kind : Part → Type 0
+abbrev pub Kind : Part → Type 0
 Kind p =
     ((place p ≡ 2 * p.opening.number) × (p.closing ≡ p.opening) × (is_empty p ≡ true))
     ⊎ ((place p ≡ 2 * p.opening.number + 1) × (p.opening.number < p.closing.number) × (is_empty p ≡ false))
 
-kind : (w : World) (es : List Entry) (after : World) → IsLegalRun w es after → Kind (record { opening = w; entries = es; closing = after })
+pub kind : (w : World) (es : List Entry) (after : World) → IsLegalRun w es after → Kind (record { opening = w; entries = es; closing = after })
 unfolding IsLegalRun
 kind w [] after run = inl (omega arith, run, refl)
 kind w (x ∷ es) after run =

@@ -1,5 +1,5 @@
 -- The search for the least number at which something is wrong.
-use Rattle.std.specs.Prelude.{◌≡◌, ◌+◌, ◌<◌, ℕ, Option, None, Some, List, true, filter, length, min, All}
+use Rattle.std.specs.Prelude.{◌≡◌, ◌==◌, ◌+◌, ◌<◌, ◌&&◌, ◌||◌, ℕ, Option, None, Some, List, Bool, true, not, filter, length, min, All, nat_lt}
 use Rattle.hub.specs.History.{State}
 use Rattle.hub.specs.Segments.{Part, first_number}
 use Rattle.segments.specs.Joins.{parts_of, has_number, due, Begins, is_judged}
@@ -33,6 +33,10 @@ pub record IsClear (segments : List Part) (s : State) (least : Option ℕ) (q : 
 -- Something is wrong at a number, which a part shows.
 abbrev pub IsFaultOf : List Part → State → Part → ℕ → Type 0
 IsFaultOf segments s q n = IsInPlace segments s n → IsBegun segments s q n → ⊥
+
+-- what stands at a place may be the part before one at another place, where the nearest part below that is given
+abbrev pub is_before : ℕ → ℕ → ℕ → Bool → Bool
+is_before before nearest at empty = (nat_lt before at || (empty && before == at)) && not (nat_lt before nearest)
 
 -- every number is below 2^64
 abbrev pub AreNumbered : List Part → Type 0

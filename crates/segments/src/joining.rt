@@ -1,10 +1,10 @@
 //! The least number at which segments and what a hub holds aren't one history.
-ghost use Rattle.std.specs.Prelude.{◌≡◌, ◌==◌, ◌<◌, ◌+◌, ◌&&◌, ◌||◌, ℕ, true, not, OnOk, IfSome, MatchOption, All, filter, length, nat_lt};
+ghost use Rattle.std.specs.Prelude.{◌≡◌, ◌<◌, ◌+◌, ◌&&◌, ◌||◌, ℕ, true, OnOk, IfSome, MatchOption, All, filter, length, nat_lt};
 ghost use Rattle.std.specs.Bool.{Decides};
 ghost use Rattle.std.specs.List.{list_any};
 ghost use Rattle.hub.specs.Segments.{Part, IsPart, held};
 ghost use Rattle.segments.specs.Joins.{parts_of, has_number, is_empty, place, Begins, is_judged, IsRight, IsLeastFault, AreOneHistory};
-ghost use Rattle.segments.specs.Search.{lesser, IsBelow, IsInPlace, IsBegun, IsClear, IsFaultOf, AreNumbered};
+ghost use Rattle.segments.specs.Search.{lesser, is_before, IsBelow, IsInPlace, IsBegun, IsClear, IsFaultOf, AreNumbered};
 
 use crate::part::{
     has_number, held_first_number, held_place, holds_nothing, holds_number, is_empty, is_judged,
@@ -25,6 +25,8 @@ pub fn joins(segments: &[Segment], hub: &Hub) -> Result<(), u64>
 {
     known_parts(segments);
     hub.known();
+    // Tells the prover that the last number is below 2^64.
+    hub.number();
     match least_fault(segments, hub) {
         None => Ok(()),
         Some(number) => Err(number),
@@ -44,7 +46,7 @@ fn known_parts(segments: &[Segment])
 
 /// The least number at which something is wrong: it is 1, or the first number of a part, or the one after its last.
 fn least_fault(segments: &[Segment], hub: &Hub) -> Option<u64>
-    requires { AreNumbered segments.now }
+    requires { AreNumbered (parts_of segments.now hub.now) }
     ensures wrong { IfSome result (λ n. IsRight segments.now hub.now n → ⊥) }
     ensures below { MatchOption result ((n : ℕ) → IsRight segments.now hub.now n) (λ least. (n : ℕ) → n < least → IsRight segments.now hub.now n) }
 {
@@ -178,18 +180,34 @@ fn begins(segments: &[Segment], hub: &Hub, opening: &PlainWorld, at: u128, empty
     ensures { (q : Part) → q.opening ≡ opening.now → place q ≡ at → is_empty q ≡ empty → is_judged hub.now q ≡ true
         → Decides result (Begins (parts_of segments.now hub.now) q) }
 {
+    // Tells the prover that what is held is a legal run.
+    hub.known();
     let nearest = nearest_below(segments, hub, at);
     for segment in segments {
-        if is_before(place(segment), nearest, at, empty) && !segment.closing().same(opening) {
+        if !leads_to(segment, opening, at, empty, nearest) {
             return false;
         }
     }
-    !is_before(held_place(hub), nearest, at, empty) || hub.opening().same(opening)
+    held_leads_to(hub, opening, at, empty, nearest)
+}
+
+/// Whether a segment, where it may be the part before one at a place, ends in the world in which that begins.
+fn leads_to(segment: &Segment, opening: &PlainWorld, at: u128, empty: bool, nearest: u128) -> bool
+    ensures { Decides result (is_before (place segment.now) nearest at empty ≡ true → opening.now ≡ segment.now.closing) }
+{
+    !is_before(place(segment), nearest, at, empty) || opening.same(segment.closing())
+}
+
+/// Whether what the hub holds, where it may be the part before one at a place, begins in the world in which that does.
+fn held_leads_to(hub: &Hub, opening: &PlainWorld, at: u128, empty: bool, nearest: u128) -> bool
+    ensures { Decides result (is_before (place (held hub.now)) nearest at empty ≡ true → opening.now ≡ hub.now.opening) }
+{
+    !is_before(held_place(hub), nearest, at, empty) || opening.same(hub.opening())
 }
 
 /// Whether what stands at a place may be the part before one at another place, below which the nearest part is given.
 fn is_before(place: u128, nearest: u128, at: u128, empty: bool) -> bool
-    ensures { result ≡ ((nat_lt place at || (empty && place == at)) && not (nat_lt place nearest)) }
+    ensures { result ≡ is_before place nearest at empty }
 {
     (place < at || (empty && place == at)) && place >= nearest
 }
