@@ -11,7 +11,7 @@ use Rattle.hub.specs.Segments.{Part, held}
 use Rattle.segments.specs.Joins.{parts_of, place, is_empty, may_precede, may_be_before, Begins, is_judged}
 use Rattle.segments.specs.Search.{is_before}
 use Rattle.segments.proofs.Joined.{Kind, kind}
-use Rattle.segments.proofs.Least.{All-front, All-back}
+use Rattle.segments.proofs.Pushed.{All-front, All-back}
 
 -- the nearest place below another
 abbrev pub IsNearest : List Part → ℕ → ℕ → Type 0

@@ -5,13 +5,14 @@ use Rattle.std.specs.List.{list_any}
 use Rattle.std.proofs.lemmas.Bool.{lt-ltb, le-leb, ltb-true, ltb-false, leb-true, leb-false, eqb-true, eq-eqb, ne_eqb}
 use Rattle.std.proofs.lemmas.List.{get_or_default, take-append-le, drop-append-le, length-drop, length-append, append-nil}
 use Rattle.std.proofs.Math.Seq.{drop-append_seam, take-append_seam, get_or-append_seam}
-use Rattle.std.proofs.lemmas.List.Elements.{All-head, All-tail, All-push}
+use Rattle.std.proofs.lemmas.List.Elements.{All-head, All-tail}
 use Rattle.events.specs.declared.answer.Entry.{Entry}
 use Rattle.world.specs.World.{World}
 use Rattle.hub.specs.History.{State, IsOpening, IsLegalRun}
 use Rattle.hub.specs.Segments.{Part, IsPart, IsReached, held, first_number}
 use Rattle.segments.specs.Joins.{parts_of, has_number, due, is_empty, place, may_precede, is_between, may_be_before, is_judged, IsRight, AreOneHistory}
 use Rattle.hub.proofs.Finds.{any-none}
+use Rattle.segments.proofs.Pushed.{All-back}
 use Rattle.hub.proofs.Parts.{legal-append, run-number, opens}
 
 -- ---- lists
@@ -630,11 +631,11 @@ entered-by segments s one h lh is (inr k) q lq kq grows =
     by true e never = ap (λ b. (length s.entries == 0) || b) e ∙ or-true (length s.entries == 0)
     by false e never = absurd (never (leb-false _ _ e))
 
-pub facts : (segments : List Part) (s : State) → All IsPart segments → IsPart (held s) → ((n : ℕ) → IsRight segments s n) → Facts (parts_of segments s) (held s) s.world.number (is_judged s)
-facts segments s parts own right =
+pub facts : (segments : List Part) (s : State) → All IsPart (parts_of segments s) → ((n : ℕ) → IsRight segments s n) → Facts (parts_of segments s) (held s) s.world.number (is_judged s)
+facts segments s all right =
     let ps = parts_of segments s in
     let d = held s in
-    let all : All IsPart ps = All-push IsPart segments d parts own in
+    let own : IsPart d = All-back IsPart segments d all in
     let len = length-append segments (d ∷ []) in
     let within : length segments < length ps = omega (arith, len) in
     let is : get_or ps (length segments) d ≡ d = get_or-append_seam segments d [] d in

@@ -5,24 +5,15 @@ use Rattle.std.specs.List.{list_any}
 use Rattle.std.proofs.lemmas.Option.{IfSome_then}
 use Rattle.std.proofs.lemmas.Bool.{lt-ltb, le-ltb, le-leb, lt-leb, ltb-true, ltb-false, leb-true, leb-false, eqb-true, eq-eqb}
 use Rattle.std.proofs.lemmas.List.{take_more}
-use Rattle.std.proofs.lemmas.List.Elements.{All-head, All-tail, All-nil, All-cons, All-push}
+use Rattle.std.proofs.lemmas.List.Elements.{All-head, All-tail, All-push}
 use Rattle.hub.specs.History.{State}
 use Rattle.hub.specs.Segments.{Part, held, first_number}
 use Rattle.hub.proofs.Lists.{filter_same_on}
 use Rattle.hub.proofs.Finds.{any-none}
 use Rattle.segments.specs.Joins.{parts_of, has_number, due, is_judged, Begins, IsRight}
 use Rattle.segments.specs.Search.{lesser, IsBelow, IsInPlace, IsBegun, IsClear, IsFaultOf, AreNumbered}
+use Rattle.segments.proofs.Pushed.{All-front, All-back}
 use Rattle.segments.proofs.Joined.{any-one}
-
--- ---- a list with one more
-
-pub All-front : {X : Type 0} (P : X → Type 0) (xs : List X) (y : X) → All P (xs ++ y ∷ []) → All P xs
-All-front P [] y h = All-nil P
-All-front P (x ∷ xs) y h = All-cons P x xs (All-head P x (xs ++ y ∷ []) h) (All-front P xs y (All-tail P x (xs ++ y ∷ []) h))
-
-pub All-back : {X : Type 0} (P : X → Type 0) (xs : List X) (y : X) → All P (xs ++ y ∷ []) → P y
-All-back P [] y h = All-head P y [] h
-All-back P (x ∷ xs) y h = All-back P xs y (All-tail P x (xs ++ y ∷ []) h)
 
 -- ---- the lesser of two
 

@@ -1,3 +1,4 @@
+mod Pushed
 mod Joined
 mod Least
 mod Before

@@ -23,25 +23,24 @@ pub fn joins(segments: &[Segment], hub: &Hub) -> Result<(), u64>
     ensures least { IsLeastFault segments.now hub.now result }
     ensures history { OnOk result (AreOneHistory segments.now hub.now) }
 {
-    known_parts(segments);
-    hub.known();
-    // Tells the prover that the last number is below 2^64.
-    hub.number();
+    known_parts(segments, hub);
     match least_fault(segments, hub) {
         None => Ok(()),
         Some(number) => Err(number),
     }
 }
 
-/// Tells what every segment keeps.
-fn known_parts(segments: &[Segment])
-    ensures parts { All IsPart segments.now }
-    ensures numbers { AreNumbered segments.now }
+/// Tells what every part keeps.
+fn known_parts(segments: &[Segment], hub: &Hub)
+    ensures parts { All IsPart (parts_of segments.now hub.now) }
+    ensures numbers { AreNumbered (parts_of segments.now hub.now) }
 {
     for segment in segments {
         segment.known();
         segment.closing().number();
     }
+    hub.known();
+    hub.number();
 }
 
 /// The least number at which something is wrong: it is 1, or the first number of a part, or the one after its last.

@@ -4,5 +4,4 @@ use Rattle.segments.proofs.joining.joins.Goals as goal
 
 pub returns-in-None-clause-history : goal.returns-in-None-clause-history
 returns-in-None-clause-history c =
-    one-history c.args.segments.now c.args.hub.now
-    (facts c.args.segments.now c.args.hub.now c.known_parts.ensures.parts (record { reached = c.known.ensures.reached; legal = c.known.ensures.legal }) c.in-None.ensures.below)
+    one-history c.args.segments.now c.args.hub.now (facts c.args.segments.now c.args.hub.now c.known_parts.ensures.parts c.in-None.ensures.below)
