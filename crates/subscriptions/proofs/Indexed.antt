@@ -18,8 +18,6 @@ use Rattle.sublist.specs.declared.tree.Sublist.{Sublist}
 use Rattle.sublist.proofs.Index.{same_path-itself}
 use Rattle.subscriptions.specs.declared.subscription.Subscription.{Subscription}
 use Rattle.subscriptions.specs.declared.trees.Trees.{Trees}
-use Rattle.events.specs.Messages.{Message}
-use Rattle.subscriptions.specs.Addressing.{addressed_to}
 use Rattle.subscriptions.specs.Changes.{is_id, bumped, capped}
 use Rattle.subscriptions.specs.Index.{holds, is_of, listed, IsSame, IsWith, IsWithout, IsWithoutAll, AreIndexesOf, ids_of, if_any, found_by}
 use Rattle.subscriptions.specs.Kept.{IsAbove, IsKept, NoneLike, Apart}
@@ -319,10 +317,9 @@ found_by_ids k (s ∷ subs) apart =
     ]
 
 -- the first of them, and the others behind
-pub found_first : (m : Message) (subs : List Subscription) (id : ℕ) (ids : List ℕ) →
-    map (addressed_to m) (found_by subs (id ∷ ids)) ≡ map (addressed_to m) (found_by subs (id ∷ [])) ++ map (addressed_to m) (found_by subs ids)
-found_first m subs id ids = here (find (λ (s : Subscription). s.id == id) subs)
+pub found_first : (subs : List Subscription) (id : ℕ) (ids : List ℕ) → found_by subs (id ∷ ids) ≡ found_by subs (id ∷ []) ++ found_by subs ids
+found_first subs id ids = here (find (λ (s : Subscription). s.id == id) subs)
   where
-    here : (o : Option Subscription) → map (addressed_to m) (if_any o ++ found_by subs ids) ≡ map (addressed_to m) (if_any o ++ []) ++ map (addressed_to m) (found_by subs ids)
+    here : (o : Option Subscription) → if_any o ++ found_by subs ids ≡ (if_any o ++ []) ++ found_by subs ids
     here None = refl
     here (Some s) = refl

@@ -1,5 +1,5 @@
 //! A message addressed to subscriptions.
-ghost use Rattle.std.specs.Prelude.{◌≡◌, IfOk};
+ghost use Rattle.std.specs.Prelude.{◌≡◌, ◌++◌, IfOk, OnOk, map};
 ghost use Rattle.subscriptions.specs.Addressing.{addressed_to};
 
 use crate::Subscription;
@@ -7,8 +7,25 @@ use events::{Addressed, Delivery, Message};
 use lists::{Copying, NoMemory, Shared};
 use std::alloc::Global;
 
+/// Addresses a message to subscriptions, in turn, and adds these deliveries. On `NoMemory` some of them may have been
+/// added.
+pub fn address_each(
+    alloc: Global,
+    message: &Shared<Message>,
+    subscriptions: &[&Subscription],
+    all: &mut Vec<Addressed>,
+) -> Result<(), NoMemory>
+    ensures { OnOk result (all.new.items ≡ all.old.items
+        ++ map (addressed_to message.now) (map (λ s. s.now) subscriptions.now)) }
+{
+    for subscription in subscriptions {
+        all.push(address(alloc, message, subscription)?)?;
+    }
+    Ok(())
+}
+
 /// The message on its way to a subscription. It is not copied: the delivery is one more owner.
-pub(crate) fn address(
+fn address(
     alloc: Global,
     message: &Shared<Message>,
     subscription: &Subscription,

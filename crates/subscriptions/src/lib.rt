@@ -9,5 +9,6 @@ mod subscriptions;
 mod table;
 mod trees;
 
+pub use address::address_each;
 pub use subscription::Subscription;
 pub use subscriptions::{Keeps, Subscriptions};

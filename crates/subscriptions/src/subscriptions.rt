@@ -5,7 +5,7 @@ use crate::Subscription;
 use crate::sids::{Sids, forget_sids};
 use crate::table::Table;
 use bytes::Bytes;
-use events::{Addressed, Item, Message, Sid};
+use events::{Addressed, Item, Sid};
 use lists::{NoMemory, Shared};
 use std::alloc::Global;
 use std::collections::btree_map::Values;
@@ -46,7 +46,7 @@ impl Model for Subscriptions {
 }
 
 impl Subscriptions {
-    ghost use Rattle.std.specs.Prelude.{◌≡◌, ◌==◌, ◌<◌, ◌++◌, ◌∷◌, [], OnOk, OnErr, All, AllPairs, false, length, map, filter, not, find};
+    ghost use Rattle.std.specs.Prelude.{◌≡◌, ◌==◌, ◌<◌, ◌++◌, ◌∷◌, [], IfOk, OnOk, OnErr, All, AllPairs, false, length, map, filter, not, find};
     ghost use Rattle.std.specs.Option.{option_copied};
     ghost use Rattle.std.specs.Map.Iter.{ShowsInOrder, deref};
     ghost use Rattle.subscriptions.specs.Subscriptions.{has_same_sid, stands, has_all, subscription_of, having};
@@ -118,20 +118,12 @@ impl Subscriptions {
         SUBSCRIPTIONS <= self.sids.count_of(conn)
     }
 
-    /// Addresses a message to the subscriptions of an account that have its subject, oldest first, and adds these
-    /// deliveries. On `NoMemory` some of them may have been added.
-    pub fn address(
-        &self,
-        alloc: Global,
-        account: &[u8],
-        message: &Shared<Message>,
-        all: &mut Vec<Addressed>,
-    ) -> Result<(), NoMemory>
-        ensures { OnOk result (all.new.items ≡ all.old.items
-            ++ map (addressed_to message.now) (having account.now message.now.subject self.now)) }
+    /// Those of an account that have the subject, oldest first. `NoMemory` where memory could not be had.
+    pub fn having(&self, account: &[u8], subject: &Subject) -> Result<Vec<&Subscription>, NoMemory>
+        ensures { IfOk result (λ found. map (λ s. s.now) found.items ≡ having account.now subject.now self.now) }
     {
-        self.table.address(alloc, account, message, all)?;
-        Ok(())
+        let found = self.table.having(account, subject)?;
+        Ok(found)
     }
 
     /// Adds a subscription, the youngest of all, which with a queue name is a member of that queue group. On `NoMemory`

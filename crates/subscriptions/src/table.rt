@@ -1,23 +1,23 @@
 //! The standing subscriptions by their ids, and the trees that find them by subject.
 ghost use Rattle.std.specs.Prelude.{◌≡◌, ◌==◌};
 
-use crate::address::address;
 use crate::change::{bump_at, cap_at, forget_failing, take_out};
 use crate::sids::Own;
 use crate::trees::Trees;
 use crate::{Keeps, Subscription};
-use events::{Addressed, Message};
-use lists::{NoMemory, Shared};
+use lists::NoMemory;
 use std::alloc::Global;
 use std::collections::BTreeMap;
 use std::collections::btree_map::Values;
 use std::hash::RandomState;
 use std::marker::Model;
+use subjects::Subject;
 
 /// The standing subscriptions, seen as a list, oldest first. The trees are the list's index: they find those that have a
 /// subject.
 #[derive(Drop)]
 pub(crate) struct Table {
+    alloc: Global,
     by_id: BTreeMap<u64, Subscription>,
     trees: Trees,
 }
@@ -39,13 +39,12 @@ impl Model for Table {
 }
 
 impl Table {
-    ghost use Rattle.std.specs.Prelude.{◌≡◌, ◌==◌, ◌<◌, ◌++◌, ◌∷◌, [], OnOk, OnErr, IfErr, All, AllPairs, false, length, map, filter, not, find};
+    ghost use Rattle.std.specs.Prelude.{◌≡◌, ◌==◌, ◌<◌, ◌++◌, ◌∷◌, [], IfOk, OnOk, OnErr, IfErr, All, AllPairs, false, length, map, filter, not, find};
     ghost use Rattle.std.specs.Option.{option_copied};
     ghost use Rattle.std.specs.Map.Iter.{ShowsInOrder, deref};
     ghost use Rattle.std.specs.HashMap.{values, IsUnique};
     ghost use Rattle.subscriptions.specs.declared.subscription.Subscription.{Subscription};
     ghost use Rattle.subscriptions.specs.Subscriptions.{has_same_sid, stands, having};
-    ghost use Rattle.subscriptions.specs.Addressing.{addressed_to};
     ghost use Rattle.subscriptions.specs.BySid.{same_sid};
     ghost use Rattle.subscriptions.specs.Limit.{has_ended, unended};
     ghost use Rattle.subscriptions.specs.Kept.{Apart};
@@ -59,6 +58,7 @@ impl Table {
         ensures { result ≡ [] }
     {
         Table {
+            alloc,
             by_id: BTreeMap::new(alloc),
             trees: Trees::new(alloc, keys),
         }
@@ -98,54 +98,36 @@ impl Table {
         found
     }
 
-    /// Addresses a message to the subscriptions of an account that have its subject, oldest first, and adds these
-    /// deliveries. On `NoMemory` some of them may have been added.
-    pub fn address(
-        &self,
-        alloc: Global,
-        account: &[u8],
-        message: &Shared<Message>,
-        all: &mut Vec<Addressed>,
-    ) -> Result<(), NoMemory>
-        ensures { OnOk result (all.new.items ≡ all.old.items
-            ++ map (addressed_to message.now) (having account.now message.now.subject self.now)) }
+    /// Those of an account that have the subject, oldest first.
+    pub fn having(&self, account: &[u8], subject: &Subject) -> Result<Vec<&Subscription>, NoMemory>
+        ensures { IfOk result (λ found. map (λ s. s.now) found.items ≡ having account.now subject.now self.now) }
     {
-        let found = self.trees.matching(account, message.get().subject())?;
-        self.address_each(alloc, found.as_slice(), message, all)?;
-        Ok(())
+        let ids = self.trees.matching(account, subject)?;
+        let found = self.with_ids(ids.as_slice())?;
+        Ok(found)
     }
 
-    /// Adds the deliveries for the subscriptions of these ids.
+    /// The subscriptions of these ids.
     #[tactic(auto, using(crate::proofs::Indexed::found_first))]
-    fn address_each(
-        &self,
-        alloc: Global,
-        ids: &[u64],
-        message: &Shared<Message>,
-        all: &mut Vec<Addressed>,
-    ) -> Result<(), NoMemory>
-        ensures { OnOk result (all.new.items ≡ all.old.items ++ map (addressed_to message.now) (found_by self.now ids.now)) }
+    fn with_ids(&self, ids: &[u64]) -> Result<Vec<&Subscription>, NoMemory>
+        ensures { IfOk result (λ found. map (λ s. s.now) found.items ≡ found_by self.now ids.now) }
     {
+        let mut found = Vec::with_capacity(self.alloc, ids.len())?;
         for id in ids {
-            self.address_one(alloc, *id, message, all)?;
+            self.add_found(*id, &mut found)?;
         }
-        Ok(())
+        Ok(found)
     }
 
-    /// Adds the delivery for the subscription of an id.
-    fn address_one(
-        &self,
-        alloc: Global,
-        id: u64,
-        message: &Shared<Message>,
-        all: &mut Vec<Addressed>,
-    ) -> Result<(), NoMemory>
-        ensures { OnOk result (all.new.items ≡ all.old.items ++ map (addressed_to message.now) (found_by self.now (id ∷ []))) }
+    /// Adds the subscription of an id.
+    fn add_found<'a>(&'a self, id: u64, found: &mut Vec<&'a Subscription>) -> Result<(), NoMemory>
+        ensures { OnOk result (map (λ s. s.now) found.new.items
+            ≡ map (λ s. s.now) found.old.items ++ found_by self.now (id ∷ [])) }
     {
         match self.get(id) {
             None => Ok(()),
             Some(subscription) => {
-                all.push(address(alloc, message, subscription)?)?;
+                found.push(subscription)?;
                 Ok(())
             }
         }

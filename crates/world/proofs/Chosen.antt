@@ -1,6 +1,6 @@
 -- Of each queue group one is chosen, whoever gathers its members.
-use Rattle.std.proofs.Common.{◌≡◌, ◌∙◌, ◌<◌, ◌==◌, ◌%◌, ◌^◌, ◌||◌, ℕ, Bool, true, false, cond, List, [], ◌∷◌, map, filter, length, Option, Some, None, slice_get, get_or, ap, sym, refl, subst, inl, inr, arith, Contains, ◌⊎◌, nat_lt}
-use Rattle.std.specs.Prelude.{All, AllPairs, nat_eq, is_some}
+use Rattle.std.proofs.Common.{◌≡◌, ◌∙◌, ◌==◌, ◌%◌, ◌^◌, ◌||◌, ℕ, Bool, true, false, cond, List, [], ◌∷◌, map, filter, length, Option, Some, None, slice_get, get_or, ap, sym, refl, subst, inl, inr, arith, Contains, ◌⊎◌, not, nat_lt}
+use Rattle.std.specs.Prelude.{All, nat_eq, is_some}
 use Rattle.std.specs.List.{list_any, filter_map, cons_option}
 use Rattle.std.specs.Option.{option_map}
 use Rattle.std.proofs.lemmas.Bool.{cases_Bool, cases_eq, false≢true, eqb-true, ltb-true, ltb-false}
@@ -13,12 +13,9 @@ use Rattle.queue_choice.specs.declared.choice.Member.{Member}
 use Rattle.queue_choice.specs.Choices.{name_of, names_of, same_name, group, chosen}
 use Rattle.queue_choice.proofs.Names.{same-is, same-itself, any-names}
 use Rattle.queue_choice.proofs.Law.{picked}
-use Rattle.events.specs.Messages.{Message}
-use Rattle.events.specs.declared.answer.Addressed.{Addressed}
-use Rattle.subscriptions.specs.Addressing.{addressed_to}
 use Rattle.subscriptions.specs.declared.subscription.Subscription.{Subscription}
 use Rattle.world.specs.Routing.{is_named, is_member, members, is_the, is_served_by, is_served, served}
-use Rattle.world.specs.Chosen.{Named, named_by, named, named_member, is_queued, is_kept_by, is_kept, is_choice}
+use Rattle.world.specs.Chosen.{Rising, Named, named_by, named, named_member, is_queued, is_other, is_kept_alone, is_kept_by, is_kept, is_choice}
 
 -- ---- lists
 
@@ -26,15 +23,19 @@ any-map : {X Y : Type 0} (p : Y → Bool) (f : X → Y) (xs : List X) → list_a
 any-map p f [] = refl
 any-map p f (x ∷ xs) = ap (λ b. p (f x) || b) (any-map p f xs)
 
-filter_map-map : {X Y Z : Type 0} (h : Y → Option Z) (f : X → Y) (xs : List X) → filter_map h (map f xs) ≡ filter_map (λ x. h (f x)) xs
-filter_map-map h f [] = refl
-filter_map-map h f (x ∷ xs) = ap (cons_option (h (f x))) (filter_map-map h f xs)
-
-filter-map : {X Y : Type 0} (p : Y → Bool) (f : X → Y) (xs : List X) → filter p (map f xs) ≡ map f (filter (λ x. p (f x)) xs)
+pub filter-map : {X Y : Type 0} (p : Y → Bool) (f : X → Y) (xs : List X) → filter p (map f xs) ≡ map f (filter (λ x. p (f x)) xs)
 filter-map p f [] = refl
 filter-map p f (x ∷ xs) = elim (cases_Bool (p (f x))) [
   | inl y ↦ rw y (ap (λ ys. f x ∷ ys) (filter-map p f xs))
   | inr e ↦ rw e (filter-map p f xs)
+]
+
+-- tests that agree wherever a third fails keep the same ones, where all fail it
+same_where : {X : Type 0} (t p q : X → Bool) (xs : List X) → list_any t xs ≡ false → ((x : X) → t x ≡ false → p x ≡ q x) → filter p xs ≡ filter q xs
+same_where t p q [] none same = refl
+same_where t p q (x ∷ xs) none same = elim (cases_Bool (t x)) [
+  | inl y ↦ absurd (false≢true (sym none ∙ ap (λ b. b || list_any t xs) y))
+  | inr e ↦ ap (λ b. cond b (x ∷ filter p xs) (filter p xs)) (same x e) ∙ ap (λ l. cond (q x) (x ∷ l) l) (same_where t p q xs (rw e at none) same)
 ]
 
 -- tests that agree at each of the elements keep the same ones
@@ -77,9 +78,6 @@ chosen-map f word xs =
 
 -- ---- ids
 
-abbrev pub Rising : List Subscription → Type 0
-Rising subs = AllPairs (λ (s t : Subscription). s.id < t.id) subs
-
 -- where ids rise, an id is that of one alone
 same_id : (xs : List Subscription) → Rising xs → (s t : Subscription) → Contains xs s → Contains xs t → s.id ≡ t.id → s ≡ t
 same_id xs rising s t (i, si, es) (j, tj, et) e = here (cases_eq i j)
@@ -106,9 +104,6 @@ same_id xs rising s t (i, si, es) (j, tj, et) e = here (cases_eq i j)
 abbrev id_of : Subscription → ℕ
 id_of s = s.id
 
-abbrev named_sub : Subscription → Option Named
-named_sub s = named_by s.queue s.id
-
 abbrev has_name : List ℕ → Named → Bool
 has_name n p = same_name n p.0
 
@@ -120,12 +115,12 @@ ids_of_group n (m ∷ ms) = elim (cases_Bool (same_name n (name_of m))) [
   | inr e ↦ rw e (ids_of_group n ms)
 ]
 
-ids_of_members : (n : List ℕ) (xs : List Subscription) → map id_of (members n xs) ≡ map (λ (p : Named). p.1) (filter (has_name n) (filter_map named_sub xs))
+ids_of_members : (n : List ℕ) (xs : List Subscription) → map id_of (members n xs) ≡ map (λ (p : Named). p.1) (filter (has_name n) (filter_map named xs))
 ids_of_members n [] = refl
 ids_of_members n (s ∷ xs) = here s.queue (ids_of_members n xs)
   where
-    here : (o : Option (List Token)) → map id_of (members n xs) ≡ map (λ (p : Named). p.1) (filter (has_name n) (filter_map named_sub xs)) →
-        map id_of (cond (is_named n o) (s ∷ members n xs) (members n xs)) ≡ map (λ (p : Named). p.1) (filter (has_name n) (cons_option (named_by o s.id) (filter_map named_sub xs)))
+    here : (o : Option (List Token)) → map id_of (members n xs) ≡ map (λ (p : Named). p.1) (filter (has_name n) (filter_map named xs)) →
+        map id_of (cond (is_named n o) (s ∷ members n xs) (members n xs)) ≡ map (λ (p : Named). p.1) (filter (has_name n) (cons_option (named_by o s.id) (filter_map named xs)))
     here None later = later
     here (Some q) later = elim (cases_Bool (same_name n (text_of q))) [
       | inl y ↦ rw y (ap (λ l. s.id ∷ l) later)
@@ -145,18 +140,18 @@ abbrev is_name : List ℕ → Option Named → Bool
 is_name n None = false
 is_name n (Some p) = has_name n p
 
-named-any : (n : List ℕ) (xs : List Subscription) → list_any (has_name n) (filter_map named_sub xs) ≡ list_any (λ s. is_name n (named_sub s)) xs
+named-any : (n : List ℕ) (xs : List Subscription) → list_any (has_name n) (filter_map named xs) ≡ list_any (λ s. is_name n (named s)) xs
 named-any n [] = refl
-named-any n (s ∷ xs) = here (named_sub s) (named-any n xs)
+named-any n (s ∷ xs) = here (named s) (named-any n xs)
   where
-    here : (o : Option Named) → list_any (has_name n) (filter_map named_sub xs) ≡ list_any (λ s. is_name n (named_sub s)) xs →
-        list_any (has_name n) (cons_option o (filter_map named_sub xs)) ≡ (is_name n o || list_any (λ s. is_name n (named_sub s)) xs)
+    here : (o : Option Named) → list_any (has_name n) (filter_map named xs) ≡ list_any (λ s. is_name n (named s)) xs →
+        list_any (has_name n) (cons_option o (filter_map named xs)) ≡ (is_name n o || list_any (λ s. is_name n (named s)) xs)
     here None later = later
     here (Some p) later = ap (λ b. has_name n p || b) later
 
 -- ---- the choice
 
-module _ (xs : List Subscription) (rising : Rising xs) (ms : List Member) (are : map named_member ms ≡ filter_map named_sub xs) (word : ℕ) (cs : List Member)
+module _ (xs : List Subscription) (rising : Rising xs) (ms : List Member) (are : map named_member ms ≡ filter_map named xs) (word : ℕ) (cs : List Member)
     (which : map Some cs ≡ map (λ name. chosen word (group name ms)) (names_of ms)) where
   abbrev chosen_id : List ℕ → Option ℕ
   chosen_id n = option_map id_of (chosen word (members n xs))
@@ -194,8 +189,8 @@ module _ (xs : List Subscription) (rising : Rising xs) (ms : List Member) (are :
       ∙ sym (any-map (has_name (text_of q)) named_member ms)
       ∙ ap (list_any (has_name (text_of q))) are
       ∙ named-any (text_of q) xs
-      ∙ list_any_at (λ s. is_name (text_of q) (named_sub s)) xs k s below
-      (subst (λ (x : Subscription). is_name (text_of q) (named_sub x) ≡ true) (sym at)
+      ∙ list_any_at (λ s. is_name (text_of q) (named s)) xs k s below
+      (subst (λ (x : Subscription). is_name (text_of q) (named x) ≡ true) (sym at)
       (subst (λ o. is_name (text_of q) (named_by o s.id) ≡ true) (sym is) (same-itself (text_of q))))
 
   kept-served : (ids : List ℕ) → ((i : ℕ) → list_any (nat_eq i) ids ≡ is_choice cs i) → (s : Subscription) → Contains xs s → (o : Option (List Token)) → s.queue ≡ o →
@@ -206,32 +201,58 @@ module _ (xs : List Subscription) (rising : Rising xs) (ms : List Member) (are :
       ∙ any-one (λ n. is_id s.id (chosen_id n)) (text_of q) (names_of ms) (there s has q is) (λ n met. of_name n s has q is met)
       ∙ the_id (chosen word (members (text_of q) xs)) s
 
--- what is kept by the ids of the choices are the deliveries for those that are served
-pub kept_are : (m : Message) (xs : List Subscription) (all : List Addressed) (ms cs : List Member) (ids : List ℕ) (word : ℕ) → Rising xs → all ≡ map (addressed_to m) xs →
-    map named_member ms ≡ filter_map named all → map Some cs ≡ map (λ name. chosen word (group name ms)) (names_of ms) → ((i : ℕ) → list_any (nat_eq i) ids ≡ is_choice cs i) →
-    filter (is_kept ids) all ≡ map (addressed_to m) (served word xs)
-kept_are m xs all ms cs ids word rising addressed are which those =
-    ap (filter (is_kept ids)) addressed
-    ∙ filter-map (is_kept ids) (addressed_to m) xs
-    ∙ ap (map (addressed_to m)) (same_on (λ (s : Subscription). is_kept_by ids s.id s.queue) (is_served word xs) xs
-    (All-weaker (Contains xs) (λ s. is_kept_by ids s.id s.queue ≡ is_served word xs s)
-    (λ s has. kept-served xs rising ms (are ∙ ap (filter_map named) addressed ∙ filter_map-map named (addressed_to m) xs) word cs which ids those s has s.queue refl)
-    xs (All-contains_itself xs)))
+-- what is kept by the ids of the choices are those that are served
+pub kept_are : (xs : List Subscription) (ms cs : List Member) (ids : List ℕ) (word : ℕ) → Rising xs →
+    map named_member ms ≡ filter_map named xs → map Some cs ≡ map (λ name. chosen word (group name ms)) (names_of ms) → ((i : ℕ) → list_any (nat_eq i) ids ≡ is_choice cs i) →
+    filter (is_kept ids) xs ≡ served word xs
+kept_are xs ms cs ids word rising are which those =
+    same_on (is_kept ids) (is_served word xs) xs
+    (All-weaker (Contains xs) (λ s. is_kept ids s ≡ is_served word xs s)
+    (λ s has. kept-served xs rising ms are word cs which ids those s has s.queue refl)
+    xs (All-contains_itself xs))
 
 -- where nobody has a queue, all are served
-pub plain_are : (m : Message) (xs : List Subscription) (all : List Addressed) (word : ℕ) → all ≡ map (addressed_to m) xs → list_any is_queued all ≡ false → all ≡ map (addressed_to m) (served word xs)
-plain_are m xs all word addressed none = addressed ∙ ap (map (addressed_to m)) (sym (each (is_served word xs) xs plain (λ s is. by s s.queue refl is)))
+pub plain_are : (xs : List Subscription) (word : ℕ) → list_any is_queued xs ≡ false → xs ≡ served word xs
+plain_are xs word none = sym (all_pass xs) ∙ same_where is_queued (λ s. true) (is_served word xs) xs none (λ s is. by s s.queue refl is)
   where
-    plain : list_any (λ (s : Subscription). is_some s.queue) xs ≡ false
-    plain = sym (any-map is_queued (addressed_to m) xs) ∙ sym (ap (list_any is_queued) addressed) ∙ none
+    all_pass : (ys : List Subscription) → filter (λ s. true) ys ≡ ys
+    all_pass [] = refl
+    all_pass (s ∷ ys) = ap (λ l. s ∷ l) (all_pass ys)
 
-    by : (s : Subscription) (o : Option (List Token)) → s.queue ≡ o → is_some o ≡ false → is_served_by word xs s s.queue ≡ true
-    by s None e is = ap (is_served_by word xs s) e
+    by : (s : Subscription) (o : Option (List Token)) → s.queue ≡ o → is_some o ≡ false → true ≡ is_served_by word xs s s.queue
+    by s None e is = sym (ap (is_served_by word xs s) e)
     by s (Some q) e is = absurd (false≢true (sym is))
 
-    each : (p : Subscription → Bool) (ys : List Subscription) → list_any (λ (s : Subscription). is_some s.queue) ys ≡ false → ((s : Subscription) → is_some s.queue ≡ false → p s ≡ true) → filter p ys ≡ ys
-    each p [] none passes = refl
-    each p (s ∷ ys) none passes = elim (cases_Bool (is_some s.queue)) [
-      | inl y ↦ absurd (false≢true (sym none ∙ ap (λ b. b || list_any (λ (s : Subscription). is_some s.queue) ys) y))
-      | inr e ↦ ap (λ b. cond b (s ∷ filter p ys) (filter p ys)) (passes s e) ∙ ap (λ l. s ∷ l) (each p ys (rw e at none) passes)
-    ]
+-- two names that are not told apart are the same
+not_other : (queue q : List Token) → is_other queue (Some q) ≡ false → same_name (text_of queue) (text_of q) ≡ true
+not_other queue q e = elim (cases_Bool (same_name (text_of queue) (text_of q))) [
+  | inl y ↦ y
+  | inr n ↦ absurd (false≢true (sym e ∙ ap not n))
+]
+
+-- where there is one queue alone, its members are all that are of a group
+alone_members : (queue : List Token) (xs : List Subscription) → list_any (λ s. is_other queue s.queue) xs ≡ false → members (text_of queue) xs ≡ filter is_queued xs
+alone_members queue xs none = same_where (λ s. is_other queue s.queue) (is_member (text_of queue)) is_queued xs none (λ s e. by s.queue e)
+  where
+    by : (o : Option (List Token)) → is_other queue o ≡ false → is_named (text_of queue) o ≡ is_some o
+    by None e = refl
+    by (Some q) e = not_other queue q e
+
+-- and the one that is chosen of them is served, and no other
+pub alone_are : (queue : List Token) (xs : List Subscription) (word : ℕ) → list_any (λ s. is_other queue s.queue) xs ≡ false →
+    filter (λ (s : Subscription). is_kept_alone (option_map id_of (chosen word (filter is_queued xs))) s.id s.queue) xs ≡ served word xs
+alone_are queue xs word none =
+    same_where (λ s. is_other queue s.queue) (λ (s : Subscription). is_kept_alone (option_map id_of (chosen word (filter is_queued xs))) s.id s.queue) (is_served word xs) xs none
+    (λ s e. by s s.queue e)
+  where
+    kept : (o : Option Subscription) (s : Subscription) (q : List Token) → is_kept_alone (option_map id_of o) s.id (Some q) ≡ is_the o s
+    kept None s q = refl
+    kept (Some c) s q = refl
+
+    by : (s : Subscription) (o : Option (List Token)) → is_other queue o ≡ false →
+        is_kept_alone (option_map id_of (chosen word (filter is_queued xs))) s.id o ≡ is_served_by word xs s o
+    by s None e = refl
+    by s (Some q) e =
+        kept (chosen word (filter is_queued xs)) s q
+        ∙ ap (λ (ms : List Subscription). is_the (chosen word ms) s) (sym (alone_members queue xs none))
+        ∙ ap (λ name. is_the (chosen word (members name xs)) s) (same-is (text_of queue) (text_of q) (not_other queue q e))

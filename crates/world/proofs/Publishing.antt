@@ -1,6 +1,5 @@
 -- A message that is published.
-use Rattle.std.proofs.Common.{◌≡◌, ◌∙◌, ◌&&◌, ℕ, Bool, cond, List, [], ◌∷◌, Option, Some, Ok, map, filter, ap, sym, refl, inl, inr}
-use Rattle.std.proofs.lemmas.Bool.{cases_Bool}
+use Rattle.std.proofs.Common.{◌≡◌, ◌∙◌, ◌&&◌, ℕ, List, Option, Some, Ok, map, ap, sym}
 use Rattle.subjects.specs.Subject.{Token}
 use Rattle.permissions.specs.Verdicts.{publish_verdict}
 use Rattle.permissions.specs.declared.verdict.By.{By}
@@ -14,8 +13,8 @@ use Rattle.sessions.specs.Delivered.{delivered}
 use Rattle.sessions.specs.declared.session.Session.{Session}
 use Rattle.subscriptions.specs.Addressing.{addressed_to}
 use Rattle.subscriptions.specs.Limit.{unended, counted}
-use Rattle.subscriptions.specs.declared.subscription.Subscription.{Subscription}
 use Rattle.world.specs.World.{World}
+use Rattle.world.proofs.Routing.{both}
 use Rattle.world.specs.Routing.{own_view, is_admitted, admitted, is_served, served}
 use Rattle.world.specs.Transition.{in_session, published}
 use Rattle.world.specs.Changes.{AreAddressed, IsDecided}
@@ -28,13 +27,6 @@ addressed_again w z m word all addressed = (
   (λ s. is_admitted w.sessions z (own_view z m) s && is_served word (admitted w z (own_view z m)) s),
   addressed ∙ ap (map (addressed_to m)) (both (is_served word (admitted w z (own_view z m))) (is_admitted w.sessions z (own_view z m)) w.subscriptions),
 )
-  where
-    both : (p q : Subscription → Bool) (xs : List Subscription) → filter p (filter q xs) ≡ filter (λ x. q x && p x) xs
-    both p q [] = refl
-    both p q (x ∷ xs) = elim (cases_Bool (q x)) [
-      | inl y ↦ rw y (ap (λ ys. cond (p x) (x ∷ ys) ys) (both p q xs))
-      | inr e ↦ rw e (both p q xs)
-    ]
 
 -- what is planned for the message is what the transition makes of it
 pub published_is : (w : World) (o : Option Session) (z : Session) (m : Message) (word : ℕ) (s : List Token) (by : By) (all : List Addressed) (items : List Item) →

@@ -1,5 +1,5 @@
 -- A subscription that is asked for.
-use Rattle.std.proofs.Common.{◌≡◌, ◌∙◌, ◌+◌, ◌∷◌, ◌++◌, ℕ, true, false, cond, List, [], Option, Some, Result, Ok, ap, sym, subst, refl}
+use Rattle.std.proofs.Common.{◌≡◌, ◌∙◌, ◌+◌, ◌∷◌, ◌++◌, ℕ, true, false, cond, List, [], Option, Some, Result, Ok, ap, sym, subst}
 use Rattle.subjects.specs.Subject.{Token}
 use Rattle.permissions.specs.Verdicts.{subscribe_verdict}
 use Rattle.permissions.specs.declared.verdict.By.{By}

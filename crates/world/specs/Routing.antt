@@ -37,9 +37,9 @@ may_hear publisher conn = publisher.echo || not (conn == publisher.conn)
 abbrev pub is_open_to : List Session → Session → List Token → ℕ → Option (List Token) → Bool
 is_open_to zs publisher s conn queue = may_hear publisher conn && lets_through s queue (session_of zs conn)
 
--- the same of a delivery, by the subscription that it is for
-abbrev pub is_open : List Session → Session → List Token → Addressed → Bool
-is_open zs publisher s a = is_open_to zs publisher s a.conn a.queue
+-- the same of a subscription, by its connection and its queue name
+abbrev pub is_open : List Session → Session → List Token → Subscription → Bool
+is_open zs publisher s sub = is_open_to zs publisher s sub.conn sub.queue
 
 -- a subscription is admitted where it is of the account and has the subject, may hear the publisher, and its session's
 -- permissions let the message through

@@ -1,51 +1,140 @@
 //! Of each queue group one member.
-ghost use Rattle.std.specs.Prelude.{◌≡◌, ◌==◌, ◌<◌, ◌++◌, ◌∷◌, [], ℕ, List, IfOk, OnOk, AllPairs, filter, map, nat_eq};
+ghost use Rattle.std.specs.Prelude.{◌≡◌, ◌==◌, ◌++◌, ◌∷◌, [], ℕ, false, IfNone, IfOk, OnOk, length, filter, map, nat_eq, slice_get};
 ghost use Rattle.std.specs.List.{list_any, filter_map};
-ghost use Rattle.events.specs.Messages.{Message};
-ghost use Rattle.subscriptions.specs.declared.subscription.Subscription.{Subscription};
-ghost use Rattle.subscriptions.specs.Addressing.{addressed_to};
+ghost use Rattle.std.specs.Option.{option_map};
+ghost use Rattle.queue_choice.specs.Choices.{chosen};
 ghost use Rattle.world.specs.Routing.{served};
-ghost use Rattle.world.specs.Chosen.{named, named_member, is_queued, is_kept, is_choice};
+ghost use Rattle.world.specs.Chosen.{Rising, named, named_member, is_queued, is_other, is_kept, is_kept_alone, is_choice};
 
-use events::Addressed;
 use indexmap::IndexSet;
 use lists::NoMemory;
 use queue_choice::{Choice, Member, choose};
 use std::alloc::Global;
 use std::hash::RandomState;
+use subjects::Subject;
+use subscriptions::Subscription;
 
-/// Whether one of the deliveries is for a member of a queue group.
-fn has_queues(all: &[Addressed]) -> bool
-    ensures { result ≡ list_any is_queued all.now }
+/// The name of the oldest member's queue group, where one of the subscriptions is a member.
+fn first_queue<'a>(all: &[&'a Subscription]) -> Option<&'a Subject>
+    ensures { IfNone result (list_any is_queued (map (λ s. s.now) all.now) ≡ false) }
 {
-    all.iter().any(|addressed| addressed.queue.is_some())
+    for subscription in all {
+        if let Some(queue) = &subscription.queue {
+            return Some(queue);
+        }
+    }
+    None
 }
 
-/// Adds the member of a queue group that a delivery is for, if it is for one.
-fn add_member<'a>(members: &mut Vec<Member<'a>>, addressed: &'a Addressed) -> Result<(), NoMemory>
-    ensures { OnOk result (map named_member members.new.items
-        ≡ map named_member members.old.items ++ filter_map named (addressed.now ∷ [])) }
+/// Whether a subscription is a member of another queue group.
+fn is_other(subscription: &Subscription, queue: &Subject) -> bool
+    ensures { result ≡ is_other queue.now subscription.now.queue }
 {
-    match &addressed.queue {
+    match &subscription.queue {
+        None => false,
+        Some(other) => queue.bytes() != other.bytes(),
+    }
+}
+
+/// Whether one of the subscriptions is a member of another queue group.
+fn has_other(all: &[&Subscription], queue: &Subject) -> bool
+    ensures { result ≡ list_any (λ s. is_other queue.now s.queue) (map (λ s. s.now) all.now) }
+{
+    for subscription in all {
+        if is_other(subscription, queue) {
+            return true;
+        }
+    }
+    false
+}
+
+/// How many are members of queue groups.
+fn count_members(all: &[&Subscription]) -> usize
+    ensures { result ≡ length (filter is_queued (map (λ s. s.now) all.now)) }
+{
+    let mut count = 0;
+    for subscription in all {
+        if subscription.queue.is_some() {
+            count += 1;
+        }
+    }
+    count
+}
+
+/// The id of a member by its number, counted from the oldest, which is 0.
+fn member_at(all: &[&Subscription], number: usize) -> Option<u64>
+    ensures { result ≡ option_map (λ s. s.id) (slice_get (filter is_queued (map (λ s. s.now) all.now)) number) }
+{
+    let mut left = number;
+    for subscription in all {
+        if subscription.queue.is_some() {
+            if left == 0 {
+                return Some(subscription.id);
+            }
+            left -= 1;
+        }
+    }
+    None
+}
+
+/// The id of the member that a word chooses, where all members are of one queue group.
+fn member_for(all: &[&Subscription], word: u64) -> Option<u64>
+    ensures { result ≡ option_map (λ s. s.id) (chosen word (filter is_queued (map (λ s. s.now) all.now))) }
+{
+    let count = count_members(all) as u64;
+    if count == 0 {
+        return None;
+    }
+    let number = word % 0x1_0000_0000 % count;
+    member_at(all, number as usize)
+}
+
+/// Whether a subscription is plain, or the one that is chosen.
+fn is_kept_alone(subscription: &Subscription, id: Option<u64>) -> bool
+    ensures { result ≡ is_kept_alone id subscription.now.id subscription.now.queue }
+{
+    match &subscription.queue {
+        None => true,
+        Some(_) => id == Some(subscription.id),
+    }
+}
+
+/// Drops the members but for the one that is chosen.
+fn keep_alone(all: &mut Vec<&Subscription>, id: Option<u64>)
+    ensures { map (λ s. s.now) all.new.items
+        ≡ filter (λ s. is_kept_alone id s.id s.queue) (map (λ s. s.now) all.old.items) }
+{
+    all.retain(|subscription| is_kept_alone(subscription, id));
+}
+
+/// Adds a subscription that is a member of a queue group.
+fn add_member<'a>(
+    members: &mut Vec<Member<'a>>,
+    subscription: &'a Subscription,
+) -> Result<(), NoMemory>
+    ensures { OnOk result (map named_member members.new.items
+        ≡ map named_member members.old.items ++ filter_map named (subscription.now ∷ [])) }
+{
+    match &subscription.queue {
         None => Ok(()),
         Some(queue) => {
             members.push(Member {
                 queue,
-                id: addressed.id,
+                id: subscription.id,
             })?;
             Ok(())
         }
     }
 }
 
-/// The members of queue groups that deliveries are for, oldest first.
+/// The members of queue groups, oldest first.
 #[tactic(auto, using(crate::proofs::Lists::filter_map_first))]
-fn members_in<'a>(alloc: Global, all: &'a [Addressed]) -> Result<Vec<Member<'a>>, NoMemory>
-    ensures { IfOk result (λ members. map named_member members.items ≡ filter_map named all.now) }
+fn members_in<'a>(alloc: Global, all: &[&'a Subscription]) -> Result<Vec<Member<'a>>, NoMemory>
+    ensures { IfOk result (λ members. map named_member members.items ≡ filter_map named (map (λ s. s.now) all.now)) }
 {
     let mut members = Vec::new(alloc);
-    for addressed in all {
-        add_member(&mut members, addressed)?;
+    for subscription in all {
+        add_member(&mut members, subscription)?;
     }
     Ok(members)
 }
@@ -65,15 +154,15 @@ fn ids_of(
     Ok(ids)
 }
 
-/// The ids of the members that a word chooses, one of each queue group that the deliveries are for.
+/// The ids of the members that a word chooses, one of each queue group.
 fn chosen_ids(
     alloc: Global,
     keys: RandomState,
-    all: &[Addressed],
+    all: &[&Subscription],
     word: u64,
 ) -> Result<IndexSet<u64, RandomState>, NoMemory>
-    ensures { IfOk result (λ ids. (m : Message) (subs : List Subscription) → AllPairs (λ (s t : Subscription). s.id < t.id) subs
-        → all.now ≡ map (addressed_to m) subs → filter (is_kept ids.keys) all.now ≡ map (addressed_to m) (served word subs)) }
+    ensures { IfOk result (λ ids. Rising (map (λ s. s.now) all.now)
+        → filter (is_kept ids.keys) (map (λ s. s.now) all.now) ≡ served word (map (λ s. s.now) all.now)) }
 {
     let members = members_in(alloc, all)?;
     let choices = choose(alloc, keys, members.as_slice(), word)?;
@@ -81,38 +170,43 @@ fn chosen_ids(
     Ok(ids)
 }
 
-/// Whether a delivery is for a plain subscription, or for a member whose id is chosen.
-fn is_kept(ids: &IndexSet<u64, RandomState>, addressed: &Addressed) -> bool
-    ensures { result ≡ is_kept ids.now.keys addressed.now }
+/// Whether a subscription is plain, or a member whose id is chosen.
+fn is_kept(subscription: &Subscription, ids: &IndexSet<u64, RandomState>) -> bool
+    ensures { result ≡ is_kept ids.now.keys subscription.now }
 {
-    match &addressed.queue {
+    match &subscription.queue {
         None => true,
-        Some(_) => ids.contains(&addressed.id),
+        Some(_) => ids.contains(&subscription.id),
     }
 }
 
-/// Drops the deliveries for the members that aren't chosen.
-fn keep_these(all: &mut Vec<Addressed>, ids: &IndexSet<u64, RandomState>)
-    ensures { all.new.items ≡ filter (is_kept ids.now.keys) all.old.items }
+/// Drops the members that aren't chosen.
+fn keep_these(all: &mut Vec<&Subscription>, ids: &IndexSet<u64, RandomState>)
+    ensures { map (λ s. s.now) all.new.items ≡ filter (is_kept ids.now.keys) (map (λ s. s.now) all.old.items) }
 {
-    all.retain(|addressed| is_kept(ids, addressed));
+    all.retain(|subscription| is_kept(subscription, ids));
 }
 
-/// Of the deliveries for members of queue groups those stay whose members the word chooses, one of each group. The others
-/// are dropped. Where there is no queue it takes no memory and drops nothing.
+/// Of the members of queue groups those stay whom the word chooses, one of each group. The others are dropped. Where
+/// there is one group alone, or none, it takes no memory.
 pub(crate) fn keep_chosen(
     alloc: Global,
     keys: RandomState,
-    all: &mut Vec<Addressed>,
+    all: &mut Vec<&Subscription>,
     word: u64,
 ) -> Result<(), NoMemory>
-    ensures { OnOk result ((m : Message) (subs : List Subscription) → AllPairs (λ (s t : Subscription). s.id < t.id) subs
-        → all.old.items ≡ map (addressed_to m) subs → all.new.items ≡ map (addressed_to m) (served word subs)) }
+    ensures { OnOk result (Rising (map (λ s. s.now) all.old.items)
+        → map (λ s. s.now) all.new.items ≡ served word (map (λ s. s.now) all.old.items)) }
 {
-    if !has_queues(all.as_slice()) {
+    let Some(queue) = first_queue(all.as_slice()) else {
+        return Ok(());
+    };
+    if has_other(all.as_slice(), queue) {
+        let ids = chosen_ids(alloc, keys, all.as_slice(), word)?;
+        keep_these(all, &ids);
         return Ok(());
     }
-    let ids = chosen_ids(alloc, keys, all.as_slice(), word)?;
-    keep_these(all, &ids);
+    let id = member_for(all.as_slice(), word);
+    keep_alone(all, id);
     Ok(())
 }

@@ -1,5 +1,5 @@
 //! A message to the subscriptions that it is for.
-ghost use Rattle.std.specs.Prelude.{◌≡◌, filter};
+ghost use Rattle.std.specs.Prelude.{◌≡◌, filter, map};
 ghost use Rattle.std.specs.Option.{option_copied};
 ghost use Rattle.world.specs.Routing.{lets_through, is_open_to, is_open};
 
@@ -10,6 +10,7 @@ use events::{Addressed, Message};
 use lists::{NoMemory, Shared};
 use sessions::{Session, Sessions};
 use subjects::Subject;
+use subscriptions::{Subscription, address_each};
 
 /// Whether the permissions of a session let the subject through, to a subscription with this queue name or with none.
 fn lets_through(session: Option<&Session>, subject: &Subject, queue: &Option<Subject>) -> bool
@@ -35,17 +36,23 @@ fn is_open_to(
     (publisher.echo || conn != publisher.conn) && lets_through(sessions.find(conn), subject, queue)
 }
 
-/// Drops the deliveries for subscriptions that may not be sent the message.
-fn keep_open(all: &mut Vec<Addressed>, sessions: &Sessions, publisher: &Session, subject: &Subject)
-    ensures { all.new.items ≡ filter (is_open sessions.now publisher.now subject.now) all.old.items }
+/// Drops the subscriptions that may not be sent the message.
+fn keep_open(
+    all: &mut Vec<&Subscription>,
+    sessions: &Sessions,
+    publisher: &Session,
+    subject: &Subject,
+)
+    ensures { map (λ s. s.now) all.new.items
+        ≡ filter (is_open sessions.now publisher.now subject.now) (map (λ s. s.now) all.old.items) }
 {
-    all.retain(|addressed| {
+    all.retain(|subscription| {
         is_open_to(
             sessions,
             publisher,
             subject,
-            addressed.conn,
-            &addressed.queue,
+            subscription.conn,
+            &subscription.queue,
         )
     });
 }
@@ -58,7 +65,6 @@ impl World {
     /// The deliveries of a message to those of the publisher's account that it is for, oldest subscription first, in a
     /// vector whose room is used again: to the plain subscriptions that may be sent it, and to the member of each queue
     /// group that the word chooses.
-    #[tactic(auto, using(crate::proofs::Routing::open_deliveries))]
     pub(crate) fn address_all(
         &self,
         publisher: &Session,
@@ -69,14 +75,15 @@ impl World {
         ensures { IfOk result (λ all. all.items ≡ map (addressed_to message.now)
             (served word (admitted self.now publisher.now (own_view publisher.now message.now)))) }
     {
+        self.subscriptions.known();
+        let subject = message.get().subject();
+        let account = publisher.user.account.as_slice();
+        let mut found = self.subscriptions.having(account, subject)?;
+        keep_open(&mut found, &self.sessions, publisher, subject);
+        keep_chosen(self.alloc, self.keys, &mut found, word)?;
         let mut all = room;
         all.clear();
-        self.subscriptions.known();
-        let account = publisher.user.account.as_slice();
-        self.subscriptions
-            .address(self.alloc, account, message, &mut all)?;
-        keep_open(&mut all, &self.sessions, publisher, message.get().subject());
-        keep_chosen(self.alloc, self.keys, &mut all, word)?;
+        address_each(self.alloc, message, found.as_slice(), &mut all)?;
         Ok(all)
     }
 }

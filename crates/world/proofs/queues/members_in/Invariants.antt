@@ -4,5 +4,6 @@ use Rattle.std.specs.List.{filter_map}
 use Rattle.world.specs.Chosen.{named, named_member}
 use Rattle.world.proofs.queues.members_in.Given as goal
 
-abbrev pub invariant-loop-addressed : goal.invariant-loop-addressed
-invariant-loop-addressed l = map named_member l.members.items ++ filter_map named (drop l.addressed-index l.all) ≡ filter_map named l.all
+abbrev pub invariant-loop-subscription : goal.invariant-loop-subscription
+invariant-loop-subscription l =
+    map named_member l.members.items ++ filter_map named (map (λ s. s.now) (drop l.subscription-index l.all)) ≡ filter_map named (map (λ s. s.now) l.all)

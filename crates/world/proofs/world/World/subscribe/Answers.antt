@@ -1,5 +1,5 @@
 -- the session's user's verdict decides, and it has its reason, whatever is answered
-use Rattle.std.proofs.Common.{◌≡◌, ◌∙◌, true, false, Ok, Some, ap, sym, refl}
+use Rattle.std.proofs.Common.{◌∙◌, Ok, ap, sym, refl}
 use Rattle.sessions.specs.Sessions.{session_of}
 use Rattle.world.specs.World.{World}
 use Rattle.events.specs.declared.answer.Outcome.TheVariants.{Subscribed, SameSid, SubLimit, Denied}

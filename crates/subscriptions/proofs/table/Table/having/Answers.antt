@@ -1,0 +1,21 @@
+-- the tree finds the ids of those that have the subject, and each of them is found by its id
+use Rattle.std.proofs.Common.{◌≡◌, ◌∙◌, ap, sym, List}
+use Rattle.std.specs.Map.{values_of}
+use Rattle.subscriptions.specs.Index.{found_by}
+use Rattle.subscriptions.specs.Subscriptions.{has_subject, having}
+use Rattle.subscriptions.specs.declared.subscription.Subscription.{Subscription}
+use Rattle.subscriptions.proofs.Indexed.{found_by_ids}
+use Rattle.subscriptions.proofs.table.Table.having.Goals as goal
+
+pub returns : goal.returns
+returns c =
+    let subs = values_of c.self.inside.by_id.entries in
+    let account = c.args.account.now in
+    let subject = c.args.subject.now in
+    let ids = c.in_ok-ids.ensures subs c.self.invariant.1 c.self.invariant.2 in
+    let found : found_by subs c.as_slice.result.now ≡ having account subject subs =
+    rw (c.as_slice.ensures.value, ids) (found_by_ids (has_subject account subject) subs c.self.invariant.1) in
+    c.in_ok-found.ensures
+    ∙ ap (λ (ss : List Subscription). found_by ss c.as_slice.result.now) (sym c.self.view_is)
+    ∙ found
+    ∙ ap (λ (ss : List Subscription). having account subject ss) c.self.view_is
