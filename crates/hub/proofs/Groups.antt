@@ -12,7 +12,7 @@ use Rattle.queue_choice.specs.Choices.{same_name, chosen}
 use Rattle.queue_choice.proofs.Names.{same-is}
 use Rattle.subscriptions.specs.declared.subscription.Subscription.{Subscription}
 use Rattle.world.specs.Routing.{is_named, is_member, members, is_the, is_served_by, is_served, served}
-use Rattle.world.proofs.Chosen.{Rising}
+use Rattle.world.specs.Chosen.{Rising}
 use Rattle.hub.specs.Guarantee.{is_plain, AreServed}
 use Rattle.hub.proofs.Finds.{AllPairs-head, AllPairs-tail}
 
