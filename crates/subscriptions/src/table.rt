@@ -7,6 +7,7 @@ use crate::trees::Trees;
 use crate::{Keeps, Subscription};
 use lists::NoMemory;
 use std::alloc::Global;
+use std::cell::Cell;
 use std::collections::BTreeMap;
 use std::collections::btree_map::Values;
 use std::hash::RandomState;
@@ -20,6 +21,8 @@ pub(crate) struct Table {
     alloc: Global,
     by_id: BTreeMap<u64, Subscription>,
     trees: Trees,
+    // Room for the ids that a message finds, which the next uses again.
+    ids: Cell<Vec<u64>>,
 }
 
 impl Model for Table {
@@ -61,6 +64,7 @@ impl Table {
             alloc,
             by_id: BTreeMap::new(alloc),
             trees: Trees::new(alloc, keys),
+            ids: Cell::new(Vec::new(alloc)),
         }
     }
 
@@ -102,8 +106,10 @@ impl Table {
     pub fn having(&self, account: &[u8], subject: &Subject) -> Result<Vec<&Subscription>, NoMemory>
         ensures { IfOk result (λ found. map (λ s. s.now) found.items ≡ having account.now subject.now self.now) }
     {
-        let ids = self.trees.matching(account, subject)?;
+        let mut ids = self.ids.replace(Vec::new(self.alloc));
+        self.trees.matching(account, subject, &mut ids)?;
         let found = self.with_ids(ids.as_slice())?;
+        self.ids.set(ids);
         Ok(found)
     }
 

@@ -72,15 +72,24 @@ impl Trees {
         }
     }
 
-    /// The ids of an account's subscriptions that have the subject, oldest first.
-    pub fn matching(&self, account: &[u8], subject: &Subject) -> Result<Vec<u64>, NoMemory>
-        ensures { IfOk result (λ found. (subs : List Subscription) → Apart subs → AreIndexesOf subs self.now
-            → found.items ≡ ids_of (having account.now subject.now subs)) }
+    /// Puts the ids of an account's subscriptions that have the subject, oldest first, in the place of what was in
+    /// `found`.
+    pub fn matching(
+        &self,
+        account: &[u8],
+        subject: &Subject,
+        found: &mut Vec<u64>,
+    ) -> Result<(), NoMemory>
+        ensures { OnOk result ((subs : List Subscription) → Apart subs → AreIndexesOf subs self.now
+            → found.new.items ≡ ids_of (having account.now subject.now subs)) }
     {
         match self.by_account.get(account) {
-            None => Ok(Vec::new(self.alloc)),
-            Some(tree) => match tree.matching(subject) {
-                Ok(found) => Ok(found),
+            None => {
+                found.clear();
+                Ok(())
+            }
+            Some(tree) => match tree.matching_into(subject, found) {
+                Ok(()) => Ok(()),
                 Err(refused) => Err(refused),
             },
         }

@@ -12,7 +12,7 @@ returns c =
     let subs = values_of c.self.inside.by_id.entries in
     let account = c.args.account.now in
     let subject = c.args.subject.now in
-    let ids = c.in_ok-ids.ensures subs c.self.invariant.1 c.self.invariant.2 in
+    let ids = c.in_ok-matching.ensures subs c.self.invariant.1 c.self.invariant.2 in
     let found : found_by subs c.as_slice.result.now ≡ having account subject subs =
     rw (c.as_slice.ensures.value, ids) (found_by_ids (has_subject account subject) subs c.self.invariant.1) in
     c.in_ok-found.ensures

@@ -5,7 +5,7 @@ use Rattle.subscriptions.proofs.trees.Trees.matching.Goals as goal
 
 pub returns-in-None : goal.returns-in-None
 returns-in-None c = λ subs apart index.
-    c.new.ensures.items ∙ found_in_none subs c.args.account.now c.args.subject.now (λ p i. ap (in_tree p i) c.in-None.ensures.value ∙ index.each c.args.account.now p i)
+    c.clear.ensures.items ∙ found_in_none subs c.args.account.now c.args.subject.now (λ p i. ap (in_tree p i) c.in-None.ensures.value ∙ index.each c.args.account.now p i)
 
 pub returns-in-Ok : goal.returns-in-Ok
 returns-in-Ok c = λ subs apart index.
