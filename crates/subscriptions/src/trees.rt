@@ -18,7 +18,8 @@ use sublist::{InsertError, Sublist};
 pub(crate) struct Trees {
     alloc: Global,
     keys: RandomState,
-    by_account: HashMap<Vec<u8>, Sublist, RandomState>,
+    // Accounts stand in the policy and no client makes one, so their names need no hidden keys.
+    by_account: HashMap<Vec<u8>, Sublist>,
 }
 
 impl Trees {
@@ -35,7 +36,7 @@ impl Trees {
         Trees {
             alloc,
             keys,
-            by_account: HashMap::with_hasher(alloc, keys),
+            by_account: HashMap::new(alloc),
         }
     }
 
