@@ -25,10 +25,7 @@ impl World {
     {
         match change {
             Change::Nothing => Ok(()),
-            Change::Open(session) => {
-                self.sessions.push(session)?;
-                Ok(())
-            }
+            Change::Open(session) => self.sessions.push(session),
             Change::Stand {
                 conn,
                 account,
@@ -46,9 +43,8 @@ impl World {
             }
             Change::Deliver(all) => {
                 self.subscriptions.count(all.as_slice(), items_in(told));
-                let mut all = all.into_vec();
-                self.sessions.hand_over_all(&mut all);
-                self.deliveries = all;
+                self.deliveries = all.into_vec();
+                self.sessions.hand_over_all(&mut self.deliveries);
                 Ok(())
             }
             Change::Drain { conn, most } => {

@@ -27,6 +27,6 @@ returns-in-Deliver-clause-ok c =
     subst TellsOf (sym (c.items_in.ensures ∙ fit.0)) (subst OfAll (sym c.as_slice.ensures) (tell_each c.in-Deliver.all before.sessions)) in
     let P : World → Type 0 = λ w. after ≡ done w c.args.change told in
     subst P c.self.view_is (delivered_is before c.args.change told c.in-Deliver.all _ _ c.in-Deliver.is
-    (c.hand_over_all.ensures ∙ ap (λ (all : List Addressed). (delivered all before.sessions).0) c.into_vec-all.ensures)
+    (c.hand_over_all.ensures ∙ ap (λ (all : List Addressed). (delivered all before.sessions).0) c.into_vec.ensures)
     (c.count.ensures.counted fit.1.0 fit.1.1 (c.as_slice.ensures ∙ fit.1.2) tell
     ∙ ap (λ (items : List Item). unended (map (counted items) before.subscriptions)) c.items_in.ensures))
