@@ -1,13 +1,18 @@
 -- The closing audit: each receipt against the history (docs/GUARANTEE.md, "Threads").
-use Rattle.std.specs.Prelude.{◌≡◌, ◌≢◌, ◌≤◌, ◌-◌, ◌++◌, ◌∷◌, ℕ, List, Option, Some, None, All, AllPairs, slice_get}
+use Rattle.std.specs.Prelude.{◌≡◌, ◌≢◌, ◌-◌, ◌++◌, ◌∷◌, ℕ, List, [], Option, Some, None, if◌then◌else◌, All, AllPairs, nat_le, slice_get}
 use Rattle.events.specs.declared.answer.Entry.{Entry}
 use Rattle.shared_hub.specs.Receipts.{Receipt}
 use Rattle.shared_hub.specs.declared.audit.AuditFault.{AuditFault}
 use Rattle.shared_hub.specs.declared.audit.AuditFault.TheVariants.{SeatMissing, ReceiptMismatch, NoMemory}
 
--- the entry of a receipt stands in the history at its number. Numbers begin at 1
+-- the entry with a number, in a history whose numbers rise by one
+abbrev pub entry_in : List Entry → ℕ → Option Entry
+entry_in [] number = None
+entry_in (e ∷ es) number = if nat_le e.number number then slice_get (e ∷ es) (number - e.number) else None
+
+-- the entry of a receipt stands in the history at its number
 abbrev pub Stands : List Entry → Receipt → Type 0
-Stands history r = (1 ≤ r.entry.number) × (slice_get history (r.entry.number - 1) ≡ Some r.entry)
+Stands history r = entry_in history r.entry.number ≡ Some r.entry
 
 -- no receipt of the list has the number
 abbrev pub HasNone : List Receipt → ℕ → Type 0

@@ -1,7 +1,8 @@
 //! The closing audit.
 ghost use Rattle.std.specs.Prelude.{◌≡◌, ◌+◌, sum};
 ghost use Rattle.std.specs.Bool.{Decides};
-ghost use Rattle.shared_hub.specs.Audits.{Stands, HasNone, IsFound};
+ghost use Rattle.std.specs.Option.{option_copied};
+ghost use Rattle.shared_hub.specs.Audits.{Stands, HasNone, IsFound, entry_in};
 
 use crate::{Receipt, Run};
 use alike::Alike;
@@ -30,7 +31,6 @@ pub struct Audit<L: Run> {
     /// How many entries each seat has made, in the order in which the seats were handed in.
     pub counts: Items<u64>,
     ghost counted: { hub.world.number ≡ L.opening + sum counts },
-    ghost whole: { hub.opening.number ≡ 0 },
 }
 
 impl<L: Run> Audit<L> {
@@ -39,8 +39,7 @@ impl<L: Run> Audit<L> {
 
     /// The audit of a hub whose entries since the run opened are as many as the counts tell.
     pub(crate) fn of(hub: Hub, counts: Items<u64>) -> Audit<L>
-        requires counted { hub.world.number ≡ L.opening + sum counts }
-        requires whole { hub.opening.number ≡ 0 }
+        requires { hub.world.number ≡ L.opening + sum counts }
         ensures hub { result.hub ≡ hub }
         ensures counts { result.counts ≡ counts }
     {
@@ -56,7 +55,7 @@ impl<L: Run> Audit<L> {
     #[tactic(auto, using(crate::proofs::Genuine::run_length))]
     pub fn known(&self)
         ensures legal { IsLegalRun self.now.hub.opening self.now.hub.entries self.now.hub.world }
-        ensures entries { length self.now.hub.entries ≡ L.opening + sum self.now.counts }
+        ensures entries { self.now.hub.opening.number + length self.now.hub.entries ≡ L.opening + sum self.now.counts }
     {
         self.hub.known();
     }
@@ -87,13 +86,18 @@ fn is_entered(history: &[Answer], receipt: &Receipt) -> bool
     ensures { Decides result (Stands history.now receipt.now) }
 {
     let entry = receipt.parts().0.get();
-    match entry.number.checked_sub(1) {
+    match entry_at(history, entry.number) {
         None => false,
-        Some(before) => match history.get(before as usize) {
-            None => false,
-            Some(held) => held.get().is_like(entry),
-        },
+        Some(held) => held.get().is_like(entry),
     }
+}
+
+/// The entry with a number, among entries whose numbers rise by one.
+fn entry_at(history: &[Answer], number: u64) -> Option<&Answer>
+    ensures { option_copied result ≡ entry_in history.now number }
+{
+    let first = history.first()?.get().number;
+    history.get(number.checked_sub(first)? as usize)
 }
 
 /// Whether no receipt of the list has the number.

@@ -3,7 +3,7 @@ ghost use Rattle.std.specs.Prelude.{◌≡◌, ◌+◌, ◌≤◌, ℕ};
 
 use crate::Receipt;
 use crate::audit::{Audit, first_mismatch};
-use hub::{Command, Event, Hub, HubRefusal, Ready};
+use hub::{Command, Event, Hub, HubRefusal, Ready, Segment};
 use lists::{Copying, Items, NoMemory};
 use std::alloc::Global;
 use std::collections::VecDeque;
@@ -54,21 +54,20 @@ impl<L: Run> Seat<L> {
 }
 
 /// What lies under the lock: the hub, and the book that counts its entries since the run opened. Each desk is made of a
-/// blank ledger, and changes by `enter` alone, so nobody who holds the lock can put another in its place. Its hub holds
-/// the whole history.
+/// blank ledger, and changes by `enter` and `rotate` alone, so nobody who holds the lock can put another in its place.
 #[derive(Drop)]
 pub struct Desk<L: Run> {
     alloc: Global,
     hub: Hub,
     book: Book<L>,
     ghost counted: { hub.world.number ≡ L.opening + book.total },
-    ghost whole: { hub.opening.number ≡ 0 },
 }
 
 impl<L: Run> Desk<L> {
-    ghost use Rattle.std.specs.Prelude.{◌≡◌, ◌+◌, ◌≤◌, ◌++◌, ◌∷◌, [], IfOk, MatchResult, map, vec_len, vec_capacity};
+    ghost use Rattle.std.specs.Prelude.{◌≡◌, ◌+◌, ◌≤◌, ◌++◌, ◌∷◌, [], IfOk, OnOk, OnErr, MatchResult, map, vec_len, vec_capacity};
     ghost use Rattle.shared_hub.specs.Audits.{IsFound};
     ghost use Rattle.hub.specs.History.{IsLegalRun};
+    ghost use Rattle.hub.specs.Segments.{held, rotated};
     ghost use Rattle.hub.specs.Sound.{IsSound};
     ghost use Rattle.hub.specs.Guarantee.{IsRouted};
     ghost use Rattle.shared_hub.specs.Entering.{IsEntered};
@@ -78,7 +77,6 @@ impl<L: Run> Desk<L> {
         requires name { blank.name ≡ L.name }
         requires parts { blank.parts ≡ L.parts }
         requires opening { hub.world.number ≡ L.opening }
-        requires whole { hub.opening.number ≡ 0 }
         ensures hub { result.0.hub ≡ hub }
         ensures parts { result.1.parts ≡ L.parts }
         ensures amount { result.1.amount ≡ 0 }
@@ -95,18 +93,17 @@ impl<L: Run> Desk<L> {
     }
 
     /// Tells what holds of every desk, so whenever the lock is free (docs/GUARANTEE.md, "Threads"): its hub keeps what
-    /// every hub keeps, its history is legal and whole, and the book counts the entries since the run opened.
+    /// every hub keeps, what it holds of its history is legal, and the book counts the entries since the run opened.
     pub fn known(&self)
         ensures sound { IsSound self.now.hub.world }
         ensures legal { IsLegalRun self.now.hub.opening self.now.hub.entries self.now.hub.world }
         ensures counted { self.now.hub.world.number ≡ L.opening + self.now.book.total }
-        ensures whole { self.now.hub.opening.number ≡ 0 }
     {
         self.hub.known();
     }
 
-    /// Looks through receipts: `None` where each stands in the history at its number and no two have one number, and else
-    /// the number of the first that doesn't, or came earlier in the list.
+    /// Looks through receipts: `None` where each stands at its number in the history that the hub holds and no two have one
+    /// number, and else the number of the first that doesn't, or came earlier in the list.
     pub fn mismatch(&self, receipts: &[Receipt]) -> Option<u64>
         ensures { IsFound self.now.hub.entries receipts.now result }
     {
@@ -153,6 +150,30 @@ impl<L: Run> Desk<L> {
         let mut seat = seat;
         let result = self.enter_as(&mut seat, event);
         (seat, result)
+    }
+
+    /// Hands out the entries that the hub holds, and goes on with none, as `Hub::rotate` tells. It enters nothing, so the
+    /// seat is as before. `NoMemory` changes nothing.
+    pub fn rotate(&mut self, seat: Seat<L>) -> (Seat<L>, Result<Segment, NoMemory>)
+        ensures segment { IfOk result.1 (λ segment. segment ≡ held self.old.hub) }
+        ensures ok { OnOk result.1 (self.new.hub ≡ rotated self.old.hub) }
+        ensures err { OnErr result.1 (self.new.hub ≡ self.old.hub) }
+        ensures book { self.new.book.total ≡ self.old.book.total }
+        ensures seat { result.0 ≡ seat }
+    {
+        let result = self.rotate_held();
+        (seat, result)
+    }
+
+    /// `rotate` without a seat.
+    pub(crate) fn rotate_held(&mut self) -> Result<Segment, NoMemory>
+        ensures segment { IfOk result (λ segment. segment ≡ held self.old.hub) }
+        ensures ok { OnOk result (self.new.hub ≡ rotated self.old.hub) }
+        ensures err { OnErr result (self.new.hub ≡ self.old.hub) }
+        ensures book { self.new.book.total ≡ self.old.book.total }
+    {
+        let result = self.hub.rotate();
+        result
     }
 
     /// `enter` with a seat that is lent.

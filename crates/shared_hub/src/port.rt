@@ -1,7 +1,8 @@
 ghost use Rattle.std.specs.Prelude.{◌≡◌};
 
 use crate::{Receipt, Run, Seat, Shared};
-use hub::{Answer, Event, HubRefusal, Port};
+use hub::{Answer, Event, HubRefusal, Port, Segment};
+use lists::NoMemory;
 use std::alloc::Global;
 use std::mem;
 use std::sync::Wait;
@@ -45,6 +46,16 @@ impl<'a, L: Run, R: Wait> SharedPort<'a, L, R> {
         ensures count { self.new.seat.count ≡ self.old.seat.count }
     {
         mem::replace(&mut self.receipts, Vec::new(self.alloc))
+    }
+
+    /// Hands out the entries that the hub holds, as `Shared::rotate` does. The seat and the receipts that are kept are as
+    /// before.
+    pub fn rotate(&mut self) -> Result<Segment, NoMemory>
+        ensures seat { self.new.seat ≡ self.old.seat }
+        ensures receipts { self.new.receipts.items ≡ self.old.receipts.items }
+    {
+        let result = self.shared.rotate_held(self.rt);
+        result
     }
 
     /// The seat, and the receipts that are kept.

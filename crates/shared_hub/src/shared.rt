@@ -4,7 +4,7 @@ ghost use Rattle.std.specs.Prelude.{◌≡◌, ◌<◌, ◌≤◌, ℕ};
 use crate::audit::{Audit, AuditFault};
 use crate::unlocked::{Parts, Unlocked};
 use crate::{Desk, Receipt, Run, Seat};
-use hub::{Event, Hub, HubRefusal};
+use hub::{Event, Hub, HubRefusal, Segment};
 use lists::NoMemory;
 use std::alloc::Global;
 use std::sync::ledger::{Blank, Share};
@@ -35,7 +35,7 @@ impl<L: Run> Shared<L> {
     ghost use Rattle.shared_hub.specs.Entering.{IsSubmitted};
     ghost use Rattle.shared_hub.specs.Audits.{AreGenuine, IsDue};
 
-    /// A hub under its lock that has handed out no segment, with so many seats, none of which has entered anything. The blank ledger has a part for each,
+    /// A hub under its lock, with so many seats, none of which has entered anything. The blank ledger has a part for each,
     /// and is spent, also where want of memory hands the hub back.
     pub fn with_seats(
         alloc: Global,
@@ -46,7 +46,6 @@ impl<L: Run> Shared<L> {
         requires name { blank.name ≡ L.name }
         requires parts { blank.parts ≡ L.parts }
         requires opening { hub.world.number ≡ L.opening }
-        requires whole { hub.opening.number ≡ 0 }
         requires seats { (seats ≡ L.seats) × (L.seats ≡ L.parts) }
         ensures seats { IfOk result (λ opened. vec_len opened.1 ≡ seats) }
         ensures fresh { IfOk result (λ opened. All (λ s. s.count ≡ 0) opened.1.items) }
@@ -90,6 +89,21 @@ impl<L: Run> Shared<L> {
         (seat, result)
     }
 
+    /// Hands out the entries that the hub holds while the lock is held, as `Desk::rotate` tells. The seat is as before. A
+    /// segment is dropped outside the lock.
+    pub fn rotate<R: Wait>(&self, rt: &R, seat: Seat<L>) -> (Seat<L>, Result<Segment, NoMemory>)
+        ensures { result.0 ≡ seat }
+    {
+        let result = self.rotate_held(rt);
+        (seat, result)
+    }
+
+    /// `rotate` without a seat.
+    pub(crate) fn rotate_held<R: Wait>(&self, rt: &R) -> Result<Segment, NoMemory> {
+        let result = self.desk.lock(rt).rotate_held();
+        result
+    }
+
     /// The closing audit of what was under the lock, as `Unlocked::finish` tells. Where it is refused, the fault is one of
     /// the run that is handed back.
     pub fn finish(
@@ -100,7 +114,7 @@ impl<L: Run> Shared<L> {
     ) -> Result<Audit<L>, (AuditFault, Parts<L>)>
         requires { L.seats ≡ L.parts }
         ensures legal { IfOk result (λ audit. IsLegalRun audit.hub.opening audit.hub.entries audit.hub.world) }
-        ensures entries { IfOk result (λ audit. length audit.hub.entries ≡ L.opening + sum audit.counts) }
+        ensures entries { IfOk result (λ audit. audit.hub.opening.number + length audit.hub.entries ≡ L.opening + sum audit.counts) }
         ensures counts { IfOk result (λ audit. audit.counts ≡ map (λ s. s.count) seats.items) }
         ensures receipts { IfOk result (λ audit. AreGenuine audit.hub.entries receipts.items) }
         ensures due { IfErr result (λ refused. IsDue refused.1.run.desk.hub.entries L.seats (vec_len seats) receipts.items refused.0) }

@@ -48,8 +48,9 @@ impl<L: Run> Unlocked<L> {
         Shared::of(self.desk, self.rest)
     }
 
-    /// The closing audit, with all seats and any receipts. With an audit, its hub is the run's, the history is legal and has
-    /// as many entries since the run opened as the seats count together, and each receipt stands in it once, at its number.
+    /// The closing audit, with all seats and any receipts. With an audit, its hub is the run's, and the history that it
+    /// holds is legal; with what was handed out of it before it has as many entries since the run opened as the seats count
+    /// together; and each receipt stands in what the hub holds once, at its number.
     /// Else it hands back all that it was given: `SeatMissing` where not all seats were handed in; `ReceiptMismatch` with
     /// the number of the first receipt that doesn't stand in the history, or came earlier in the list; `NoMemory` where
     /// memory could not be had.
@@ -62,7 +63,7 @@ impl<L: Run> Unlocked<L> {
         requires { L.seats ≡ L.parts }
         ensures hub { IfOk result (λ audit. audit.hub ≡ self.desk.hub) }
         ensures legal { IfOk result (λ audit. IsLegalRun audit.hub.opening audit.hub.entries audit.hub.world) }
-        ensures entries { IfOk result (λ audit. length audit.hub.entries ≡ L.opening + sum audit.counts) }
+        ensures entries { IfOk result (λ audit. audit.hub.opening.number + length audit.hub.entries ≡ L.opening + sum audit.counts) }
         ensures counts { IfOk result (λ audit. audit.counts ≡ map (λ s. s.count) seats.items) }
         ensures receipts { IfOk result (λ audit. AreGenuine audit.hub.entries receipts.items) }
         ensures due { IfErr result (λ refused. IsDue self.desk.hub.entries L.seats (vec_len seats) receipts.items refused.0) }
