@@ -1,2 +1,3 @@
+mod Entered
 mod Genuine
 mod Verdicts

@@ -1,18 +1,24 @@
--- The closing audit: each receipt against the history (docs/GUARANTEE.md, "Threads").
-use Rattle.std.specs.Prelude.{◌≡◌, ◌≢◌, ◌-◌, ◌++◌, ◌∷◌, ℕ, List, [], Option, Some, None, if◌then◌else◌, All, AllPairs, nat_le, slice_get}
+-- The closing audit: segments and what the hub holds as one history, and each receipt in it (docs/GUARANTEE.md,
+-- "Threads").
+use Rattle.std.specs.Prelude.{◌≡◌, ◌≢◌, ◌≤◌, ◌+◌, ◌-◌, ◌++◌, ◌∷◌, ℕ, List, Option, Some, None, Err, false, if◌then◌else◌, All, AllPairs, length, filter, take, drop, sum, nat_lt, slice_get}
 use Rattle.events.specs.declared.answer.Entry.{Entry}
+use Rattle.world.specs.World.{World}
+use Rattle.hub.specs.History.{State, IsOpening, IsLegalRun}
+use Rattle.hub.specs.Segments.{Part}
+use Rattle.segments.specs.Joins.{parts_of, has_number, IsLeastFault}
 use Rattle.shared_hub.specs.Receipts.{Receipt}
 use Rattle.shared_hub.specs.declared.audit.AuditFault.{AuditFault}
-use Rattle.shared_hub.specs.declared.audit.AuditFault.TheVariants.{SeatMissing, ReceiptMismatch, NoMemory}
+use Rattle.shared_hub.specs.declared.audit.AuditFault.TheVariants.{SeatMissing, SegmentGap, ReceiptMismatch, NoMemory}
 
--- the entry with a number, in a history whose numbers rise by one
-abbrev pub entry_in : List Entry → ℕ → Option Entry
-entry_in [] number = None
-entry_in (e ∷ es) number = if nat_le e.number number then slice_get (e ∷ es) (number - e.number) else None
+-- the entry with a number, among those that come after a number
+abbrev pub entry_after : ℕ → List Entry → ℕ → Option Entry
+entry_after before entries number = if nat_lt before number then slice_get entries (number - (before + 1)) else None
+
+-- ---- receipts in a whole history
 
 -- the entry of a receipt stands in the history at its number
 abbrev pub Stands : List Entry → Receipt → Type 0
-Stands history r = entry_in history r.entry.number ≡ Some r.entry
+Stands history r = entry_after 0 history r.entry.number ≡ Some r.entry
 
 -- no receipt of the list has the number
 abbrev pub HasNone : List Receipt → ℕ → Type 0
@@ -38,9 +44,44 @@ abbrev pub IsFound : List Entry → List Receipt → Option ℕ → Type 0
 IsFound history receipts None = AreGenuine history receipts
 IsFound history receipts (Some number) = IsMismatch history receipts number
 
--- Where an audit is refused: not all seats were handed in; all were, and a receipt is out of place in the history; or all
--- is well, and memory could not be had.
-abbrev pub IsDue : List Entry → ℕ → ℕ → List Receipt → AuditFault → Type 0
-IsDue history seats handed receipts SeatMissing = handed ≢ seats
-IsDue history seats handed receipts (ReceiptMismatch number) = (handed ≡ seats) × IsMismatch history receipts number
-IsDue history seats handed receipts NoMemory = (handed ≡ seats) × AreGenuine history receipts
+-- ---- segments and what a hub holds
+
+-- Joined in the order of their numbers they are this history: a legal run from the opening of a hub to its present world,
+-- in which each part stands at its numbers, and each number is in one part.
+pub record IsJoined (segments : List Part) (s : State) (history : List Entry) : Type 0 where
+  pub first : World
+  pub opens : IsOpening first
+  pub legal : IsLegalRun first history s.world
+  pub parts : All (λ (p : Part). take (length p.entries) (drop p.opening.number history) ≡ p.entries) (parts_of segments s)
+  pub once : (n : ℕ) → 1 ≤ n → n ≤ s.world.number → length (filter (has_number n) (parts_of segments s)) ≡ 1
+
+-- they are a history, in which each receipt stands
+pub record AreEntered (segments : List Part) (s : State) (receipts : List Receipt) : Type 0 where
+  pub history : List Entry
+  pub joined : IsJoined segments s history
+  pub genuine : AreGenuine history receipts
+
+-- and it has as many entries as there were when the run opened, and the seats have made since
+pub record IsWhole (opening : ℕ) (segments : List Part) (s : State) (receipts : List Receipt) (counts : List ℕ) : Type 0 where
+  pub entered : AreEntered segments s receipts
+  pub count : length entered.history ≡ opening + sum counts
+
+-- What is wrong with segments and receipts, of the hub that the audit is of: something at a number, the least one; nothing
+-- at any, and a receipt is out of place in their history; or nothing at all, and memory could not be had.
+abbrev pub IsFault : List Part → State → List Receipt → AuditFault → Type 0
+IsFault segments s receipts (SegmentGap number) = IsLeastFault segments s (Err number)
+IsFault segments s receipts (ReceiptMismatch number) = (history : List Entry) × IsJoined segments s history × IsMismatch history receipts number
+IsFault segments s receipts NoMemory = AreEntered segments s receipts
+IsFault segments s receipts SeatMissing = ⊥
+
+-- Where an audit is refused: not all seats were handed in, or else something is wrong with what was handed in beside them.
+abbrev pub IsDue : List Part → State → ℕ → ℕ → List Receipt → AuditFault → Type 0
+IsDue segments s seats handed receipts SeatMissing = handed ≢ seats
+IsDue segments s seats handed receipts fault = (handed ≡ seats) × IsFault segments s receipts fault
+
+-- ---- looking up
+
+-- what is found of a number in a part: its entry; or None, where the part doesn't have it
+abbrev pub IsLookUp : Part → ℕ → Option Entry → Type 0
+IsLookUp p number None = has_number number p ≡ false
+IsLookUp p number (Some e) = entry_after p.opening.number p.entries number ≡ Some e

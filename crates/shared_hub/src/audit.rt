@@ -1,13 +1,16 @@
 //! The closing audit.
-ghost use Rattle.std.specs.Prelude.{◌≡◌, ◌+◌, sum};
+ghost use Rattle.std.specs.Prelude.{◌≡◌, ◌+◌, List, MatchResult, sum};
 ghost use Rattle.std.specs.Bool.{Decides};
 ghost use Rattle.std.specs.Option.{option_copied};
-ghost use Rattle.shared_hub.specs.Audits.{Stands, HasNone, IsFound, entry_in};
+ghost use Rattle.events.specs.declared.answer.Entry.{Entry};
+ghost use Rattle.hub.specs.Segments.{held};
+ghost use Rattle.shared_hub.specs.Audits.{Stands, HasNone, IsFound, IsJoined, AreEntered, IsFault, IsLookUp, entry_after};
 
 use crate::{Receipt, Run};
 use alike::Alike;
-use hub::{Answer, Hub};
+use hub::{Answer, Hub, Segment};
 use lists::Items;
+use segments::joins;
 use std::marker::PhantomData;
 
 /// Why a closing audit is refused.
@@ -15,59 +18,67 @@ use std::marker::PhantomData;
 pub enum AuditFault {
     /// Not all seats were handed in.
     SeatMissing,
+    /// The segments and what the hub holds are no whole history: this is the least number at which something is wrong.
+    SegmentGap(u64),
     /// The first receipt that doesn't stand in the history, or came earlier in the list, has this number.
     ReceiptMismatch(u64),
     /// Memory could not be had.
     NoMemory,
 }
 
-/// A run that has ended: its hub, whose history is legal, and how many entries each seat has made. Together they are the
-/// entries since the run opened.
+/// A run that has ended: its hub, the segments that with it are a whole history, and how many entries each seat has made.
+/// Together they are the entries since the run opened.
 #[derive(Drop)]
 pub struct Audit<L: Run> {
     run: PhantomData<L>,
-    /// The hub, with its history.
+    /// The hub, with the entries that it holds.
     pub hub: Hub,
+    /// The segments, in the order in which they were handed in. With what the hub holds they are its history.
+    pub segments: Vec<Segment>,
     /// How many entries each seat has made, in the order in which the seats were handed in.
     pub counts: Items<u64>,
     ghost counted: { hub.world.number ≡ L.opening + sum counts },
 }
 
 impl<L: Run> Audit<L> {
-    ghost use Rattle.std.specs.Prelude.{◌≡◌, ◌+◌, length, sum};
-    ghost use Rattle.hub.specs.History.{IsLegalRun};
+    ghost use Rattle.std.specs.Prelude.{◌≡◌, ◌+◌, sum};
 
     /// The audit of a hub whose entries since the run opened are as many as the counts tell.
-    pub(crate) fn of(hub: Hub, counts: Items<u64>) -> Audit<L>
+    pub(crate) fn of(hub: Hub, segments: Vec<Segment>, counts: Items<u64>) -> Audit<L>
         requires { hub.world.number ≡ L.opening + sum counts }
         ensures hub { result.hub ≡ hub }
+        ensures segments { result.segments ≡ segments }
         ensures counts { result.counts ≡ counts }
     {
         Audit {
             run: PhantomData,
             hub,
+            segments,
             counts,
         }
     }
+}
 
-    /// Tells what holds of every audit: the history is legal, and has as many entries as there were when the run opened
-    /// and the seats have made since.
-    #[tactic(auto, using(crate::proofs::Genuine::run_length))]
-    pub fn known(&self)
-        ensures legal { IsLegalRun self.now.hub.opening self.now.hub.entries self.now.hub.world }
-        ensures entries { self.now.hub.opening.number + length self.now.hub.entries ≡ L.opening + sum self.now.counts }
-    {
-        self.hub.known();
+/// What is wrong with segments and receipts, if anything is.
+pub(crate) fn judge(segments: &[Segment], hub: &Hub, receipts: &[Receipt]) -> Result<(), AuditFault>
+    ensures { MatchResult result (λ _. AreEntered segments.now hub.now receipts.now) (λ fault. IsFault segments.now hub.now receipts.now fault) }
+{
+    if let Err(number) = joins(segments, hub) {
+        return Err(AuditFault::SegmentGap(number));
+    }
+    match first_mismatch(segments, hub, receipts) {
+        None => Ok(()),
+        Some(number) => Err(AuditFault::ReceiptMismatch(number)),
     }
 }
 
-/// Looks through receipts from the first on: `None` where each stands in the history and no two have one number; else the
-/// number of the first that doesn't, or that came earlier in the list.
-pub(crate) fn first_mismatch(history: &[Answer], receipts: &[Receipt]) -> Option<u64>
-    ensures { IsFound history.now receipts.now result }
+/// Looks through receipts from the first on: `None` where each stands in the history that the segments and what the hub
+/// holds are, and no two have one number; else the number of the first that doesn't, or that came earlier in the list.
+fn first_mismatch(segments: &[Segment], hub: &Hub, receipts: &[Receipt]) -> Option<u64>
+    ensures { (history : List Entry) → IsJoined segments.now hub.now history → IsFound history receipts.now result }
 {
     for (index, receipt) in receipts.iter().enumerate() {
-        if !is_in_place(history, &receipts[..index], receipt) {
+        if !is_in_place(segments, hub, &receipts[..index], receipt) {
             return Some(receipt.number());
         }
     }
@@ -75,29 +86,60 @@ pub(crate) fn first_mismatch(history: &[Answer], receipts: &[Receipt]) -> Option
 }
 
 /// Whether a receipt behind others stands in the history, and none of them has its number.
-fn is_in_place(history: &[Answer], before: &[Receipt], receipt: &Receipt) -> bool
-    ensures { Decides result (Stands history.now receipt.now × HasNone before.now receipt.now.entry.number) }
+fn is_in_place(segments: &[Segment], hub: &Hub, before: &[Receipt], receipt: &Receipt) -> bool
+    ensures { (history : List Entry) → IsJoined segments.now hub.now history → Decides result (Stands history receipt.now × HasNone before.now receipt.now.entry.number) }
 {
-    is_entered(history, receipt) && is_first(before, receipt.number())
+    is_entered(segments, hub, receipt) && is_first(before, receipt.number())
 }
 
 /// Whether the receipt's entry stands in the history at its number.
-fn is_entered(history: &[Answer], receipt: &Receipt) -> bool
-    ensures { Decides result (Stands history.now receipt.now) }
+fn is_entered(segments: &[Segment], hub: &Hub, receipt: &Receipt) -> bool
+    ensures { (history : List Entry) → IsJoined segments.now hub.now history → Decides result (Stands history receipt.now) }
 {
     let entry = receipt.parts().0.get();
-    match entry_at(history, entry.number) {
+    match entry_at(segments, hub, entry.number) {
         None => false,
-        Some(held) => held.get().is_like(entry),
+        Some(found) => found.get().is_like(entry),
     }
 }
 
-/// The entry with a number, among entries whose numbers rise by one.
-fn entry_at(history: &[Answer], number: u64) -> Option<&Answer>
-    ensures { option_copied result ≡ entry_in history.now number }
+/// The entry with a number, in a segment or held by the hub.
+fn entry_at<'a>(segments: &'a [Segment], hub: &'a Hub, number: u64) -> Option<&'a Answer>
+    ensures { (history : List Entry) → IsJoined segments.now hub.now history → option_copied result ≡ entry_after 0 history number }
 {
-    let first = history.first()?.get().number;
-    history.get(number.checked_sub(first)? as usize)
+    for segment in segments {
+        if let Some(entry) = segment_entry(segment, number) {
+            return Some(entry);
+        }
+    }
+    held_entry(hub, number)
+}
+
+/// The entry with a number in a segment.
+fn segment_entry(segment: &Segment, number: u64) -> Option<&Answer>
+    ensures { IsLookUp segment.now number (option_copied result) }
+{
+    segment.known();
+    entry_after(segment.opening().number(), segment.entries(), number)
+}
+
+/// The entry with a number among those that the hub holds.
+fn held_entry(hub: &Hub, number: u64) -> Option<&Answer>
+    ensures { IsLookUp (held hub.now) number (option_copied result) }
+{
+    hub.known();
+    entry_after(hub.opening().number(), hub.history(), number)
+}
+
+/// The entry with a number, among those that come after a number.
+fn entry_after(before: u64, entries: &[Answer], number: u64) -> Option<&Answer>
+    ensures { option_copied result ≡ entry_after before entries.now number }
+{
+    if before < number {
+        entries.get((number - (before + 1)) as usize)
+    } else {
+        None
+    }
 }
 
 /// Whether no receipt of the list has the number.

@@ -2,7 +2,7 @@
 ghost use Rattle.std.specs.Prelude.{◌≡◌, ◌+◌, ◌≤◌, ℕ};
 
 use crate::Receipt;
-use crate::audit::{Audit, first_mismatch};
+use crate::audit::Audit;
 use hub::{Command, Event, Hub, HubRefusal, Ready, Segment};
 use lists::{Copying, Items, NoMemory};
 use std::alloc::Global;
@@ -65,7 +65,6 @@ pub struct Desk<L: Run> {
 
 impl<L: Run> Desk<L> {
     ghost use Rattle.std.specs.Prelude.{◌≡◌, ◌+◌, ◌≤◌, ◌++◌, ◌∷◌, [], IfOk, OnOk, OnErr, MatchResult, map, vec_len, vec_capacity};
-    ghost use Rattle.shared_hub.specs.Audits.{IsFound};
     ghost use Rattle.hub.specs.History.{IsLegalRun};
     ghost use Rattle.hub.specs.Segments.{held, rotated};
     ghost use Rattle.hub.specs.Sound.{IsSound};
@@ -102,22 +101,21 @@ impl<L: Run> Desk<L> {
         self.hub.known();
     }
 
-    /// Looks through receipts: `None` where each stands at its number in the history that the hub holds and no two have one
-    /// number, and else the number of the first that doesn't, or came earlier in the list.
-    pub fn mismatch(&self, receipts: &[Receipt]) -> Option<u64>
-        ensures { IsFound self.now.hub.entries receipts.now result }
-    {
-        first_mismatch(self.hub.history(), receipts)
-    }
-
     /// Ends the run: the parts of all seats come together, and what they count is what the book has.
-    pub(crate) fn close(self, rest: Share<L>, seats: Vec<Seat<L>>, room: Vec<u64>) -> Audit<L>
+    pub(crate) fn close(
+        self,
+        rest: Share<L>,
+        seats: Vec<Seat<L>>,
+        segments: Vec<Segment>,
+        room: Vec<u64>,
+    ) -> Audit<L>
         requires none { rest.parts ≡ 0 }
         requires nothing { rest.amount ≡ 0 }
         requires all { vec_len seats ≡ L.parts }
         requires empty { room.items ≡ [] }
         requires room { vec_len seats ≤ vec_capacity room }
         ensures hub { result.hub ≡ self.hub }
+        ensures segments { result.segments ≡ segments }
         ensures counts { result.counts ≡ map (λ s. s.count) seats.items }
     {
         let Desk {
@@ -130,7 +128,7 @@ impl<L: Run> Desk<L> {
         let mut counts = room;
         gather(&mut all, VecDeque::from(seats), &mut counts);
         book.audit(&mut all);
-        Audit::of(hub, Items::from_vec(counts))
+        Audit::of(hub, segments, Items::from_vec(counts))
     }
 
     /// Enters an event: one step of the hub, whose receipt has the step's entry and the policy then in force. The entries

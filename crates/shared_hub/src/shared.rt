@@ -30,10 +30,9 @@ pub(crate) struct Rest<L: Run> {
 }
 
 impl<L: Run> Shared<L> {
-    ghost use Rattle.std.specs.Prelude.{◌≡◌, ◌+◌, ◌<◌, ◌≤◌, IfOk, IfErr, All, vec_len, map, sum, length};
-    ghost use Rattle.hub.specs.History.{IsLegalRun};
+    ghost use Rattle.std.specs.Prelude.{◌≡◌, ◌+◌, ◌<◌, ◌≤◌, IfOk, IfErr, All, vec_len, map};
     ghost use Rattle.shared_hub.specs.Entering.{IsSubmitted};
-    ghost use Rattle.shared_hub.specs.Audits.{AreGenuine, IsDue};
+    ghost use Rattle.shared_hub.specs.Audits.{IsWhole, IsDue};
 
     /// A hub under its lock, with so many seats, none of which has entered anything. The blank ledger has a part for each,
     /// and is spent, also where want of memory hands the hub back.
@@ -111,16 +110,16 @@ impl<L: Run> Shared<L> {
         alloc: Global,
         seats: Vec<Seat<L>>,
         receipts: Vec<Receipt>,
+        segments: Vec<Segment>,
     ) -> Result<Audit<L>, (AuditFault, Parts<L>)>
         requires { L.seats ≡ L.parts }
-        ensures legal { IfOk result (λ audit. IsLegalRun audit.hub.opening audit.hub.entries audit.hub.world) }
-        ensures entries { IfOk result (λ audit. audit.hub.opening.number + length audit.hub.entries ≡ L.opening + sum audit.counts) }
+        ensures segments { IfOk result (λ audit. audit.segments ≡ segments) }
         ensures counts { IfOk result (λ audit. audit.counts ≡ map (λ s. s.count) seats.items) }
-        ensures receipts { IfOk result (λ audit. AreGenuine audit.hub.entries receipts.items) }
-        ensures due { IfErr result (λ refused. IsDue refused.1.run.desk.hub.entries L.seats (vec_len seats) receipts.items refused.0) }
-        ensures back { IfErr result (λ refused. (refused.1.seats ≡ seats) × (refused.1.receipts ≡ receipts)) }
+        ensures whole { IfOk result (λ audit. IsWhole L.opening segments.items audit.hub receipts.items audit.counts) }
+        ensures due { IfErr result (λ refused. IsDue segments.items refused.1.run.desk.hub L.seats (vec_len seats) receipts.items refused.0) }
+        ensures back { IfErr result (λ refused. (refused.1.seats ≡ seats) × (refused.1.receipts ≡ receipts) × (refused.1.segments ≡ segments)) }
     {
-        self.unlock().finish(alloc, seats, receipts)
+        self.unlock().finish(alloc, seats, receipts, segments)
     }
 
     /// `submit` with a seat that is lent.

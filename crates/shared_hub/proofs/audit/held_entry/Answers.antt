@@ -1,0 +1,16 @@
+-- the look is one among the part's entries
+use Rattle.std.proofs.Common.{◌∙◌, ℕ, List, ap}
+use Rattle.std.specs.Option.{option_copied}
+use Rattle.events.specs.declared.answer.Entry.{Entry}
+use Rattle.world.specs.World.{World}
+use Rattle.shared_hub.specs.Audits.{entry_after}
+use Rattle.shared_hub.proofs.Entered.{look_up}
+use Rattle.shared_hub.proofs.audit.held_entry.Goals as goal
+
+pub returns : goal.returns
+returns c =
+    let s = c.args.hub.now in
+    look_up s.opening s.entries s.world c.args.number (option_copied c.entry_after.result) c.known.ensures.legal
+    (c.entry_after.ensures
+    ∙ ap (λ (b : ℕ). entry_after b c.history.result.now c.args.number) (c.number.ensures ∙ ap (λ (w : World). w.number) c.opening.ensures)
+    ∙ ap (λ (l : List Entry). entry_after s.opening.number l c.args.number) c.history.ensures.entries)
