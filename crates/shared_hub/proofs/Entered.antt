@@ -1,13 +1,13 @@
 -- Looking up a number in the parts of a history, and in the whole.
-use Rattle.std.proofs.Common.{◌≡◌, ◌∙◌, ◌+◌, ◌-◌, ◌<◌, ◌≤◌, ◌&&◌, ◌++◌, ◌∷◌, ⊎_elim, ℕ, suc, zero, Bool, true, false, cond, List, [], Option, Some, None, All, filter, length, get_or, take, drop, ap, sym, refl, subst, arith}
-use Rattle.std.specs.Prelude.{nat_lt, nat_le, slice_get, min, sum}
-use Rattle.std.proofs.lemmas.Bool.{lt-ltb, le-leb, lt-leb, ltb-true, ltb-false, leb-true, leb-false}
+use Rattle.std.proofs.Common.{◌≡◌, ◌∙◌, ◌+◌, ◌-◌, ◌<◌, ◌≤◌, ◌&&◌, ◌++◌, ◌∷◌, ℕ, suc, zero, Bool, true, false, cond, List, [], Option, Some, None, All, filter, length, get_or, take, drop, ap, sym, refl, subst, arith}
+use Rattle.std.specs.Prelude.{nat_lt, nat_le, slice_get, sum}
+use Rattle.std.proofs.lemmas.Bool.{lt-ltb, le-leb, lt-leb, ltb-true, leb-true, leb-false}
 use Rattle.std.proofs.lemmas.List.{get_or-take, get_or-drop, length-take, length-drop, take_more}
 use Rattle.std.proofs.lemmas.List.Elements.{All-head, All-tail, All-cons, All-push}
 use Rattle.std.proofs.lemmas.Option.{none-some, slice_get_within, slice_get_read, slice_get_past, get_or_from_slice_get}
 use Rattle.events.specs.declared.answer.Entry.{Entry}
 use Rattle.world.specs.World.{World}
-use Rattle.hub.specs.History.{State, IsOpening, IsLegalRun}
+use Rattle.hub.specs.History.{State, IsLegalRun}
 use Rattle.hub.specs.Segments.{Part, held}
 use Rattle.segments.specs.Joins.{parts_of, has_number, due, IsRight, AreOneHistory}
 use Rattle.shared_hub.specs.Receipts.{Receipt}

@@ -4,7 +4,7 @@ use Rattle.std.specs.Option.{option_copied}
 use Rattle.std.proofs.lemmas.List.{take_all}
 use Rattle.hub.specs.Segments.{Part}
 use Rattle.segments.specs.Joins.{has_number}
-use Rattle.shared_hub.proofs.Entered.{lacks-more, segment_found, held_found}
+use Rattle.shared_hub.proofs.Entered.{lacks-more, held_found}
 use Rattle.shared_hub.proofs.audit.entry_at.Goals as goal
 
 pub loop-segment-preserved : goal.loop-segment-preserved

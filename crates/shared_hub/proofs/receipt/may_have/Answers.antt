@@ -2,7 +2,6 @@
 use Rattle.std.proofs.Common.{◌∙◌, List, ap, sym}
 use Rattle.subjects.specs.Subject.{Token}
 use Rattle.permissions.specs.Verdicts.{subscribe_verdict, is_allowed}
-use Rattle.permissions.specs.declared.verdict.Verdict.{Verdict}
 use Rattle.events.specs.declared.event.Command.{Command}
 use Rattle.shared_hub.specs.Receipts.{may_have}
 use Rattle.shared_hub.proofs.receipt.may_have.Goals as goal
