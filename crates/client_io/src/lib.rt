@@ -1,0 +1,11 @@
+//! The work on one ready connection: its client's bytes in, what it is told out. It is generic over what is read and
+//! written, so that it can be shown with devices that fail.
+#![tactic(auto)]
+
+mod client;
+mod device;
+mod turn;
+
+pub use client::Client;
+pub use device::{NonBlocking, Reader, Writer};
+pub use turn::Turn;

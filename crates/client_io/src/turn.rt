@@ -1,0 +1,38 @@
+ghost use Rattle.std.specs.Prelude.{◌≡◌};
+ghost use Rattle.client_io.specs.Turns.{is_over};
+
+use conn::Stall;
+
+/// How a turn of a connection ended.
+#[derive(Clone, Copy, Debug, PartialEq, Eq)]
+pub enum Turn {
+    /// What was asked is done, and all that it gave is written.
+    Done,
+    /// Nothing has come to be read. All is written.
+    Idle,
+    /// Bytes wait until the writer takes more. Nothing is read or drained before.
+    Waits,
+    /// Memory lacked, or the history is full: the next turn goes on with it. All is written.
+    Stalled(Stall),
+    /// The connection has closed, and all is written, its closing text too.
+    Closed,
+    /// The client has sent its last byte.
+    Ended,
+    /// The reader or the writer has failed.
+    Failed,
+    /// Memory lacked for a piece that was read, so that the client's bytes are lost.
+    Lost,
+}
+
+impl Turn {
+    /// Whether the connection is to be ended.
+    pub fn is_over(self) -> bool
+        ensures { result ≡ is_over self }
+    {
+        match self {
+            Turn::Closed | Turn::Ended | Turn::Failed | Turn::Lost => true,
+            Turn::Done | Turn::Idle | Turn::Waits => false,
+            Turn::Stalled(_) => false,
+        }
+    }
+}
