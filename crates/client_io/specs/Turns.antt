@@ -4,7 +4,7 @@ use Rattle.std.specs.Io.KnownBytes.{Appends, Consumes, IsAtEnd}
 use Rattle.conn.specs.declared.output.Output.{Output}
 use Rattle.conn.specs.declared.output.Stall.{Stall}
 use Rattle.conn.specs.declared.output.Stall.TheVariants as stall
-use Rattle.conn.specs.Replies.{is_closed}
+use Rattle.protocol.specs.Replies.{is_closed}
 use Rattle.conn.specs.Turns.{Steps, Draws}
 use Rattle.conn.specs.Calls.{Connection, IsOpened, IsServed, IsDrained, IsEnded}
 use Rattle.client_io.specs.declared.client.Piece.{Piece}
