@@ -34,7 +34,8 @@ use Rattle.subscriptions.specs.Subscriptions.{is_under, stands, has_all, subscri
 use Rattle.subscriptions.specs.Limit.{is_entry_for, has_entered, has_ended, counted, limit_of, limited}
 use Rattle.subscriptions.specs.declared.subscription.Subscription.{Subscription}
 use Rattle.world.specs.World.{World, opening_world, advanced}
-use Rattle.world.specs.Routing.{own_view, is_admitted, admitted, is_served, served}
+use Rattle.queue_groups.specs.Served.{is_served, served}
+use Rattle.world.specs.Routing.{own_view, is_admitted, admitted}
 use Rattle.world.specs.Reload.{stands_on}
 use Rattle.world.specs.Changes.{items_in}
 use Rattle.world.specs.Transition.{connected, subscribed, unsubscribed, published, taken, closed, in_session, in_new_session, moved, numbered}

@@ -11,8 +11,8 @@ use Rattle.subjects.specs.Subject.{Token, text_of}
 use Rattle.queue_choice.specs.Choices.{same_name, chosen}
 use Rattle.queue_choice.proofs.Names.{same-is}
 use Rattle.subscriptions.specs.declared.subscription.Subscription.{Subscription}
-use Rattle.world.specs.Routing.{is_named, is_member, members, is_the, is_served_by, is_served, served}
-use Rattle.world.specs.Chosen.{Rising}
+use Rattle.queue_groups.specs.Served.{is_named, is_member, members, is_the, is_served_by, is_served, served}
+use Rattle.queue_groups.specs.Chosen.{Rising}
 use Rattle.hub.specs.Guarantee.{is_plain, AreServed}
 use Rattle.hub.proofs.Finds.{AllPairs-head, AllPairs-tail}
 

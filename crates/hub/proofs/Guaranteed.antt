@@ -31,8 +31,9 @@ use Rattle.subscriptions.specs.Subscriptions.{is_under, stands, has_all, subscri
 use Rattle.subscriptions.specs.Limit.{has_entered, unended, counted, limit_of, limited}
 use Rattle.subscriptions.specs.declared.subscription.Subscription.{Subscription}
 use Rattle.world.specs.World.{World, advanced}
-use Rattle.world.specs.Routing.{own_view, is_admitted, admitted, served, may_hear, lets_through}
-use Rattle.world.specs.Chosen.{Rising}
+use Rattle.queue_groups.specs.Served.{served}
+use Rattle.world.specs.Routing.{own_view, is_admitted, admitted, may_hear, lets_through}
+use Rattle.queue_groups.specs.Chosen.{Rising}
 use Rattle.subscriptions.specs.Addressing.{addressed_to}
 use Rattle.world.specs.Transition.{IsReasoned, IsRefusal, connected, subscribed, unsubscribed, published, taken, closed, in_session, in_new_session, moved, numbered, transition}
 use Rattle.hub.specs.Sound.{IsSound, user_behind, user_at, account_of, may_subscribe, HasAllowance}

@@ -29,7 +29,7 @@ use Rattle.subscriptions.specs.Limit.{counted, limited}
 use Rattle.subscriptions.specs.declared.subscription.Subscription.{Subscription}
 use Rattle.queue_choice.specs.Choices.{chosen}
 use Rattle.world.specs.World.{World}
-use Rattle.world.specs.Routing.{is_member, members}
+use Rattle.queue_groups.specs.Served.{is_member, members}
 use Rattle.subscriptions.specs.Addressing.{delivery_to}
 use Rattle.hub.specs.Sound.{IsSound, user_at, may_subscribe, HasAllowance, is_to_receive}
 use Rattle.hub.specs.History.{State, is_history_full}

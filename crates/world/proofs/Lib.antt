@@ -1,7 +1,5 @@
 pub mod Applied
-pub mod Chosen
 pub mod Delivering
-pub mod Lists
 pub mod Publishing
 pub mod Reasons
 pub mod Routing

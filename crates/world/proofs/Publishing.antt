@@ -15,7 +15,8 @@ use Rattle.subscriptions.specs.Addressing.{addressed_to}
 use Rattle.subscriptions.specs.Limit.{unended, counted}
 use Rattle.world.specs.World.{World}
 use Rattle.world.proofs.Routing.{both}
-use Rattle.world.specs.Routing.{own_view, is_admitted, admitted, is_served, served}
+use Rattle.queue_groups.specs.Served.{is_served, served}
+use Rattle.world.specs.Routing.{own_view, is_admitted, admitted}
 use Rattle.world.specs.Transition.{in_session, published}
 use Rattle.world.specs.Changes.{AreAddressed, IsDecided}
 use Rattle.world.specs.declared.change.Change.TheVariants.{Deliver}

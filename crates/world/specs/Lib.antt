@@ -1,6 +1,5 @@
 pub mod World
 pub mod Routing
-pub mod Chosen
 pub mod Reload
 pub mod Transition
 pub mod Changes

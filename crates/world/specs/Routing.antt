@@ -1,7 +1,6 @@
 -- Whom a message reaches (docs/GUARANTEE.md, "Delivery").
-use Rattle.std.specs.Prelude.{◌&&◌, ◌||◌, ◌==◌, ℕ, List, Bool, true, false, Option, Some, None, filter, map, not}
-use Rattle.subjects.specs.Subject.{Token, text_of}
-use Rattle.queue_choice.specs.Choices.{same_name, chosen}
+use Rattle.std.specs.Prelude.{◌&&◌, ◌||◌, ◌==◌, ℕ, List, Bool, false, Option, Some, None, filter, map, not}
+use Rattle.subjects.specs.Subject.{Token}
 use Rattle.permissions.specs.Verdicts.{delivery_verdict, is_allowed}
 use Rattle.events.specs.Messages.{Message}
 use Rattle.events.specs.declared.answer.Addressed.{Addressed}
@@ -13,6 +12,7 @@ use Rattle.subscriptions.specs.Subscriptions.{has_subject}
 use Rattle.subscriptions.specs.Addressing.{addressed_to}
 use Rattle.subscriptions.specs.Limit.{unended, counted}
 use Rattle.subscriptions.specs.declared.subscription.Subscription.{Subscription}
+use Rattle.queue_groups.specs.Served.{served}
 use Rattle.world.specs.World.{World}
 
 -- A message as an account sees it. A publish has one view, that of the publisher's own account.
@@ -49,37 +49,6 @@ is_admitted zs publisher v sub = has_subject v.account v.message.subject sub && 
 -- the subscriptions that a message may be sent to, oldest first
 abbrev pub admitted : World → Session → View → List Subscription
 admitted w publisher v = filter (is_admitted w.sessions publisher v) w.subscriptions
-
--- ---- queue groups (NATS documentation, "Queue Groups")
-
--- whether a subscription is of the queue group of that name, whatever its pattern
-abbrev pub is_named : List ℕ → Option (List Token) → Bool
-is_named name None = false
-is_named name (Some queue) = same_name name (text_of queue)
-
-abbrev pub is_member : List ℕ → Subscription → Bool
-is_member name sub = is_named name sub.queue
-
--- the members of a queue group, oldest first
-abbrev pub members : List ℕ → List Subscription → List Subscription
-members name subs = filter (is_member name) subs
-
--- whether a subscription is this one
-abbrev pub is_the : Option Subscription → Subscription → Bool
-is_the None sub = false
-is_the (Some one) sub = one.id == sub.id
-
--- A plain subscription is served; of each queue group the member that the word chooses is, and no other.
-abbrev pub is_served_by : ℕ → List Subscription → Subscription → Option (List Token) → Bool
-is_served_by word subs sub None = true
-is_served_by word subs sub (Some queue) = is_the (chosen word (members (text_of queue) subs)) sub
-
-abbrev pub is_served : ℕ → List Subscription → Subscription → Bool
-is_served word subs sub = is_served_by word subs sub sub.queue
-
--- of the admitted the plain ones and the chosen members, oldest first
-abbrev pub served : ℕ → List Subscription → List Subscription
-served word subs = filter (is_served word subs) subs
 
 -- ---- deliveries
 

@@ -5,7 +5,6 @@ mod carry_out;
 mod change;
 mod decide;
 mod plain;
-mod queues;
 mod reload;
 mod route;
 mod standing;

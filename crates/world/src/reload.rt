@@ -106,7 +106,7 @@ fn add_removal(
 }
 
 /// What is reported of all subscriptions, oldest first.
-#[tactic(auto, using(crate::proofs::Lists::filter_map_first))]
+#[tactic(auto, using(queue_groups::proofs::Lists::filter_map_first))]
 fn removals(
     alloc: Global,
     ready: &Ready,

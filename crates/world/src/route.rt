@@ -3,11 +3,11 @@ ghost use Rattle.std.specs.Prelude.{◌≡◌, filter, map};
 ghost use Rattle.std.specs.Option.{option_copied};
 ghost use Rattle.world.specs.Routing.{lets_through, is_open_to, is_open};
 
-use crate::queues::keep_chosen;
 use crate::verdict::on_delivery;
 use crate::world::World;
 use events::{Addressed, Message};
 use lists::{NoMemory, Shared};
+use queue_groups::keep_chosen;
 use sessions::{Session, Sessions};
 use subjects::Subject;
 use subscriptions::{Subscription, address_each};
@@ -60,7 +60,8 @@ fn keep_open(
 impl World {
     ghost use Rattle.std.specs.Prelude.{◌≡◌, IfOk, map};
     ghost use Rattle.subscriptions.specs.Addressing.{addressed_to};
-    ghost use Rattle.world.specs.Routing.{own_view, served, admitted};
+    ghost use Rattle.queue_groups.specs.Served.{served};
+    ghost use Rattle.world.specs.Routing.{own_view, admitted};
 
     /// The deliveries of a message to those of the publisher's account that it is for, oldest subscription first, in a
     /// vector whose room is used again: to the plain subscriptions that may be sent it, and to the member of each queue

@@ -6,7 +6,7 @@ use Rattle.std.proofs.lemmas.List.Elements.{All-cons}
 use Rattle.events.specs.declared.answer.Removed.{Removed}
 use Rattle.subscriptions.specs.declared.subscription.Subscription.{Subscription}
 use Rattle.world.specs.Reload.{removal_after, IsReasonedVerdict}
-use Rattle.world.proofs.Lists.{filter_map_first}
+use Rattle.queue_groups.proofs.Lists.{filter_map_first}
 use Rattle.world.proofs.reload.removals.Goals as goal
 
 pub loop-subscription-preserved : goal.loop-subscription-preserved

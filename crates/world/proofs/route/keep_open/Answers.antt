@@ -2,7 +2,7 @@
 use Rattle.std.proofs.Common.{◌∙◌, ap, sym, map, rules}
 use Rattle.std.proofs.lemmas.Fn.{filter_same}
 use Rattle.world.specs.Routing.{is_open}
-use Rattle.world.proofs.Chosen.{filter-map}
+use Rattle.queue_groups.proofs.Chosen.{filter-map}
 use Rattle.world.proofs.route.keep_open.Goals as goal
 
 pub returns : goal.returns

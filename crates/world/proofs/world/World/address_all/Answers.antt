@@ -8,8 +8,9 @@ use Rattle.subscriptions.specs.Subscriptions.{has_subject, having}
 use Rattle.subscriptions.specs.Addressing.{addressed_to}
 use Rattle.subscriptions.specs.declared.subscription.Subscription.{Subscription}
 use Rattle.world.specs.World.{World}
-use Rattle.world.specs.Chosen.{Rising}
-use Rattle.world.specs.Routing.{own_view, is_open, is_admitted, admitted, served}
+use Rattle.queue_groups.specs.Chosen.{Rising}
+use Rattle.queue_groups.specs.Served.{served}
+use Rattle.world.specs.Routing.{own_view, is_open, is_admitted, admitted}
 use Rattle.world.proofs.Routing.{both}
 use Rattle.world.proofs.world.World.address_all.Goals as goal
 

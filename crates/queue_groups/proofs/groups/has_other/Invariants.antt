@@ -1,8 +1,8 @@
 -- there is another name among all where there is one among those that are left
 use Rattle.std.proofs.Common.{◌≡◌, map, drop}
 use Rattle.std.specs.List.{list_any}
-use Rattle.world.specs.Chosen.{is_other}
-use Rattle.world.proofs.queues.has_other.Given as goal
+use Rattle.queue_groups.specs.Chosen.{is_other}
+use Rattle.queue_groups.proofs.groups.has_other.Given as goal
 
 abbrev pub invariant-loop-subscription : goal.invariant-loop-subscription
 invariant-loop-subscription l =

@@ -1,8 +1,8 @@
 -- those so far, and those that are left
 use Rattle.std.proofs.Common.{◌≡◌, ◌++◌, map, drop}
 use Rattle.std.specs.List.{filter_map}
-use Rattle.world.specs.Chosen.{named, named_member}
-use Rattle.world.proofs.queues.members_in.Given as goal
+use Rattle.queue_groups.specs.Chosen.{named, named_member}
+use Rattle.queue_groups.proofs.groups.members_in.Given as goal
 
 abbrev pub invariant-loop-subscription : goal.invariant-loop-subscription
 invariant-loop-subscription l =

@@ -4,9 +4,9 @@ use Rattle.std.specs.List.{list_any}
 use Rattle.std.specs.Option.{option_map}
 use Rattle.queue_choice.specs.Choices.{chosen}
 use Rattle.subscriptions.specs.declared.subscription.Subscription.{Subscription}
-use Rattle.world.specs.Chosen.{is_queued, is_other, is_kept_alone}
-use Rattle.world.proofs.Chosen.{plain_are, alone_are}
-use Rattle.world.proofs.queues.keep_chosen.Goals as goal
+use Rattle.queue_groups.specs.Chosen.{is_queued, is_other, is_kept_alone}
+use Rattle.queue_groups.proofs.Chosen.{plain_are, alone_are}
+use Rattle.queue_groups.proofs.groups.keep_chosen.Goals as goal
 
 abbrev those : List (Bor Subscription) → List Subscription
 those refs = map (λ s. s.now) refs

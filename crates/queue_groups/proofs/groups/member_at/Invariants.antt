@@ -1,7 +1,7 @@
 -- the member that is sought is among those that are left
 use Rattle.std.proofs.Common.{◌≡◌, filter, map, drop, slice_get}
-use Rattle.world.specs.Chosen.{is_queued}
-use Rattle.world.proofs.queues.member_at.Given as goal
+use Rattle.queue_groups.specs.Chosen.{is_queued}
+use Rattle.queue_groups.proofs.groups.member_at.Given as goal
 
 abbrev pub invariant-loop-subscription : goal.invariant-loop-subscription
 invariant-loop-subscription l =

@@ -2,9 +2,9 @@
 use Rattle.std.proofs.Common.{◌∙◌, ap, sym, map, rules}
 use Rattle.std.proofs.lemmas.Fn.{filter_same}
 use Rattle.subscriptions.specs.declared.subscription.Subscription.{Subscription}
-use Rattle.world.specs.Chosen.{is_kept_alone}
-use Rattle.world.proofs.Chosen.{filter-map}
-use Rattle.world.proofs.queues.keep_alone.Goals as goal
+use Rattle.queue_groups.specs.Chosen.{is_kept_alone}
+use Rattle.queue_groups.proofs.Chosen.{filter-map}
+use Rattle.queue_groups.proofs.groups.keep_alone.Goals as goal
 
 pub returns : goal.returns
 returns c =

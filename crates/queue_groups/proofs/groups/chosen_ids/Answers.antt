@@ -2,9 +2,9 @@
 use Rattle.std.proofs.Common.{◌≡◌, ◌∙◌, List, map, Some, ap, subst}
 use Rattle.queue_choice.specs.Choices.{names_of, group, chosen}
 use Rattle.queue_choice.specs.declared.choice.Member.{Member}
-use Rattle.world.specs.Chosen.{is_choice}
-use Rattle.world.proofs.Chosen.{kept_are}
-use Rattle.world.proofs.queues.chosen_ids.Goals as goal
+use Rattle.queue_groups.specs.Chosen.{is_choice}
+use Rattle.queue_groups.proofs.Chosen.{kept_are}
+use Rattle.queue_groups.proofs.groups.chosen_ids.Goals as goal
 
 pub returns : goal.returns
 returns c = λ rising.

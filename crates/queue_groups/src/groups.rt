@@ -1,10 +1,10 @@
-//! Of each queue group one member.
+// Of each queue group one member.
 ghost use Rattle.std.specs.Prelude.{◌≡◌, ◌==◌, ◌++◌, ◌∷◌, [], ℕ, false, IfNone, IfOk, OnOk, length, filter, map, nat_eq, slice_get};
 ghost use Rattle.std.specs.List.{list_any, filter_map};
 ghost use Rattle.std.specs.Option.{option_map};
 ghost use Rattle.queue_choice.specs.Choices.{chosen};
-ghost use Rattle.world.specs.Routing.{served};
-ghost use Rattle.world.specs.Chosen.{Rising, named, named_member, is_queued, is_other, is_kept, is_kept_alone, is_choice};
+ghost use Rattle.queue_groups.specs.Served.{served};
+ghost use Rattle.queue_groups.specs.Chosen.{Rising, named, named_member, is_queued, is_other, is_kept, is_kept_alone, is_choice};
 
 use indexmap::IndexSet;
 use lists::NoMemory;
@@ -189,7 +189,7 @@ fn keep_these(all: &mut Vec<&Subscription>, ids: &IndexSet<u64, RandomState>)
 
 /// Of the members of queue groups those stay whom the word chooses, one of each group. The others are dropped. Where
 /// there is one group alone, or none, it takes no memory.
-pub(crate) fn keep_chosen(
+pub fn keep_chosen(
     alloc: Global,
     keys: RandomState,
     all: &mut Vec<&Subscription>,

@@ -1,9 +1,9 @@
 -- what is retained is what is kept
 use Rattle.std.proofs.Common.{◌∙◌, ap, sym, map, rules}
 use Rattle.std.proofs.lemmas.Fn.{filter_same}
-use Rattle.world.specs.Chosen.{is_kept}
-use Rattle.world.proofs.Chosen.{filter-map}
-use Rattle.world.proofs.queues.keep_these.Goals as goal
+use Rattle.queue_groups.specs.Chosen.{is_kept}
+use Rattle.queue_groups.proofs.Chosen.{filter-map}
+use Rattle.queue_groups.proofs.groups.keep_these.Goals as goal
 
 pub returns : goal.returns
 returns c =

@@ -1,7 +1,7 @@
 -- those so far, and those that are left
 use Rattle.std.proofs.Common.{◌≡◌, ◌+◌, ◌≤◌, length, filter, map, drop}
-use Rattle.world.specs.Chosen.{is_queued}
-use Rattle.world.proofs.queues.count_members.Given as goal
+use Rattle.queue_groups.specs.Chosen.{is_queued}
+use Rattle.queue_groups.proofs.groups.count_members.Given as goal
 
 abbrev pub invariant-loop-subscription : goal.invariant-loop-subscription
 invariant-loop-subscription l = record {

@@ -1,0 +1,7 @@
+//! Queue groups (NATS documentation, "Queue Groups"): of the subscriptions that may be sent a message the plain ones
+//! stay, and of each queue group the member that the message's word chooses.
+#![tactic(auto)]
+
+mod groups;
+
+pub use groups::keep_chosen;
