@@ -170,11 +170,12 @@ impl Hub {
     /// Steps of the events in order: the answer or the refusal of each. Where the list of answers finds no
     /// memory, the events are handed back before the first step.
     ///
-    /// The routing guarantee (docs/GUARANTEE.md, "The guarantee"): for every list of events, a command is
-    /// accepted exactly when the policy in force at its step allows it; a message enters a subscription's
-    /// outbox exactly when account, echo and permissions admit it there with room left, and Full is reported
-    /// otherwise; each denial names its deciding rule or the missing allow; no standing subscription is
-    /// refused by the policy in force.
+    /// The routing guarantee (docs/GUARANTEE.md, "The guarantee"): for every list of events, a command that is not
+    /// refused is accepted exactly when the policy in force at its step allows it; a message enters a plain
+    /// subscription's outbox exactly when account, echo and permissions admit it there and there is room, and is
+    /// reported Full where it is admitted and there is none; of each queue group with an admitted member exactly one
+    /// is chosen; each denial names its deciding rule or the missing allow; no standing subscription is denied by
+    /// the policy in force.
     pub fn run(
         &mut self,
         events: Vec<Event>,
