@@ -6,4 +6,3 @@ pub mod Objects
 pub mod Each
 pub mod Parts
 pub mod Law
-pub mod Printed

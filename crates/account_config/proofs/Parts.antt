@@ -1,21 +1,24 @@
 -- Each part of a policy is read as its faults and what is written say.
-use Rattle.std.proofs.Common.{◌≡◌, ℕ, zero, suc, ◌+◌, ◌≤◌, List, [], ◌∷◌, codes, Option, Some, None, option_map, Ok, Err, Bool, true, false, not, if◌then◌else◌, is_some, refl, ap, sym, ◌∙◌, true≢false, zero-add, arith}
+use Rattle.std.proofs.Common.{◌≡◌, ℕ, negsuc, zero, suc, ◌+◌, ◌≤◌, List, [], ◌∷◌, codes, Option, Some, None, option_map, option_and_then, Ok, Err, Bool, true, false, not, if◌then◌else◌, is_some, refl, ap, sym, ◌∙◌, true≢false, zero-add, arith}
 use Rattle.std.specs.Prelude.{⊤}
+use Rattle.std.specs.Ordering.{int_eq}
 use Rattle.std.specs.Option.{ok_or, option_or, unwrap_or}
-use Rattle.serde_json.specs.Data.{Data, null, boolean, number, string, array, object, Members, no_members}
+use Rattle.serde_json.specs.Data.{Data, null, boolean, number, string, array, object, Members, no_members, unsigned, negative, float}
 use Rattle.serde_json.specs.Find.{get, get_item, as_object}
 use Rattle.policy_doc.specs.declared.document.NamedAccount.{NamedAccount}
-use Rattle.account_config.specs.declared.fault.ConfigFault.{ConfigFault}
-use Rattle.account_config.specs.declared.fault.ConfigFault.TheVariants.{WrongType, BadSubject, BadName, HashedPassword}
+use Rattle.config_walk.specs.declared.fault.ConfigFault.{ConfigFault}
+use Rattle.config_walk.specs.declared.fault.ConfigFault.TheVariants.{WrongType, BadSubject, BadDuration, BadMax, BadName, HashedPassword}
 use Rattle.account_config.specs.declared.entry.Side.{Side}
 use Rattle.account_config.specs.declared.entry.Side.TheVariants.{Publish, Subscribe}
+use Rattle.durations.specs.Durations.{duration_of}
 use Rattle.account_config.specs.Entry.{is_entry_text, entry_written}
-use Rattle.account_config.specs.Fault.{Read, ◌>>=◌}
-use Rattle.account_config.specs.Path.{Path, at_key, at_index}
-use Rattle.account_config.specs.Policy.{text_at, items_at, each, entry_from, entry_at, entries_at, entries_under, or_empty, lists_at, allow_at, direction_at, spelled_from, permissions_at, permissions_under, has_name_length, is_hashed, required_text_at, user_name_at, password_at, user_permissions_at, user_at, users_at, users_under, account_at, is_account_name, named_account_at, accounts_at, is_version, version_under, document_at}
+use Rattle.config_walk.specs.Fault.{Read, ◌>>=◌}
+use Rattle.config_walk.specs.Texts.{text_at, items_at, required_text_at}
+use Rattle.config_walk.specs.Path.{Path, at_key, at_index}
+use Rattle.account_config.specs.Policy.{each, entry_from, entry_at, entries_at, entries_under, or_empty, lists_at, allow_at, direction_at, spelled_from, is_bound, max_at, max_under, duration_from, duration_at, expires_under, terms_at, responses_at, responses_under, allow_responses_at, permissions_at, permissions_under, has_name_length, is_hashed, user_name_at, password_at, user_permissions_at, user_at, users_at, users_under, account_at, is_account_name, named_account_at, accounts_at, is_version, version_under, document_at}
 use Rattle.account_config.specs.Place.{Place, itself, unknown, missing, under, named, Faults, IsReading}
-use Rattle.account_config.specs.Standing.{unless_found, in_value, in_spelled, object_faults, text_faults, list_faults, entry_faults, entries_faults, direction_keys, direction_faults, permission_keys, user_keys, account_keys, account_faults, accounts_faults, version_faults, top_keys}
-use Rattle.account_config.specs.Written.{text_in, list_in, entry_in, entries_in, lists_in, direction_in, permissions_in, user_in, account_in, accounts_in, document_in}
+use Rattle.account_config.specs.Standing.{unless_found, in_value, in_spelled, object_faults, text_faults, list_faults, entry_faults, entries_faults, direction_keys, direction_faults, max_faults, duration_faults, terms_keys, responses_faults, permission_keys, user_keys, account_keys, account_faults, accounts_faults, version_faults, top_keys}
+use Rattle.account_config.specs.Written.{text_in, list_in, entry_in, entries_in, lists_in, direction_in, bound_in, max_in, duration_in, terms_in, responses_in, permissions_in, user_in, account_in, accounts_in, document_in}
 use Rattle.account_config.proofs.Order.{IsOrdered, Meets, under-ordered}
 use Rattle.account_config.proofs.Entries.{entry_is}
 use Rattle.account_config.proofs.First.{IsClear, go_on, whole, first_itself, same_faults, mapped}
@@ -115,14 +118,89 @@ spelled_read side long short None (Some d) up up' = direction_read side short d 
 spelled_read side long short (Some d) None up up' = direction_read side long d up
 spelled_read side long short (Some d) (Some e) up up' = first_itself _ _ refl
 
+-- ---- terms to answer on
+
+-- a value that may have a fault of its own, and has none below
+alone_read : {X : Type 0} (F : Faults) (written : X) (fault : ConfigFault) (b : Bool) → F itself ≡ (if b then None else Some fault) →
+    (F itself ≡ None → (p : Place) → F p ≡ None) → IsReading F written (if b then Ok written else Err fault)
+alone_read F written fault true e others = (others e, refl)
+alone_read F written fault false e others = first_itself F fault e
+
+max_read : Reads max_faults bound_in max_at
+max_read path null up = first_itself _ _ refl
+max_read path (boolean b) up = first_itself _ _ refl
+max_read path (string s) up = first_itself _ _ refl
+max_read path (array ds) up = first_itself _ _ refl
+max_read path (object ms) up = first_itself _ _ refl
+max_read path (number (float x)) up = first_itself _ _ refl
+max_read path (number (unsigned n)) up = alone_read (max_faults path (number (unsigned n))) (Some n) (BadMax path) (is_bound n) refl others
+  where
+    others : max_faults path (number (unsigned n)) itself ≡ None → (p : Place) → max_faults path (number (unsigned n)) p ≡ None
+    others e itself = e
+    others e (unknown k) = refl
+    others e (missing i) = refl
+    others e (under i p) = refl
+    others e (named k p) = refl
+max_read path (number (negative z)) up = alone_read (max_faults path (number (negative z))) None (BadMax path) (int_eq z (negsuc 0)) refl others
+  where
+    others : max_faults path (number (negative z)) itself ≡ None → (p : Place) → max_faults path (number (negative z)) p ≡ None
+    others e itself = e
+    others e (unknown k) = refl
+    others e (missing i) = refl
+    others e (under i p) = refl
+    others e (named k p) = refl
+
+max_under_read : (path : Path) (found : Option Data) → Meets IsOrdered found → IsReading (in_value max_faults path found) (max_in found) (max_under path found)
+max_under_read path None up = (λ p. refl, refl)
+max_under_read path (Some d) up = max_read path d up
+
+duration_is : (path : Path) (o : Option ℕ) → ok_or o (BadDuration path) ≡ (if is_some o then Ok (unwrap_or o 0) else Err (BadDuration path))
+duration_is path None = refl
+duration_is path (Some n) = refl
+
+duration_read : Reads duration_faults duration_in duration_at
+unfolding duration_at
+duration_read path d up = text_read (λ text. is_some (duration_of text)) BadDuration (λ text. unwrap_or (duration_of text) 0) path (duration_from path) (λ text. duration_is path (duration_of text)) d
+
+expires_under_read : (path : Path) (found : Option Data) → Meets IsOrdered found → IsReading (in_value duration_faults path found) (option_map duration_in found) (expires_under path found)
+expires_under_read path None up = (λ p. refl, refl)
+expires_under_read path (Some d) up = optional_read duration_faults duration_in duration_at duration_read path d up
+
+terms_read : Reads (object_faults terms_keys) terms_in terms_at
+unfolding terms_at
+terms_read path d up =
+    then_object terms_keys path d (terms_in d) _ up λ clear.
+    go_on _ 0 (max_in (get (codes "max") d)) (terms_in d) (max_under (at_key path (codes "max")) (get (codes "max") d)) _ clear (max_under_read _ _ (under-ordered (codes "max") d up)) λ clear.
+    go_on _ 1 (option_map duration_in (get (codes "expires") d)) (terms_in d) (expires_under (at_key path (codes "expires")) (get (codes "expires") d)) _ clear (expires_under_read _ _ (under-ordered (codes "expires") d up)) λ clear.
+    (none_left terms_keys path d clear, refl)
+
+object_terms_read : (path : Path) (d : Data) → IsOrdered d → IsReading (object_faults terms_keys path d) (Some (terms_in d)) (terms_at path d >>= λ terms. Ok (Some terms))
+object_terms_read path d up = optional_read (object_faults terms_keys) terms_in terms_at terms_read path d up
+
+responses_read : Reads responses_faults responses_in responses_at
+responses_read path null up = object_terms_read path null up
+responses_read path (boolean true) up = (λ p. refl, refl)
+responses_read path (boolean false) up = (λ p. refl, refl)
+responses_read path (number n) up = object_terms_read path (number n) up
+responses_read path (string s) up = object_terms_read path (string s) up
+responses_read path (array ds) up = object_terms_read path (array ds) up
+responses_read path (object ms) up = object_terms_read path (object ms) up
+
+responses_under_read : (path : Path) (found : Option Data) → Meets IsOrdered found →
+    IsReading (in_value responses_faults path found) (option_and_then responses_in found) (responses_under path found)
+responses_under_read path None up = (λ p. refl, refl)
+responses_under_read path (Some d) up = responses_read path d up
+
 permissions_read : Reads (object_faults permission_keys) permissions_in permissions_at
-unfolding permissions_at
+unfolding permissions_at allow_responses_at
 permissions_read path d up =
     then_object permission_keys path d (permissions_in d) _ up λ clear.
     go_on _ 0 (direction_in Publish (option_or (get (codes "publish") d) (get (codes "pub") d))) (permissions_in d) _ _ clear
     (spelled_read Publish _ _ _ _ (under-ordered (codes "publish") d up) (under-ordered (codes "pub") d up)) λ clear.
     go_on _ 1 (direction_in Subscribe (option_or (get (codes "subscribe") d) (get (codes "sub") d))) (permissions_in d) _ _ clear
     (spelled_read Subscribe _ _ _ _ (under-ordered (codes "subscribe") d up) (under-ordered (codes "sub") d up)) λ clear.
+    go_on _ 2 (option_and_then responses_in (get (codes "allow_responses") d)) (permissions_in d) (allow_responses_at path d) _ clear
+    (responses_under_read _ _ (under-ordered (codes "allow_responses") d up)) λ clear.
     (none_left permission_keys path d clear, refl)
 
 -- ---- users

@@ -1,6 +1,3 @@
-pub mod Fault
-pub mod Path
-pub mod Object
 pub mod Entry
 pub mod Policy
 pub mod Place

@@ -1,12 +1,15 @@
 -- The policy that a text writes, or its first fault (docs/POLICY.md).
 -- A null counts as a value of another kind, and not as absent.
-use Rattle.std.specs.Prelude.{⊤, ◌==◌, ◌&&◌, ◌∷◌, ℕ, suc, Bool, true, false, not, List, [], codes, length, take, if◌then◌else◌, Option, Some, None, Ok, Err, is_some, nat_lt, nat_le, option_and_then}
+use Rattle.std.specs.Prelude.{⊤, ◌==◌, ◌&&◌, ◌∷◌, ℕ, ℤ, negsuc, suc, Bool, true, false, not, List, [], codes, length, take, if◌then◌else◌, Option, Some, None, Ok, Err, is_some, nat_lt, nat_le, option_and_then}
 use Rattle.std.specs.List.{list_all}
 use Rattle.std.specs.Option.{ok_or}
+use Rattle.std.specs.Ordering.{int_eq}
 use Rattle.std.specs.Str.{bytes_eq}
 use Rattle.serde_json.specs.Data.{Data, Items, no_items, item, Members, no_members, member}
-use Rattle.serde_json.specs.Find.{get, as_str, as_array, as_object, as_number, as_u64}
+use Rattle.serde_json.specs.Find.{get, as_bool, as_str, as_object, as_number, as_i64, as_u64}
 use Rattle.json_text.specs.Json.{json_of}
+use Rattle.durations.specs.Durations.{duration_of}
+use Rattle.policy_doc.specs.declared.document.Terms.{Terms}
 use Rattle.subjects.specs.Subject.{Token, tokens_of}
 use Rattle.subjects.specs.Fault.{pattern_fault}
 use Rattle.policy_doc.specs.Accounts.{with_account}
@@ -17,13 +20,14 @@ use Rattle.policy_doc.specs.declared.document.UserDoc.{UserDoc}
 use Rattle.policy_doc.specs.declared.document.PermDoc.{PermDoc}
 use Rattle.policy_doc.specs.declared.document.Direction.{Direction}
 use Rattle.policy_doc.specs.declared.document.PermEntry.{PermEntry}
-use Rattle.account_config.specs.declared.fault.ConfigFault.TheVariants.{TooLarge, NotJson, WrongType, BadSubject, BadName, HashedPassword}
+use Rattle.config_walk.specs.declared.fault.ConfigFault.TheVariants.{TooLarge, NotJson, WrongType, BadSubject, BadDuration, BadMax, BadName, HashedPassword}
 use Rattle.account_config.specs.declared.entry.Side.{Side}
 use Rattle.account_config.specs.declared.entry.Side.TheVariants.{Publish, Subscribe}
-use Rattle.account_config.specs.Fault.{Read, ◌>>=◌}
-use Rattle.account_config.specs.Path.{Path, at_key, at_index}
+use Rattle.config_walk.specs.Fault.{Read, ◌>>=◌}
+use Rattle.config_walk.specs.Path.{Path, at_key, at_index}
 use Rattle.account_config.specs.Entry.{entry_parts}
-use Rattle.account_config.specs.Object.{Row, judged, members_at, required_at}
+use Rattle.config_walk.specs.Object.{Row, judged, members_at, required_at}
+use Rattle.config_walk.specs.Texts.{text_at, items_at, required_text_at}
 
 -- ---- the tables: a key of each object, and whether it must be there
 
@@ -37,18 +41,15 @@ abbrev pub user_rows : List Row
 user_rows = (codes "user", true) ∷ (codes "password", true) ∷ (codes "permissions", false) ∷ []
 
 abbrev pub permission_rows : List Row
-permission_rows = (codes "publish", false) ∷ (codes "pub", false) ∷ (codes "subscribe", false) ∷ (codes "sub", false) ∷ []
+permission_rows = (codes "publish", false) ∷ (codes "pub", false) ∷ (codes "subscribe", false) ∷ (codes "sub", false) ∷ (codes "allow_responses", false) ∷ []
+
+abbrev pub terms_rows : List Row
+terms_rows = (codes "max", false) ∷ (codes "expires", false) ∷ []
 
 abbrev pub direction_rows : List Row
 direction_rows = (codes "allow", false) ∷ (codes "deny", false) ∷ []
 
--- ---- texts and lists
-
-abbrev pub text_at : Path → Data → Read (List ℕ)
-text_at path d = ok_or (as_str d) (WrongType path)
-
-abbrev pub items_at : Path → Data → Read Items
-items_at path d = ok_or (as_array d) (WrongType path)
+-- ---- lists
 
 -- each value of a list from an index on, read in order
 abbrev pub each : {X : Type 0} → (Path → Data → Read X) → Path → ℕ → Items → Read (List X)
@@ -134,12 +135,78 @@ spelled_from side long short (Some d) (Some e) = Err (WrongType short)
 abbrev pub spelled_at : Side → List ℕ → List ℕ → Path → Data → Read Direction
 spelled_at side long short path d = spelled_from side (at_key path long) (at_key path short) (get long d) (get short d)
 
+-- ---- terms to answer on
+
+-- at most so many answers
+abbrev pub is_bound : ℕ → Bool
+is_bound n = nat_le 1 n && nat_le n 2147483647
+
+-- a number from 0 on is a bound, if it may be one; of those below it -1 is no bound
+abbrev pub max_from : Path → Option ℕ → Option ℤ → Read (Option ℕ)
+max_from path (Some n) z = if is_bound n then Ok (Some n) else Err (BadMax path)
+max_from path None None = Err (WrongType path)
+max_from path None (Some z) = if int_eq z (negsuc 0) then Ok None else Err (BadMax path)
+
+-- a number with a point isn't whole
+abbrev pub max_at : Path → Data → Read (Option ℕ)
+max_at path d = max_from path (option_and_then as_u64 (as_number d)) (option_and_then as_i64 (as_number d))
+
+-- without a bound that is given, one answer may pass
+abbrev pub max_under : Path → Option Data → Read (Option ℕ)
+max_under path None = Ok (Some 1)
+max_under path (Some d) = max_at path d
+
+abbrev pub duration_from : Path → List ℕ → Read ℕ
+duration_from path text = ok_or (duration_of text) (BadDuration path)
+
+unfoldable pub duration_at : Path → Data → Read ℕ
+duration_at path d = do
+  text ← text_at path d
+  duration_from path text
+
+-- without a limit that is given there is none
+abbrev pub expires_under : Path → Option Data → Read (Option ℕ)
+expires_under path None = Ok None
+expires_under path (Some d) = do
+  expires ← duration_at path d
+  Ok (Some expires)
+
+unfoldable pub terms_at : Path → Data → Read Terms
+terms_at path d = do
+  known ← judged terms_rows path d
+  max ← max_under (at_key path (codes "max")) (get (codes "max") d)
+  expires ← expires_under (at_key path (codes "expires")) (get (codes "expires") d)
+  Ok (record { max = max; expires = expires })
+
+-- one answer, at any time
+abbrev pub one_answer : Terms
+one_answer = record { max = Some 1; expires = None }
+
+-- true is one answer, false none, and an object has terms
+abbrev pub responses_from : Path → Data → Option Bool → Read (Option Terms)
+responses_from path d (Some true) = Ok (Some one_answer)
+responses_from path d (Some false) = Ok None
+responses_from path d None = do
+  terms ← terms_at path d
+  Ok (Some terms)
+
+abbrev pub responses_at : Path → Data → Read (Option Terms)
+responses_at path d = responses_from path d (as_bool d)
+
+abbrev pub responses_under : Path → Option Data → Read (Option Terms)
+responses_under path None = Ok None
+responses_under path (Some d) = responses_at path d
+
+unfoldable pub allow_responses_at : Path → Data → Read (Option Terms)
+allow_responses_at path d = responses_under (at_key path (codes "allow_responses")) (get (codes "allow_responses") d)
+
 unfoldable pub permissions_at : Path → Data → Read PermDoc
 permissions_at path d = do
   known ← judged permission_rows path d
   publish ← spelled_at Publish (codes "publish") (codes "pub") path d
   subscribe ← spelled_at Subscribe (codes "subscribe") (codes "sub") path d
-  Ok (record { publish = publish; subscribe = subscribe })
+  allow_responses ← allow_responses_at path d
+  Ok (record { publish = publish; subscribe = subscribe; allow_responses = allow_responses })
 
 abbrev pub permissions_under : Path → Option Data → Read (Option PermDoc)
 permissions_under path None = Ok None
@@ -161,12 +228,6 @@ is_hashed password = bytes_eq (take 2 password) (codes "$2")
 
 abbrev pub password_from : Path → List ℕ → Read (List ℕ)
 password_from path password = if is_hashed password then Err (HashedPassword path) else Ok password
-
--- a text under a key that must be there
-unfoldable pub required_text_at : List ℕ → Path → Data → Read (List ℕ)
-required_text_at key path d = do
-  value ← required_at key path d
-  text_at (at_key path key) value
 
 unfoldable pub user_name_at : Path → Data → Read (List ℕ)
 user_name_at path d = do

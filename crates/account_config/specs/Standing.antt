@@ -1,16 +1,18 @@
 -- Which faults a policy's text has, and where (docs/POLICY.md, "Objects" and "Faults"). Nothing here says which comes first.
-use Rattle.std.specs.Prelude.{◌&&◌, ◌||◌, ◌∷◌, ℕ, zero, suc, Bool, false, not, List, [], codes, if◌then◌else◌, Option, Some, None, is_some}
+use Rattle.std.specs.Prelude.{◌&&◌, ◌||◌, ◌∷◌, ℕ, negsuc, zero, suc, Bool, false, not, List, [], codes, if◌then◌else◌, Option, Some, None, is_some}
+use Rattle.std.specs.Ordering.{int_eq}
 use Rattle.std.specs.Str.{bytes_eq}
-use Rattle.serde_json.specs.Data.{Data}
-use Rattle.serde_json.specs.Find.{get, at, as_str, as_array, as_object}
+use Rattle.serde_json.specs.Data.{Data, Num, unsigned, negative, float}
+use Rattle.serde_json.specs.Find.{get, at, as_bool, as_number, as_str, as_array, as_object}
 use Rattle.account_config.specs.declared.entry.Side.{Side}
 use Rattle.account_config.specs.declared.entry.Side.TheVariants.{Publish, Subscribe}
-use Rattle.account_config.specs.declared.fault.ConfigFault.{ConfigFault}
-use Rattle.account_config.specs.declared.fault.ConfigFault.TheVariants.{UnknownKey, WrongType, BadSubject, BadName, HashedPassword}
+use Rattle.config_walk.specs.declared.fault.ConfigFault.{ConfigFault}
+use Rattle.config_walk.specs.declared.fault.ConfigFault.TheVariants.{UnknownKey, WrongType, BadSubject, BadDuration, BadMax, BadName, HashedPassword}
+use Rattle.durations.specs.Durations.{duration_of}
 use Rattle.account_config.specs.Entry.{is_entry_text}
-use Rattle.account_config.specs.Path.{Path, at_key, at_index}
+use Rattle.config_walk.specs.Path.{Path, at_key, at_index}
 use Rattle.account_config.specs.Place.{itself, unknown, missing, under, named, Faults}
-use Rattle.account_config.specs.Policy.{has_name_length, is_account_name, is_hashed, is_version}
+use Rattle.account_config.specs.Policy.{is_bound, has_name_length, is_account_name, is_hashed, is_version}
 
 -- a key of an object with the faults of what stands under it: it has to be there, or it may be, or it has two spellings
 pub data Key : Type 0 where
@@ -100,10 +102,35 @@ direction_keys side = optional (codes "allow") (entries_faults side) ∷ optiona
 abbrev pub direction_faults : Side → Path → Data → Faults
 direction_faults side path d = if is_some (as_object d) then object_faults (direction_keys side) path d else entries_faults side path d
 
+-- a number is a bound on answers, or -1
+abbrev pub max_fault : Path → Option Num → Option ConfigFault
+max_fault path (Some (unsigned n)) = if is_bound n then None else Some (BadMax path)
+max_fault path (Some (negative z)) = if int_eq z (negsuc 0) then None else Some (BadMax path)
+max_fault path (Some (float x)) = Some (WrongType path)
+max_fault path None = Some (WrongType path)
+
+abbrev pub max_faults : Path → Data → Faults
+max_faults path d itself = max_fault path (as_number d)
+max_faults path d _ = None
+
+abbrev pub duration_faults : Path → Data → Faults
+duration_faults = text_faults (λ text. is_some (duration_of text)) BadDuration
+
+abbrev pub terms_keys : List Key
+terms_keys = optional (codes "max") max_faults ∷ optional (codes "expires") duration_faults ∷ []
+
+abbrev pub no_faults : Faults
+no_faults p = None
+
+-- true, false or an object
+abbrev pub responses_faults : Path → Data → Faults
+responses_faults path d = if is_some (as_bool d) then no_faults else object_faults terms_keys path d
+
 abbrev pub permission_keys : List Key
 permission_keys =
     spelled (codes "publish") (codes "pub") (direction_faults Publish)
-    ∷ spelled (codes "subscribe") (codes "sub") (direction_faults Subscribe) ∷ []
+    ∷ spelled (codes "subscribe") (codes "sub") (direction_faults Subscribe)
+    ∷ optional (codes "allow_responses") responses_faults ∷ []
 
 abbrev pub user_keys : List Key
 user_keys =

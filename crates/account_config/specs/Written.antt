@@ -1,8 +1,8 @@
 -- The document that a JSON value without a fault writes (docs/POLICY.md, "Objects").
-use Rattle.std.specs.Prelude.{◌≡◌, ◌≢◌, ◌∷◌, ℕ, Bool, true, false, List, [], codes, length, if◌then◌else◌, nat_lt, Option, Some, None, Ok, Err, is_some}
+use Rattle.std.specs.Prelude.{◌≡◌, ◌≢◌, ◌∷◌, ℕ, Bool, true, false, List, [], codes, length, if◌then◌else◌, nat_lt, Option, Some, None, Ok, Err, is_some, option_and_then}
 use Rattle.std.specs.Option.{option_map, option_or, unwrap_or}
 use Rattle.serde_json.specs.Data.{Data, null, Items, no_items, item, Members, no_members, member}
-use Rattle.serde_json.specs.Find.{get, as_str, as_array, as_object}
+use Rattle.serde_json.specs.Find.{get, as_bool, as_number, as_u64, as_str, as_array, as_object}
 use Rattle.policy_doc.specs.Accounts.{with_account}
 use Rattle.policy_doc.specs.declared.document.PolicyDoc.{PolicyDoc}
 use Rattle.policy_doc.specs.declared.document.NamedAccount.{NamedAccount}
@@ -11,11 +11,13 @@ use Rattle.policy_doc.specs.declared.document.UserDoc.{UserDoc}
 use Rattle.policy_doc.specs.declared.document.PermDoc.{PermDoc}
 use Rattle.policy_doc.specs.declared.document.Direction.{Direction}
 use Rattle.policy_doc.specs.declared.document.PermEntry.{PermEntry}
-use Rattle.account_config.specs.declared.fault.ConfigFault.TheVariants.{TooLarge, NotJson, NoMemory}
+use Rattle.durations.specs.Durations.{duration_of}
+use Rattle.policy_doc.specs.declared.document.Terms.{Terms}
+use Rattle.config_walk.specs.declared.fault.ConfigFault.TheVariants.{TooLarge, NotJson, NoMemory}
 use Rattle.account_config.specs.declared.entry.Side.{Side}
 use Rattle.account_config.specs.declared.entry.Side.TheVariants.{Publish, Subscribe}
 use Rattle.account_config.specs.Entry.{entry_written}
-use Rattle.account_config.specs.Fault.{Read}
+use Rattle.config_walk.specs.Fault.{Read}
 use Rattle.account_config.specs.Place.{IsReading}
 use Rattle.account_config.specs.Standing.{policy_faults}
 use Rattle.account_config.specs.Policy.{or_empty}
@@ -52,10 +54,35 @@ abbrev pub direction_in : Side → Option Data → Direction
 direction_in side None = record { allow = None; deny = [] }
 direction_in side (Some d) = lists_in side d
 
+-- a number below 0 is no bound
+abbrev pub bound_in : Data → Option ℕ
+bound_in d = option_and_then as_u64 (as_number d)
+
+-- without a bound that is given, one answer may pass
+abbrev pub max_in : Option Data → Option ℕ
+max_in None = Some 1
+max_in (Some d) = bound_in d
+
+abbrev pub duration_in : Data → ℕ
+duration_in d = unwrap_or (duration_of (text_in d)) 0
+
+abbrev pub terms_in : Data → Terms
+terms_in d = record { max = max_in (get (codes "max") d); expires = option_map duration_in (get (codes "expires") d) }
+
+-- true is one answer at any time, and false none
+abbrev pub responses_by : Data → Option Bool → Option Terms
+responses_by d (Some true) = Some record { max = Some 1; expires = None }
+responses_by d (Some false) = None
+responses_by d None = Some (terms_in d)
+
+abbrev pub responses_in : Data → Option Terms
+responses_in d = responses_by d (as_bool d)
+
 abbrev pub permissions_in : Data → PermDoc
 permissions_in d = record {
   publish = direction_in Publish (option_or (get (codes "publish") d) (get (codes "pub") d));
   subscribe = direction_in Subscribe (option_or (get (codes "subscribe") d) (get (codes "sub") d));
+  allow_responses = option_and_then responses_in (get (codes "allow_responses") d);
 }
 
 abbrev pub user_in : Data → UserDoc

@@ -1,14 +1,12 @@
 //! What a user may publish or subscribe to.
 ghost use Rattle.std.specs.Prelude.{option_map};
 ghost use Rattle.serde_json.specs.View.{view, items_view};
-ghost use Rattle.account_config.specs.Fault.{Gives};
+ghost use Rattle.config_walk.specs.Fault.{Gives};
 ghost use Rattle.account_config.specs.Policy.{allow_at, direction_at, each, entries_at, entries_under, entry_at, lists_at, permissions_at, permissions_under, spelled_at, spelled_from};
 
-use crate::ConfigFault;
 use crate::entry::{Side, entry_from};
-use crate::object::judge;
-use crate::paths::Path;
-use crate::text::{items_of, text_of};
+use crate::responses::allow_responses_of;
+use config_walk::{ConfigFault, Path, items_of, judge, text_of};
 use lists::Items;
 use policy_doc::{Direction, PermDoc, PermEntry};
 use serde_json::Value;
@@ -38,11 +36,17 @@ fn permissions_of(alloc: Global, path: &Path, value: &Value) -> Result<PermDoc, 
         ("pub", false),
         ("subscribe", false),
         ("sub", false),
+        ("allow_responses", false),
     ];
     judge(alloc, &rows, path, value)?;
     let publish = spelled_of(alloc, Side::Publish, "publish", "pub", path, value)?;
     let subscribe = spelled_of(alloc, Side::Subscribe, "subscribe", "sub", path, value)?;
-    Ok(PermDoc { publish, subscribe })
+    let allow_responses = allow_responses_of(alloc, path, value)?;
+    Ok(PermDoc {
+        publish,
+        subscribe,
+        allow_responses,
+    })
 }
 
 /// The direction under one of two spellings of its key. `WrongType` at the shorter where both are there.

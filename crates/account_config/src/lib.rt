@@ -5,12 +5,7 @@ mod account;
 mod direction;
 mod document;
 mod entry;
-mod fault;
-mod object;
-mod paths;
-mod text;
+mod responses;
 mod user;
 
 pub use document::{MOST_BYTES, read_policy};
-pub use fault::ConfigFault;
-pub use paths::Path;

@@ -98,7 +98,7 @@ abbrev pub limited_user : UserDoc
 limited_user = record {
   user = codes "limited";
   password = codes "limited";
-  permissions = Some record { publish = limited_direction; subscribe = limited_direction };
+  permissions = Some record { publish = limited_direction; subscribe = limited_direction; allow_responses = None };
 }
 
 -- the policy that holds where none is given: one account with a free user and a limited one

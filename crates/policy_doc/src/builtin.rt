@@ -43,6 +43,7 @@ fn limited(alloc: Global) -> Result<UserDoc, NoMemory>
     let permissions = PermDoc {
         publish: below_foo(alloc)?,
         subscribe: below_foo(alloc)?,
+        allow_responses: None,
     };
     Ok(UserDoc {
         user: Bytes::from_static(b"limited"),

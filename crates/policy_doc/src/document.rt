@@ -63,13 +63,24 @@ pub struct UserDoc {
     pub permissions: Option<PermDoc>,
 }
 
-/// What a user may publish and what it may subscribe to.
+/// What a user may publish, what it may subscribe to, and on what terms it may answer requests.
 #[derive(Debug, Drop)]
 pub struct PermDoc {
     /// What decides a publish.
     pub publish: Direction,
     /// What decides a subscription, and the messages that are sent to it.
     pub subscribe: Direction,
+    /// On what terms it may answer requests, or none. Where no publish allow list is given, terms bring the empty one.
+    pub allow_responses: Option<Terms>,
+}
+
+/// On what terms a user may answer requests, that is on the reply subjects of messages that it was sent.
+#[derive(Clone, Copy, Debug, PartialEq, Eq)]
+pub struct Terms {
+    /// How many answers may pass for one request. Without it there is no bound.
+    pub max: Option<u64>,
+    /// For how many milliseconds they may pass. Without it there is no limit.
+    pub expires: Option<u64>,
 }
 
 /// The lists of one direction. No allow list allows all; an allow list that is given, even empty,
@@ -156,6 +167,7 @@ impl Copying for PermDoc {
         Ok(PermDoc {
             publish: self.publish.copy(alloc)?,
             subscribe: self.subscribe.copy(alloc)?,
+            allow_responses: self.allow_responses,
         })
     }
 }

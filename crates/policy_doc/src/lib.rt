@@ -9,6 +9,8 @@ mod policy;
 mod unique;
 
 pub use accounts::Accounts;
-pub use document::{AccountDoc, Direction, NamedAccount, PermDoc, PermEntry, PolicyDoc, UserDoc};
+pub use document::{
+    AccountDoc, Direction, NamedAccount, PermDoc, PermEntry, PolicyDoc, Terms, UserDoc,
+};
 pub use fault::{Place, PolicyFault};
 pub use policy::Policy;

@@ -1,5 +1,5 @@
-use account_config::ConfigFault;
 use bytes::Bytes;
+use config_walk::ConfigFault;
 use itoa::Buffer;
 use lists::NoMemory;
 use policy_doc::PolicyFault;

@@ -1,0 +1,13 @@
+//! A walk over the JSON of a policy: where it is, its objects by their tables, its texts and lists, and what is at
+//! fault (docs/POLICY.md, "Objects" and "Faults").
+#![tactic(auto)]
+
+mod fault;
+mod object;
+mod paths;
+mod text;
+
+pub use fault::ConfigFault;
+pub use object::{judge, members_of};
+pub use paths::Path;
+pub use text::{items_of, required_of, required_text_of, text_of};
