@@ -12,14 +12,14 @@ use queue_choice::{Choice, Member, choose};
 use std::alloc::Global;
 use std::hash::RandomState;
 use subjects::Subject;
-use subscriptions::Subscription;
+use subscriptions::SharedSubscription;
 
 /// The name of the oldest member's queue group, where one of the subscriptions is a member.
-fn first_queue<'a>(all: &[&'a Subscription]) -> Option<&'a Subject>
+fn first_queue<'a>(all: &[&'a SharedSubscription]) -> Option<&'a Subject>
     ensures { IfNone result (list_any is_queued (map (λ s. s.now) all.now) ≡ false) }
 {
     for subscription in all {
-        if let Some(queue) = &subscription.queue {
+        if let Some(queue) = subscription.queue() {
             return Some(queue);
         }
     }
@@ -27,17 +27,17 @@ fn first_queue<'a>(all: &[&'a Subscription]) -> Option<&'a Subject>
 }
 
 /// Whether a subscription is a member of another queue group.
-fn is_other(subscription: &Subscription, queue: &Subject) -> bool
+fn is_other(subscription: &SharedSubscription, queue: &Subject) -> bool
     ensures { result ≡ is_other queue.now subscription.now.queue }
 {
-    match &subscription.queue {
+    match subscription.queue() {
         None => false,
         Some(other) => queue.bytes() != other.bytes(),
     }
 }
 
 /// Whether one of the subscriptions is a member of another queue group.
-fn has_other(all: &[&Subscription], queue: &Subject) -> bool
+fn has_other(all: &[&SharedSubscription], queue: &Subject) -> bool
     ensures { result ≡ list_any (λ s. is_other queue.now s.queue) (map (λ s. s.now) all.now) }
 {
     for subscription in all {
@@ -49,12 +49,12 @@ fn has_other(all: &[&Subscription], queue: &Subject) -> bool
 }
 
 /// How many are members of queue groups.
-fn count_members(all: &[&Subscription]) -> usize
+fn count_members(all: &[&SharedSubscription]) -> usize
     ensures { result ≡ length (filter is_queued (map (λ s. s.now) all.now)) }
 {
     let mut count = 0;
     for subscription in all {
-        if subscription.queue.is_some() {
+        if subscription.queue().is_some() {
             count += 1;
         }
     }
@@ -62,14 +62,14 @@ fn count_members(all: &[&Subscription]) -> usize
 }
 
 /// The id of a member by its number, counted from the oldest, which is 0.
-fn member_at(all: &[&Subscription], number: usize) -> Option<u64>
+fn member_at(all: &[&SharedSubscription], number: usize) -> Option<u64>
     ensures { result ≡ option_map (λ s. s.id) (slice_get (filter is_queued (map (λ s. s.now) all.now)) number) }
 {
     let mut left = number;
     for subscription in all {
-        if subscription.queue.is_some() {
+        if subscription.queue().is_some() {
             if left == 0 {
-                return Some(subscription.id);
+                return Some(subscription.id());
             }
             left -= 1;
         }
@@ -78,7 +78,7 @@ fn member_at(all: &[&Subscription], number: usize) -> Option<u64>
 }
 
 /// The id of the member that a word chooses, where all members are of one queue group.
-fn member_for(all: &[&Subscription], word: u64) -> Option<u64>
+fn member_for(all: &[&SharedSubscription], word: u64) -> Option<u64>
     ensures { result ≡ option_map (λ s. s.id) (chosen word (filter is_queued (map (λ s. s.now) all.now))) }
 {
     let count = count_members(all) as u64;
@@ -90,17 +90,17 @@ fn member_for(all: &[&Subscription], word: u64) -> Option<u64>
 }
 
 /// Whether a subscription is plain, or the one that is chosen.
-fn is_kept_alone(subscription: &Subscription, id: Option<u64>) -> bool
+fn is_kept_alone(subscription: &SharedSubscription, id: Option<u64>) -> bool
     ensures { result ≡ is_kept_alone id subscription.now.id subscription.now.queue }
 {
-    match &subscription.queue {
+    match subscription.queue() {
         None => true,
-        Some(_) => id == Some(subscription.id),
+        Some(_) => id == Some(subscription.id()),
     }
 }
 
 /// Drops the members but for the one that is chosen.
-fn keep_alone(all: &mut Vec<&Subscription>, id: Option<u64>)
+fn keep_alone(all: &mut Vec<&SharedSubscription>, id: Option<u64>)
     ensures { map (λ s. s.now) all.new.items
         ≡ filter (λ s. is_kept_alone id s.id s.queue) (map (λ s. s.now) all.old.items) }
 {
@@ -110,17 +110,17 @@ fn keep_alone(all: &mut Vec<&Subscription>, id: Option<u64>)
 /// Adds a subscription that is a member of a queue group.
 fn add_member<'a>(
     members: &mut Vec<Member<'a>>,
-    subscription: &'a Subscription,
+    subscription: &'a SharedSubscription,
 ) -> Result<(), NoMemory>
     ensures { OnOk result (map named_member members.new.items
         ≡ map named_member members.old.items ++ filter_map named (subscription.now ∷ [])) }
 {
-    match &subscription.queue {
+    match subscription.queue() {
         None => Ok(()),
         Some(queue) => {
             members.push(Member {
                 queue,
-                id: subscription.id,
+                id: subscription.id(),
             })?;
             Ok(())
         }
@@ -129,7 +129,10 @@ fn add_member<'a>(
 
 /// The members of queue groups, oldest first.
 #[tactic(auto, using(crate::proofs::Lists::filter_map_first))]
-fn members_in<'a>(alloc: Global, all: &[&'a Subscription]) -> Result<Vec<Member<'a>>, NoMemory>
+fn members_in<'a>(
+    alloc: Global,
+    all: &[&'a SharedSubscription],
+) -> Result<Vec<Member<'a>>, NoMemory>
     ensures { IfOk result (λ members. map named_member members.items ≡ filter_map named (map (λ s. s.now) all.now)) }
 {
     let mut members = Vec::new(alloc);
@@ -158,7 +161,7 @@ fn ids_of(
 fn chosen_ids(
     alloc: Global,
     keys: RandomState,
-    all: &[&Subscription],
+    all: &[&SharedSubscription],
     word: u64,
 ) -> Result<IndexSet<u64, RandomState>, NoMemory>
     ensures { IfOk result (λ ids. Rising (map (λ s. s.now) all.now)
@@ -171,17 +174,17 @@ fn chosen_ids(
 }
 
 /// Whether a subscription is plain, or a member whose id is chosen.
-fn is_kept(subscription: &Subscription, ids: &IndexSet<u64, RandomState>) -> bool
+fn is_kept(subscription: &SharedSubscription, ids: &IndexSet<u64, RandomState>) -> bool
     ensures { result ≡ is_kept ids.now.keys subscription.now }
 {
-    match &subscription.queue {
+    match subscription.queue() {
         None => true,
-        Some(_) => ids.contains(&subscription.id),
+        Some(_) => ids.contains(&subscription.id()),
     }
 }
 
 /// Drops the members that aren't chosen.
-fn keep_these(all: &mut Vec<&Subscription>, ids: &IndexSet<u64, RandomState>)
+fn keep_these(all: &mut Vec<&SharedSubscription>, ids: &IndexSet<u64, RandomState>)
     ensures { map (λ s. s.now) all.new.items ≡ filter (is_kept ids.now.keys) (map (λ s. s.now) all.old.items) }
 {
     all.retain(|subscription| is_kept(subscription, ids));
@@ -192,7 +195,7 @@ fn keep_these(all: &mut Vec<&Subscription>, ids: &IndexSet<u64, RandomState>)
 pub fn keep_chosen(
     alloc: Global,
     keys: RandomState,
-    all: &mut Vec<&Subscription>,
+    all: &mut Vec<&SharedSubscription>,
     word: u64,
 ) -> Result<(), NoMemory>
     ensures { OnOk result (Rising (map (λ s. s.now) all.old.items)

@@ -2,7 +2,7 @@
 ghost use Rattle.std.specs.Prelude.{◌≡◌, ◌++◌, IfOk, OnOk, map};
 ghost use Rattle.subscriptions.specs.Addressing.{addressed_to};
 
-use crate::Subscription;
+use crate::SharedSubscription;
 use events::{Addressed, Delivery, Message};
 use lists::{Copying, NoMemory, Shared};
 use std::alloc::Global;
@@ -12,7 +12,7 @@ use std::alloc::Global;
 pub fn address_each(
     alloc: Global,
     message: &Shared<Message>,
-    subscriptions: &[&Subscription],
+    subscriptions: &[&SharedSubscription],
     all: &mut Vec<Addressed>,
 ) -> Result<(), NoMemory>
     ensures { OnOk result (all.new.items ≡ all.old.items
@@ -28,17 +28,18 @@ pub fn address_each(
 fn address(
     alloc: Global,
     message: &Shared<Message>,
-    subscription: &Subscription,
+    subscription: &SharedSubscription,
 ) -> Result<Addressed, NoMemory>
     ensures { IfOk result (λ addressed. addressed ≡ addressed_to message.now subscription.now) }
 {
     Ok(Addressed {
-        id: subscription.id,
-        conn: subscription.conn,
-        queue: subscription.queue.copy(alloc)?,
+        id: subscription.id(),
+        conn: subscription.conn(),
+        queue: subscription.queue().copy(alloc)?,
         delivery: Delivery {
             message: message.again()?,
-            sid: subscription.sid.again()?,
+            sid: subscription.sid().again()?,
         },
+        noted: None,
     })
 }

@@ -3,6 +3,7 @@
 
 mod address;
 mod change;
+mod shared;
 mod sids;
 mod subscription;
 mod subscriptions;
@@ -10,5 +11,6 @@ mod table;
 mod trees;
 
 pub use address::address_each;
+pub use shared::SharedSubscription;
 pub use subscription::Subscription;
 pub use subscriptions::{Keeps, Subscriptions};

@@ -4,7 +4,7 @@ ghost use Rattle.std.specs.Cmp.Lexicographic.{pointwise};
 ghost use Rattle.subscriptions.specs.BySid.{id_in, IsWithoutAll};
 
 use crate::table::Table;
-use crate::{Keeps, Subscription};
+use crate::{Keeps, SharedSubscription};
 use events::Sid;
 use lists::NoMemory;
 use std::alloc::Global;
@@ -62,19 +62,19 @@ impl Sids {
     }
 
     /// Adds the sid of a subscription. After `NoMemory` they are what they were.
-    pub fn insert(&mut self, subscription: &Subscription) -> Result<(), NoMemory>
+    pub fn insert(&mut self, subscription: &SharedSubscription) -> Result<(), NoMemory>
         ensures ok { OnOk result (IsWith self.old subscription.now self.new) }
         ensures err { OnErr result (IsSame self.old self.new) }
     {
-        let sid = Vec::from_slice(self.alloc, subscription.sid.as_slice())?;
-        match self.by_conn.get_mut(&subscription.conn) {
-            Some(own) => match own.insert(sid, subscription.id) {
+        let sid = Vec::from_slice(self.alloc, subscription.sid().as_slice())?;
+        match self.by_conn.get_mut(&subscription.conn()) {
+            Some(own) => match own.insert(sid, subscription.id()) {
                 Ok(_) => Ok(()),
                 Err(_) => Err(NoMemory),
             },
             None => {
-                let own = one_alone(self.alloc, self.keys, sid, subscription.id)?;
-                match self.by_conn.insert(subscription.conn, own) {
+                let own = one_alone(self.alloc, self.keys, sid, subscription.id())?;
+                match self.by_conn.insert(subscription.conn(), own) {
                     Ok(_) => Ok(()),
                     Err(_) => Err(NoMemory),
                 }
@@ -83,15 +83,16 @@ impl Sids {
     }
 
     /// Takes the sid of a subscription out. It takes no memory.
-    pub fn remove(&mut self, subscription: &Subscription)
+    pub fn remove(&mut self, subscription: &SharedSubscription)
         ensures { IsWithout self.old subscription.now self.new }
     {
-        match self.by_conn.get_mut(&subscription.conn) {
+        let conn = subscription.conn();
+        match self.by_conn.get_mut(&conn) {
             None => {}
             Some(own) => {
-                own.remove(subscription.sid.as_slice());
+                own.remove(subscription.sid().as_slice());
                 if own.is_empty() {
-                    self.by_conn.remove(&subscription.conn);
+                    self.by_conn.remove(&conn);
                 }
             }
         }
@@ -106,7 +107,7 @@ impl Sids {
     }
 
     /// Takes the sid of a subscription out that doesn't pass a test.
-    fn forget_if_failing<K: Keeps>(&mut self, subscription: &Subscription, test: &K)
+    fn forget_if_failing<K: Keeps>(&mut self, subscription: &SharedSubscription, test: &K)
         ensures { IsWithoutAll self.old (filter (λ s. not (K.keeps test.now s)) (subscription.now ∷ [])) self.new }
     {
         if !test.keeps(subscription) {

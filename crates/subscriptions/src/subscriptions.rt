@@ -1,9 +1,9 @@
 ghost use Rattle.std.specs.Prelude.{◌≡◌, ◌==◌, Bool};
 ghost use Rattle.subscriptions.specs.declared.subscription.Subscription.{Subscription};
 
-use crate::Subscription;
 use crate::sids::{Sids, forget_sids};
 use crate::table::Table;
+use crate::{SharedSubscription, Subscription};
 use bytes::Bytes;
 use events::{Addressed, Item, Sid};
 use lists::{NoMemory, Shared};
@@ -22,13 +22,14 @@ pub trait Keeps {
     ghost keeps: { Self → Subscription → Bool };
 
     /// Whether a subscription stays.
-    fn keeps(&self, subscription: &Subscription) -> bool
+    fn keeps(&self, subscription: &SharedSubscription) -> bool
         ensures { result ≡ keeps self.now subscription.now };
 }
 
 /// The standing subscriptions. A clause sees them as a list, oldest first. The sids find those of a connection.
 #[derive(Drop)]
 pub struct Subscriptions {
+    alloc: Global,
     table: Table,
     sids: Sids,
 }
@@ -64,6 +65,7 @@ impl Subscriptions {
         ensures { result ≡ [] }
     {
         Subscriptions {
+            alloc,
             table: Table::new(alloc, keys),
             sids: Sids::new(alloc, keys),
         }
@@ -88,7 +90,7 @@ impl Subscriptions {
     }
 
     /// Them all, oldest first.
-    pub fn values(&self) -> Values<'_, u64, Subscription>
+    pub fn values(&self) -> Values<'_, u64, SharedSubscription>
         ensures all { result ≡ self.now }
         ensures runs { ShowsInOrder (deref {X = Subscription}) }
     {
@@ -96,7 +98,7 @@ impl Subscriptions {
     }
 
     /// The subscription of that id.
-    pub fn get(&self, id: u64) -> Option<&Subscription>
+    pub fn get(&self, id: u64) -> Option<&SharedSubscription>
         ensures { option_copied result ≡ find (λ (s : Subscription). s.id == id) self.now }
     {
         let found = self.table.get(id);
@@ -119,7 +121,11 @@ impl Subscriptions {
     }
 
     /// Those of an account that have the subject, oldest first. `NoMemory` where memory could not be had.
-    pub fn having(&self, account: &[u8], subject: &Subject) -> Result<Vec<&Subscription>, NoMemory>
+    pub fn having(
+        &self,
+        account: &[u8],
+        subject: &Subject,
+    ) -> Result<Vec<&SharedSubscription>, NoMemory>
         ensures { IfOk result (λ found. map (λ s. s.now) found.items ≡ having account.now subject.now self.now) }
     {
         let found = self.table.having(account, subject)?;
@@ -142,7 +148,7 @@ impl Subscriptions {
         ensures ok { OnOk result (self.new ≡ self.old ++ subscription_of id conn account subject queue sid ∷ []) }
         ensures err { OnErr result (self.new ≡ self.old) }
     {
-        let subscription = Subscription {
+        let made = Subscription {
             id,
             conn,
             account,
@@ -152,6 +158,7 @@ impl Subscriptions {
             received: 0,
             most: None,
         };
+        let subscription = SharedSubscription::of(self.alloc, made)?;
         self.sids.insert(&subscription)?;
         match self.table.add(subscription) {
             Ok(()) => Ok(()),

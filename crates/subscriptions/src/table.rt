@@ -4,7 +4,7 @@ ghost use Rattle.std.specs.Prelude.{◌≡◌, ◌==◌};
 use crate::change::{bump_at, cap_at, forget_failing, take_out};
 use crate::sids::Own;
 use crate::trees::Trees;
-use crate::{Keeps, Subscription};
+use crate::{Keeps, SharedSubscription};
 use lists::NoMemory;
 use std::alloc::Global;
 use std::cell::Cell;
@@ -19,7 +19,7 @@ use subjects::Subject;
 #[derive(Drop)]
 pub(crate) struct Table {
     alloc: Global,
-    by_id: BTreeMap<u64, Subscription>,
+    by_id: BTreeMap<u64, SharedSubscription>,
     trees: Trees,
     // Room for the ids that a message finds, which the next uses again.
     ids: Cell<Vec<u64>>,
@@ -87,7 +87,7 @@ impl Table {
     }
 
     /// Them all, oldest first.
-    pub fn values(&self) -> Values<'_, u64, Subscription>
+    pub fn values(&self) -> Values<'_, u64, SharedSubscription>
         ensures all { result ≡ self.now }
         ensures runs { ShowsInOrder (deref {X = Subscription}) }
     {
@@ -95,7 +95,7 @@ impl Table {
     }
 
     /// The subscription of that id.
-    pub fn get(&self, id: u64) -> Option<&Subscription>
+    pub fn get(&self, id: u64) -> Option<&SharedSubscription>
         ensures { option_copied result ≡ find (λ (s : Subscription). s.id == id) self.now }
     {
         let found = self.by_id.get(&id);
@@ -103,7 +103,11 @@ impl Table {
     }
 
     /// Those of an account that have the subject, oldest first.
-    pub fn having(&self, account: &[u8], subject: &Subject) -> Result<Vec<&Subscription>, NoMemory>
+    pub fn having(
+        &self,
+        account: &[u8],
+        subject: &Subject,
+    ) -> Result<Vec<&SharedSubscription>, NoMemory>
         ensures { IfOk result (λ found. map (λ s. s.now) found.items ≡ having account.now subject.now self.now) }
     {
         let mut ids = self.ids.replace(Vec::new(self.alloc));
@@ -115,7 +119,7 @@ impl Table {
 
     /// The subscriptions of these ids.
     #[tactic(auto, using(crate::proofs::Indexed::found_first))]
-    fn with_ids(&self, ids: &[u64]) -> Result<Vec<&Subscription>, NoMemory>
+    fn with_ids(&self, ids: &[u64]) -> Result<Vec<&SharedSubscription>, NoMemory>
         ensures { IfOk result (λ found. map (λ s. s.now) found.items ≡ found_by self.now ids.now) }
     {
         let mut found = Vec::with_capacity(self.alloc, ids.len())?;
@@ -126,7 +130,11 @@ impl Table {
     }
 
     /// Adds the subscription of an id.
-    fn add_found<'a>(&'a self, id: u64, found: &mut Vec<&'a Subscription>) -> Result<(), NoMemory>
+    fn add_found<'a>(
+        &'a self,
+        id: u64,
+        found: &mut Vec<&'a SharedSubscription>,
+    ) -> Result<(), NoMemory>
         ensures { OnOk result (map (λ s. s.now) found.new.items
             ≡ map (λ s. s.now) found.old.items ++ found_by self.now (id ∷ [])) }
     {
@@ -141,7 +149,7 @@ impl Table {
 
     /// Adds a subscription, the youngest of all. Where memory could not be had it is handed back, and nothing has
     /// changed.
-    pub fn add(&mut self, subscription: Subscription) -> Result<(), Subscription>
+    pub fn add(&mut self, subscription: SharedSubscription) -> Result<(), SharedSubscription>
         requires above { All (λ (s : Subscription). s.id < subscription.id) self.old }
         requires free { stands self.old subscription.conn subscription.sid ≡ false }
         requires going { has_ended subscription ≡ false }
@@ -151,7 +159,7 @@ impl Table {
     {
         match self.trees.insert(&subscription) {
             Err(_) => Err(subscription),
-            Ok(()) => match self.by_id.insert(subscription.id, subscription) {
+            Ok(()) => match self.by_id.insert(subscription.id(), subscription) {
                 Ok(_) => Ok(()),
                 Err(refused) => {
                     let back = refused.value.1;
@@ -163,7 +171,7 @@ impl Table {
     }
 
     /// A limit for the subscription of that id, which ends where it has reached it. Answers the one that has ended.
-    pub fn limit(&mut self, id: u64, most: Option<u64>) -> Option<Subscription>
+    pub fn limit(&mut self, id: u64, most: Option<u64>) -> Option<SharedSubscription>
         ensures after { self.new ≡ unended (map (only (capped most) id) self.old) }
         ensures ended { if_any result ≡ filter has_ended (map (only (capped most) id) self.old) }
     {
@@ -176,7 +184,7 @@ impl Table {
 
     /// One message more for the subscription of that id, which ends where that was the last that it was to receive.
     /// Answers the one that has ended.
-    pub fn count(&mut self, id: u64) -> Option<Subscription>
+    pub fn count(&mut self, id: u64) -> Option<SharedSubscription>
         ensures after { self.new ≡ unended (map (only bumped id) self.old) }
         ensures ended { if_any result ≡ filter has_ended (map (only bumped id) self.old) }
     {

@@ -4,7 +4,7 @@ ghost use Rattle.subjects.specs.Subject.{Token};
 ghost use Rattle.sublist.specs.Tree.{same_path};
 ghost use Rattle.sublist.specs.Pairs as pairs;
 
-use crate::Subscription;
+use crate::SharedSubscription;
 use lists::NoMemory;
 use std::alloc::Global;
 use std::collections::HashMap;
@@ -41,19 +41,19 @@ impl Trees {
     }
 
     /// Adds a subscription. After `NoMemory` the trees hold what they held.
-    pub fn insert(&mut self, subscription: &Subscription) -> Result<(), NoMemory>
+    pub fn insert(&mut self, subscription: &SharedSubscription) -> Result<(), NoMemory>
         ensures ok { OnOk result (IsWith self.old subscription.now self.new) }
         ensures err { OnErr result (IsSame self.old self.new) }
     {
-        let pattern = subscription.subject.get();
-        match self.by_account.get_mut(subscription.account.as_slice()) {
-            Some(tree) => match add(tree, pattern, subscription.id) {
+        let pattern = subscription.subject().get();
+        match self.by_account.get_mut(subscription.account().as_slice()) {
+            Some(tree) => match add(tree, pattern, subscription.id()) {
                 Ok(()) => Ok(()),
                 Err(refused) => Err(refused),
             },
             None => {
-                let key = Vec::from_slice(self.alloc, subscription.account.as_slice())?;
-                let tree = grown(self.alloc, self.keys, pattern, subscription.id)?;
+                let key = Vec::from_slice(self.alloc, subscription.account().as_slice())?;
+                let tree = grown(self.alloc, self.keys, pattern, subscription.id())?;
                 match self.by_account.insert(key, tree) {
                     Ok(_) => Ok(()),
                     Err(_) => Err(NoMemory),
@@ -63,13 +63,13 @@ impl Trees {
     }
 
     /// Takes a subscription out, if it is there. It takes no memory.
-    pub fn remove(&mut self, subscription: &Subscription)
+    pub fn remove(&mut self, subscription: &SharedSubscription)
         ensures { IsWithout self.old subscription.now self.new }
     {
-        let pattern = subscription.subject.get();
-        match self.by_account.get_mut(subscription.account.as_slice()) {
+        let pattern = subscription.subject().get();
+        match self.by_account.get_mut(subscription.account().as_slice()) {
             None => {}
-            Some(tree) => take_out(tree, pattern, subscription.id),
+            Some(tree) => take_out(tree, pattern, subscription.id()),
         }
     }
 

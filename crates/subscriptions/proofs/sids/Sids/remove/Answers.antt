@@ -10,13 +10,15 @@ returns-then-is_empty c =
     let update = (c.get_mut.follows.holds c.remove.new.self).3 (search rules) in
     let inner = c.remove.ensures.updates in
     let pruned = c.remove-then-is_empty.ensures.updates in
-    at_conn s.conn s.sid None (Some c.in-Some.own.now) None _ _ c.in-Some.ensures.value (gone_at s.conn (Some c.remove.new.self) _ _ _ update.0 pruned.0)
-    (λ sid. nothing_in c.remove.new.self (c.is_empty.ensures.0 c.if-is_empty.true) sid ∙ rw c.as_slice.ensures at (looked_up c.as_slice.result.now _ _ None inner.1 inner.3 sid))
+    let step = at_conn c.conn-conn.result s.sid None (Some c.in-Some.own.now) None _ _ c.in-Some.ensures.value (gone_at c.conn-conn.result (Some c.remove.new.self) _ _ _ update.0 pruned.0)
+    (λ sid. nothing_in c.remove.new.self (c.is_empty.ensures.0 c.if-is_empty.true) sid ∙ rw (c.as_slice.ensures, c.sid.ensures) at (looked_up c.as_slice.result.now _ _ None inner.1 inner.3 sid)) in
+    λ conn sid. rw c.conn-conn.ensures at (step conn sid)
 
 pub returns-else-is_empty : goal.returns-else-is_empty
 returns-else-is_empty c =
     let s = c.args.subscription.now in
     let update = (c.get_mut.follows.holds c.remove.new.self).3 (search rules) in
     let inner = c.remove.ensures.updates in
-    at_conn s.conn s.sid None (Some c.in-Some.own.now) (Some c.remove.new.self) _ _ c.in-Some.ensures.value update.0
-    (λ sid. rw c.as_slice.ensures at (looked_up c.as_slice.result.now _ _ None inner.1 inner.3 sid))
+    let step = at_conn c.conn-conn.result s.sid None (Some c.in-Some.own.now) (Some c.remove.new.self) _ _ c.in-Some.ensures.value update.0
+    (λ sid. rw (c.as_slice.ensures, c.sid.ensures) at (looked_up c.as_slice.result.now _ _ None inner.1 inner.3 sid)) in
+    λ conn sid. rw c.conn-conn.ensures at (step conn sid)

@@ -1,6 +1,8 @@
-use Rattle.std.proofs.Common.{◌≡◌, ◌∙◌, ◌<◌, ◌++◌, ◌∷◌, [], ap, sym, refl, subst, List, false}
+use Rattle.std.proofs.Common.{◌≡◌, ◌∙◌, ◌<◌, ◌++◌, ◌∷◌, [], ap, sym, refl, subst, ℕ, List, false}
 use Rattle.std.specs.Prelude.{All}
+use Rattle.std.specs.BTreeMap.{insert_entry}
 use Rattle.std.specs.Map.{values_of}
+use Rattle.std.specs.Ordering.{nat_cmp}
 use Rattle.std.proofs.lemmas.List.{map-append}
 use Rattle.subscriptions.specs.Subscriptions.{stands}
 use Rattle.subscriptions.specs.declared.subscription.Subscription.{Subscription}
@@ -17,7 +19,7 @@ invariant_of-self-in-Ok-insert c =
     let s = c.args.subscription in
     let below : All (λ (x : Subscription). x.id < s.id) (values_of es) = subst (λ (xs : List Subscription). All (λ (x : Subscription). x.id < s.id) xs) (sym c.self.view_is) c.requires.above in
     let free : stands (values_of es) s.conn s.sid ≡ false = ap (λ (xs : List Subscription). stands xs s.conn s.sid) c.self.view_is ∙ c.requires.free in
-    let now = c.in-Ok-insert.ensures.entries ∙ added s.id es s c.self.invariant.0 below in
+    let now = c.in-Ok-insert.ensures.entries ∙ ap (λ (n : ℕ). insert_entry nat_cmp es n s) c.id.ensures ∙ added s.id es s c.self.invariant.0 below in
     let all = ap (λ (xs : Entries). values_of xs) now ∙ map-append _ es ((s.id, s) ∷ []) in (
       subst IsKept (sym now) (kept-added s.id es s c.self.invariant.0 below refl c.requires.going),
       subst Apart (sym all) (apart_added (values_of es) s c.self.invariant.1 below free),
@@ -29,7 +31,7 @@ returns-in-Ok-insert-clause-ok c =
     let es = c.self.inside.by_id.entries in
     let s = c.args.subscription in
     let below : All (λ (x : Subscription). x.id < s.id) (values_of es) = subst (λ (xs : List Subscription). All (λ (x : Subscription). x.id < s.id) xs) (sym c.self.view_is) c.requires.above in
-    ap (λ (xs : Entries). values_of xs) (c.in-Ok-insert.ensures.entries ∙ added s.id es s c.self.invariant.0 below)
+    ap (λ (xs : Entries). values_of xs) (c.in-Ok-insert.ensures.entries ∙ ap (λ (n : ℕ). insert_entry nat_cmp es n s) c.id.ensures ∙ added s.id es s c.self.invariant.0 below)
     ∙ map-append _ es ((s.id, s) ∷ [])
     ∙ ap (λ (xs : List Subscription). xs ++ s ∷ []) c.self.view_is
 

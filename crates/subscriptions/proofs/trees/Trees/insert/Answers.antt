@@ -6,8 +6,8 @@ use Rattle.subscriptions.proofs.trees.Trees.insert.Goals as goal
 pub returns-in-Ok-clause-ok : goal.returns-in-Ok-clause-ok
 returns-in-Ok-clause-ok c =
     let update = (c.get_mut.follows.holds c.add.new.tree).3 (search rules) in
-    let step = one_more c.as_slice.result.now _ _ c.add.new.tree update.1 update.3 c.in-Some.tree.now c.get-pattern.result.now c.args.subscription.now.id c.in-Some.ensures.value c.in-Ok.ensures.ok in
-    λ account p id. rw (c.as_slice.ensures, c.get-pattern.ensures) at (step account p id)
+    let step = one_more c.as_slice.result.now _ _ c.add.new.tree update.1 update.3 c.in-Some.tree.now c.get-pattern.result.now c.id.result c.in-Some.ensures.value c.in-Ok.ensures.ok in
+    λ account p id. rw (c.as_slice.ensures, c.account.ensures, c.get-pattern.ensures, c.subject.ensures, c.id.ensures) at (step account p id)
 
 pub returns-in-Some-clause-err : goal.returns-in-Some-clause-err
 returns-in-Some-clause-err c =
@@ -20,7 +20,7 @@ returns-in-Ok-insert-clause-ok c =
     let key = c.in_ok-key-in-None.key.items in
     let update = c.in-Ok-insert.ensures.updates in
     let lent : c.get_mut.follows.lender-at-none.entries ≡ old = rw c.get_mut.follows.holds-at-none refl in
-    let is : key ≡ c.args.subscription.now.account = c.in_ok-key-in-None.ensures.items ∙ c.as_slice-in-None.ensures in
-    let none : None ≡ lookup (has key) old = subst (λ x. None ≡ lookup (has x) old) (c.as_slice.ensures ∙ sym is) c.in-None.ensures.value in
-    let step = first_one key old c.insert.new.self.entries c.in_ok-tree-in-None.tree update.1 (rw lent at update.3) c.get-pattern.result.now c.args.subscription.now.id none c.in_ok-tree-in-None.ensures in
-    λ account p id. rw (is, c.get-pattern.ensures) at (step account p id)
+    let is : key ≡ c.args.subscription.now.account = c.in_ok-key-in-None.ensures.items ∙ c.as_slice-in-None.ensures ∙ c.account-in-None.ensures in
+    let none : None ≡ lookup (has key) old = subst (λ x. None ≡ lookup (has x) old) (c.as_slice.ensures ∙ c.account.ensures ∙ sym is) c.in-None.ensures.value in
+    let step = first_one key old c.insert.new.self.entries c.in_ok-tree-in-None.tree update.1 (rw lent at update.3) c.get-pattern.result.now c.id-in-None.result none c.in_ok-tree-in-None.ensures in
+    λ account p id. rw (is, c.get-pattern.ensures, c.subject.ensures, c.id-in-None.ensures) at (step account p id)
