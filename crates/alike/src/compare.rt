@@ -9,8 +9,11 @@ use bytes::Bytes;
 use events::{Command, Delivery, Entry, Event, Item, Message, Met, Outcome, Removed};
 use lists::{Items, Pieces, Shared, SharedText};
 use permissions::{By, Verdict};
-use policy_doc::{AccountDoc, Direction, NamedAccount, PermDoc, PermEntry, PolicyDoc, UserDoc};
+use policy_doc::{
+    AccountDoc, Direction, NamedAccount, PermDoc, PermEntry, PolicyDoc, Terms, UserDoc,
+};
 use ready::Ready;
+use reply_grants::PlainGrant;
 use subjects::{Pattern, Subject};
 
 /// What can be compared with another of its kind.
@@ -121,6 +124,14 @@ impl Alike for Subject {
     }
 }
 
+impl Alike for PlainGrant {
+    fn is_like(&self, other: &PlainGrant) -> bool {
+        self.noted == other.noted
+            && self.count == other.count
+            && self.subject.is_like(&other.subject)
+    }
+}
+
 /// Whether both are there and alike, or neither is there.
 fn are_alike_where_given(one: Option<&Subject>, other: Option<&Subject>) -> bool
     ensures { Decides result (option_copied one.entry ≡ option_copied other.entry) }
@@ -175,6 +186,10 @@ impl Alike for By {
             },
             By::Index(one) => match other {
                 By::Index(two) => *one == *two,
+                _ => false,
+            },
+            By::Grant => match other {
+                By::Grant => true,
                 _ => false,
             },
         }
@@ -459,7 +474,15 @@ impl Alike for UserDoc {
 
 impl Alike for PermDoc {
     fn is_like(&self, other: &PermDoc) -> bool {
-        self.publish.is_like(&other.publish) && self.subscribe.is_like(&other.subscribe)
+        self.publish.is_like(&other.publish)
+            && self.subscribe.is_like(&other.subscribe)
+            && self.allow_responses.is_like(&other.allow_responses)
+    }
+}
+
+impl Alike for Terms {
+    fn is_like(&self, other: &Terms) -> bool {
+        self.max.is_like(&other.max) && self.expires.is_like(&other.expires)
     }
 }
 

@@ -4,6 +4,7 @@ use crate::event::{Event, Sid};
 use crate::message::Message;
 use lists::{Copying, Items, NoMemory, Shared};
 use permissions::{By, Verdict};
+use reply_grants::Note;
 use std::alloc::Global;
 use std::marker::Model;
 use std::slice;
@@ -28,7 +29,7 @@ impl Copying for Delivery {
 }
 
 /// A delivery, and the subscription that it is for.
-#[derive(Debug, Drop)]
+#[derive(Drop)]
 pub struct Addressed {
     /// The number of the entry that made the subscription.
     pub id: u64,
@@ -38,6 +39,8 @@ pub struct Addressed {
     pub queue: Option<Subject>,
     /// What is sent.
     pub delivery: Delivery,
+    /// What its session notes where it enters: the subject to answer on, where the user may answer.
+    pub noted: Option<Note>,
 }
 
 /// What a message met at one subscription.

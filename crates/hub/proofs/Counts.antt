@@ -1,5 +1,5 @@
 -- In every legal run each subscription that stands has received what has entered for it since its SUB.
-use Rattle.std.proofs.Common.{◌≡◌, ◌∙◌, ◌==◌, ◌+◌, ◌-◌, ◌^◌, ◌<◌, ◌≤◌, ◌&&◌, ◌||◌, ℕ, Bool, true, false, not, cond, List, [], ◌∷◌, ◌++◌, map, filter, length, Option, Some, None, Result, Ok, Err, ap, sym, refl, subst, arith, nat_lt, nat_le, take}
+use Rattle.std.proofs.Common.{◌≡◌, ◌∙◌, ◌==◌, ◌+◌, ◌-◌, ◌^◌, ◌<◌, ◌≤◌, ◌&&◌, ◌||◌, ℕ, Bool, true, false, not, cond, List, [], ◌∷◌, ◌++◌, map, filter, length, Option, Some, None, Result, Ok, Err, ap, sym, refl, subst, arith, max, nat_lt, nat_le, take}
 use Rattle.std.specs.Prelude.{All, AllPairs, min, nat_eq}
 use Rattle.std.specs.List.{flat_map}
 use Rattle.std.specs.Cmp.Lexicographic.{pointwise}
@@ -15,7 +15,7 @@ use Rattle.subjects.specs.Subject.{Token}
 use Rattle.permissions.specs.declared.verdict.Verdict.{Verdict}
 use Rattle.permissions.specs.declared.verdict.Verdict.TheVariants.{Allowed, DeniedBy, NoAllow, NoQueueAllow}
 use Rattle.policy_doc.specs.declared.document.PolicyDoc.{PolicyDoc}
-use Rattle.permissions.specs.Verdicts.{publish_verdict, subscribe_verdict}
+use Rattle.permissions.specs.Verdicts.{subscribe_verdict}
 use Rattle.ready.specs.Users.{user_with_password}
 use Rattle.ready.specs.declared.ready.User.{User}
 use Rattle.events.specs.Messages.{Message}
@@ -29,12 +29,16 @@ use Rattle.events.specs.declared.answer.Outcome.TheVariants.{Connected, AuthViol
 use Rattle.events.specs.declared.refusal.HubRefusal.{HubRefusal}
 use Rattle.events.specs.declared.refusal.HubRefusal.TheVariants.{SessionLimit}
 use Rattle.sessions.specs.Sessions.{session_of}
+use Rattle.sessions.specs.Delivered.{delivered}
+use Rattle.sessions.specs.Replying.{with_note}
 use Rattle.sessions.specs.declared.session.Session.{Session}
+use Rattle.subscriptions.specs.Addressing.{addressed_to}
 use Rattle.subscriptions.specs.Subscriptions.{is_under, stands, has_all, subscription_of}
 use Rattle.subscriptions.specs.Limit.{is_entry_for, has_entered, has_ended, counted, limit_of, limited}
 use Rattle.subscriptions.specs.declared.subscription.Subscription.{Subscription}
 use Rattle.world.specs.World.{World, opening_world, advanced}
 use Rattle.queue_groups.specs.Served.{is_served, served}
+use Rattle.world.specs.Granting.{verdict_on, counted_on}
 use Rattle.world.specs.Routing.{own_view, is_admitted, admitted}
 use Rattle.world.specs.Reload.{stands_on}
 use Rattle.world.specs.Changes.{items_in}
@@ -46,7 +50,7 @@ use Rattle.hub.specs.Counts.{is_entered_for, items_told, entered_for, IsCounted}
 use Rattle.hub.proofs.Finds.{any-none, AllPairs-head, AllPairs-tail, AllPairs-map}
 use Rattle.hub.proofs.Soundness.{KeepsSubscription, either, apart-again}
 use Rattle.hub.proofs.Guaranteed.{counted-keeps, limited-keeps}
-use Rattle.hub.proofs.Deliveries.{items_after, one_each}
+use Rattle.hub.proofs.Deliveries.{notes_of, met, one_each}
 
 -- ---- one entry
 
@@ -340,18 +344,20 @@ pub-told es w now conn m word = by_session (session_of w.sessions conn)
     by_verdict (Allowed by) z = λ a command outcome number t.
         let all : List Subscription = admitted w z (own_view z m) in
         let whom : List Subscription = served word all in
-        let items : List Item = items_after m whom w.sessions in
+        let notes = notes_of w.sessions m.reply in
+        let items : List Item = (delivered (max w.moment now) (map (with_note w.sessions m.reply) (map (addressed_to m) whom)) (counted_on by z.conn m.subject w.sessions)).1 in
+        let named = ap (map item_names) (met (max w.moment now) by z.conn m whom w.sessions) ∙ one_each (max w.moment now) notes m whom w.sessions in
         let apart = AllPairs-filter (λ (x y : Subscription). has_same_sid x y ≡ false) (is_served word all) all
         (AllPairs-filter (λ (x y : Subscription). has_same_sid x y ≡ false) (is_admitted w.sessions z (own_view z m)) w.subscriptions t.1) in
         left (es ++ a ∷ []) (λ (s : Subscription). not (has_ended s)) (map (counted items) w.subscriptions)
-        (changed es a (counted items) w.subscriptions (counted-keeps items) (λ s. counts-published a items s (ap items_in outcome) (once s whom items (one_each m whom w.sessions) apart)) t)
+        (changed es a (counted items) w.subscriptions (counted-keeps items) (λ s. counts-published a items s (ap items_in outcome) (once s whom items named apart)) t)
     by_verdict (DeniedBy i) z = silent es w c (Denied (DeniedBy i)) refl
     by_verdict NoAllow z = silent es w c (Denied NoAllow) refl
     by_verdict (NoQueueAllow i) z = silent es w c (Denied (NoQueueAllow i)) refl
 
-    by_session : (o : Option Session) → Keeps es w c (numbered (w.number + 1) (in_session o (λ z. published (advanced w now) z m word (publish_verdict z.user.rules m.subject))))
+    by_session : (o : Option Session) → Keeps es w c (numbered (w.number + 1) (in_session o (λ z. published (advanced w now) z m word (verdict_on (max w.moment now) z m.subject))))
     by_session None = tt
-    by_session (Some z) = by_verdict (publish_verdict z.user.rules m.subject) z
+    by_session (Some z) = by_verdict (verdict_on (max w.moment now) z m.subject) z
 
 take-told : (es : List Entry) (w : World) (now conn most : ℕ) → Keeps es w (Take conn most) (numbered (w.number + 1) (moved (advanced w now) (Take conn most)))
 take-told es w now conn most = by_session (session_of w.sessions conn)

@@ -8,6 +8,7 @@ use Rattle.std.proofs.lemmas.List.Kept.{AllPairs-filter}
 use Rattle.subjects.specs.Subject.{Token, in_set}
 use Rattle.permissions.specs.Verdicts.{publish_verdict, subscribe_verdict, delivery_verdict, is_allowed, IsJustifiedPublish, IsJustifiedSubscribe, IsJustifiedDelivery}
 use Rattle.permissions.specs.declared.verdict.By.{By}
+use Rattle.permissions.specs.declared.verdict.By.TheVariants.{All as AllowsAll, Index, Grant}
 use Rattle.permissions.specs.declared.verdict.Verdict.{Verdict}
 use Rattle.permissions.specs.declared.verdict.Verdict.TheVariants.{Allowed, DeniedBy, NoAllow, NoQueueAllow}
 use Rattle.policy_doc.specs.declared.document.PolicyDoc.{PolicyDoc}
@@ -25,31 +26,39 @@ use Rattle.events.specs.declared.answer.Outcome.TheVariants.{Connected, AuthViol
 use Rattle.events.specs.declared.refusal.HubRefusal.{HubRefusal}
 use Rattle.events.specs.declared.refusal.HubRefusal.TheVariants.{HistoryFull, NoSession, SessionTaken, SessionLimit, NoMemory}
 use Rattle.sessions.specs.Sessions.{session_of, with_session, new_session, drained}
+use Rattle.reply_grants.specs.Replies.{grants_of}
+use Rattle.reply_grants.specs.declared.replies.Note.{Note}
+use Rattle.events.specs.declared.answer.Addressed.{Addressed}
 use Rattle.sessions.specs.Delivered.{delivered}
+use Rattle.sessions.specs.Replying.{terms_of, is_granted, with_note}
 use Rattle.sessions.specs.declared.session.Session.{Session}
-use Rattle.subscriptions.specs.Subscriptions.{is_under, stands, has_all, subscription_of}
+use Rattle.subscriptions.specs.Subscriptions.{is_under, stands, has_all, subscription_of, of_connection}
 use Rattle.subscriptions.specs.Limit.{has_entered, unended, counted, limit_of, limited}
 use Rattle.subscriptions.specs.declared.subscription.Subscription.{Subscription}
 use Rattle.world.specs.World.{World, advanced}
+use Rattle.world.specs.Granting.{or_granted, verdict_on, counted_on, ended_on}
 use Rattle.queue_groups.specs.Served.{served}
 use Rattle.world.specs.Routing.{own_view, is_admitted, admitted, may_hear, lets_through}
 use Rattle.queue_groups.specs.Chosen.{Rising}
-use Rattle.subscriptions.specs.Addressing.{addressed_to}
+use Rattle.subscriptions.specs.Addressing.{addressed_to, delivery_to}
 use Rattle.world.specs.Transition.{IsReasoned, IsRefusal, connected, subscribed, unsubscribed, published, taken, closed, in_session, in_new_session, moved, numbered, transition}
 use Rattle.hub.specs.Sound.{IsSound, user_behind, user_at, account_of, may_subscribe, HasAllowance}
 use Rattle.hub.specs.InForce.{policy_after, epoch_after}
 use Rattle.hub.specs.History.{State, is_history_full, remembered, stepped, IsStep}
-use Rattle.hub.specs.Guarantee.{accepts, allows, may_publish, may_receive, has_echo, is_for, eligible, IsDenial, HasReason, IsReasonedFor, AreServed, IsDelivered, IsUntouched, IsEffect, is_connect, is_nobodys, has_session, is_fit, is_in_order, is_due, is_at_limit, IsRouted, KeepsGuarantee, IsGuarded}
+use Rattle.hub.specs.Replies.{terms_in, grants_at, has_grant, may_answer, is_answer}
+use Rattle.hub.specs.Guarantee.{room_in, IsAllowance, accepts, allows, may_publish, may_receive, has_echo, is_for, eligible, IsDenial, HasReason, IsReasonedFor, AreServed, IsDelivered, IsUntouched, IsEffect, is_connect, is_nobodys, has_session, is_fit, is_in_order, is_due, is_at_limit, IsRouted, KeepsGuarantee, IsGuarded}
+use Rattle.std.proofs.Math.Bool.{or-true}
 use Rattle.std.proofs.lemmas.Bool.{eqb-true}
 use Rattle.hub.proofs.Lists.{filter_same_on}
 use Rattle.hub.proofs.Finds.{find-passes}
 use Rattle.hub.proofs.Naming.{user_named-again}
-use Rattle.hub.proofs.Soundness.{next, KeepsSession, KeepsSubscription, either, keeps-where, user_at-session, sound-same, sound-map, unended-same, sound-limits, sound-open, sound-add, sound-close}
+use Rattle.hub.proofs.Grants.{granted_is, kept_after}
+use Rattle.hub.proofs.Soundness.{next, HasTable, KeepsSession, KeepsSubscription, either, keeps-where, user_at-session, sound-same, sound-map, unended-same, sound-limits, sound-open, sound-add, sound-close}
 use Rattle.hub.proofs.Reasons.{delivery_justified}
 use Rattle.hub.proofs.Groups.{are_served}
 use Rattle.hub.proofs.Reloads.{in_force, sound-reload}
 use Rattle.sessions.proofs.Changes.{only, with_session-map}
-use Rattle.hub.proofs.Deliveries.{gets, items_after, outboxes, one_each, with_room}
+use Rattle.hub.proofs.Deliveries.{receives_of, notes_of, as_sent, items_after, met, outboxes, one_each, with_room}
 
 -- where the tables turn a command away
 abbrev turns_away : World → Command → HubRefusal → Bool
@@ -61,9 +70,9 @@ turns_away w c NoMemory = is_fit w c
 
 -- what the guarantee says of the worlds before and after an answered step
 pub record IsMoved (w : World) (e : Event) (o : Outcome) (after : World) : Type 0 where
-  pub accepted : accepts o ≡ allows w e.what
-  pub reason : HasReason w e.what o
-  pub effect : IsEffect w e.what o after
+  pub accepted : accepts o ≡ allows w (max w.moment e.now) e.what
+  pub reason : HasReason w (max w.moment e.now) e.what o
+  pub effect : IsEffect w (max w.moment e.now) e.what o after
   pub others : (after ≡ record w { policy = policy_after w e.what; epoch = epoch_after w e.what; moment = max w.moment e.now; number = w.number + 1; sessions = after.sessions; subscriptions = after.subscriptions })
   pub sound : IsSound after
 
@@ -77,7 +86,7 @@ event now c = record { now = now; what = c }
 
 -- a command other than a reload
 answered : (w : World) (now : ℕ) (c : Command) (o : Outcome) (zs : List Session) (subs : List Subscription) →
-    (policy_after w c ≡ w.policy) × (epoch_after w c ≡ w.epoch) → is_fit w c ≡ true → accepts o ≡ allows w c → (IsReasoned w c o → HasReason w c o) → IsEffect w c o (next w now zs subs) → (IsReasoned w c o → IsSound (next w now zs subs)) →
+    (policy_after w c ≡ w.policy) × (epoch_after w c ≡ w.epoch) → is_fit w c ≡ true → accepts o ≡ allows w (max w.moment now) c → (IsReasoned w c o → HasReason w (max w.moment now) c o) → IsEffect w (max w.moment now) c o (next w now zs subs) → (IsReasoned w c o → IsSound (next w now zs subs)) →
     Keeps w (event now c) (Ok (o, next w now zs subs))
 answered w now c o zs subs stay fit accepted reason effect sound = (
   fit,
@@ -239,11 +248,13 @@ eligible-same w conn z m sound at =
 bounded : (ws ds : List Delivery) (capacity bound : ℕ) → (capacity ≡ bound) × (length ws ≤ bound) → length (ws ++ take (capacity - length ws) ds) ≤ bound
 bounded ws ds capacity bound h = omega (arith, h, length-append ws (take (capacity - length ws) ds), length-take (capacity - length ws) ds)
 
-gets-keeps : (capacity : ℕ) (m : Message) (subs : List Subscription) → KeepsSession capacity (gets m subs)
-gets-keeps capacity m subs = record {
+-- and its session keeps what it keeps, whatever it gets
+receives-keeps : (capacity now : ℕ) (by : By) (conn : ℕ) (m : Message) (subs : List Subscription) → KeepsSession capacity now (receives_of now by conn m subs)
+receives-keeps capacity now by conn m subs = record {
   conn = λ z. refl;
   user = λ z. refl;
   outbox = λ z is. (is.0, bounded z.outbox.waiting _ z.outbox.capacity capacity is);
+  grants = λ z is. kept_after now (length (take (room_in (Some z)) (map (delivery_to m) (of_connection z.conn subs)))) (is_answer by conn z) m.subject m.reply z.user.rules.allow_responses z.replies is;
 }
 
 -- counting changes nothing but the count
@@ -280,12 +291,33 @@ pub-keeps w now conn m word sound = by_session (session_of w.sessions conn) refl
         subst (λ o. IsSomeAnd o (λ (user : User). (v ≡ publish_verdict user.rules m.subject) × IsJustifiedPublish m.subject user.rules.publish v)) (sym u)
         (sym e, justified v z e at reasoned)
 
-    reason : (by : By) (z : Session) → publish_verdict z.user.rules m.subject ≡ Allowed by → session_of w.sessions conn ≡ Some z → user_at w conn ≡ Some z.user → Reasoned → IsSomeAnd (user_at w conn) (λ (user : User). IsJustifiedPublish m.subject user.rules.publish (Allowed by))
-    reason by z e at u reasoned =
-        subst (λ o. IsSomeAnd o (λ (user : User). IsJustifiedPublish m.subject user.rules.publish (Allowed by))) (sym u) (justified (Allowed by) z e at reasoned)
+    later : ℕ
+    later = max w.moment now
 
-    allowed : (v : Verdict) (z : Session) → publish_verdict z.user.rules m.subject ≡ v → user_at w conn ≡ Some z.user → may_publish (user_at w conn) m.subject ≡ is_allowed v
-    allowed v z e u = ap (λ o. may_publish o m.subject) u ∙ ap is_allowed e
+    -- a live grant is one that the guarantee speaks of
+    may_answer-is : (z : Session) → session_of w.sessions conn ≡ Some z → user_at w conn ≡ Some z.user → may_answer w later conn m.subject ≡ is_granted later m.subject z
+    may_answer-is z at u =
+        ap (λ o. has_grant later m.subject (terms_in o) (grants_at (session_of w.sessions conn))) u
+        ∙ ap (λ o. has_grant later m.subject (terms_of z) (grants_at o)) at
+        ∙ sym (granted_is m.subject later (terms_of z) (grants_of z.replies))
+
+    may_publish-is : (v : Verdict) (z : Session) → publish_verdict z.user.rules m.subject ≡ v → user_at w conn ≡ Some z.user → may_publish (user_at w conn) m.subject ≡ is_allowed v
+    may_publish-is v z e u = ap (λ o. may_publish o m.subject) u ∙ ap is_allowed e
+
+    Allows : By → Type 0
+    Allows by = IsSomeAnd (user_at w conn) (λ (user : User). IsAllowance w later conn m.subject user by)
+
+    -- what the lists allow
+    listed : (by : By) (z : Session) → publish_verdict z.user.rules m.subject ≡ Allowed by → session_of w.sessions conn ≡ Some z → user_at w conn ≡ Some z.user → Reasoned → Allows by
+    listed AllowsAll z e at u reasoned = subst (λ o. IsSomeAnd o (λ (user : User). IsAllowance w later conn m.subject user AllowsAll)) (sym u) (e, justified (Allowed AllowsAll) z e at reasoned)
+    listed (Index i) z e at u reasoned = subst (λ o. IsSomeAnd o (λ (user : User). IsAllowance w later conn m.subject user (Index i))) (sym u) (e, justified (Allowed (Index i)) z e at reasoned)
+    listed Grant z e at u reasoned = absurd (justified (Allowed Grant) z e at reasoned)
+
+    -- what a grant allows
+    granted : (v : Verdict) (z : Session) → publish_verdict z.user.rules m.subject ≡ v → is_allowed v ≡ false → is_granted later m.subject z ≡ true → session_of w.sessions conn ≡ Some z → user_at w conn ≡ Some z.user → Reasoned → Allows Grant
+    granted v z e refuses live at u reasoned =
+        subst (λ o. IsSomeAnd o (λ (user : User). IsAllowance w later conn m.subject user Grant)) (sym u)
+        (ap is_allowed e ∙ refuses, justified (publish_verdict z.user.rules m.subject) z refl at reasoned, may_answer-is z at u ∙ live)
 
     all : Session → List Subscription
     all z = admitted w z (own_view z m)
@@ -296,42 +328,78 @@ pub-keeps w now conn m word sound = by_session (session_of w.sessions conn) refl
     rising : (z : Session) → Rising (all z)
     rising z = AllPairs-filter (λ (s t : Subscription). s.id < t.id) (is_admitted w.sessions z (own_view z m)) w.subscriptions sound.ids
 
-    Handed : Session → List Subscription → Type 0
-    Handed z from =
-        (subs : List Subscription) × AreServed word from subs × IsDelivered w m subs (items_after m (whom z) w.sessions) (delivered (map (addressed_to m) (whom z)) w.sessions).0
+    notes : ℕ → Option Note
+    notes = notes_of w.sessions m.reply
 
-    handed : (z : Session) → session_of w.sessions conn ≡ Some z → Handed z (eligible w conn z.user.account m.subject)
-    handed z at =
-        subst (Handed z) (eligible-same w conn z m sound at) (
+    Handed : By → Session → List Item → List Session → List Subscription → Type 0
+    Handed by z items zs from = (subs : List Subscription) × AreServed word from subs × IsDelivered w later by conn m subs items zs
+
+    handed : (by : By) (z : Session) → session_of w.sessions conn ≡ Some z →
+        Handed by z (items_after later notes m (whom z) w.sessions) (map (receives_of later by conn m (whom z)) w.sessions) (eligible w conn z.user.account m.subject)
+    handed by z at =
+        subst (Handed by z (items_after later notes m (whom z) w.sessions) (map (receives_of later by conn m (whom z)) w.sessions)) (eligible-same w conn z m sound at) (
           whom z,
           are_served word (all z) (rising z),
           record {
             reasons = λ k d h. receiver-reason w m.subject (get_or w.subscriptions k d);
-            one_each = one_each m (whom z) w.sessions;
-            with_room = with_room m (whom z) w.sessions;
-            outboxes = outboxes m (whom z) w.sessions sound.connections;
+            one_each = one_each later notes m (whom z) w.sessions;
+            with_room = with_room later notes m (whom z) w.sessions;
+            outboxes = refl;
           },
         )
 
-    by_verdict : (v : Verdict) (z : Session) → publish_verdict z.user.rules m.subject ≡ v → session_of w.sessions conn ≡ Some z → user_at w conn ≡ Some z.user → is_fit w command ≡ true →
-        Keeps w (event now command) (numbered (w.number + 1) (Ok (published (advanced w now) z m word v)))
-    by_verdict (Allowed by) z e at u fit =
-        let zs : List Session = (delivered (map (addressed_to m) (whom z)) w.sessions).0 in
-        let items : List Item = items_after m (whom z) w.sessions in
+    -- the message goes to whom it is for
+    sends : (by : By) (z : Session) → session_of w.sessions conn ≡ Some z → user_at w conn ≡ Some z.user → (may_publish (user_at w conn) m.subject || may_answer w later conn m.subject) ≡ true → (Reasoned → Allows by) → is_fit w command ≡ true →
+        Keeps w (event now command) (numbered (w.number + 1) (Ok (published (advanced w now) z m word (Allowed by))))
+    sends by z at u may reason fit =
+        let own : z.conn ≡ conn = eqb-true z.conn conn (find-passes (λ (y : Session). y.conn == conn) w.sessions z at) in
+        let ds : List Addressed = map (with_note w.sessions m.reply) (map (addressed_to m) (whom z)) in
+        let zs : List Session = ended_on by z.conn m.subject (delivered later ds (counted_on by z.conn m.subject w.sessions)).0 in
+        let items : List Item = (delivered later ds (counted_on by z.conn m.subject w.sessions)).1 in
         let subs : List Subscription = unended (map (counted items) w.subscriptions) in
-        answered w now command (Published by items) zs subs (refl, refl) fit (sym (allowed (Allowed by) z e u)) (reason by z e at u)
-        (subst (λ o. IsSomeAnd o (λ (user : User). (publish_verdict user.rules m.subject ≡ Allowed by) × Handed z (eligible w conn user.account m.subject))) (sym u) (e, handed z at), unended-same (map (counted items) w.subscriptions))
-        (λ _. subst (λ ys. IsSound (next w now ys subs)) (sym (outboxes m (whom z) w.sessions sound.connections))
-        (sound-limits (next w now (map (gets m (whom z)) w.sessions) w.subscriptions) (counted items) (counted-keeps items)
-        (sound-map w now (gets m (whom z)) (gets-keeps w.capacity m (whom z)) sound)))
-    by_verdict (DeniedBy i) z e at u fit = answered w now command (Denied (DeniedBy i)) w.sessions w.subscriptions (refl, refl) fit (sym (allowed (DeniedBy i) z e u)) (denied (DeniedBy i) z e at u) (untouched w now) (λ _. sound-same w now sound)
-    by_verdict NoAllow z e at u fit = answered w now command (Denied NoAllow) w.sessions w.subscriptions (refl, refl) fit (sym (allowed NoAllow z e u)) (denied NoAllow z e at u) (untouched w now) (λ _. sound-same w now sound)
-    by_verdict (NoQueueAllow i) z e at u fit = answered w now command (Denied (NoQueueAllow i)) w.sessions w.subscriptions (refl, refl) fit (sym (allowed (NoQueueAllow i) z e u)) (denied (NoQueueAllow i) z e at u) (untouched w now) (λ _. sound-same w now sound)
+        let same_zs : map (receives_of later by conn m (whom z)) w.sessions ≡ zs =
+        sym (ap (λ n. ended_on by n m.subject (delivered later ds (counted_on by n m.subject w.sessions)).0) own
+        ∙ ap (λ (all : List Addressed). ended_on by conn m.subject (delivered later all (counted_on by conn m.subject w.sessions)).0) (as_sent w.sessions m (whom z))
+        ∙ outboxes later conn m (whom z) w.sessions by sound.connections) in
+        let same_items : items_after later notes m (whom z) w.sessions ≡ items = sym (met later by z.conn m (whom z) w.sessions) in
+        let WithItems : List Item → Type 0 = λ is. Handed by z is (map (receives_of later by conn m (whom z)) w.sessions) (eligible w conn z.user.account m.subject) in
+        let WithSessions : List Session → Type 0 = λ ys. Handed by z items ys (eligible w conn z.user.account m.subject) in
+        let here : Handed by z items zs (eligible w conn z.user.account m.subject) = subst WithSessions same_zs (subst WithItems same_items (handed by z at)) in
+        answered w now command (Published by items) zs subs (refl, refl) fit (sym may) reason
+        (subst (λ o. IsSomeAnd o (λ (user : User). Handed by z items zs (eligible w conn user.account m.subject))) (sym u) here, unended-same (map (counted items) w.subscriptions))
+        (λ _. subst (λ ys. IsSound (next w now ys subs)) same_zs
+        (sound-limits (next w now (map (receives_of later by conn m (whom z)) w.sessions) w.subscriptions) (counted items) (counted-keeps items)
+        (sound-map w now (receives_of later by conn m (whom z)) (receives-keeps w.capacity later by conn m (whom z)) sound)))
+
+    refused : (v : Verdict) (z : Session) → publish_verdict z.user.rules m.subject ≡ v → is_allowed v ≡ false → is_granted later m.subject z ≡ false → session_of w.sessions conn ≡ Some z → user_at w conn ≡ Some z.user → is_fit w command ≡ true →
+        Keeps w (event now command) (Ok (Denied v, next w now w.sessions w.subscriptions))
+    refused v z e refuses dead at u fit =
+        answered w now command (Denied v) w.sessions w.subscriptions (refl, refl) fit
+        (sym (ap (λ b. b || may_answer w later conn m.subject) (may_publish-is v z e u ∙ refuses) ∙ may_answer-is z at u ∙ dead))
+        (denied v z e at u) (untouched w now) (λ _. sound-same w now sound)
+
+    -- what the lists refuse, a grant may allow
+    answers : (v : Verdict) (z : Session) → publish_verdict z.user.rules m.subject ≡ v → is_allowed v ≡ false → is_granted later m.subject z ≡ true → session_of w.sessions conn ≡ Some z → user_at w conn ≡ Some z.user → is_fit w command ≡ true →
+        Keeps w (event now command) (numbered (w.number + 1) (Ok (published (advanced w now) z m word (Allowed Grant))))
+    answers v z e refuses live at u fit =
+        sends Grant z at u (ap (λ b. may_publish (user_at w conn) m.subject || b) (may_answer-is z at u ∙ live) ∙ or-true (may_publish (user_at w conn) m.subject)) (granted v z e refuses live at u) fit
+
+    by_verdict : (v : Verdict) (live : Bool) (z : Session) → publish_verdict z.user.rules m.subject ≡ v → is_granted later m.subject z ≡ live → session_of w.sessions conn ≡ Some z → user_at w conn ≡ Some z.user → is_fit w command ≡ true →
+        Keeps w (event now command) (numbered (w.number + 1) (Ok (published (advanced w now) z m word (or_granted live v))))
+    by_verdict (Allowed by) live z e is at u fit =
+        sends by z at u (ap (λ b. b || may_answer w later conn m.subject) (may_publish-is (Allowed by) z e u)) (listed by z e at u) fit
+    by_verdict (DeniedBy i) true z e is at u fit = answers (DeniedBy i) z e refl is at u fit
+    by_verdict (DeniedBy i) false z e is at u fit = refused (DeniedBy i) z e refl is at u fit
+    by_verdict NoAllow true z e is at u fit = answers NoAllow z e refl is at u fit
+    by_verdict NoAllow false z e is at u fit = refused NoAllow z e refl is at u fit
+    by_verdict (NoQueueAllow i) true z e is at u fit = answers (NoQueueAllow i) z e refl is at u fit
+    by_verdict (NoQueueAllow i) false z e is at u fit = refused (NoQueueAllow i) z e refl is at u fit
 
     by_session : (o : Option Session) → session_of w.sessions conn ≡ o →
-        Keeps w (event now command) (numbered (w.number + 1) (in_session o (λ z. published (advanced w now) z m word (publish_verdict z.user.rules m.subject))))
+        Keeps w (event now command) (numbered (w.number + 1) (in_session o (λ z. published (advanced w now) z m word (verdict_on later z m.subject))))
     by_session None e = none-due (session_of w.sessions conn) e
-    by_session (Some z) e = by_verdict (publish_verdict z.user.rules m.subject) z refl e (user_at-session w sound conn z e) (is_there (session_of w.sessions conn) z e)
+    by_session (Some z) e =
+        by_verdict (publish_verdict z.user.rules m.subject) (is_granted later m.subject z) z refl refl e (user_at-session w sound conn z e) (is_there (session_of w.sessions conn) z e)
 
 -- ---- Unsub
 
@@ -358,13 +426,18 @@ unsub-keeps w now conn sid most sound = by_session (session_of w.sessions conn) 
 bounded-drop : (ws : List Delivery) (most bound : ℕ) → length ws ≤ bound → length (drop most ws) ≤ bound
 bounded-drop ws most bound h = omega (arith, length-drop most ws)
 
-drained-keeps : (capacity most conn : ℕ) → KeepsSession capacity (only (drained most) conn)
-drained-keeps capacity most conn = record {
+drained-keeps : (capacity now most conn : ℕ) → KeepsSession capacity now (only (drained most) conn)
+drained-keeps capacity now most conn = record {
   conn = λ z. either (λ (y : Session). y.conn) (z.conn == conn) (drained most z) z refl;
   user = λ z. either (λ (y : Session). y.user) (z.conn == conn) (drained most z) z refl;
   outbox = λ z is. outbox_is z is (z.conn == conn);
+  grants = λ z is. table_is z is (z.conn == conn);
 }
   where
+    table_is : (z : Session) → HasTable now z → (b : Bool) → HasTable now (cond b (drained most z) z)
+    table_is z is true = is
+    table_is z is false = is
+
     outbox_is : (z : Session) → (z.outbox.capacity ≡ capacity) × (length z.outbox.waiting ≤ capacity) → (b : Bool) → ((cond b (drained most z) z).outbox.capacity ≡ capacity) × (length (cond b (drained most z) z).outbox.waiting ≤ capacity)
     outbox_is z is true = (is.0, bounded-drop z.outbox.waiting most capacity is.1)
     outbox_is z is false = is
@@ -382,7 +455,7 @@ take-keeps w now conn most sound = by_session (session_of w.sessions conn) refl
         answered w now (Take conn most) (Taken ds z.missed) (with_session (drained most) conn w.sessions) w.subscriptions (refl, refl)
         (is_there (session_of w.sessions conn) z e) refl (λ _. tt)
         (subst (λ o. IsSomeAnd o (λ (y : Session). (ds ≡ take most y.outbox.waiting) × (z.missed ≡ y.missed))) (sym e) (refl, refl), changed, refl)
-        (λ _. subst (λ zs. IsSound (next w now zs w.subscriptions)) (sym changed) (sound-map w now (only (drained most) conn) (drained-keeps w.capacity most conn) sound))
+        (λ _. subst (λ zs. IsSound (next w now zs w.subscriptions)) (sym changed) (sound-map w now (only (drained most) conn) (drained-keeps w.capacity (max w.moment now) most conn) sound))
 
 close-keeps : (w : World) (now conn : ℕ) → IsSound w →
     Keeps w (event now (Close conn)) (numbered (w.number + 1) (moved (advanced w now) (Close conn)))

@@ -3,6 +3,7 @@ pub mod Lists
 pub mod Finds
 pub mod Naming
 pub mod Reasons
+pub mod Grants
 pub mod Soundness
 pub mod Deliveries
 pub mod Reloads

@@ -30,7 +30,8 @@ use Rattle.hub.specs.InForce.{goes_on_for, goes_on, under, removal_for, IsInForc
 use Rattle.hub.proofs.Finds.{find-map, find-passes, find-All, find-nothing, AllPairs-head, AllPairs-tail, AllPairs-map}
 use Rattle.hub.proofs.Naming.{name_of, are_named_once, unlike, named_again}
 use Rattle.sessions.proofs.Ascending.{AreApart, among-ascending, ascending-rises}
-use Rattle.hub.proofs.Soundness.{IsOfPolicy, HasBound, IsApart, IsOwned, IsStillToReceive, quotas-filter}
+use Rattle.hub.proofs.Grants.{kept_judged}
+use Rattle.hub.proofs.Soundness.{IsOfPolicy, HasBound, HasTable, IsApart, IsOwned, IsStillToReceive, quotas-filter, tables-next}
 
 -- ---- the same user, found by its name
 
@@ -72,43 +73,47 @@ user_again-by_name doc v valid = again-by_name v (users_of doc) (are_named_once 
 -- ---- the sessions that stay
 
 -- they are those that go on, each for the user that the policy has under its name
-stay-same : (doc : PolicyDoc) (zs : List Session) → IsValidPolicy doc → remaining doc zs ≡ map (under doc) (filter (goes_on doc) zs)
-stay-same doc [] valid = refl
-stay-same doc (z ∷ zs) valid =
-    ap (λ a. map (renewed doc) (cond (is_some a) (z ∷ filter (stays doc) zs) (filter (stays doc) zs))) (user_again-by_name doc z.user valid)
-    ∙ by_name (user_named doc z.user.user) refl (stay-same doc zs valid)
+stay-same : (now : ℕ) (doc : PolicyDoc) (zs : List Session) → IsValidPolicy doc → remaining now doc zs ≡ map (under now doc) (filter (goes_on doc) zs)
+stay-same now doc [] valid = refl
+stay-same now doc (z ∷ zs) valid =
+    ap (λ a. map (renewed now doc) (cond (is_some a) (z ∷ filter (stays doc) zs) (filter (stays doc) zs))) (user_again-by_name doc z.user valid)
+    ∙ by_name (user_named doc z.user.user) refl (stay-same now doc zs valid)
   where
     is_same_login : User → Bool
     is_same_login u = pointwise nat_eq u.password z.user.password && pointwise nat_eq u.account z.user.account
 
     by_login : (u : User) → user_named doc z.user.user ≡ Some u → (b : Bool) → (pointwise nat_eq u.password z.user.password && pointwise nat_eq u.account z.user.account) ≡ b →
-        map (renewed doc) (filter (stays doc) zs) ≡ map (under doc) (filter (goes_on doc) zs) →
-        map (renewed doc) (cond (is_some (let a : Option User = cond b (Some u) None in a)) (z ∷ filter (stays doc) zs) (filter (stays doc) zs)) ≡ map (under doc) (cond b (z ∷ filter (goes_on doc) zs) (filter (goes_on doc) zs))
+        map (renewed now doc) (filter (stays doc) zs) ≡ map (under now doc) (filter (goes_on doc) zs) →
+        map (renewed now doc) (cond (is_some (let a : Option User = cond b (Some u) None in a)) (z ∷ filter (stays doc) zs) (filter (stays doc) zs)) ≡ map (under now doc) (cond b (z ∷ filter (goes_on doc) zs) (filter (goes_on doc) zs))
     by_login u e false is later = later
     by_login u e true is later =
-        ap (λ y. y ∷ map (renewed doc) (filter (stays doc) zs)) (
-        ap (with_user z) (user_again-by_name doc z.user valid ∙ ap (same_login z.user) e ∙ ap (λ b. cond b (Some u) None) is)
-        ∙ sym (ap (with_user z) e))
-        ∙ ap (λ ys. under doc z ∷ ys) later
+        ap (λ y. y ∷ map (renewed now doc) (filter (stays doc) zs)) (
+        ap (with_user now z) (user_again-by_name doc z.user valid ∙ ap (same_login z.user) e ∙ ap (λ b. cond b (Some u) None) is)
+        ∙ sym (ap (with_user now z) e))
+        ∙ ap (λ ys. under now doc z ∷ ys) later
 
-    by_name : (o : Option User) → user_named doc z.user.user ≡ o → map (renewed doc) (filter (stays doc) zs) ≡ map (under doc) (filter (goes_on doc) zs) →
-        map (renewed doc) (cond (is_some (same_login z.user o)) (z ∷ filter (stays doc) zs) (filter (stays doc) zs)) ≡ map (under doc) (cond (goes_on_for z o) (z ∷ filter (goes_on doc) zs) (filter (goes_on doc) zs))
+    by_name : (o : Option User) → user_named doc z.user.user ≡ o → map (renewed now doc) (filter (stays doc) zs) ≡ map (under now doc) (filter (goes_on doc) zs) →
+        map (renewed now doc) (cond (is_some (same_login z.user o)) (z ∷ filter (stays doc) zs) (filter (stays doc) zs)) ≡ map (under now doc) (cond (goes_on_for z o) (z ∷ filter (goes_on doc) zs) (filter (goes_on doc) zs))
     by_name None e later = later
     by_name (Some u) e later = by_login u e (pointwise nat_eq u.password z.user.password && pointwise nat_eq u.account z.user.account) refl later
 
-with_user-conn : (z : Session) (o : Option User) → (with_user z o).conn ≡ z.conn
-with_user-conn z None = refl
-with_user-conn z (Some u) = refl
+with_user-conn : (now : ℕ) (z : Session) (o : Option User) → (with_user now z o).conn ≡ z.conn
+with_user-conn now z None = refl
+with_user-conn now z (Some u) = refl
 
-with_user-bound : (capacity : ℕ) (z : Session) (o : Option User) → HasBound capacity z → HasBound capacity (with_user z o)
-with_user-bound capacity z None is = is
-with_user-bound capacity z (Some u) is = is
+with_user-bound : (now : ℕ) (capacity : ℕ) (z : Session) (o : Option User) → HasBound capacity z → HasBound capacity (with_user now z o)
+with_user-bound now capacity z None is = is
+with_user-bound now capacity z (Some u) is = is
+
+with_user-table : (now : ℕ) (z : Session) (o : Option User) → HasTable now z → HasTable now (with_user now z o)
+with_user-table now z None is = is
+with_user-table now z (Some u) is = kept_judged now z.user.rules.allow_responses u.rules.allow_responses z.replies is
 
 -- the policy has the user of a session that stays
-renewed-of_policy : (doc : PolicyDoc) (z : Session) → IsValidPolicy doc → stays doc z ≡ true → IsOfPolicy doc (renewed doc z)
-renewed-of_policy doc z valid = here (user_again_of doc z) refl
+renewed-of_policy : (now : ℕ) (doc : PolicyDoc) (z : Session) → IsValidPolicy doc → stays doc z ≡ true → IsOfPolicy doc (renewed now doc z)
+renewed-of_policy now doc z valid = here (user_again_of doc z) refl
   where
-    here : (o : Option User) → user_again_of doc z ≡ o → is_some o ≡ true → user_named doc (with_user z o).user.user ≡ Some (with_user z o).user
+    here : (o : Option User) → user_again_of doc z ≡ o → is_some o ≡ true → user_named doc (with_user now z o).user.user ≡ Some (with_user now z o).user
     here None is stay = absurd (cc)
     here (Some u) is stay = named_again (λ x. is_same_user x z.user) doc u valid is
 
@@ -133,22 +138,22 @@ session_of-filter p conn (z ∷ zs) apart = here (p z) (z.conn == conn) refl ref
     here false true h is later = later ∙ ap (passing p) (nobody is) ∙ sym (ap (λ d. cond d (Some z) None) h)
     here false false h is later = later
 
-session_of-remaining : (doc : PolicyDoc) (conn : ℕ) (zs : List Session) → AllPairs IsApart zs →
-    session_of (remaining doc zs) conn ≡ option_map (renewed doc) (passing (stays doc) (session_of zs conn))
-session_of-remaining doc conn zs apart =
-    find-map (λ (z : Session). z.conn == conn) (renewed doc) (filter (stays doc) zs) (λ z. ap (λ n. n == conn) (with_user-conn z (user_again_of doc z)))
-    ∙ ap (option_map (renewed doc)) (session_of-filter (stays doc) conn zs apart)
+session_of-remaining : (now : ℕ) (doc : PolicyDoc) (conn : ℕ) (zs : List Session) → AllPairs IsApart zs →
+    session_of (remaining now doc zs) conn ≡ option_map (renewed now doc) (passing (stays doc) (session_of zs conn))
+session_of-remaining now doc conn zs apart =
+    find-map (λ (z : Session). z.conn == conn) (renewed now doc) (filter (stays doc) zs) (λ z. ap (λ n. n == conn) (with_user-conn now z (user_again_of doc z)))
+    ∙ ap (option_map (renewed now doc)) (session_of-filter (stays doc) conn zs apart)
 
 -- whom a connection acts for afterwards
-user_behind-remaining : (doc : PolicyDoc) (conn : ℕ) (zs : List Session) → IsValidPolicy doc → AllPairs IsApart zs →
-    user_behind doc (session_of (remaining doc zs) conn) ≡ user_after doc (session_of zs conn)
-user_behind-remaining doc conn zs valid apart = ap (user_behind doc) (session_of-remaining doc conn zs apart) ∙ by_session (session_of zs conn)
+user_behind-remaining : (now : ℕ) (doc : PolicyDoc) (conn : ℕ) (zs : List Session) → IsValidPolicy doc → AllPairs IsApart zs →
+    user_behind doc (session_of (remaining now doc zs) conn) ≡ user_after doc (session_of zs conn)
+user_behind-remaining now doc conn zs valid apart = ap (user_behind doc) (session_of-remaining now doc conn zs apart) ∙ by_session (session_of zs conn)
   where
-    by_user : (z : Session) (o : Option User) → user_again_of doc z ≡ o → user_behind doc (option_map (renewed doc) (cond (is_some o) (Some z) None)) ≡ o
+    by_user : (z : Session) (o : Option User) → user_again_of doc z ≡ o → user_behind doc (option_map (renewed now doc) (cond (is_some o) (Some z) None)) ≡ o
     by_user z None is = refl
-    by_user z (Some u) is = ap (λ a. user_named doc (with_user z a).user.user) is ∙ named_again (λ x. is_same_user x z.user) doc u valid is
+    by_user z (Some u) is = ap (λ a. user_named doc (with_user now z a).user.user) is ∙ named_again (λ x. is_same_user x z.user) doc u valid is
 
-    by_session : (o : Option Session) → user_behind doc (option_map (renewed doc) (passing (stays doc) o)) ≡ user_after doc o
+    by_session : (o : Option Session) → user_behind doc (option_map (renewed now doc) (passing (stays doc) o)) ≡ user_after doc o
     by_session None = refl
     by_session (Some z) = by_user z (user_again_of doc z) refl
 
@@ -163,20 +168,20 @@ any-session conn (z ∷ zs) = here (z.conn == conn) (any-session conn zs)
     here true later = refl
     here false later = later
 
-gone-same : (doc : PolicyDoc) (conn : ℕ) (zs : List Session) → AllPairs IsApart zs →
-    list_any (λ (n : ℕ). n == conn) (closed_conns doc zs) ≡ (is_some (session_of zs conn) && not (is_some (session_of (remaining doc zs) conn)))
-gone-same doc conn zs apart =
+gone-same : (now : ℕ) (doc : PolicyDoc) (conn : ℕ) (zs : List Session) → AllPairs IsApart zs →
+    list_any (λ (n : ℕ). n == conn) (closed_conns doc zs) ≡ (is_some (session_of zs conn) && not (is_some (session_of (remaining now doc zs) conn)))
+gone-same now doc conn zs apart =
     among-ascending conn (map connection_of (filter (goes doc) zs))
     ∙ any-session conn (filter (goes doc) zs)
     ∙ ap (λ o. is_some o) (session_of-filter (goes doc) conn zs apart)
     ∙ by_session (session_of zs conn)
-    ∙ ap (λ o. is_some (session_of zs conn) && not (is_some o)) (sym (session_of-remaining doc conn zs apart))
+    ∙ ap (λ o. is_some (session_of zs conn) && not (is_some o)) (sym (session_of-remaining now doc conn zs apart))
   where
-    by_stay : (z : Session) (b : Bool) → is_some (let o : Option Session = cond (not b) (Some z) None in o) ≡ not (is_some (option_map (renewed doc) (cond b (Some z) None)))
+    by_stay : (z : Session) (b : Bool) → is_some (let o : Option Session = cond (not b) (Some z) None in o) ≡ not (is_some (option_map (renewed now doc) (cond b (Some z) None)))
     by_stay z true = refl
     by_stay z false = refl
 
-    by_session : (o : Option Session) → is_some (passing (goes doc) o) ≡ (is_some o && not (is_some (option_map (renewed doc) (passing (stays doc) o))))
+    by_session : (o : Option Session) → is_some (passing (goes doc) o) ≡ (is_some o && not (is_some (option_map (renewed now doc) (passing (stays doc) o))))
     by_session None = refl
     by_session (Some z) = by_stay z (stays doc z)
 
@@ -210,17 +215,17 @@ after_reload w now doc = record w {
   epoch = w.epoch + 1;
   moment = max w.moment now;
   number = w.number + 1;
-  sessions = remaining doc w.sessions;
+  sessions = remaining (max w.moment now) doc w.sessions;
   subscriptions = filter (stands_on doc w.sessions) w.subscriptions;
 }
 
 -- whom the new policy has behind a connection
-abbrev user_now : PolicyDoc → List Session → Subscription → Option User
-user_now doc zs sub = user_behind doc (session_of (remaining doc zs) sub.conn)
+abbrev user_now : ℕ → PolicyDoc → List Session → Subscription → Option User
+user_now now doc zs sub = user_behind doc (session_of (remaining now doc zs) sub.conn)
 
-stands-same : (doc : PolicyDoc) (zs : List Session) (sub : Subscription) → IsValidPolicy doc → AllPairs IsApart zs → stands_on doc zs sub ≡ may_subscribe (user_now doc zs sub) sub.subject sub.queue
-stands-same doc zs sub valid apart =
-    stand-same (user_after doc (session_of zs sub.conn)) sub ∙ ap (λ u. may_subscribe u sub.subject sub.queue) (sym (user_behind-remaining doc sub.conn zs valid apart))
+stands-same : (now : ℕ) (doc : PolicyDoc) (zs : List Session) (sub : Subscription) → IsValidPolicy doc → AllPairs IsApart zs → stands_on doc zs sub ≡ may_subscribe (user_now now doc zs sub) sub.subject sub.queue
+stands-same now doc zs sub valid apart =
+    stand-same (user_after doc (session_of zs sub.conn)) sub ∙ ap (λ u. may_subscribe u sub.subject sub.queue) (sym (user_behind-remaining now doc sub.conn zs valid apart))
 
 -- ---- accounts
 
@@ -233,9 +238,9 @@ same-account doc z u is = (bytes_eq-Decides u.account z.user.account).0
     (and-last _ (pointwise nat_eq u.account z.user.account) (find-passes (λ x. is_same_user x z.user) (users_of doc) u is))
 
 -- what stands on is of the account that its user has in the new policy too
-owned-after : (old doc : PolicyDoc) (zs : List Session) (sub : Subscription) → IsValidPolicy doc → AllPairs IsApart zs → All (IsOfPolicy old) zs → IsOwned old zs sub → stands_on doc zs sub ≡ true → IsOwned doc (remaining doc zs) sub
-owned-after old doc zs sub valid apart users owned stand =
-    ap account_of (user_behind-remaining doc sub.conn zs valid apart) ∙ by_session (session_of zs sub.conn) refl owned stand
+owned-after : (now : ℕ) (old doc : PolicyDoc) (zs : List Session) (sub : Subscription) → IsValidPolicy doc → AllPairs IsApart zs → All (IsOfPolicy old) zs → IsOwned old zs sub → stands_on doc zs sub ≡ true → IsOwned doc (remaining now doc zs) sub
+owned-after now old doc zs sub valid apart users owned stand =
+    ap account_of (user_behind-remaining now doc sub.conn zs valid apart) ∙ by_session (session_of zs sub.conn) refl owned stand
   where
     by_user : (z : Session) (o : Option User) → user_again_of doc z ≡ o → z.user.account ≡ sub.account → may_stand (verdict_for o sub) ≡ true → account_of o ≡ Some sub.account
     by_user z None is same may = absurd (cc)
@@ -248,9 +253,9 @@ owned-after old doc zs sub valid apart users owned stand =
         by_user z (user_again_of doc z) refl (let same : z.user.account ≡ sub.account = cc in same) may
 
 -- and it has its reason there
-allowed-after : (doc : PolicyDoc) (zs : List Session) (sub : Subscription) → IsValidPolicy doc → AllPairs IsApart zs → IsReasonedVerdict doc zs sub → stands_on doc zs sub ≡ true → HasAllowance (user_now doc zs sub) sub.subject sub.queue
-allowed-after doc zs sub valid apart reasoned stand =
-    subst (λ u. HasAllowance u sub.subject sub.queue) (sym (user_behind-remaining doc sub.conn zs valid apart)) (by_user (user_after doc (session_of zs sub.conn)) reasoned stand)
+allowed-after : (now : ℕ) (doc : PolicyDoc) (zs : List Session) (sub : Subscription) → IsValidPolicy doc → AllPairs IsApart zs → IsReasonedVerdict doc zs sub → stands_on doc zs sub ≡ true → HasAllowance (user_now now doc zs sub) sub.subject sub.queue
+allowed-after now doc zs sub valid apart reasoned stand =
+    subst (λ u. HasAllowance u sub.subject sub.queue) (sym (user_behind-remaining now doc sub.conn zs valid apart)) (by_user (user_after doc (session_of zs sub.conn)) reasoned stand)
   where
     by_verdict : (u : User) (v : Verdict) → IsJustifiedSubscribe sub.subject sub.queue u.rules.subscribe v → is_allowed v ≡ true → HasAllowance (Some u) sub.subject sub.queue
     by_verdict u (Allowed by) has may = (by, has)
@@ -265,19 +270,21 @@ allowed-after doc zs sub valid apart reasoned stand =
 pub sound-reload : (w : World) (now : ℕ) (doc : PolicyDoc) → IsSound w → IsReasonedReload doc w.sessions w.subscriptions → IsSound (after_reload w now doc)
 sound-reload w now doc sound reasoned = let valid = reasoned.0 in record {
   policy = valid;
-  limit = omega (arith, length-map (filter (stays doc) w.sessions) (renewed doc), length-filter_both (stays doc) (goes doc) (λ z. refl) w.sessions, sound.limit);
-  connections = AllPairs-map IsApart (renewed doc) (filter (stays doc) w.sessions)
-      (λ y z apart same. apart (sym (with_user-conn y (user_again_of doc y)) ∙ same ∙ with_user-conn z (user_again_of doc z)))
+  limit = omega (arith, length-map (filter (stays doc) w.sessions) (renewed (max w.moment now) doc), length-filter_both (stays doc) (goes doc) (λ z. refl) w.sessions, sound.limit);
+  connections = AllPairs-map IsApart (renewed (max w.moment now) doc) (filter (stays doc) w.sessions)
+      (λ y z apart same. apart (sym (with_user-conn (max w.moment now) y (user_again_of doc y)) ∙ same ∙ with_user-conn (max w.moment now) z (user_again_of doc z)))
       (AllPairs-filter IsApart (stays doc) w.sessions sound.connections);
-  users = All-map (IsOfPolicy doc) (renewed doc) (filter (stays doc) w.sessions)
-      (λ k d h. renewed-of_policy doc (get_or (filter (stays doc) w.sessions) k d) valid (filter_passes (stays doc) w.sessions k d h));
-  outboxes = All-map (HasBound w.capacity) (renewed doc) (filter (stays doc) w.sessions)
-      (λ k d h. with_user-bound w.capacity _ _ (All-filter (stays doc) (HasBound w.capacity) w.sessions sound.outboxes k d h));
-  subscriptions = λ k d h. sym (stands-same doc w.sessions (get_or (filter (stands_on doc w.sessions) w.subscriptions) k d) valid sound.connections)
+  users = All-map (IsOfPolicy doc) (renewed (max w.moment now) doc) (filter (stays doc) w.sessions)
+      (λ k d h. renewed-of_policy (max w.moment now) doc (get_or (filter (stays doc) w.sessions) k d) valid (filter_passes (stays doc) w.sessions k d h));
+  outboxes = All-map (HasBound w.capacity) (renewed (max w.moment now) doc) (filter (stays doc) w.sessions)
+      (λ k d h. with_user-bound (max w.moment now) w.capacity _ _ (All-filter (stays doc) (HasBound w.capacity) w.sessions sound.outboxes k d h));
+  grants = All-map (HasTable (max w.moment now)) (renewed (max w.moment now) doc) (filter (stays doc) w.sessions)
+      (λ k d h. with_user-table (max w.moment now) (get_or (filter (stays doc) w.sessions) k d) (user_again_of doc (get_or (filter (stays doc) w.sessions) k d)) (All-filter (stays doc) (HasTable (max w.moment now)) w.sessions (tables-next w now sound) k d h));
+  subscriptions = λ k d h. sym (stands-same (max w.moment now) doc w.sessions (get_or (filter (stands_on doc w.sessions) w.subscriptions) k d) valid sound.connections)
       ∙ filter_passes (stands_on doc w.sessions) w.subscriptions k d h;
-  reasons = λ k d h. allowed-after doc w.sessions (get_or (filter (stands_on doc w.sessions) w.subscriptions) k d) valid sound.connections
+  reasons = λ k d h. allowed-after (max w.moment now) doc w.sessions (get_or (filter (stands_on doc w.sessions) w.subscriptions) k d) valid sound.connections
       (All-filter (stands_on doc w.sessions) (IsReasonedVerdict doc w.sessions) w.subscriptions reasoned.1 k d h) (filter_passes (stands_on doc w.sessions) w.subscriptions k d h);
-  accounts = λ k d h. owned-after w.policy doc w.sessions (get_or (filter (stands_on doc w.sessions) w.subscriptions) k d) valid sound.connections sound.users
+  accounts = λ k d h. owned-after (max w.moment now) w.policy doc w.sessions (get_or (filter (stands_on doc w.sessions) w.subscriptions) k d) valid sound.connections sound.users
       (All-filter (stands_on doc w.sessions) (IsOwned w.policy w.sessions) w.subscriptions sound.accounts k d h) (filter_passes (stands_on doc w.sessions) w.subscriptions k d h);
   limits = All-filter (stands_on doc w.sessions) IsStillToReceive w.subscriptions sound.limits;
   sids = AllPairs-filter (λ (s t : Subscription). has_same_sid s t ≡ false) (stands_on doc w.sessions) w.subscriptions sound.sids;
@@ -288,18 +295,18 @@ sound-reload w now doc sound reasoned = let valid = reasoned.0 in record {
 }
 
 pub in_force : (w : World) (now : ℕ) (doc : PolicyDoc) → IsSound w → IsReasonedReload doc w.sessions w.subscriptions →
-    IsInForce w doc (closed_conns doc w.sessions) (filter_map (removal_after doc w.sessions) w.subscriptions) (after_reload w now doc)
+    IsInForce w (max w.moment now) doc (closed_conns doc w.sessions) (filter_map (removal_after doc w.sessions) w.subscriptions) (after_reload w now doc)
 in_force w now doc sound reasoned =
     let valid = reasoned.0 in
-    let whom = λ (sub : Subscription). user_behind-remaining doc sub.conn w.sessions valid sound.connections in
+    let whom = λ (sub : Subscription). user_behind-remaining (max w.moment now) doc sub.conn w.sessions valid sound.connections in
     record {
-      stay = stay-same doc w.sessions valid;
+      stay = stay-same (max w.moment now) doc w.sessions valid;
       rising = ascending-rises (map connection_of (filter (goes doc) w.sessions)) (conns-apart (filter (goes doc) w.sessions) (AllPairs-filter IsApart (goes doc) w.sessions sound.connections));
-      gone = λ conn. gone-same doc conn w.sessions sound.connections;
-      standing = filter_agree (stands_on doc w.sessions) (λ (sub : Subscription). may_subscribe (user_now doc w.sessions sub) sub.subject sub.queue)
-          (λ sub. stands-same doc w.sessions sub valid sound.connections) w.subscriptions;
-      removed = filter_map_agree (removal_after doc w.sessions) (λ (sub : Subscription). removal_for sub (user_now doc w.sessions sub))
+      gone = λ conn. gone-same (max w.moment now) doc conn w.sessions sound.connections;
+      standing = filter_agree (stands_on doc w.sessions) (λ (sub : Subscription). may_subscribe (user_now (max w.moment now) doc w.sessions sub) sub.subject sub.queue)
+          (λ sub. stands-same (max w.moment now) doc w.sessions sub valid sound.connections) w.subscriptions;
+      removed = filter_map_agree (removal_after doc w.sessions) (λ (sub : Subscription). removal_for sub (user_now (max w.moment now) doc w.sessions sub))
           (λ sub. removal-same (user_after doc (session_of w.sessions sub.conn)) sub ∙ ap (removal_for sub) (sym (whom sub))) w.subscriptions;
-      reasons = All-weaker (IsReasonedVerdict doc w.sessions) (λ (sub : Subscription). IfSome (user_now doc w.sessions sub) (λ (u : User). IsJustifiedSubscribe sub.subject sub.queue u.rules.subscribe (subscribe_verdict u.rules sub.subject sub.queue)))
+      reasons = All-weaker (IsReasonedVerdict doc w.sessions) (λ (sub : Subscription). IfSome (user_now (max w.moment now) doc w.sessions sub) (λ (u : User). IsJustifiedSubscribe sub.subject sub.queue u.rules.subscribe (subscribe_verdict u.rules sub.subject sub.queue)))
           (λ sub has. subst (λ o. IfSome o (λ (u : User). IsJustifiedSubscribe sub.subject sub.queue u.rules.subscribe (subscribe_verdict u.rules sub.subject sub.queue))) (sym (whom sub)) has) w.subscriptions reasoned.1;
     }

@@ -21,8 +21,10 @@ use Rattle.subscriptions.specs.Subscriptions.{subscription_of, stands, of_connec
 use Rattle.subscriptions.specs.Limit.{is_reached, has_ended, unended}
 use Rattle.subscriptions.specs.declared.subscription.Subscription.{Subscription}
 use Rattle.world.specs.World.{World}
+use Rattle.hub.specs.Kept.{IsKeptTable}
 use Rattle.hub.specs.Sound.{IsSound, has_same_sid, user_behind, user_at, account_of, may_subscribe, HasAllowance, is_below, is_to_receive}
 use Rattle.hub.proofs.Lists.{length-filter_twice, length-filter_map}
+use Rattle.hub.proofs.Grants.{kept_none, kept_later}
 use Rattle.hub.proofs.Finds.{find-All, find-none, find-filter, find-map, any-none, AllPairs-map}
 
 -- the world after an answered step that left these sessions and subscriptions
@@ -38,6 +40,9 @@ HasBound capacity z = (z.outbox.capacity ≡ capacity) × (length z.outbox.waiti
 
 abbrev pub IsApart : Session → Session → Type 0
 IsApart y z = y.conn ≢ z.conn
+
+abbrev pub HasTable : ℕ → Session → Type 0
+HasTable now z = IsKeptTable now z.user.rules.allow_responses z.replies
 
 -- the facts of a subscription that its connection's user decides
 abbrev IsAllowed : PolicyDoc → List Session → Subscription → Type 0
@@ -69,6 +74,11 @@ numbers-next w sound = λ k d h. let p = sound.numbers k d h in omega arith
 epoch-next : (w : World) → IsSound w → w.epoch ≤ (w.number + 1) + 1
 epoch-next w sound = let h = sound.epoch in omega arith
 
+-- the grants are those of a later moment too
+pub tables-next : (w : World) (now : ℕ) → IsSound w → All (HasTable (max w.moment now)) w.sessions
+tables-next w now sound k d h =
+    let z = get_or w.sessions k d in kept_later w.moment (max w.moment now) z.user.rules.allow_responses z.replies (omega arith) (sound.grants k d h)
+
 -- nothing has changed
 pub sound-same : (w : World) (now : ℕ) → IsSound w → IsSound (next w now w.sessions w.subscriptions)
 sound-same w now sound = record {
@@ -77,6 +87,7 @@ sound-same w now sound = record {
   connections = sound.connections;
   users = sound.users;
   outboxes = sound.outboxes;
+  grants = tables-next w now sound;
   subscriptions = sound.subscriptions;
   reasons = sound.reasons;
   accounts = sound.accounts;
@@ -88,11 +99,12 @@ sound-same w now sound = record {
   epoch = epoch-next w sound;
 }
 
--- outboxes have changed
-pub record KeepsSession (capacity : ℕ) (f : Session → Session) : Type 0 where
+-- outboxes and grants have changed
+pub record KeepsSession (capacity now : ℕ) (f : Session → Session) : Type 0 where
   pub conn : (z : Session) → (f z).conn ≡ z.conn
   pub user : (z : Session) → (f z).user ≡ z.user
   pub outbox : (z : Session) → HasBound capacity z → HasBound capacity (f z)
+  pub grants : (z : Session) → HasTable now z → HasTable now (f z)
 
 user_behind-map : (doc : PolicyDoc) (f : Session → Session) → ((z : Session) → (f z).user ≡ z.user) → (o : Option Session) → user_behind doc (option_map f o) ≡ user_behind doc o
 user_behind-map doc f same None = refl
@@ -104,13 +116,14 @@ user-map doc f zs same_conn same_user conn =
     ap (user_behind doc) (find-map (λ (z : Session). z.conn == conn) f zs (λ z. ap (λ n. n == conn) (same_conn z)))
     ∙ user_behind-map doc f same_user (session_of zs conn)
 
-pub sound-map : (w : World) (now : ℕ) (f : Session → Session) → KeepsSession w.capacity f → IsSound w → IsSound (next w now (map f w.sessions) w.subscriptions)
+pub sound-map : (w : World) (now : ℕ) (f : Session → Session) → KeepsSession w.capacity (max w.moment now) f → IsSound w → IsSound (next w now (map f w.sessions) w.subscriptions)
 sound-map w now f keeps sound = record {
   policy = sound.policy;
   limit = omega (arith, length-map w.sessions f, sound.limit);
   connections = AllPairs-map IsApart f w.sessions (λ y z apart same. apart (sym (keeps.conn y) ∙ same ∙ keeps.conn z)) sound.connections;
   users = All-map (IsOfPolicy w.policy) f w.sessions (λ k d h. of_policy (get_or w.sessions k d) (sound.users k d h));
   outboxes = All-map (HasBound w.capacity) f w.sessions (λ k d h. keeps.outbox _ (sound.outboxes k d h));
+  grants = All-map (HasTable (max w.moment now)) f w.sessions (λ k d h. keeps.grants _ (tables-next w now sound k d h));
   subscriptions = λ k d h. ap (λ u. may_subscribe u (get_or w.subscriptions k d).subject (get_or w.subscriptions k d).queue) (user_is (get_or w.subscriptions k d)) ∙ sound.subscriptions k d h;
   reasons = λ k d h. subst (λ u. HasAllowance u (get_or w.subscriptions k d).subject (get_or w.subscriptions k d).queue) (sym (user_is (get_or w.subscriptions k d))) (sound.reasons k d h);
   accounts = λ k d h. ap account_of (user_is (get_or w.subscriptions k d)) ∙ sound.accounts k d h;
@@ -151,6 +164,7 @@ sound-open w now conn u echo free room is sound = record {
   connections = all_pairs_push IsApart w.sessions (new_session conn u echo w.capacity) sound.connections (λ k d h same. eqb-false _ _ (find-none (λ (z : Session). z.conn == conn) w.sessions free k d h) same);
   users = All-push (IsOfPolicy w.policy) w.sessions (new_session conn u echo w.capacity) sound.users is;
   outboxes = All-push (HasBound w.capacity) w.sessions (new_session conn u echo w.capacity) sound.outboxes (refl, omega arith);
+  grants = All-push (HasTable (max w.moment now)) w.sessions (new_session conn u echo w.capacity) (tables-next w now sound) (kept_none (max w.moment now) u.rules.allow_responses);
   subscriptions = λ k d h. known-open (λ v. may_subscribe v (get_or w.subscriptions k d).subject (get_or w.subscriptions k d).queue ≡ true) (none-allowed (get_or w.subscriptions k d).subject (get_or w.subscriptions k d).queue) w.policy w.sessions (new_session conn u echo w.capacity) (get_or w.subscriptions k d).conn (sound.subscriptions k d h);
   reasons = λ k d h. known-open (λ v. HasAllowance v (get_or w.subscriptions k d).subject (get_or w.subscriptions k d).queue) (λ none. none) w.policy w.sessions (new_session conn u echo w.capacity) (get_or w.subscriptions k d).conn (sound.reasons k d h);
   accounts = λ k d h. known-open (λ v. account_of v ≡ Some (get_or w.subscriptions k d).account) (none-owned (get_or w.subscriptions k d).account) w.policy w.sessions (new_session conn u echo w.capacity) (get_or w.subscriptions k d).conn (sound.accounts k d h);
@@ -179,6 +193,7 @@ sound-add w now conn account p queue sid may reason owned free room sound = reco
   connections = sound.connections;
   users = sound.users;
   outboxes = sound.outboxes;
+  grants = tables-next w now sound;
   subscriptions = All-push (IsAllowed w.policy w.sessions) w.subscriptions added sound.subscriptions may;
   reasons = All-push (HasReasonHere w.policy w.sessions) w.subscriptions added sound.reasons reason;
   accounts = All-push (IsOwned w.policy w.sessions) w.subscriptions added sound.accounts owned;
@@ -213,6 +228,7 @@ sound-close w now conn sound = record {
   connections = AllPairs-filter IsApart (λ (z : Session). not (z.conn == conn)) w.sessions sound.connections;
   users = All-filter (λ (z : Session). not (z.conn == conn)) (IsOfPolicy w.policy) w.sessions sound.users;
   outboxes = All-filter (λ (z : Session). not (z.conn == conn)) (HasBound w.capacity) w.sessions sound.outboxes;
+  grants = All-filter (λ (z : Session). not (z.conn == conn)) (HasTable (max w.moment now)) w.sessions (tables-next w now sound);
   subscriptions = λ k d h. ap (λ u. may_subscribe u (get_or left k d).subject (get_or left k d).queue) (user_is k d h) ∙ All-filter stay (IsAllowed w.policy w.sessions) w.subscriptions sound.subscriptions k d h;
   reasons = λ k d h. subst (λ u. HasAllowance u (get_or left k d).subject (get_or left k d).queue) (sym (user_is k d h)) (All-filter stay (HasReasonHere w.policy w.sessions) w.subscriptions sound.reasons k d h);
   accounts = λ k d h. ap account_of (user_is k d h) ∙ All-filter stay (IsOwned w.policy w.sessions) w.subscriptions sound.accounts k d h;
@@ -313,6 +329,7 @@ sound-limits w f keeps sound = record {
   connections = sound.connections;
   users = sound.users;
   outboxes = sound.outboxes;
+  grants = sound.grants;
   subscriptions = All-filter IsOpen (IsAllowed w.policy w.sessions) subs (All-map (IsAllowed w.policy w.sessions) f w.subscriptions (λ k d h. allowed-again w.policy w.sessions f keeps (get_or w.subscriptions k d) (sound.subscriptions k d h)));
   reasons = All-filter IsOpen (HasReasonHere w.policy w.sessions) subs (All-map (HasReasonHere w.policy w.sessions) f w.subscriptions (λ k d h. reason-again w.policy w.sessions f keeps (get_or w.subscriptions k d) (sound.reasons k d h)));
   accounts = All-filter IsOpen (IsOwned w.policy w.sessions) subs (All-map (IsOwned w.policy w.sessions) f w.subscriptions (λ k d h. owned-again w.policy w.sessions f keeps (get_or w.subscriptions k d) (sound.accounts k d h)));

@@ -6,6 +6,8 @@ use Rattle.std.specs.Option.{option_and_then}
 use Rattle.std.specs.Cmp.Lexicographic.{pointwise}
 use Rattle.subjects.specs.Subject.{Token, in_set}
 use Rattle.permissions.specs.Verdicts.{publish_verdict, subscribe_verdict, delivery_verdict, is_allowed, IsJustifiedPublish, IsJustifiedSubscribe, IsJustifiedDelivery}
+use Rattle.permissions.specs.declared.verdict.By.{By}
+use Rattle.permissions.specs.declared.verdict.By.TheVariants.{All as AllowsAll, Index, Grant}
 use Rattle.permissions.specs.declared.verdict.Verdict.{Verdict}
 use Rattle.permissions.specs.declared.verdict.Verdict.TheVariants.{Allowed}
 use Rattle.ready.specs.Users.{user_with_password}
@@ -32,6 +34,7 @@ use Rattle.world.specs.World.{World}
 use Rattle.queue_groups.specs.Served.{is_member, members}
 use Rattle.subscriptions.specs.Addressing.{delivery_to}
 use Rattle.hub.specs.Sound.{IsSound, user_at, may_subscribe, HasAllowance, is_to_receive}
+use Rattle.hub.specs.Replies.{may_answer, replies_after}
 use Rattle.hub.specs.History.{State, is_history_full}
 use Rattle.hub.specs.InForce.{IsInForce, policy_after, epoch_after}
 use Rattle.hub.specs.Run.{EachStep}
@@ -57,16 +60,16 @@ abbrev pub may_publish : Option User → List Token → Bool
 may_publish None s = false
 may_publish (Some u) s = is_allowed (publish_verdict u.rules s)
 
--- Whether the policy in force allows a command: a Connect, where a user has that name and password; a Sub and
--- a Pub, by the permissions of the connection's user; the others always.
-abbrev pub allows : World → Command → Bool
-allows w (Connect conn name password echo) = is_some (user_with_password w.policy name password)
-allows w (Sub conn p queue sid) = may_subscribe (user_at w conn) p queue
-allows w (Unsub conn sid most) = true
-allows w (Pub conn m word) = may_publish (user_at w conn) m.subject
-allows w (Take conn most) = true
-allows w (Close conn) = true
-allows w (Reload doc) = true
+-- Whether the policy in force allows a command at a moment: a Connect, where a user has that name and password; a Sub and
+-- a Pub, by the permissions of the connection's user, or a Pub by a live grant; the others always.
+abbrev pub allows : World → ℕ → Command → Bool
+allows w now (Connect conn name password echo) = is_some (user_with_password w.policy name password)
+allows w now (Sub conn p queue sid) = may_subscribe (user_at w conn) p queue
+allows w now (Unsub conn sid most) = true
+allows w now (Pub conn m word) = may_publish (user_at w conn) m.subject || may_answer w now conn m.subject
+allows w now (Take conn most) = true
+allows w now (Close conn) = true
+allows w now (Reload doc) = true
 
 -- ---- reasons
 
@@ -87,17 +90,24 @@ IsDenial w (Take conn most) v = ⊥
 IsDenial w (Close conn) v = ⊥
 IsDenial w (Reload doc) v = ⊥
 
+-- A Pub that is allowed by the lists is so by the rule that is told, with its reason. One that a grant allows is refused
+-- by the lists, with reason, and there is a live grant for its subject.
+abbrev pub IsAllowance : World → ℕ → ℕ → List Token → User → By → Type 0
+IsAllowance w now conn s u AllowsAll = (publish_verdict u.rules s ≡ Allowed AllowsAll) × IsJustifiedPublish s u.rules.publish (Allowed AllowsAll)
+IsAllowance w now conn s u (Index i) = (publish_verdict u.rules s ≡ Allowed (Index i)) × IsJustifiedPublish s u.rules.publish (Allowed (Index i))
+IsAllowance w now conn s u Grant =
+    (is_allowed (publish_verdict u.rules s) ≡ false) × IsJustifiedPublish s u.rules.publish (publish_verdict u.rules s) × (may_answer w now conn s ≡ true)
+
 -- What is denied is denied with reason, and what is allowed is allowed with reason: each deny entry lacks some of what
 -- was asked, and no allow list is given, or one of its entries is the least that has all of it. Of a Pub it is the one
 -- that is told.
-abbrev pub HasReason : World → Command → Outcome → Type 0
-HasReason w c (Denied v) = IsDenial w c v
-HasReason w (Sub conn p queue sid) Subscribed = HasAllowance (user_at w conn) p queue
-HasReason w (Sub conn p queue sid) SameSid = HasAllowance (user_at w conn) p queue
-HasReason w (Sub conn p queue sid) SubLimit = HasAllowance (user_at w conn) p queue
-HasReason w (Pub conn m word) (Published by items) =
-    IsSomeAnd (user_at w conn) (λ (u : User). IsJustifiedPublish m.subject u.rules.publish (Allowed by))
-HasReason w c _ = Unit {0}
+abbrev pub HasReason : World → ℕ → Command → Outcome → Type 0
+HasReason w now c (Denied v) = IsDenial w c v
+HasReason w now (Sub conn p queue sid) Subscribed = HasAllowance (user_at w conn) p queue
+HasReason w now (Sub conn p queue sid) SameSid = HasAllowance (user_at w conn) p queue
+HasReason w now (Sub conn p queue sid) SubLimit = HasAllowance (user_at w conn) p queue
+HasReason w now (Pub conn m word) (Published by items) = IsSomeAnd (user_at w conn) (λ (u : User). IsAllowance w now conn m.subject u by)
+HasReason w now c _ = Unit {0}
 
 -- ---- delivery
 
@@ -149,12 +159,14 @@ abbrev pub room_in : Option Session → ℕ
 room_in None = 0
 room_in (Some z) = z.outbox.capacity - length z.outbox.waiting
 
--- A session after deliveries: its outbox holds what it held, and as many of them, oldest first, as it had room
--- for; one was missed if it has missed one before, or there was no room for all.
-abbrev pub receives : List Delivery → Session → Session
-receives ds z = record z {
+-- A session after deliveries of a message that a connection has published: its outbox holds what it held, and as many of
+-- them, oldest first, as it had room for; one was missed if it has missed one before, or there was no room for all; and
+-- its grants are those after the answer, if it is one, and after what has entered.
+abbrev pub receives : ℕ → By → ℕ → Message → List Delivery → Session → Session
+receives now by conn m ds z = record z {
   outbox = record z.outbox { waiting = z.outbox.waiting ++ take (room_in (Some z)) ds };
   missed = z.missed || nat_lt (room_in (Some z)) (length ds);
+  replies = replies_after now by conn m (length (take (room_in (Some z)) ds)) z;
 }
 
 -- the item of a subscription that its delivery has entered, and of one that found the outbox full
@@ -181,15 +193,15 @@ abbrev pub items_of : ℕ → List Item → List Item
 items_of conn items = filter (λ (item : Item). (item_names item).0 == conn) items
 
 -- A message on its way to those that it is for.
-pub record IsDelivered (w : World) (m : Message) (subs : List Subscription) (items : List Item) (after : List Session) : Type 0 where
+pub record IsDelivered (w : World) (now : ℕ) (by : By) (publisher : ℕ) (m : Message) (subs : List Subscription) (items : List Item) (after : List Session) : Type 0 where
   -- which of the standing subscriptions may be sent it, is decided with reason
   pub reasons : All (IsReasonedFor w m.subject) w.subscriptions
   -- each of them has one item, oldest first, and nobody else has one
   pub one_each : map item_names items ≡ map names_of subs
   -- those of a connection have entered as long as there was room in its outbox; Full is reported of the others
   pub with_room : (conn : ℕ) → items_of conn items ≡ items_with_room (room_in (session_of w.sessions conn)) (of_connection conn subs)
-  -- and these deliveries are what came into the outboxes
-  pub outboxes : after ≡ map (λ (z : Session). receives (map (delivery_to m) (of_connection z.conn subs)) z) w.sessions
+  -- and these deliveries are what came into the outboxes, and what was noted
+  pub outboxes : after ≡ map (λ (z : Session). receives now by publisher m (map (delivery_to m) (of_connection z.conn subs)) z) w.sessions
 
 -- ---- what a step does
 
@@ -199,46 +211,46 @@ pub record IsUntouched (w after : World) : Type 0 where
   pub subscriptions : after.subscriptions ≡ w.subscriptions
 
 -- What an answered command does to the sessions and subscriptions, by what it was answered.
-abbrev pub IsEffect : World → Command → Outcome → World → Type 0
+abbrev pub IsEffect : World → ℕ → Command → Outcome → World → Type 0
 -- a session of the user stands, the last, with nothing in its outbox
-IsEffect w (Connect conn name password echo) Connected after =
+IsEffect w now (Connect conn name password echo) Connected after =
     IsSomeAnd (user_with_password w.policy name password) (λ (u : User). after.sessions ≡ w.sessions ++ new_session conn u echo w.capacity ∷ [])
     × (after.subscriptions ≡ w.subscriptions)
-IsEffect w (Connect conn name password echo) AuthViolation after = IsUntouched w after
+IsEffect w now (Connect conn name password echo) AuthViolation after = IsUntouched w after
 -- the subscription stands, the youngest, of the user's account, where none of that id stood and fewer than 4,096 of the
 -- connection's; else nothing changes
-IsEffect w (Sub conn p queue sid) Subscribed after =
+IsEffect w now (Sub conn p queue sid) Subscribed after =
     (stands w.subscriptions conn sid ≡ false) × (has_all w.subscriptions conn ≡ false) × (after.sessions ≡ w.sessions)
     × IsSomeAnd (user_at w conn) (λ (u : User). after.subscriptions ≡ w.subscriptions ++ subscription_of after.number conn u.account p queue sid ∷ [])
-IsEffect w (Sub conn p queue sid) SameSid after = (stands w.subscriptions conn sid ≡ true) × IsUntouched w after
-IsEffect w (Sub conn p queue sid) SubLimit after =
+IsEffect w now (Sub conn p queue sid) SameSid after = (stands w.subscriptions conn sid ≡ true) × IsUntouched w after
+IsEffect w now (Sub conn p queue sid) SubLimit after =
     (stands w.subscriptions conn sid ≡ false) × (has_all w.subscriptions conn ≡ true) × IsUntouched w after
-IsEffect w (Sub conn p queue sid) (Denied v) after = IsUntouched w after
+IsEffect w now (Sub conn p queue sid) (Denied v) after = IsUntouched w after
 -- the connection's subscription of that id, if one stands, takes the limit, in place of an earlier one, and ends where
 -- it has received as many; no other changes
-IsEffect w (Unsub conn sid most) Unsubscribed after =
+IsEffect w now (Unsub conn sid most) Unsubscribed after =
     (after.sessions ≡ w.sessions) × (after.subscriptions ≡ filter is_to_receive (map (limited conn sid most) w.subscriptions))
--- the message, by the rule that allows it, to those of the user's account that it is for, and to nobody else: of those
+-- the message, to those of the user's account that it is for, and to nobody else: of those
 -- that may be sent it the plain ones, and of each queue group the one that the word chooses, room or not; each
 -- subscription that it has entered for counts it, and ends where that was the last that it was to receive
-IsEffect w (Pub conn m word) (Published by items) after =
-    IsSomeAnd (user_at w conn) (λ (u : User). (publish_verdict u.rules m.subject ≡ Allowed by)
-    × ((subs : List Subscription) × AreServed word (eligible w conn u.account m.subject) subs × IsDelivered w m subs items after.sessions))
+IsEffect w now (Pub conn m word) (Published by items) after =
+    IsSomeAnd (user_at w conn) (λ (u : User). (subs : List Subscription) × AreServed word (eligible w conn u.account m.subject) subs
+    × IsDelivered w now by conn m subs items after.sessions)
     × (after.subscriptions ≡ filter is_to_receive (map (counted items) w.subscriptions))
-IsEffect w (Pub conn m word) (Denied v) after = IsUntouched w after
+IsEffect w now (Pub conn m word) (Denied v) after = IsUntouched w after
 -- the oldest deliveries of the connection's session leave its outbox, and what was missed has been told
-IsEffect w (Take conn most) (Taken deliveries missed) after =
+IsEffect w now (Take conn most) (Taken deliveries missed) after =
     IsSomeAnd (session_of w.sessions conn) (λ (z : Session). (deliveries ≡ take most z.outbox.waiting) × (missed ≡ z.missed))
     × (after.sessions ≡ map (λ (z : Session). if z.conn == conn then drained most z else z) w.sessions)
     × (after.subscriptions ≡ w.subscriptions)
 -- the connection's session and subscriptions go, and no others
-IsEffect w (Close conn) Closed after =
+IsEffect w now (Close conn) Closed after =
     (after.sessions ≡ filter (λ (z : Session). not (z.conn == conn)) w.sessions)
     × (after.subscriptions ≡ filter (λ (sub : Subscription). not (sub.conn == conn)) w.subscriptions)
 -- the policy is in force: sessions and subscriptions stay or go as it says
-IsEffect w (Reload doc) (Reloaded gone removed) after = IsInForce w doc gone removed after
+IsEffect w now (Reload doc) (Reloaded gone removed) after = IsInForce w now doc gone removed after
 -- no command has another's answer
-IsEffect w command outcome after = ⊥
+IsEffect w now command outcome after = ⊥
 
 -- ---- refusals
 
@@ -298,11 +310,11 @@ pub record IsRouted (s : State) (e : Event) (a : Entry) (after : State) : Type 0
   -- no refusal was due
   pub in_order : is_in_order s e.what ≡ true
   -- a command is accepted exactly where the policy in force allows it
-  pub accepted : accepts a.outcome ≡ allows s.world e.what
+  pub accepted : accepts a.outcome ≡ allows s.world (max s.world.moment e.now) e.what
   -- each denial names its deciding rule, or the missing allow
-  pub reason : HasReason s.world e.what a.outcome
+  pub reason : HasReason s.world (max s.world.moment e.now) e.what a.outcome
   -- sessions, outboxes and subscriptions change as the command asks, and in no other way
-  pub effect : IsEffect s.world e.what a.outcome after.world
+  pub effect : IsEffect s.world (max s.world.moment e.now) e.what a.outcome after.world
   -- the clock goes on to the event's moment, and the number rises by one; a reload, and nothing else, puts another
   -- policy in force and raises the epoch by one; the capacity stays
   pub others : (after.world ≡ record s.world { policy = policy_after s.world e.what; epoch = epoch_after s.world e.what; moment = max s.world.moment e.now; number = s.world.number + 1; sessions = after.world.sessions; subscriptions = after.world.subscriptions })

@@ -46,9 +46,11 @@ goes_on_for z (Some u) = pointwise nat_eq u.password z.user.password && pointwis
 abbrev pub goes_on : PolicyDoc → Session → Bool
 goes_on doc z = goes_on_for z (user_named doc z.user.user)
 
--- the session for the user as the policy has it; what waits in its outbox, and whether a delivery was missed, stay
-abbrev pub under : PolicyDoc → Session → Session
-under doc z = with_user z (user_named doc z.user.user)
+-- the session for the user as the policy has it; what waits in its outbox, and whether a delivery was missed, stay. Of its
+-- grants those stay that are live at the moment on the terms before and on those that the user has now; without terms
+-- none does
+abbrev pub under : ℕ → PolicyDoc → Session → Session
+under now doc z = with_user now z (user_named doc z.user.user)
 
 -- what is reported of a subscription: nothing where no session has it any more, or its user may have it; else its
 -- removal by the verdict
@@ -58,10 +60,10 @@ removal_for sub (Some u) =
     if is_allowed (subscribe_verdict u.rules sub.subject sub.queue) then None else Some (removed_by sub (subscribe_verdict u.rules sub.subject sub.queue))
 
 -- A policy that has come into force.
-pub record IsInForce (w : World) (doc : PolicyDoc) (closed : List ℕ) (lost : List Removed) (after : World) : Type 0 where
+pub record IsInForce (w : World) (now : ℕ) (doc : PolicyDoc) (closed : List ℕ) (lost : List Removed) (after : World) : Type 0 where
   -- the sessions stay whose user the policy has under the same name, with the same password and account; no other
-  -- does, and nothing but their users' permissions changes
-  pub stay : after.sessions ≡ map (under doc) (filter (goes_on doc) w.sessions)
+  -- does, and nothing changes but their users' permissions and what grants go with these
+  pub stay : after.sessions ≡ map (under now doc) (filter (goes_on doc) w.sessions)
   -- those reported gone are the connections that had a session and have none now, each once, the least first
   pub rising : AllPairs (λ (m n : ℕ). m < n) closed
   pub gone : (conn : ℕ) → list_any (λ (n : ℕ). n == conn) closed ≡ (is_some (session_of w.sessions conn) && not (is_some (session_of after.sessions conn)))

@@ -1,4 +1,6 @@
+pub mod Kept
 pub mod Sound
+pub mod Replies
 pub mod History
 pub mod Segments
 pub mod Run

@@ -14,6 +14,7 @@ use Rattle.sessions.specs.declared.session.Session.{Session}
 use Rattle.subscriptions.specs.Subscriptions.{is_under, of_connection}
 use Rattle.subscriptions.specs.declared.subscription.Subscription.{Subscription}
 use Rattle.world.specs.World.{World}
+use Rattle.hub.specs.Kept.{IsKeptTable}
 
 -- the user that a session acts for: whom the policy has under the name of the session's user
 abbrev pub user_behind : PolicyDoc → Option Session → Option User
@@ -63,6 +64,9 @@ pub record IsSound (w : World) : Type 0 where
   pub users : All (λ (z : Session). user_named w.policy z.user.user ≡ Some z.user) w.sessions
   -- an outbox holds no more than the hub's capacity
   pub outboxes : All (λ (z : Session). (z.outbox.capacity ≡ w.capacity) × (length z.outbox.waiting ≤ w.capacity)) w.sessions
+  -- the grants of a session: none without terms; at most 1,024, of different subjects, in the order in which they were
+  -- noted, none after the kept moment, and each with an answer left
+  pub grants : All (λ (z : Session). IsKeptTable w.moment z.user.rules.allow_responses z.replies) w.sessions
   -- the policy in force refuses no standing subscription: its connection has a session, whose user may have it
   pub subscriptions : All (λ (s : Subscription). may_subscribe (user_at w s.conn) s.subject s.queue ≡ true) w.subscriptions
   -- and it has its reason

@@ -5,7 +5,7 @@ use Rattle.std.specs.List.{slice_index_or}
 use Rattle.subjects.specs.Subject.{Token, in_set, Covers, Lacks}
 use Rattle.policy_doc.specs.Document.{entry_of}
 use Rattle.permissions.specs.Lists.{Entry, Rules, Queue, is_plain, is_queued, has_queue, names, is_for}
-use Rattle.permissions.specs.declared.verdict.By.TheVariants.{All as AllowsAll, Index}
+use Rattle.permissions.specs.declared.verdict.By.TheVariants.{All as AllowsAll, Index, Grant}
 use Rattle.permissions.specs.declared.verdict.Verdict.{Verdict}
 use Rattle.permissions.specs.declared.verdict.Verdict.TheVariants.{Allowed, DeniedBy, NoAllow, NoQueueAllow}
 use Rattle.permissions.specs.Verdicts.{EachLacks, IsLeast, IsJustified, IsByEntry, IsByQueue, IsByAllow, HasWhole, LacksSome, IsLeastCover, NoneCovers, HasFor, LacksFor, AreApart, HasOnePublishVerdict, HasOneSubscribeVerdict, HasOneDeliveryVerdict}
@@ -43,14 +43,17 @@ AllowsOne Allows = (entries : List Entry) (v w : Verdict) → Allows entries v �
 
 by_entry_one : (Has Miss : Entry → Type 0) → AreApart Has Miss → AllowsOne (IsByEntry Has Miss)
 by_entry_one Has Miss apart entries (Allowed AllowsAll) w h k = absurd h
+by_entry_one Has Miss apart entries (Allowed Grant) w h k = absurd h
 by_entry_one Has Miss apart entries (DeniedBy i) w h k = absurd h
 by_entry_one Has Miss apart entries (NoQueueAllow i) w h k = absurd h
 by_entry_one Has Miss apart entries (Allowed (Index i)) (Allowed AllowsAll) h k = absurd k
+by_entry_one Has Miss apart entries (Allowed (Index i)) (Allowed Grant) h k = absurd k
 by_entry_one Has Miss apart entries (Allowed (Index i)) (Allowed (Index j)) h k = ap (λ n. Allowed (Index n)) (one_least Has Miss apart entries i j h k)
 by_entry_one Has Miss apart entries (Allowed (Index i)) (DeniedBy j) h k = absurd k
 by_entry_one Has Miss apart entries (Allowed (Index i)) NoAllow h k = absurd (none_least Has Miss apart entries i k h)
 by_entry_one Has Miss apart entries (Allowed (Index i)) (NoQueueAllow j) h k = absurd k
 by_entry_one Has Miss apart entries NoAllow (Allowed AllowsAll) h k = absurd k
+by_entry_one Has Miss apart entries NoAllow (Allowed Grant) h k = absurd k
 by_entry_one Has Miss apart entries NoAllow (Allowed (Index j)) h k = absurd (none_least Has Miss apart entries j h k)
 by_entry_one Has Miss apart entries NoAllow (DeniedBy j) h k = absurd k
 by_entry_one Has Miss apart entries NoAllow NoAllow h k = refl
@@ -107,18 +110,22 @@ index_no_queue pattern queue entries i j (inr h) k = none_least _ _ (whole_apart
 
 by_queue_one : (pattern queue : List Token) → AllowsOne (IsByQueue pattern queue)
 by_queue_one pattern queue entries (Allowed AllowsAll) w h k = absurd h
+by_queue_one pattern queue entries (Allowed Grant) w h k = absurd h
 by_queue_one pattern queue entries (DeniedBy i) w h k = absurd h
 by_queue_one pattern queue entries (Allowed (Index i)) (Allowed AllowsAll) h k = absurd k
+by_queue_one pattern queue entries (Allowed (Index i)) (Allowed Grant) h k = absurd k
 by_queue_one pattern queue entries (Allowed (Index i)) (Allowed (Index j)) h k = ap (λ n. Allowed (Index n)) (one_index pattern queue entries i j h k)
 by_queue_one pattern queue entries (Allowed (Index i)) (DeniedBy j) h k = absurd k
 by_queue_one pattern queue entries (Allowed (Index i)) NoAllow h k = absurd (index_no_allow pattern queue entries i h k)
 by_queue_one pattern queue entries (Allowed (Index i)) (NoQueueAllow j) h k = absurd (index_no_queue pattern queue entries i j h k)
 by_queue_one pattern queue entries NoAllow (Allowed AllowsAll) h k = absurd k
+by_queue_one pattern queue entries NoAllow (Allowed Grant) h k = absurd k
 by_queue_one pattern queue entries NoAllow (Allowed (Index j)) h k = absurd (index_no_allow pattern queue entries j k h)
 by_queue_one pattern queue entries NoAllow (DeniedBy j) h k = absurd k
 by_queue_one pattern queue entries NoAllow NoAllow h k = refl
 by_queue_one pattern queue entries NoAllow (NoQueueAllow j) h k = absurd (none_whole pattern is_queued entries j h k.0)
 by_queue_one pattern queue entries (NoQueueAllow i) (Allowed AllowsAll) h k = absurd k
+by_queue_one pattern queue entries (NoQueueAllow i) (Allowed Grant) h k = absurd k
 by_queue_one pattern queue entries (NoQueueAllow i) (Allowed (Index j)) h k = absurd (index_no_queue pattern queue entries j i k h)
 by_queue_one pattern queue entries (NoQueueAllow i) (DeniedBy j) h k = absurd k
 by_queue_one pattern queue entries (NoQueueAllow i) NoAllow h k = absurd (none_whole pattern is_queued entries i k h.0)
@@ -159,6 +166,7 @@ reason_of : (Has Miss : Entry → Type 0) (Allows : List Entry → Verdict → T
 reason_of Has Miss Allows rules (DeniedBy i) h = inl (i, refl, h)
 reason_of Has Miss Allows rules (Allowed AllowsAll) h = inr (h.0, inl (h.1, refl))
 reason_of Has Miss Allows rules (Allowed (Index i)) h = inr (h.0, inr h.1)
+reason_of Has Miss Allows rules (Allowed Grant) h = absurd h
 reason_of Has Miss Allows rules NoAllow h = inr (h.0, inr h.1)
 reason_of Has Miss Allows rules (NoQueueAllow i) h = inr (h.0, inr h.1)
 

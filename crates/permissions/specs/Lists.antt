@@ -1,6 +1,8 @@
 -- A user's permission lists (NATS documentation, "Authorization"; docs/POLICY.md, "Permissions").
 use Rattle.std.specs.Prelude.{◌||◌, Bool, false, not, List, [], Option, Some, None, is_some}
+use Rattle.std.specs.Option.{option_map}
 use Rattle.subjects.specs.Subject.{Token, in_set}
+use Rattle.policy_doc.specs.declared.document.Terms.{Terms}
 use Rattle.policy_doc.specs.declared.document.UserDoc.{UserDoc}
 use Rattle.policy_doc.specs.declared.document.PermDoc.{PermDoc}
 use Rattle.policy_doc.specs.declared.document.Direction.{Direction}
@@ -28,11 +30,21 @@ open_rules = record { allow = None; deny = [] }
 
 -- without permissions everything is allowed
 abbrev pub lists_of_permissions : Option PermDoc → Lists
-lists_of_permissions None = record { publish = open_rules; subscribe = open_rules }
+lists_of_permissions None = record { publish = open_rules; subscribe = open_rules; allow_responses = None }
 lists_of_permissions (Some p) = p
 
+-- whoever has terms to answer on has a publish allow list: the one that is given, or the empty one
+abbrev pub allow_with : Option Terms → Option (List Entry) → Option (List Entry)
+allow_with None allow = allow
+allow_with (Some terms) None = Some []
+allow_with (Some terms) (Some entries) = Some entries
+
+abbrev pub with_allow_list : PermDoc → PermDoc
+with_allow_list p = record p { publish = record p.publish { allow = allow_with p.allow_responses p.publish.allow } }
+
+-- the lists of a user: those of its permissions, with the publish allow list that its terms bring
 abbrev pub lists_of : UserDoc → Lists
-lists_of user = lists_of_permissions user.permissions
+lists_of user = lists_of_permissions (option_map with_allow_list user.permissions)
 
 -- ---- entries by their queue parts
 

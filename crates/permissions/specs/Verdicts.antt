@@ -3,7 +3,7 @@ use Rattle.std.specs.Prelude.{◌≡◌, ◌<◌, ◌&&◌, ◌⊎◌, ℕ, Bool
 use Rattle.std.specs.List.{HoldsAt, slice_index_or}
 use Rattle.subjects.specs.Subject.{Token, in_set, covers, Covers, Lacks}
 use Rattle.permissions.specs.Lists.{Entry, Rules, Lists, Queue, is_plain, is_queued, names, is_for}
-use Rattle.permissions.specs.declared.verdict.By.TheVariants.{All as AllowsAll, Index}
+use Rattle.permissions.specs.declared.verdict.By.TheVariants.{All as AllowsAll, Index, Grant}
 use Rattle.permissions.specs.declared.verdict.Verdict.{Verdict}
 use Rattle.permissions.specs.declared.verdict.Verdict.TheVariants.{Allowed, DeniedBy, NoAllow, NoQueueAllow}
 
@@ -99,12 +99,13 @@ IsFirst Has Lacks entries (Some i) = IsLeast Has Lacks entries i
 
 -- A verdict has its reason. What is denied by an entry: it is the least deny entry that has what was asked. Else each
 -- deny entry lacks it, and what is allowed as all is so because no allow list is given; any other verdict has its reason
--- in the allow list that is given.
+-- in the allow list that is given. No list allows by a grant.
 abbrev pub IsJustified : (Entry → Type 0) → (Entry → Type 0) → (List Entry → Verdict → Type 0) → Rules → Verdict → Type 0
 IsJustified Has Lacks Allows rules (DeniedBy i) = IsLeast Has Lacks rules.deny i
 IsJustified Has Lacks Allows rules (Allowed AllowsAll) = EachLacks Lacks rules.deny × (rules.allow ≡ None)
 IsJustified Has Lacks Allows rules (Allowed (Index i)) =
     EachLacks Lacks rules.deny × IsSomeAnd rules.allow (λ entries. Allows entries (Allowed (Index i)))
+IsJustified Has Lacks Allows rules (Allowed Grant) = ⊥
 IsJustified Has Lacks Allows rules NoAllow = EachLacks Lacks rules.deny × IsSomeAnd rules.allow (λ entries. Allows entries NoAllow)
 IsJustified Has Lacks Allows rules (NoQueueAllow i) =
     EachLacks Lacks rules.deny × IsSomeAnd rules.allow (λ entries. Allows entries (NoQueueAllow i))

@@ -1,7 +1,7 @@
 use crate::decision::{Among, first_entry, on_publish, on_subscribe};
 use crate::{By, Verdict};
-use lists::{Copying, NoMemory};
-use policy_doc::{PermDoc, UserDoc};
+use lists::{Copying, Items, NoMemory};
+use policy_doc::{PermDoc, Terms, UserDoc};
 use std::alloc::Global;
 use std::marker::Model;
 use std::sync::Arc;
@@ -29,15 +29,16 @@ impl Compiled {
     ghost use Rattle.permissions.specs.Lists.{lists_of, lists_of_permissions};
     ghost use Rattle.permissions.specs.Verdicts.{publish_verdict, subscribe_verdict, delivery_verdict, IsJustifiedPublish, IsJustifiedSubscribe, IsJustifiedDelivery};
 
-    /// The lists of a user's permissions; a user without permissions may do everything.
-    /// `NoMemory` where memory could not be had.
+    /// The lists of a user's permissions; a user without permissions may do everything. Terms to answer on bring the
+    /// empty publish allow list where none is given. `NoMemory` where memory could not be had.
     pub fn of(alloc: Global, user: &UserDoc) -> Result<Compiled, NoMemory>
         ensures { IfOk result (λ compiled. compiled ≡ lists_of user.now) }
     {
         match &user.permissions {
             None => Ok(Compiled { permissions: None }),
             Some(permissions) => {
-                let copy = permissions.copy(alloc)?;
+                let mut copy = permissions.copy(alloc)?;
+                bring_allow_list(alloc, &mut copy);
                 let shared = Arc::new(alloc, copy)?;
                 Ok(Compiled {
                     permissions: Some(shared),
@@ -53,6 +54,16 @@ impl Compiled {
         match &self.permissions {
             None => None,
             Some(permissions) => Some(permissions),
+        }
+    }
+
+    /// On what terms the user may answer on the reply subjects of messages that it was sent, or none.
+    pub fn terms(&self) -> Option<Terms>
+        ensures { result ≡ self.now.allow_responses }
+    {
+        match &self.permissions {
+            None => None,
+            Some(permissions) => permissions.allow_responses,
         }
     }
 
@@ -101,6 +112,20 @@ impl Compiled {
                 }
             }
         }
+    }
+}
+
+ghost use Rattle.std.specs.Prelude.{◌≡◌};
+ghost use Rattle.permissions.specs.Lists.{with_allow_list};
+
+/// Gives whoever has terms to answer on the empty publish allow list, where none is given.
+fn bring_allow_list(alloc: Global, permissions: &mut PermDoc)
+    ensures { permissions.new ≡ with_allow_list permissions.old }
+{
+    match (&permissions.allow_responses, &permissions.publish.allow) {
+        (Some(_), None) => permissions.publish.allow = Some(Items::new(alloc)),
+        (Some(_), Some(_)) => {}
+        (None, _) => {}
     }
 }
 

@@ -7,6 +7,8 @@ pub enum By {
     All,
     /// The allow entry of this index.
     Index(usize),
+    /// Permission to answer a request that the user was sent, whatever its lists say. No list gives it.
+    Grant,
 }
 
 /// Whether something is allowed, and what decided it. Indexes count from 0 in the order of the list.

@@ -6,6 +6,7 @@ use events::Delivery;
 use lists::{Copying, Items, NoMemory};
 use outbox::Outbox;
 use ready::User;
+use reply_grants::PlainGrant;
 use sessions::Session;
 use std::alloc::Global;
 use std::marker::Model;
@@ -21,6 +22,7 @@ pub struct PlainSession {
     // How much may wait. It has 128 bits, since an outbox tells only how much waits and how much more may.
     capacity: u128,
     waiting: Items<Delivery>,
+    replies: Option<Items<PlainGrant>>,
 }
 
 impl Model for PlainSession {
@@ -34,6 +36,7 @@ impl Model for PlainSession {
       echo = s.echo;
       missed = s.missed;
       outbox = record { capacity = s.capacity; waiting = s.waiting };
+      replies = s.replies;
     } };
 }
 
@@ -49,6 +52,7 @@ impl PlainSession {
             missed: session.missed,
             capacity: capacity_of(&session.outbox),
             waiting: waiting_in(&session.outbox)?,
+            replies: session.replies.plain(alloc)?,
         })
     }
 }
@@ -87,5 +91,6 @@ impl Alike for PlainSession {
             && self.capacity == other.capacity
             && are_same_users(&self.user, &other.user)
             && self.waiting.is_like(&other.waiting)
+            && self.replies.is_like(&other.replies)
     }
 }

@@ -1,15 +1,15 @@
 ghost use Rattle.std.specs.Prelude.{◌≡◌, IfOk};
 
 use alike::Alike;
-use lists::{Copying, Items, NoMemory};
+use lists::{Items, NoMemory};
 use std::alloc::Global;
 use std::marker::Model;
-use subscriptions::{Subscription, Subscriptions};
+use subscriptions::{SharedSubscription, Subscriptions};
 
 /// A subscription as it stood at a moment. A clause sees the subscription.
 #[derive(Drop)]
 pub struct PlainSubscription {
-    subscription: Subscription,
+    subscription: SharedSubscription,
 }
 
 impl Model for PlainSubscription {
@@ -21,21 +21,12 @@ impl Model for PlainSubscription {
 }
 
 impl PlainSubscription {
-    /// A subscription as it stands. `NoMemory` where memory could not be had.
-    fn of(alloc: Global, subscription: &Subscription) -> Result<PlainSubscription, NoMemory>
+    /// A subscription as it stands. `NoMemory` where it has too many owners to count.
+    fn of(subscription: &SharedSubscription) -> Result<PlainSubscription, NoMemory>
         ensures { IfOk result (λ plain. plain ≡ subscription.now) }
     {
         Ok(PlainSubscription {
-            subscription: Subscription {
-                id: subscription.id,
-                conn: subscription.conn,
-                account: subscription.account.clone()?,
-                subject: subscription.subject.again()?,
-                queue: subscription.queue.copy(alloc)?,
-                sid: subscription.sid.again()?,
-                received: subscription.received,
-                most: subscription.most,
-            },
+            subscription: subscription.again()?,
         })
     }
 }
@@ -49,7 +40,7 @@ pub fn plain_subscriptions(
 {
     let mut all = Vec::with_capacity(alloc, subscriptions.len())?;
     for subscription in subscriptions.values() {
-        all.push(PlainSubscription::of(alloc, subscription)?)?;
+        all.push(PlainSubscription::of(subscription)?)?;
     }
     Ok(Items::from_vec(all))
 }
@@ -61,17 +52,17 @@ impl Alike for PlainSubscription {
 }
 
 /// Whether two subscriptions are equal.
-fn are_same(one: &Subscription, other: &Subscription) -> bool
+fn are_same(one: &SharedSubscription, other: &SharedSubscription) -> bool
     ensures { Decides result (one.now ≡ other.now) }
 {
-    one.id == other.id
-        && one.conn == other.conn
-        && one.received == other.received
-        && one.most.is_like(&other.most)
-        && one.sid.is_like(&other.sid)
-        && one.account.is_like(&other.account)
-        && one.subject.is_like(&other.subject)
-        && one.queue.is_like(&other.queue)
+    one.id() == other.id()
+        && one.conn() == other.conn()
+        && one.received() == other.received()
+        && one.most().is_like(&other.most())
+        && one.sid().is_like(other.sid())
+        && one.account().is_like(other.account())
+        && one.subject().is_like(other.subject())
+        && one.queue().is_like(other.queue())
 }
 
 ghost use Rattle.std.specs.Bool.{Decides};

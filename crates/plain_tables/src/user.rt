@@ -1,5 +1,5 @@
 //! Whether two users are equal, each with its permissions.
-ghost use Rattle.std.specs.Prelude.{◌≡◌};
+ghost use Rattle.std.specs.Prelude.{◌≡◌, None};
 ghost use Rattle.std.specs.Bool.{Decides};
 ghost use Rattle.permissions.specs.Lists.{open_rules};
 
@@ -18,8 +18,8 @@ pub(crate) fn are_same_users(one: &User, other: &User) -> bool
         && are_same_lists(&one.rules, &other.rules)
 }
 
-/// Whether two users may do the same by their lists. No permissions, and permissions that neither allow nor deny by a
-/// list, are the same.
+/// Whether two users may do the same by their permissions. No permissions, and permissions that neither allow nor deny by
+/// a list and have no terms to answer on, are the same.
 fn are_same_lists(one: &Compiled, other: &Compiled) -> bool
     ensures { Decides result (one.now ≡ other.now) }
 {
@@ -31,17 +31,21 @@ fn are_same_lists(one: &Compiled, other: &Compiled) -> bool
         Some(one) => match other.permissions() {
             None => are_open_lists(one),
             Some(other) => {
-                one.publish.is_like(&other.publish) && one.subscribe.is_like(&other.subscribe)
+                one.publish.is_like(&other.publish)
+                    && one.subscribe.is_like(&other.subscribe)
+                    && one.allow_responses.is_like(&other.allow_responses)
             }
         },
     }
 }
 
-/// Whether neither direction has a list.
+/// Whether neither direction has a list, and the user has no terms to answer on.
 fn are_open_lists(permissions: &PermDoc) -> bool
-    ensures { Decides result ((permissions.now.publish ≡ open_rules) × (permissions.now.subscribe ≡ open_rules)) }
+    ensures { Decides result ((permissions.now.publish ≡ open_rules) × (permissions.now.subscribe ≡ open_rules) × (permissions.now.allow_responses ≡ None)) }
 {
-    are_open(&permissions.publish) && are_open(&permissions.subscribe)
+    are_open(&permissions.publish)
+        && are_open(&permissions.subscribe)
+        && permissions.allow_responses.is_none()
 }
 
 /// Whether a direction has no allow list and denies nothing.

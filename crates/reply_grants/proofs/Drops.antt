@@ -1,5 +1,5 @@
 -- Entries that aren't live are moved in front.
-use Rattle.std.proofs.Common.{◌≡◌, ◌∙◌, ◌+◌, ◌++◌, ◌≤◌, ◌-◌, ℕ, suc, zero, Bool, true, false, List, [], ◌∷◌, Option, Some, None, map, filter, drop, take, length, slice_get, arith, ap, sym, refl}
+use Rattle.std.proofs.Common.{◌≡◌, ◌+◌, ◌++◌, ◌≤◌, ◌-◌, ℕ, suc, zero, Bool, true, false, List, [], ◌∷◌, Some, map, filter, drop, take, length, slice_get, arith, ap, refl}
 use Rattle.std.specs.List.{remove, insert}
 use Rattle.indexmap.specs.IndexMap.{move_index}
 use Rattle.reply_grants.specs.Grants.{Grant}

@@ -1,14 +1,14 @@
 -- Entries none of which has a subject, and one that has.
-use Rattle.std.proofs.Common.{◌≡◌, ◌∙◌, ◌++◌, ◌&&◌, ℕ, suc, zero, Bool, true, false, cond, not, List, [], ◌∷◌, Option, Some, None, is_some, map, filter, drop, ap, sym, refl, inl, inr, subst}
-use Rattle.std.specs.List.{AllByRecursion, IsDistinct, list_any}
+use Rattle.std.proofs.Common.{◌≡◌, ◌∙◌, ℕ, suc, zero, true, false, List, [], ◌∷◌, Option, Some, None, is_some, map, drop, ap, sym, refl, inl, inr, subst}
+use Rattle.std.specs.List.{AllByRecursion, IsDistinct}
 use Rattle.std.specs.Map.{lookup, set_value, keys_of}
 use Rattle.std.specs.Cmp.Lexicographic.{pointwise_decides, bytes_decides}
 use Rattle.std.proofs.lemmas.Bool.{cases_Bool}
 use Rattle.subjects.specs.Subject.{Token}
 use Rattle.subjects.specs.Equal.{same_subject, same_subject-equiv}
 use Rattle.reply_grants.specs.declared.marks.Mark.{Mark}
-use Rattle.reply_grants.specs.declared.terms.Terms.{Terms}
-use Rattle.reply_grants.specs.Grants.{Grant, after_answer, answered, has_live, is_live, without}
+use Rattle.policy_doc.specs.declared.document.Terms.{Terms}
+use Rattle.reply_grants.specs.Grants.{Grant, after_answer, answered, has_live, without}
 use Rattle.reply_grants.specs.Window.{Entry, grant_of, window}
 
 pub itself : (s : List Token) → same_subject s s ≡ true

@@ -2,3 +2,4 @@ mod Entries
 mod Places
 mod Drops
 mod Trims
+mod Copied

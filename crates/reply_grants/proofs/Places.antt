@@ -1,5 +1,5 @@
 -- The entry of a subject, found by its place.
-use Rattle.std.proofs.Common.{◌≡◌, ◌∙◌, ◌+◌, ◌++◌, ◌<◌, ◌≤◌, ◌-◌, ℕ, suc, zero, Bool, true, false, cond, not, List, [], ◌∷◌, Option, Some, None, rules, map, filter, drop, take, length, slice_get, position, get_or, arith, ap, sym, refl, subst}
+use Rattle.std.proofs.Common.{◌≡◌, ◌∙◌, ◌+◌, ◌++◌, ◌<◌, ◌≤◌, ◌-◌, ℕ, suc, zero, true, false, List, [], ◌∷◌, Option, Some, rules, map, drop, length, slice_get, position, get_or, arith, ap, sym, refl, subst}
 use Rattle.std.specs.List.{AllByRecursion, IsDistinct, remove, insert}
 use Rattle.std.specs.Map.{keys_of, values_of}
 use Rattle.std.proofs.lemmas.List.{drop-drop}
@@ -9,7 +9,7 @@ use Rattle.indexmap.specs.IndexMap.{move_index, set_value_at}
 use Rattle.subjects.specs.Subject.{Token}
 use Rattle.subjects.specs.Equal.{same_subject}
 use Rattle.reply_grants.specs.declared.marks.Mark.{Mark}
-use Rattle.reply_grants.specs.declared.terms.Terms.{Terms}
+use Rattle.policy_doc.specs.declared.document.Terms.{Terms}
 use Rattle.reply_grants.specs.Grants.{Grant, has_live, is_live, without}
 use Rattle.reply_grants.specs.Window.{Entry, grant_of, window}
 use Rattle.reply_grants.proofs.Entries.{NoneHas, equal, itself, turned, none_after, none_dropped, none_live, none_without}
@@ -147,3 +147,17 @@ pub with_key : (es : List Entry) (p : ℕ) (m : Mark) → slice_get (values_of e
 with_key [] p m v = absurd (cc)
 with_key (e ∷ es) zero m v = let mark : e.1 ≡ m = cc in (e.0, ap (λ n. Some (e.0, n)) mark)
 with_key (e ∷ es) (suc p) m v = with_key es p m v
+
+put_before : (fs : List Entry) (g : ℕ) (e : Entry) → g ≤ length fs → drop (suc g) (insert fs g e) ≡ drop g fs
+put_before [] zero e le = refl
+put_before [] (suc g) e le = absurd (omega (arith, le))
+put_before (f ∷ fs) zero e le = refl
+put_before (f ∷ fs) (suc g) e le = put_before fs g e (omega (arith, le))
+
+-- the subject's entry is moved in front of those that stand
+pub moved_away : (s : List Token) (m : Mark) (es : List Entry) (p gone : ℕ) → slice_get es p ≡ Some (s, m) → IsDistinct same_subject (keys_of es) → gone ≤ p
+    → window (gone + 1) (move_index es p gone) ≡ without s (window gone es)
+moved_away s m es p gone h d le =
+    let more : gone + 1 ≡ suc gone = omega arith in
+    let within : gone ≤ length (remove es p) = omega (arith, le, length_removed es p (s, m) h, slice_get_within es p (s, m) h) in
+    rw (h, more) (ap (λ (fs : List Entry). map grant_of fs) (put_before (remove es p) gone (s, m) within) ∙ sym (without_at s m es p gone h d le))

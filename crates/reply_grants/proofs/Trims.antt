@@ -1,7 +1,7 @@
 -- The oldest are dropped where too many stand.
 use Rattle.std.proofs.Common.{◌≡◌, ◌∙◌, ◌+◌, ◌-◌, ℕ, suc, zero, List, [], ◌∷◌, map, drop, length, arith, ap, sym, refl}
 use Rattle.std.proofs.lemmas.List.{drop-drop}
-use Rattle.reply_grants.specs.Grants.{Grant, youngest}
+use Rattle.reply_grants.specs.Grants.{youngest}
 use Rattle.reply_grants.specs.Window.{Entry, grant_of, window}
 
 drop_shown : (k : ℕ) (es : List Entry) → map grant_of (drop k es) ≡ drop k (map grant_of es)

@@ -1,10 +1,10 @@
 -- The grants to answer on reply subjects, from the oldest to the youngest, and what changes them
 -- (docs/GUARANTEE.md, "Reply grants: the table").
-use Rattle.std.specs.Prelude.{◌+◌, ◌-◌, ◌^◌, ◌++◌, ◌∷◌, [], ℕ, Bool, true, false, not, ◌&&◌, cond, List, Option, Some, None, length, map, filter, drop, min, nat_lt, nat_le}
+use Rattle.std.specs.Prelude.{◌+◌, ◌-◌, ◌^◌, ◌++◌, ◌∷◌, [], ℕ, Bool, true, false, not, ◌&&◌, cond, List, Option, Some, None, length, map, filter, drop, min, nat_lt, nat_le, if◌then◌else◌}
 use Rattle.std.specs.List.{list_any}
 use Rattle.subjects.specs.Subject.{Token}
 use Rattle.subjects.specs.Equal.{same_subject}
-use Rattle.reply_grants.specs.declared.terms.Terms.{Terms}
+use Rattle.policy_doc.specs.declared.document.Terms.{Terms}
 
 -- a subject to answer on, the moment when it was noted, and how many answers have passed on it since
 pub record Grant : Type 0 where
@@ -52,6 +52,10 @@ after_note subject now grants = youngest (without subject grants ++ record { sub
 -- one answer more, as far as a count goes
 abbrev pub answered : Grant → Grant
 answered grant = record grant { count = min (grant.count + 1) (2 ^ 64 - 1) }
+
+-- the subject's grant goes where as many answers have passed on it as may, however old it is: at the moment 0 each age is 0
+abbrev pub after_end : List Token → Option Terms → List Grant → List Grant
+after_end subject terms grants = if has_live subject 0 terms grants then grants else without subject grants
 
 abbrev pub after_answer : List Token → List Grant → List Grant
 after_answer subject grants = map (λ (grant : Grant). cond (is_for subject grant) (answered grant) grant) grants

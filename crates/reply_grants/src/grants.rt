@@ -1,7 +1,8 @@
-use crate::Terms;
-use crate::marks::{MOST, Mark, Marks, count_answer, drop_dead, dropped, is_live, put};
+use crate::marks::{MOST, Mark, Marks, count_answer, drop_dead, drop_one, dropped, is_live, put};
+use crate::plain::{PlainGrant, plain_grants};
 use indexmap::IndexMap;
-use lists::NoMemory;
+use lists::{Items, NoMemory};
+use policy_doc::Terms;
 use std::alloc::Global;
 use std::hash::RandomState;
 use std::marker::Model;
@@ -30,7 +31,7 @@ impl Model for Grants {
 
 impl Grants {
     ghost use Rattle.std.specs.Prelude.{◌≡◌, ◌≤◌, [], IfOk, length, filter};
-    ghost use Rattle.reply_grants.specs.Grants.{has_live, after_note, after_answer};
+    ghost use Rattle.reply_grants.specs.Grants.{has_live, after_note, after_answer, after_end};
     ghost use Rattle.reply_grants.specs.Grants as grants;
 
     /// No grants, with room for as many as may stand: nothing takes memory from here on. Others choose the reply
@@ -74,10 +75,28 @@ impl Grants {
         count_answer(&mut self.marks, subject);
     }
 
+    /// Drops the subject's grant, if it has one, where as many answers have passed on it as these terms allow, however
+    /// old it is.
+    pub fn end(&mut self, subject: &Subject, terms: Option<Terms>)
+        ensures { self.new ≡ after_end subject.now terms self.old }
+    {
+        if !self.live(subject, 0, terms) {
+            self.gone = drop_one(&mut self.marks, self.gone, subject);
+        }
+    }
+
     /// Drops the grants that aren't live under these terms.
     pub fn prune(&mut self, now: u64, terms: Option<Terms>)
         ensures { self.new ≡ filter (grants.is_live now terms) self.old }
     {
         self.gone = drop_dead(&mut self.marks, self.gone, now, terms);
+    }
+
+    /// The grants as they are, oldest first, to be kept. `NoMemory` where memory could not be had.
+    pub fn plain(&self, alloc: Global) -> Result<Items<PlainGrant>, NoMemory>
+        ensures { IfOk result (λ all. all ≡ self.now) }
+    {
+        let all = plain_grants(alloc, &self.marks, self.gone)?;
+        Ok(all)
     }
 }

@@ -3,9 +3,12 @@
 
 mod grants;
 mod marks;
+mod plain;
+mod replies;
 mod terms;
 #[cfg(test)]
 mod tests;
 
 pub use grants::Grants;
-pub use terms::Terms;
+pub use plain::PlainGrant;
+pub use replies::{Note, Replies};

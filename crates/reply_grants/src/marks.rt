@@ -9,8 +9,9 @@ ghost use Rattle.reply_grants.specs.Grants as grants;
 ghost use Rattle.reply_grants.specs.Grants.{after_answer, has_live, without};
 ghost use Rattle.reply_grants.specs.Window.{Entry, IsKept, grant_of, so_far, window};
 
-use crate::Terms;
+use crate::terms::allow;
 use indexmap::IndexMap;
+use policy_doc::Terms;
 use std::hash::RandomState;
 use subjects::Subject;
 
@@ -20,8 +21,8 @@ pub(crate) const MOST: usize = 1024;
 /// When a reply subject was noted, and how many answers have passed on it since.
 #[derive(Clone, Copy, Debug)]
 pub(crate) struct Mark {
-    noted: u64,
-    count: u64,
+    pub noted: u64,
+    pub count: u64,
 }
 
 /// The marks by their subjects, in order of age.
@@ -44,7 +45,7 @@ impl Mark {
     {
         match terms {
             None => false,
-            Some(terms) => terms.allow(self.count, now.saturating_sub(self.noted)),
+            Some(terms) => allow(terms, self.count, now.saturating_sub(self.noted)),
         }
     }
 }
@@ -192,4 +193,25 @@ pub(crate) fn drop_dead(marks: &mut Marks, gone: usize, now: u64, terms: Option<
         dropped = drop_if_dead(marks, dropped, place, now, terms);
     }
     dropped
+}
+
+/// Drops the subject's, if it stands. Answers how many are dropped then.
+pub(crate) fn drop_one(marks: &mut Marks, gone: usize, subject: &Subject) -> usize
+    requires { gone ≤ length marks.old.entries }
+    ensures window { window result marks.new.entries ≡ without subject.now (window gone marks.old.entries) }
+    ensures dropped { (gone ≤ result) × (result ≤ length marks.new.entries) }
+    ensures held { length marks.new.entries ≡ length marks.old.entries }
+    ensures free { spare marks.new ≡ spare marks.old }
+{
+    match marks.get_index_of(subject) {
+        None => gone,
+        Some(at) => {
+            if at < gone {
+                return gone;
+            }
+            let _held = marks.len();
+            marks.move_index(at, gone);
+            gone + 1
+        }
+    }
 }

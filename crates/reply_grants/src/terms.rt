@@ -1,25 +1,17 @@
 ghost use Rattle.std.specs.Prelude.{◌≡◌};
 ghost use Rattle.reply_grants.specs.Grants as grants;
 
-/// On what terms a user may answer.
-#[derive(Clone, Copy, Debug, PartialEq, Eq)]
-pub struct Terms {
-    /// How many answers may pass for one request. Without it there is no bound.
-    pub max: Option<u64>,
-    /// For how many milliseconds they may pass. Without it there is no limit.
-    pub expires: Option<u64>,
+use policy_doc::Terms;
+
+/// Whether one answer more may pass on these terms, after so many answers and so many milliseconds.
+pub(crate) fn allow(terms: Terms, count: u64, age: u64) -> bool
+    ensures { result ≡ grants.allow terms count age }
+{
+    is_below(terms.max, count) && is_within(terms.expires, age)
 }
 
-impl Terms {
-    /// Whether one answer more may pass, after so many answers and so many milliseconds.
-    pub(crate) fn allow(&self, count: u64, age: u64) -> bool
-        ensures { result ≡ grants.allow self.now count age }
-    {
-        is_below(self.max, count) && is_within(self.expires, age)
-    }
-}
-
-fn is_below(bound: Option<u64>, count: u64) -> bool
+/// Whether a count is below the bound. Without a bound each is.
+pub(crate) fn is_below(bound: Option<u64>, count: u64) -> bool
     ensures { result ≡ grants.is_below bound count }
 {
     match bound {

@@ -1,4 +1,5 @@
-use crate::{Grants, Terms};
+use crate::Grants;
+use policy_doc::Terms;
 use std::hash::RandomState;
 use std::test::Fail;
 use subjects::Subject;

@@ -1,13 +1,14 @@
 -- A change of one session among all.
-use Rattle.std.proofs.Common.{◌≡◌, ◌∙◌, ◌==◌, ℕ, ◌<◌, suc, Bool, true, false, cond, List, [], ◌∷◌, ◌++◌, map, length, get_or, Some, ap, sym, refl, arith, nat_lt}
+use Rattle.std.proofs.Common.{◌≡◌, ◌∙◌, ◌==◌, ℕ, ◌<◌, suc, Bool, true, false, cond, List, [], ◌∷◌, ◌++◌, map, length, get_or, Option, Some, ap, sym, refl, arith, nat_lt}
 use Rattle.std.specs.Prelude.{All, AllPairs, ◌≢◌}
 use Rattle.std.specs.Option.{option_map}
 use Rattle.std.proofs.lemmas.Bool.{eqb-true, ne_eqb}
 use Rattle.std.proofs.lemmas.List.{length-map, get_or-map}
 use Rattle.std.proofs.lemmas.List.Elements.{All-head, All-tail}
+use Rattle.reply_grants.specs.declared.replies.Note.{Note}
 use Rattle.events.specs.declared.answer.Delivery.{Delivery}
 use Rattle.sessions.specs.Sessions.{session_of, with_session, IsApart}
-use Rattle.sessions.specs.Delivered.{offered}
+use Rattle.sessions.specs.Delivered.{noting, offered}
 use Rattle.sessions.specs.declared.session.Session.{Session}
 
 -- a change of the sessions of one connection
@@ -69,9 +70,9 @@ session_of-other f conn other (z ∷ zs) same apart = here (z.conn == conn) refl
     here false is later = ap (λ o. cond (z.conn == other) (Some z) o) later
 
 -- a delivery that is offered leaves the connection
-pub offered-conn : (d : Delivery) (z : Session) → (offered d z).conn ≡ z.conn
-offered-conn d z = here (nat_lt (length z.outbox.waiting) z.outbox.capacity)
+pub offered-conn : (d : Delivery) (what : Option Note) (now : ℕ) (z : Session) → (offered d what now z).conn ≡ z.conn
+offered-conn d what now z = here (nat_lt (length z.outbox.waiting) z.outbox.capacity)
   where
-    here : (b : Bool) → (cond b (record z { outbox = record z.outbox { waiting = z.outbox.waiting ++ d ∷ [] } }) (record z { missed = true })).conn ≡ z.conn
+    here : (b : Bool) → (cond b (record z { outbox = record z.outbox { waiting = z.outbox.waiting ++ d ∷ [] }; replies = noting what now z.replies }) (record z { missed = true })).conn ≡ z.conn
     here true = refl
     here false = refl

@@ -5,8 +5,9 @@ use Rattle.std.proofs.lemmas.List.{length-append, append_assoc}
 use Rattle.std.proofs.lemmas.List.Quantifiers.{position-Some}
 use Rattle.std.proofs.lemmas.Bool.{eqb-true, eq-eqb, ne_eqb, ltb-true, ltb-false, lt-ltb, le-ltb, cases_eq}
 use Rattle.sessions.specs.Sessions.{session_of}
-use Rattle.sessions.specs.Delivered.{offered, after_offer, item_of, delivered, has_room, room_in}
+use Rattle.sessions.specs.Delivered.{noting, offered, after_offer, item_of, delivered, has_room, room_in}
 use Rattle.sessions.specs.declared.session.Session.{Session}
+use Rattle.reply_grants.specs.declared.replies.Note.{Note}
 use Rattle.events.specs.declared.answer.Addressed.{Addressed}
 use Rattle.events.specs.declared.answer.Delivery.{Delivery}
 use Rattle.events.specs.declared.answer.Item.{Item}
@@ -110,39 +111,39 @@ has_room_is (Some z) = here (nat_lt (length z.outbox.waiting) z.outbox.capacity)
     here true is = let h = ltb-true (length z.outbox.waiting) z.outbox.capacity is in lt-ltb _ _ (omega arith)
     here false is = let h = ltb-false (length z.outbox.waiting) z.outbox.capacity is in le-ltb _ _ (omega arith)
 
-room-offered : (d : Delivery) (o : Option Session) → room_in (option_map (offered d) o) ≡ room_in o - 1
-room-offered d None = refl
-room-offered d (Some z) = here (nat_lt (length z.outbox.waiting) z.outbox.capacity) refl
+room-offered : (d : Delivery) (what : Option Note) (now : ℕ) (o : Option Session) → room_in (option_map (offered d what now) o) ≡ room_in o - 1
+room-offered d what now None = refl
+room-offered d what now (Some z) = here (nat_lt (length z.outbox.waiting) z.outbox.capacity) refl
   where
     here : (b : Bool) → nat_lt (length z.outbox.waiting) z.outbox.capacity ≡ b →
-        room_in (Some (cond b (record z { outbox = record z.outbox { waiting = z.outbox.waiting ++ d ∷ [] } }) (record z { missed = true }))) ≡ room_in (Some z) - 1
+        room_in (Some (cond b (record z { outbox = record z.outbox { waiting = z.outbox.waiting ++ d ∷ [] }; replies = noting what now z.replies }) (record z { missed = true }))) ≡ room_in (Some z) - 1
     here true is = let h = ltb-true (length z.outbox.waiting) z.outbox.capacity is in omega (arith, length-append z.outbox.waiting (d ∷ []))
     here false is = let h = ltb-false (length z.outbox.waiting) z.outbox.capacity is in omega arith
 
 -- one offer takes one from the room of its connection
-after_one : (a : Addressed) (zs : List Session) (other : ℕ) → with_room a.conn (rooms_of zs a.conn - 1) (rooms_of zs) other ≡ rooms_of (after_offer a zs) other
-after_one a zs other = by (cases_eq other a.conn)
+after_one : (now : ℕ) (a : Addressed) (zs : List Session) (other : ℕ) → with_room a.conn (rooms_of zs a.conn - 1) (rooms_of zs) other ≡ rooms_of (after_offer now a zs) other
+after_one now a zs other = by (cases_eq other a.conn)
   where
-    by : (other ≡ a.conn) ⊎ (other ≡ a.conn → ⊥) → cond (other == a.conn) (rooms_of zs a.conn - 1) (rooms_of zs other) ≡ rooms_of (after_offer a zs) other
+    by : (other ≡ a.conn) ⊎ (other ≡ a.conn → ⊥) → cond (other == a.conn) (rooms_of zs a.conn - 1) (rooms_of zs other) ≡ rooms_of (after_offer now a zs) other
     by (inl e) =
         ap (λ b. cond b (rooms_of zs a.conn - 1) (rooms_of zs other)) (eq-eqb other a.conn e)
-        ∙ sym (room-offered a.delivery (session_of zs a.conn))
-        ∙ ap room_in (sym (session_of-changed (offered a.delivery) a.conn zs (offered-conn a.delivery)))
-        ∙ ap (rooms_of (after_offer a zs)) (sym e)
+        ∙ sym (room-offered a.delivery a.noted now (session_of zs a.conn))
+        ∙ ap room_in (sym (session_of-changed (offered a.delivery a.noted now) a.conn zs (offered-conn a.delivery a.noted now)))
+        ∙ ap (rooms_of (after_offer now a zs)) (sym e)
     by (inr ne) =
         ap (λ b. cond b (rooms_of zs a.conn - 1) (rooms_of zs other)) (ne_eqb other a.conn ne)
-        ∙ ap room_in (sym (session_of-other (offered a.delivery) a.conn other zs (offered-conn a.delivery) (λ e. ne (sym e))))
+        ∙ ap room_in (sym (session_of-other (offered a.delivery a.noted now) a.conn other zs (offered-conn a.delivery a.noted now) (λ e. ne (sym e))))
 
 -- what is planned by the rooms of the sessions is what the deliveries meet
-pub planned-delivered : (all : List Addressed) (zs : List Session) → planned all (rooms_of zs) ≡ (delivered all zs).1
-planned-delivered [] zs = refl
-planned-delivered (a ∷ rest) zs =
+pub planned-delivered : (now : ℕ) (all : List Addressed) (zs : List Session) → planned all (rooms_of zs) ≡ (delivered now all zs).1
+planned-delivered now [] zs = refl
+planned-delivered now (a ∷ rest) zs =
     ap (λ b. cond b (Entered a.conn a.delivery.sid) (Full a.conn a.delivery.sid) ∷ planned rest (with_room a.conn (rooms_of zs a.conn - 1) (rooms_of zs))) (has_room_is (session_of zs a.conn))
     ∙ ap (λ more. item_of a zs ∷ more)
-    (ap (planned rest) (λ i other. after_one a zs other i) ∙ planned-delivered rest (after_offer a zs))
+    (ap (planned rest) (λ i other. after_one now a zs other i) ∙ planned-delivered now rest (after_offer now a zs))
 
-pub plan_is : (all : List Addressed) (zs : List Session) (rooms : List ℕ) → ((k : ℕ) (d : Addressed) → k < length all → room_at zs rooms (get_or all k d).conn ≡ rooms_of zs (get_or all k d).conn) → planned all (room_at zs rooms) ≡ (delivered all zs).1
-plan_is all zs rooms noted = planned-same all (room_at zs rooms) (rooms_of zs) noted ∙ planned-delivered all zs
+pub plan_is : (now : ℕ) (all : List Addressed) (zs : List Session) (rooms : List ℕ) → ((k : ℕ) (d : Addressed) → k < length all → room_at zs rooms (get_or all k d).conn ≡ rooms_of zs (get_or all k d).conn) → planned all (room_at zs rooms) ≡ (delivered now all zs).1
+plan_is now all zs rooms noted = planned-same all (room_at zs rooms) (rooms_of zs) noted ∙ planned-delivered now all zs
 
 -- one more is planned
 pub planned-more : (items : List Item) (a : Addressed) (rest : List Addressed) (zs : List Session) (rooms after : List ℕ) →

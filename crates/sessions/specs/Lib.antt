@@ -1,4 +1,5 @@
 pub mod Sessions
 pub mod Delivered
 pub mod Planned
+pub mod Replying
 pub mod Renewal

@@ -1,6 +1,7 @@
 -- What becomes of the sessions when another policy comes into force (docs/GUARANTEE.md, "A reload").
 use Rattle.std.specs.Prelude.{◌∷◌, ℕ, List, [], Bool, Option, Some, None, if◌then◌else◌, filter, map, not, is_some, nat_le}
 use Rattle.policy_doc.specs.declared.document.PolicyDoc.{PolicyDoc}
+use Rattle.reply_grants.specs.Replies.{judged}
 use Rattle.ready.specs.Users.{user_again}
 use Rattle.ready.specs.declared.ready.User.{User}
 use Rattle.sessions.specs.declared.session.Session.{Session}
@@ -13,23 +14,24 @@ user_again_of doc z = user_again doc z.user
 abbrev pub stays : PolicyDoc → Session → Bool
 stays doc z = is_some (user_again_of doc z)
 
--- the session with that user, and with all else as it is
-abbrev pub with_user : Session → Option User → Session
-with_user z None = z
-with_user z (Some u) = record z { user = u }
+-- the session with that user, with the grants that are live at the moment under the terms before and under that user's,
+-- and with all else as it is
+abbrev pub with_user : ℕ → Session → Option User → Session
+with_user now z None = z
+with_user now z (Some u) = record z { user = u; replies = judged now z.user.rules.allow_responses u.rules.allow_responses z.replies }
 
-abbrev pub renewed : PolicyDoc → Session → Session
-renewed doc z = with_user z (user_again_of doc z)
+abbrev pub renewed : ℕ → PolicyDoc → Session → Session
+renewed now doc z = with_user now z (user_again_of doc z)
 
 -- the sessions that stay, each for its user as the policy has it
-abbrev pub remaining : PolicyDoc → List Session → List Session
-remaining doc zs = map (renewed doc) (filter (stays doc) zs)
+abbrev pub remaining : ℕ → PolicyDoc → List Session → List Session
+remaining now doc zs = map (renewed now doc) (filter (stays doc) zs)
 
 -- sessions with these users, in order
-abbrev pub with_users : List Session → List User → List Session
-with_users [] us = []
-with_users (z ∷ zs) [] = z ∷ zs
-with_users (z ∷ zs) (u ∷ us) = with_user z (Some u) ∷ with_users zs us
+abbrev pub with_users : ℕ → List Session → List User → List Session
+with_users now [] us = []
+with_users now (z ∷ zs) [] = z ∷ zs
+with_users now (z ∷ zs) (u ∷ us) = with_user now z (Some u) ∷ with_users now zs us
 
 -- a number in its place among ascending ones
 abbrev pub with_number : ℕ → List ℕ → List ℕ

@@ -14,7 +14,7 @@ with_session f conn (z ∷ zs) = if z.conn == conn then f z ∷ zs else z ∷ wi
 
 -- a session with nothing in its outbox
 abbrev pub new_session : ℕ → User → Bool → ℕ → Session
-new_session conn u echo capacity = record { conn = conn; user = u; echo = echo; missed = false; outbox = record { capacity = capacity; waiting = [] } }
+new_session conn u echo capacity = record { conn = conn; user = u; echo = echo; missed = false; outbox = record { capacity = capacity; waiting = [] }; replies = None }
 
 -- a session after a Take: its oldest deliveries have left, and what was missed has been told
 abbrev pub drained : ℕ → Session → Session

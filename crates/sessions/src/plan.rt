@@ -139,7 +139,7 @@ pub(crate) fn plan_all(
 ) -> Result<Vec<Item>, NoMemory>
     requires keys { conns.now.keys ≡ map connection_of list.now }
     requires within { length list.now ≤ length rooms.old }
-    ensures { IfOk result (λ items. items.items ≡ (delivered all.now list.now).1) }
+    ensures { IfOk result (λ items. (now : ℕ) → items.items ≡ (delivered now all.now list.now).1) }
 {
     note_rooms(conns, list, rooms, all);
     let items = plan_each(alloc, conns, list, rooms, all)?;

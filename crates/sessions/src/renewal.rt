@@ -97,31 +97,36 @@ fn keep_staying(ready: &Ready, list: &mut Vec<Session>)
     list.retain(|session| is_staying(ready, session));
 }
 
-/// Gives a session its user, if there is one for it.
-fn give_user(session: &mut Session, user: Option<User>)
-    ensures { session.new ≡ with_user session.old user }
+/// Gives a session its user at a moment, if there is one for it: its grants are judged by the terms before and those of
+/// this user.
+fn give_user(session: &mut Session, user: Option<User>, now: u64)
+    ensures { session.new ≡ with_user now session.old user }
 {
     match user {
         None => {}
-        Some(user) => session.user = user,
+        Some(user) => {
+            let before = session.user.rules.terms();
+            session.replies.judge(now, before, user.rules.terms());
+            session.user = user;
+        }
     }
 }
 
 /// Gives the sessions their users, in order.
-fn give_users(list: &mut [Session], mut users: VecDeque<User>)
-    ensures { list.new ≡ with_users list.old users.items }
+fn give_users(list: &mut [Session], mut users: VecDeque<User>, now: u64)
+    ensures { list.new ≡ with_users now list.old users.items }
 {
     for session in list.iter_mut() {
-        give_user(session, users.pop_front());
+        give_user(session, users.pop_front(), now);
     }
 }
 
 /// Removes the sessions that go, and gives the others these users, in order.
-pub(crate) fn renew_list(ready: &Ready, list: &mut Vec<Session>, users: VecDeque<User>)
-    ensures { list.new.items ≡ with_users (filter (stays ready.now) list.old.items) users.items }
+pub(crate) fn renew_list(ready: &Ready, list: &mut Vec<Session>, users: VecDeque<User>, now: u64)
+    ensures { list.new.items ≡ with_users now (filter (stays ready.now) list.old.items) users.items }
 {
     keep_staying(ready, list);
-    give_users(list, users);
+    give_users(list, users, now);
 }
 
 /// Notes one connection, for which there is room.

@@ -2,7 +2,9 @@ use events::Delivery;
 use lists::{Copying, NoMemory};
 use outbox::Outbox;
 use ready::User;
+use reply_grants::{Note, Replies};
 use std::alloc::Global;
+use subjects::Subject;
 
 /// A client that has shown who it is.
 #[derive(Drop)]
@@ -17,12 +19,15 @@ pub struct Session {
     pub missed: bool,
     /// What waits for the client.
     pub outbox: Outbox<Delivery>,
+    /// What it may answer on.
+    pub replies: Replies,
 }
 
 impl Session {
     ghost use Rattle.std.specs.Prelude.{◌≡◌, ◌≤◌, IfOk};
     ghost use Rattle.sessions.specs.Sessions.{new_session, drained};
     ghost use Rattle.sessions.specs.Delivered.{offered};
+    ghost use Rattle.sessions.specs.Replying.{is_granted, answering, ending};
 
     /// A session of a user, with nothing in its outbox. The outbox takes its room here, so that no delivery takes
     /// any memory later. `NoMemory` where it could not be had.
@@ -42,17 +47,39 @@ impl Session {
             echo,
             missed: false,
             outbox: Outbox::new(alloc, capacity)?,
+            replies: Replies::none(),
         })
     }
 
-    /// Offers a delivery to the outbox: it waits there, or is missed.
-    pub(crate) fn offer(&mut self, delivery: Delivery)
-        ensures { self.new ≡ offered delivery self.old }
+    /// Offers a delivery to the outbox at a moment: it waits there, and what is to be noted is, or it is missed.
+    pub(crate) fn offer(&mut self, delivery: Delivery, noted: Option<Note>, now: u64)
+        ensures { self.new ≡ offered delivery noted now self.old }
     {
         match self.outbox.offer(delivery) {
-            Ok(()) => {}
+            Ok(()) => note(&mut self.replies, noted, now),
             Err(_) => self.missed = true,
         }
+    }
+
+    /// Whether a live grant lets the user publish on a subject, whatever its lists say.
+    pub fn may_answer(&self, subject: &Subject, now: u64) -> bool
+        ensures { result ≡ is_granted now subject.now self.now }
+    {
+        self.replies.live(subject, now, self.user.rules.terms())
+    }
+
+    /// Counts an answer on the grant for a subject, if there is one.
+    pub(crate) fn answer(&mut self, subject: &Subject)
+        ensures { self.new ≡ answering subject.now self.old }
+    {
+        self.replies.answer(subject);
+    }
+
+    /// Drops the grant for a subject, if there is one, where as many answers have passed on it as may.
+    pub(crate) fn end(&mut self, subject: &Subject)
+        ensures { self.new ≡ ending subject.now self.old }
+    {
+        self.replies.end(subject, self.user.rules.terms());
     }
 
     /// Lets the oldest deliveries go, `most` at most, and forgets that one was missed.
@@ -61,5 +88,18 @@ impl Session {
     {
         self.missed = false;
         self.outbox.discard(most);
+    }
+}
+
+ghost use Rattle.std.specs.Prelude.{◌≡◌};
+ghost use Rattle.sessions.specs.Delivered.{noting};
+
+/// Notes what is to be noted, if anything is.
+fn note(replies: &mut Replies, noted: Option<Note>, now: u64)
+    ensures { replies.new ≡ noting noted now replies.old }
+{
+    match noted {
+        None => {}
+        Some(note) => replies.note(note, now),
     }
 }

@@ -1,3 +1,4 @@
+use crate::noting::note_for;
 use crate::plan::{only, place_in, plan_all, plan_one};
 use crate::{Session, renewal};
 use events::{Addressed, Met};
@@ -6,7 +7,9 @@ use lists::NoMemory;
 use ready::{Ready, User};
 use std::alloc::Global;
 use std::collections::VecDeque;
+use std::hash::RandomState;
 use std::marker::Model;
+use subjects::Subject;
 
 /// The sessions, each found by its connection at once. A clause sees them as a list, in order of connecting.
 #[derive(Drop)]
@@ -32,11 +35,12 @@ impl Model for Sessions {
 }
 
 impl Sessions {
-    ghost use Rattle.std.specs.Prelude.{◌≡◌, ◌==◌, ◌++◌, ◌∷◌, [], None, AllPairs, IfOk, OnOk, OnErr, MatchOption, length, filter, not, is_some};
+    ghost use Rattle.std.specs.Prelude.{◌≡◌, ◌==◌, ◌++◌, ◌∷◌, [], ℕ, None, Some, AllPairs, IfOk, OnOk, OnErr, MatchOption, length, filter, map, not, is_some};
     ghost use Rattle.std.specs.List.{filter_map};
     ghost use Rattle.std.specs.Option.{option_copied};
     ghost use Rattle.sessions.specs.Sessions.{session_of, with_session, drained, IsApart, IsNowhere, IsPlace};
     ghost use Rattle.sessions.specs.Delivered.{delivered, after_offer};
+    ghost use Rattle.sessions.specs.Replying.{with_note, answering, ending};
     ghost use Rattle.sessions.specs.Renewal.{user_again_of, closed_conns, remaining};
 
     /// No session.
@@ -121,7 +125,7 @@ impl Sessions {
 
     /// What each delivery will meet, where they are handed over in turn. `NoMemory` where memory could not be had.
     pub fn plan(&mut self, all: &[Addressed]) -> Result<Met, NoMemory>
-        ensures items { IfOk result (λ items. items ≡ (delivered all.now self.old).1) }
+        ensures items { IfOk result (λ items. (now : ℕ) → items ≡ (delivered now all.now self.old).1) }
         ensures same { self.new ≡ self.old }
     {
         match only(all) {
@@ -137,30 +141,68 @@ impl Sessions {
         }
     }
 
-    /// Hands a delivery over to the session that it is for: it waits in the outbox, or was missed where that is
-    /// full. It takes no memory.
-    pub fn hand_over(&mut self, next: Addressed)
-        ensures { self.new ≡ after_offer next self.old }
+    /// Puts down beside each delivery of a message with this reply what its session is to note where it enters. The
+    /// memory that it will take is had here. `NoMemory` where it could not be had: then it is put down of some.
+    pub fn note_replies(
+        &self,
+        keys: RandomState,
+        all: &mut [Addressed],
+        reply: &Subject,
+    ) -> Result<(), NoMemory>
+        ensures { OnOk result (all.new ≡ map (with_note self.now (Some reply.now)) all.old) }
+    {
+        for next in all.iter_mut() {
+            let noted = note_for(self.alloc, keys, reply, self.find(next.conn))?;
+            next.noted = noted;
+        }
+        Ok(())
+    }
+
+    /// Hands a delivery over at a moment to the session that it is for: it waits in the outbox, and what is to be noted
+    /// is, or it was missed where the outbox is full. It takes no memory.
+    pub fn hand_over(&mut self, next: Addressed, now: u64)
+        ensures { self.new ≡ after_offer now next self.old }
     {
         let Addressed {
             id: _,
             conn,
             queue,
             delivery,
+            noted,
         } = next;
         drop(queue);
         match self.place_of(conn) {
             None => {}
-            Some(place) => self.list[place].offer(delivery),
+            Some(place) => self.list[place].offer(delivery, noted, now),
         }
     }
 
     /// Hands deliveries over in turn. It takes no memory, and the vector keeps its room.
-    pub fn hand_over_all(&mut self, all: &mut Vec<Addressed>)
-        ensures { self.new ≡ (delivered all.old.items self.old).0 }
+    pub fn hand_over_all(&mut self, all: &mut Vec<Addressed>, now: u64)
+        ensures { self.new ≡ (delivered now all.old.items self.old).0 }
     {
         for next in all.drain(..) {
-            self.hand_over(next);
+            self.hand_over(next, now);
+        }
+    }
+
+    /// Counts an answer on the grant that a connection's session has for a subject, if it has one.
+    pub fn answer(&mut self, conn: u64, subject: &Subject)
+        ensures { self.new ≡ with_session (answering subject.now) conn self.old }
+    {
+        match self.place_of(conn) {
+            None => {}
+            Some(place) => self.list[place].answer(subject),
+        }
+    }
+
+    /// Drops that grant where as many answers have passed on it as may.
+    pub fn end(&mut self, conn: u64, subject: &Subject)
+        ensures { self.new ≡ with_session (ending subject.now) conn self.old }
+    {
+        match self.place_of(conn) {
+            None => {}
+            Some(place) => self.list[place].end(subject),
         }
     }
 
@@ -193,13 +235,14 @@ impl Sessions {
     }
 
     /// Removes the sessions that don't stay under a policy, with their outboxes, and gives each of the others its
-    /// user as the policy has it. The users are those of `users_again`. It takes no memory.
-    pub fn renew(&mut self, ready: &Ready, users: VecDeque<User>)
+    /// user as the policy has it. Its grants stay that are live at the moment under the terms before and under that
+    /// user's. The users are those of `users_again`. It takes no memory.
+    pub fn renew(&mut self, ready: &Ready, users: VecDeque<User>, now: u64)
         requires { users.items ≡ filter_map (user_again_of ready.now) self.old }
-        ensures { self.new ≡ remaining ready.now self.old }
+        ensures { self.new ≡ remaining now ready.now self.old }
     {
         let _keys = self.conns.as_slice();
-        renewal::renew_list(ready, &mut self.list, users);
+        renewal::renew_list(ready, &mut self.list, users, now);
         renewal::note_conns(&mut self.conns, self.list.as_slice());
     }
 }

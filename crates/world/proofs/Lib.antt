@@ -4,3 +4,4 @@ pub mod Publishing
 pub mod Reasons
 pub mod Routing
 pub mod Subscribing
+pub mod Text

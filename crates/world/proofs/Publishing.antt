@@ -1,43 +1,87 @@
 -- A message that is published.
-use Rattle.std.proofs.Common.{◌≡◌, ◌∙◌, ◌&&◌, ℕ, List, Option, Some, Ok, map, ap, sym}
+use Rattle.std.proofs.Common.{◌≡◌, ◌∙◌, ◌&&◌, ◌==◌, ◌∷◌, ℕ, Bool, true, false, cond, List, [], Option, Some, Ok, map, ap, sym, refl}
 use Rattle.subjects.specs.Subject.{Token}
-use Rattle.permissions.specs.Verdicts.{publish_verdict}
 use Rattle.permissions.specs.declared.verdict.By.{By}
+use Rattle.permissions.specs.declared.verdict.By.TheVariants.{All as AllowsAll, Index, Grant}
 use Rattle.permissions.specs.declared.verdict.Verdict.{Verdict}
 use Rattle.permissions.specs.declared.verdict.Verdict.TheVariants.{Allowed}
 use Rattle.events.specs.Messages.{Message}
 use Rattle.events.specs.declared.answer.Addressed.{Addressed}
 use Rattle.events.specs.declared.answer.Item.{Item}
 use Rattle.events.specs.declared.answer.Outcome.TheVariants.{Published}
-use Rattle.sessions.specs.Delivered.{delivered}
+use Rattle.sessions.specs.Sessions.{session_of, with_session}
+use Rattle.sessions.specs.Delivered.{delivered, room_in}
+use Rattle.sessions.specs.Planned.{rooms_of, planned}
+use Rattle.sessions.specs.Replying.{with_note, answering}
 use Rattle.sessions.specs.declared.session.Session.{Session}
+use Rattle.sessions.proofs.Plans.{planned-delivered}
 use Rattle.subscriptions.specs.Addressing.{addressed_to}
 use Rattle.subscriptions.specs.Limit.{unended, counted}
 use Rattle.world.specs.World.{World}
 use Rattle.world.proofs.Routing.{both}
 use Rattle.queue_groups.specs.Served.{is_served, served}
-use Rattle.world.specs.Routing.{own_view, is_admitted, admitted}
+use Rattle.world.specs.Granting.{verdict_on, counted_on, ended_on}
+use Rattle.world.specs.Routing.{own_view, is_admitted, admitted, deliveries}
 use Rattle.world.specs.Transition.{in_session, published}
-use Rattle.world.specs.Changes.{AreAddressed, IsDecided}
+use Rattle.world.specs.Changes.{AreAddressed, IsDecided, answered_by, handed_over}
+use Rattle.world.specs.declared.change.Answered.{Answered}
 use Rattle.world.specs.declared.change.Change.TheVariants.{Deliver}
 
 -- those that are served are some of all
-addressed_again : (w : World) (z : Session) (m : Message) (word : ℕ) (all : List Addressed) → all ≡ map (addressed_to m) (served word (admitted w z (own_view z m))) → AreAddressed all w.subscriptions
+addressed_again : (w : World) (z : Session) (m : Message) (word : ℕ) (all : List Addressed) → all ≡ deliveries w z (own_view z m) word → AreAddressed w.sessions all w.subscriptions
 addressed_again w z m word all addressed = (
   m,
   (λ s. is_admitted w.sessions z (own_view z m) s && is_served word (admitted w z (own_view z m)) s),
-  addressed ∙ ap (map (addressed_to m)) (both (is_served word (admitted w z (own_view z m))) (is_admitted w.sessions z (own_view z m)) w.subscriptions),
+  addressed ∙ ap (λ subs. map (with_note w.sessions m.reply) (map (addressed_to m) subs)) (both (is_served word (admitted w z (own_view z m))) (is_admitted w.sessions z (own_view z m)) w.subscriptions),
 )
 
+-- an answer takes no room
+same_rooms : (s : List Token) (conn other : ℕ) (zs : List Session) → rooms_of (with_session (answering s) conn zs) other ≡ rooms_of zs other
+same_rooms s conn other [] = refl
+same_rooms s conn other (z ∷ zs) = here (z.conn == conn) (same_rooms s conn other zs)
+  where
+    own : (b : Bool) → room_in (cond b (Some (answering s z)) (session_of zs other)) ≡ room_in (cond b (Some z) (session_of zs other))
+    own true = refl
+    own false = refl
+
+    later : (b : Bool) → rooms_of (with_session (answering s) conn zs) other ≡ rooms_of zs other →
+        room_in (cond b (Some z) (session_of (with_session (answering s) conn zs) other)) ≡ room_in (cond b (Some z) (session_of zs other))
+    later true e = refl
+    later false e = e
+
+    here : (b : Bool) → rooms_of (with_session (answering s) conn zs) other ≡ rooms_of zs other →
+        rooms_of (cond b (answering s z ∷ zs) (z ∷ with_session (answering s) conn zs)) other ≡ rooms_of (z ∷ zs) other
+    here true e = own (z.conn == other)
+    here false e = later (z.conn == other) e
+
+-- so deliveries meet the same, whether it is counted before or not
+pub same_met : (by : By) (conn : ℕ) (s : List Token) (now : ℕ) (all : List Addressed) (zs : List Session) → (delivered now all (counted_on by conn s zs)).1 ≡ (delivered now all zs).1
+same_met AllowsAll conn s now all zs = refl
+same_met (Index i) conn s now all zs = refl
+same_met Grant conn s now all zs =
+    sym (planned-delivered now all (with_session (answering s) conn zs))
+    ∙ ap (planned all) (λ i other. same_rooms s conn other zs i)
+    ∙ planned-delivered now all zs
+
+-- what is handed over of a message that is published
+same_handed : (by : By) (conn : ℕ) (m : Message) (now : ℕ) (all : List Addressed) (zs : List Session) →
+    ended_on by conn m.subject (delivered now all (counted_on by conn m.subject zs)).0 ≡ handed_over now (answered_by by conn m) all zs
+same_handed AllowsAll conn m now all zs = refl
+same_handed (Index i) conn m now all zs = refl
+same_handed Grant conn m now all zs = refl
+
 -- what is planned for the message is what the transition makes of it
-pub published_is : (w : World) (o : Option Session) (z : Session) (m : Message) (word : ℕ) (s : List Token) (by : By) (all : List Addressed) (items : List Item) →
-    Some z ≡ o → s ≡ m.subject → Allowed by ≡ publish_verdict z.user.rules s →
-    all ≡ map (addressed_to m) (served word (admitted w z (own_view z m))) → items ≡ (delivered all w.sessions).1 →
-    IsDecided w (in_session o (λ z. published w z m word (publish_verdict z.user.rules m.subject))) (Ok record { outcome = Published by items; change = Deliver all })
-published_is w o z m word s by all items is same allowed addressed met = (
-  ap (λ (x : Option Session). in_session x (λ z. published w z m word (publish_verdict z.user.rules m.subject))) (sym is)
-      ∙ ap (λ (v : Verdict). Ok (published w z m word v)) (sym (allowed ∙ ap (publish_verdict z.user.rules) same))
-      ∙ ap (λ (ds : List Addressed). Ok (Published by (delivered ds w.sessions).1, record w { sessions = (delivered ds w.sessions).0; subscriptions = unended (map (counted (delivered ds w.sessions).1) w.subscriptions) })) (sym addressed)
-      ∙ ap (λ (is : List Item). Ok (Published by is, record w { sessions = (delivered all w.sessions).0; subscriptions = unended (map (counted is) w.subscriptions) })) (sym met),
-  (met, addressed_again w z m word all addressed),
-)
+pub published_is : (w : World) (o : Option Session) (z : Session) (m : Message) (word : ℕ) (s : List Token) (by : By) (answered : Option Answered) (all : List Addressed) (items : List Item) →
+    Some z ≡ o → s ≡ m.subject → Allowed by ≡ verdict_on w.moment z s → answered ≡ answered_by by z.conn m →
+    all ≡ deliveries w z (own_view z m) word → items ≡ (delivered w.moment all w.sessions).1 →
+    IsDecided w (in_session o (λ z. published w z m word (verdict_on w.moment z m.subject))) (Ok record { outcome = Published by items; change = Deliver all answered })
+published_is w o z m word s by answered all items is same allowed told addressed met =
+    let zs : List Session = counted_on by z.conn m.subject w.sessions in (
+      ap (λ (x : Option Session). in_session x (λ z. published w z m word (verdict_on w.moment z m.subject))) (sym is)
+          ∙ ap (λ (v : Verdict). Ok (published w z m word v)) (sym (allowed ∙ ap (verdict_on w.moment z) same))
+          ∙ ap (λ (ds : List Addressed). Ok (Published by (delivered w.moment ds zs).1, record w { sessions = ended_on by z.conn m.subject (delivered w.moment ds zs).0; subscriptions = unended (map (counted (delivered w.moment ds zs).1) w.subscriptions) })) (sym addressed)
+          ∙ ap (λ (is : List Item). Ok (Published by is, record w { sessions = ended_on by z.conn m.subject (delivered w.moment all zs).0; subscriptions = unended (map (counted is) w.subscriptions) })) (same_met by z.conn m.subject w.moment all w.sessions ∙ sym met)
+          ∙ ap (λ (ys : List Session). Ok (Published by items, record w { sessions = ys; subscriptions = unended (map (counted items) w.subscriptions) }))
+          (same_handed by z.conn m w.moment all w.sessions ∙ ap (λ (a : Option Answered). handed_over w.moment a all w.sessions) (sym told)),
+      (met, addressed_again w z m word all addressed),
+    )

@@ -1,6 +1,8 @@
 -- What is to be done for a command, once all memory for it is had (docs/ARCHITECTURE.md, "Decide, then do").
-use Rattle.std.specs.Prelude.{◌≡◌, ◌==◌, ◌+◌, ◌∷◌, ◌++◌, ℕ, Bool, List, [], None, Result, Ok, Err, filter, map, not, false}
+use Rattle.std.specs.Prelude.{◌≡◌, ◌==◌, ◌+◌, ◌∷◌, ◌++◌, ℕ, Bool, List, [], Option, Some, None, Result, Ok, Err, filter, map, not, false}
 use Rattle.std.specs.List.{filter_map}
+use Rattle.permissions.specs.declared.verdict.By.{By}
+use Rattle.permissions.specs.declared.verdict.By.TheVariants.{All as AllowsAll, Index, Grant}
 use Rattle.events.specs.Messages.{Message}
 use Rattle.events.specs.declared.answer.Item.{Item}
 use Rattle.events.specs.declared.answer.Outcome.{Outcome}
@@ -8,6 +10,7 @@ use Rattle.events.specs.declared.answer.Outcome.TheVariants.{Published}
 use Rattle.events.specs.declared.refusal.HubRefusal.{HubRefusal}
 use Rattle.sessions.specs.Sessions.{session_of, with_session, drained}
 use Rattle.sessions.specs.Delivered.{delivered}
+use Rattle.sessions.specs.Replying.{with_note, answering, ending}
 use Rattle.sessions.specs.Renewal.{remaining, user_again_of}
 use Rattle.sessions.specs.declared.session.Session.{Session}
 use Rattle.events.specs.declared.answer.Addressed.{Addressed}
@@ -20,16 +23,28 @@ use Rattle.world.specs.Reload.{stands_on}
 use Rattle.world.specs.Transition.{IsRefusal}
 use Rattle.world.specs.declared.change.Change.{Change}
 use Rattle.world.specs.declared.change.Change.TheVariants.{Nothing, Open, Stand, Limit, Deliver, Drain, Leave, Install}
+use Rattle.world.specs.declared.change.Answered.{Answered}
 use Rattle.world.specs.declared.change.Decided.{Decided}
 
--- deliveries of one message for some of the standing subscriptions, oldest first
-abbrev pub AreAddressed : List Addressed → List Subscription → Type 0
-AreAddressed all subs = (m : Message) × (p : Subscription → Bool) × (all ≡ map (addressed_to m) (filter p subs))
+-- deliveries of one message for some of the standing subscriptions, oldest first, each with what its session is to note
+abbrev pub AreAddressed : List Session → List Addressed → List Subscription → Type 0
+AreAddressed zs all subs = (m : Message) × (p : Subscription → Bool) × (all ≡ map (with_note zs m.reply) (map (addressed_to m) (filter p subs)))
+
+-- a publish that is to be counted, if a grant has allowed it
+abbrev pub answered_by : By → ℕ → Message → Option Answered
+answered_by AllowsAll conn m = None
+answered_by (Index i) conn m = None
+answered_by Grant conn m = Some record { conn = conn; message = m }
 
 -- the items of an outcome
 abbrev pub items_in : Outcome → List Item
 items_in (Published by items) = items
 items_in _ = []
+
+-- deliveries are handed over; an answer is counted on its grant before, and may end it after
+abbrev pub handed_over : ℕ → Option Answered → List Addressed → List Session → List Session
+handed_over now None all zs = (delivered now all zs).0
+handed_over now (Some a) all zs = with_session (ending a.message.subject) a.conn (delivered now all (with_session (answering a.message.subject) a.conn zs)).0
 
 abbrev pub done : World → Change → Outcome → World
 done w Nothing o = w
@@ -37,15 +52,15 @@ done w (Open z) o = record w { sessions = w.sessions ++ z ∷ [] }
 done w (Stand conn account p queue sid) o =
     record w { subscriptions = w.subscriptions ++ subscription_of (w.number + 1) conn account p queue sid ∷ [] }
 done w (Limit conn sid most) o = record w { subscriptions = unended (map (limited conn sid most) w.subscriptions) }
-done w (Deliver all) o =
-    record w { sessions = (delivered all w.sessions).0; subscriptions = unended (map (counted (items_in o)) w.subscriptions) }
+done w (Deliver all answered) o =
+    record w { sessions = handed_over w.moment answered all w.sessions; subscriptions = unended (map (counted (items_in o)) w.subscriptions) }
 done w (Drain conn most) o = record w { sessions = with_session (drained most) conn w.sessions }
 done w (Leave conn) o =
     record w { sessions = filter (λ (z : Session). not (z.conn == conn)) w.sessions; subscriptions = filter (λ (s : Subscription). not (s.conn == conn)) w.subscriptions }
 done w (Install doc users) o = record w {
   policy = doc;
   epoch = w.epoch + 1;
-  sessions = remaining doc w.sessions;
+  sessions = remaining w.moment doc w.sessions;
   subscriptions = filter (stands_on doc w.sessions) w.subscriptions;
 }
 
@@ -56,7 +71,7 @@ IsFit w Nothing o = Unit {0}
 IsFit w (Open z) o = session_of w.sessions z.conn ≡ None
 IsFit w (Stand conn account p queue sid) o = stands w.subscriptions conn sid ≡ false
 IsFit w (Limit conn sid most) o = Unit {0}
-IsFit w (Deliver all) o = (items_in o ≡ (delivered all w.sessions).1) × AreAddressed all w.subscriptions
+IsFit w (Deliver all answered) o = (items_in o ≡ (delivered w.moment all w.sessions).1) × AreAddressed w.sessions all w.subscriptions
 IsFit w (Drain conn most) o = Unit {0}
 IsFit w (Leave conn) o = Unit {0}
 IsFit w (Install doc users) o = users.items ≡ filter_map (user_again_of doc) w.sessions

@@ -1,5 +1,6 @@
 pub mod World
 pub mod Routing
+pub mod Granting
 pub mod Reload
 pub mod Transition
 pub mod Changes

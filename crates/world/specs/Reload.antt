@@ -52,14 +52,15 @@ removal_after doc zs sub = removal sub (verdict_after doc zs sub)
 
 -- ---- the step
 
--- the policy comes into force, the next epoch begins, and outboxes stay as they are
+-- the policy comes into force, the next epoch begins, and outboxes stay as they are; grants stay that are live under the
+-- terms before and those after
 abbrev pub reloaded : World → PolicyDoc → Outcome × World
 reloaded w doc = (
   Reloaded (closed_conns doc w.sessions) (filter_map (removal_after doc w.sessions) w.subscriptions),
   record w {
     policy = doc;
     epoch = w.epoch + 1;
-    sessions = remaining doc w.sessions;
+    sessions = remaining w.moment doc w.sessions;
     subscriptions = filter (stands_on doc w.sessions) w.subscriptions;
   },
 )

@@ -7,6 +7,7 @@ use Rattle.events.specs.declared.answer.Addressed.{Addressed}
 use Rattle.events.specs.declared.answer.Item.{Item}
 use Rattle.sessions.specs.Sessions.{session_of}
 use Rattle.sessions.specs.Delivered.{delivered}
+use Rattle.sessions.specs.Replying.{with_note}
 use Rattle.sessions.specs.declared.session.Session.{Session}
 use Rattle.subscriptions.specs.Subscriptions.{has_subject}
 use Rattle.subscriptions.specs.Addressing.{addressed_to}
@@ -52,12 +53,15 @@ admitted w publisher v = filter (is_admitted w.sessions publisher v) w.subscript
 
 -- ---- deliveries
 
--- the deliveries of a view, oldest subscription first. Who is chosen is so before room is looked at.
+-- the deliveries of a view, oldest subscription first, each with what its session is to note. Who is chosen is so before
+-- room is looked at.
 abbrev pub deliveries : World → Session → View → ℕ → List Addressed
-deliveries w publisher v word = map (addressed_to v.message) (served word (admitted w publisher v))
+deliveries w publisher v word =
+    map (with_note w.sessions v.message.reply) (map (addressed_to v.message) (served word (admitted w publisher v)))
 
--- the view is delivered: what each of those that it is for met, and the world after it. Each subscription that the
--- message has entered for counts it, and ends where that was the last that it was to receive.
-abbrev pub routed : World → Session → View → ℕ → List Item × World
-routed w publisher v word = let after = delivered (deliveries w publisher v word) w.sessions in
+-- the view is delivered to sessions: what each of those that it is for met, and the world after it. Where the message enters, its
+-- session notes its reply, if the user may answer. Each subscription that the message has entered for counts it, and ends
+-- where that was the last that it was to receive.
+abbrev pub routed : World → List Session → Session → View → ℕ → List Item × World
+routed w zs publisher v word = let after = delivered w.moment (deliveries w publisher v word) zs in
     (after.1, record w { sessions = after.0; subscriptions = unended (map (counted after.1) w.subscriptions) })

@@ -21,6 +21,7 @@ use Rattle.subscriptions.specs.Subscriptions.{stands, has_all, subscription_of}
 use Rattle.subscriptions.specs.Limit.{unended, limited}
 use Rattle.subscriptions.specs.declared.subscription.Subscription.{Subscription}
 use Rattle.world.specs.World.{World, advanced}
+use Rattle.world.specs.Granting.{verdict_on, counted_on, ended_on}
 use Rattle.world.specs.Routing.{own_view, routed}
 use Rattle.world.specs.Reload.{reloaded, IsReasonedReload}
 
@@ -45,9 +46,11 @@ abbrev pub unsubscribed : World → ℕ → List ℕ → Option ℕ → Outcome 
 unsubscribed w conn sid most =
     (Unsubscribed, record w { subscriptions = unended (map (limited conn sid most) w.subscriptions) })
 
--- the verdict first, then the message to whom it is for, which count it
+-- the verdict first, then the message to whom it is for, which count it. What a grant has allowed is counted on it
 abbrev pub published : World → Session → Message → ℕ → Verdict → Outcome × World
-published w z m word (Allowed by) = let after = routed w z (own_view z m) word in (Published by after.0, after.1)
+published w z m word (Allowed by) =
+    let after = routed w (counted_on by z.conn m.subject w.sessions) z (own_view z m) word in
+    (Published by after.0, record after.1 { sessions = ended_on by z.conn m.subject after.1.sessions })
 published w z m word (DeniedBy i) = (Denied (DeniedBy i), w)
 published w z m word NoAllow = (Denied NoAllow, w)
 published w z m word (NoQueueAllow i) = (Denied (NoQueueAllow i), w)
@@ -79,7 +82,7 @@ moved w (Sub conn p queue sid) =
     in_session (session_of w.sessions conn) (λ z. subscribed w conn z.user.account p queue sid (subscribe_verdict z.user.rules p queue))
 moved w (Unsub conn sid most) = in_session (session_of w.sessions conn) (λ z. unsubscribed w conn sid most)
 moved w (Pub conn m word) =
-    in_session (session_of w.sessions conn) (λ z. published w z m word (publish_verdict z.user.rules m.subject))
+    in_session (session_of w.sessions conn) (λ z. published w z m word (verdict_on w.moment z m.subject))
 moved w (Take conn most) = in_session (session_of w.sessions conn) (taken w conn most)
 moved w (Close conn) = in_session (session_of w.sessions conn) (λ z. closed w conn)
 moved w (Reload doc) = Ok (reloaded w doc)

@@ -1,12 +1,13 @@
 //! What was decided is done.
 ghost use Rattle.std.specs.Prelude.{◌≡◌};
-ghost use Rattle.world.specs.Changes.{items_in};
+ghost use Rattle.world.specs.Changes.{handed_over, items_in};
 
-use crate::change::Change;
+use crate::change::{Answered, Change};
 use crate::reload::keep_allowed;
 use crate::world::World;
-use events::{Item, Outcome};
+use events::{Addressed, Item, Outcome};
 use lists::NoMemory;
+use sessions::Sessions;
 
 impl World {
     ghost use Rattle.std.specs.Prelude.{◌≡◌, ◌<◌, ◌≤◌, ◌+◌, OnOk, OnErr, All};
@@ -41,10 +42,16 @@ impl World {
                 self.subscriptions.limit(conn, &sid, most);
                 Ok(())
             }
-            Change::Deliver(all) => {
+            Change::Deliver { all, answered } => {
+                self.subscriptions.known();
                 self.subscriptions.count(all.as_slice(), items_in(told));
                 self.deliveries = all.into_vec();
-                self.sessions.hand_over_all(&mut self.deliveries);
+                hand_over(
+                    &mut self.sessions,
+                    &mut self.deliveries,
+                    self.moment,
+                    answered,
+                );
                 Ok(())
             }
             Change::Drain { conn, most } => {
@@ -58,11 +65,32 @@ impl World {
             }
             Change::Install { ready, users } => {
                 keep_allowed(&ready, &self.sessions, &mut self.subscriptions);
-                self.sessions.renew(&ready, users);
+                self.sessions.renew(&ready, users, self.moment);
                 self.ready = ready;
                 self.epoch += 1;
                 Ok(())
             }
+        }
+    }
+}
+
+/// Hands deliveries over in turn, of a message that may be an answer: that is counted before, and its grant goes after
+/// where as many answers have passed as may.
+fn hand_over(
+    sessions: &mut Sessions,
+    all: &mut Vec<Addressed>,
+    now: u64,
+    answered: Option<Answered>,
+)
+    ensures { sessions.new ≡ handed_over now answered all.old.items sessions.old }
+{
+    match answered {
+        None => sessions.hand_over_all(all, now),
+        Some(answered) => {
+            let subject = answered.message.get().subject();
+            sessions.answer(answered.conn, subject);
+            sessions.hand_over_all(all, now);
+            sessions.end(answered.conn, subject);
         }
     }
 }

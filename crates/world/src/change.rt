@@ -1,6 +1,6 @@
 //! What a command comes to is decided first, and then done.
 use bytes::Bytes;
-use events::{Addressed, Outcome, Sid};
+use events::{Addressed, Message, Outcome, Sid};
 use lists::{Items, Shared};
 use ready::{Ready, User};
 use sessions::Session;
@@ -29,8 +29,11 @@ pub(crate) enum Change {
         sid: Sid,
         most: Option<u64>,
     },
-    /// Deliveries are handed over, oldest subscription first.
-    Deliver(Items<Addressed>),
+    /// Deliveries are handed over, oldest subscription first, of a message that may be an answer.
+    Deliver {
+        all: Items<Addressed>,
+        answered: Option<Answered>,
+    },
     /// Deliveries leave an outbox.
     Drain {
         conn: u64,
@@ -45,6 +48,15 @@ pub(crate) enum Change {
         ready: Ready,
         users: VecDeque<User>,
     },
+}
+
+/// A publish that a grant has allowed.
+#[derive(Drop)]
+pub(crate) struct Answered {
+    /// The connection that publishes.
+    pub conn: u64,
+    /// What it publishes.
+    pub message: Shared<Message>,
 }
 
 /// What a command comes to: what is told of it, and what is to be done.

@@ -1,14 +1,14 @@
 //! What each command comes to, before anything changes.
 ghost use Rattle.std.specs.Prelude.{◌≡◌, IfOk, IfErr};
 
-use crate::change::{Change, Decided};
+use crate::change::{Answered, Change, Decided};
 use crate::reload::{Prepared, prepare};
-use crate::verdict::on_subscription;
+use crate::verdict::{on_publish, on_subscription};
 use crate::world::World;
 use bytes::Bytes;
 use events::{Command, HubRefusal, Message, Outcome, Sid};
 use lists::{Copying, Items, NoMemory, Shared, SharedText};
-use permissions::Verdict;
+use permissions::{By, Verdict};
 use ready::Ready;
 use sessions::Session;
 use std::alloc::Global;
@@ -49,7 +49,22 @@ fn stand(
     })
 }
 
+/// A publish that is to be counted: one that a grant has allowed.
+fn answered_by(by: By, conn: u64, message: &Shared<Message>) -> Result<Option<Answered>, NoMemory>
+    ensures { IfOk result (λ answered. answered ≡ answered_by by conn message.now) }
+{
+    match by {
+        By::All => Ok(None),
+        By::Index(_) => Ok(None),
+        By::Grant => Ok(Some(Answered {
+            conn,
+            message: message.again()?,
+        })),
+    }
+}
+
 ghost use Rattle.world.specs.declared.change.Change.TheVariants as change;
+ghost use Rattle.world.specs.Changes.{answered_by};
 
 impl World {
     ghost use Rattle.std.specs.Prelude.{◌≡◌, IfOk};
@@ -190,10 +205,14 @@ impl World {
         ensures same { self.new ≡ self.old }
     {
         let room = mem::replace(&mut self.deliveries, Vec::new(self.alloc));
-        let (by, all) = match self.sessions.find(conn) {
+        let (by, answered, all) = match self.sessions.find(conn) {
             None => return Err(HubRefusal::NoSession),
-            Some(session) => match session.user.rules.publish(message.get().subject()) {
-                Verdict::Allowed(by) => (by, self.address_all(session, message, word, room)?),
+            Some(session) => match on_publish(session, message.get().subject(), self.moment) {
+                Verdict::Allowed(by) => (
+                    by,
+                    answered_by(by, session.conn, message)?,
+                    self.address_all(session, message, word, room)?,
+                ),
                 Verdict::DeniedBy(index) => {
                     return Ok(unchanged(Outcome::Denied(Verdict::DeniedBy(index))));
                 }
@@ -208,7 +227,10 @@ impl World {
         let items = self.sessions.plan(all.as_slice())?;
         Ok(Decided {
             outcome: Outcome::Published(by, items),
-            change: Change::Deliver(Items::from_vec(all)),
+            change: Change::Deliver {
+                all: Items::from_vec(all),
+                answered,
+            },
         })
     }
 

@@ -13,7 +13,7 @@ use ready::{Ready, User};
 use sessions::{Session, Sessions};
 use std::alloc::Global;
 use std::collections::VecDeque;
-use subscriptions::{Keeps, Subscription, Subscriptions};
+use subscriptions::{Keeps, SharedSubscription, Subscriptions};
 
 /// A reload with all the memory that it takes. Nothing of it is in force yet.
 #[derive(Drop)]
@@ -64,16 +64,20 @@ fn user_for<'r>(ready: &'r Ready, session: Option<&Session>) -> Option<&'r User>
 }
 
 /// The verdict of the policy on a subscription, if its session stays.
-fn verdict_on(ready: &Ready, sessions: &Sessions, subscription: &Subscription) -> Option<Verdict>
+fn verdict_on(
+    ready: &Ready,
+    sessions: &Sessions,
+    subscription: &SharedSubscription,
+) -> Option<Verdict>
     ensures verdict { result ≡ verdict_after ready.now sessions.now subscription.now }
     ensures reason { IsReasonedVerdict ready.now sessions.now subscription.now }
 {
-    match user_for(ready, sessions.find(subscription.conn)) {
+    match user_for(ready, sessions.find(subscription.conn())) {
         None => None,
         Some(user) => Some(on_subscription(
             &user.rules,
-            subscription.subject.get(),
-            &subscription.queue,
+            subscription.subject().get(),
+            subscription.queue(),
         )),
     }
 }
@@ -83,7 +87,7 @@ fn add_removal(
     removed: &mut Vec<Removed>,
     ready: &Ready,
     sessions: &Sessions,
-    subscription: &Subscription,
+    subscription: &SharedSubscription,
 ) -> Result<(), NoMemory>
     ensures removed { OnOk result (removed.new.items ≡ removed.old.items
         ++ filter_map (removal_after ready.now sessions.now) (subscription.now ∷ [])) }
@@ -94,9 +98,9 @@ fn add_removal(
         Some(verdict) => {
             if !verdict.is_allowed() {
                 removed.push(Removed {
-                    id: subscription.id,
-                    conn: subscription.conn,
-                    sid: subscription.sid.again()?,
+                    id: subscription.id(),
+                    conn: subscription.conn(),
+                    sid: subscription.sid().again()?,
                     verdict,
                 })?;
             }
@@ -133,7 +137,7 @@ struct StandsOn<'a> {
 impl Keeps for StandsOn<'_> {
     ghost keeps = { λ test subscription. stands_on test.ready.now test.sessions.now subscription };
 
-    fn keeps(&self, subscription: &Subscription) -> bool {
+    fn keeps(&self, subscription: &SharedSubscription) -> bool {
         match verdict_on(self.ready, self.sessions, subscription) {
             None => false,
             Some(verdict) => verdict.is_allowed(),

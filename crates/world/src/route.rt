@@ -1,5 +1,5 @@
 //! A message to the subscriptions that it is for.
-ghost use Rattle.std.specs.Prelude.{◌≡◌, filter, map};
+ghost use Rattle.std.specs.Prelude.{◌≡◌, IfOk, filter, map};
 ghost use Rattle.std.specs.Option.{option_copied};
 ghost use Rattle.world.specs.Routing.{lets_through, is_open_to, is_open};
 
@@ -9,8 +9,9 @@ use events::{Addressed, Message};
 use lists::{NoMemory, Shared};
 use queue_groups::keep_chosen;
 use sessions::{Session, Sessions};
+use std::alloc::Global;
 use subjects::Subject;
-use subscriptions::{Subscription, address_each};
+use subscriptions::{SharedSubscription, address_each};
 
 /// Whether the permissions of a session let the subject through, to a subscription with this queue name or with none.
 fn lets_through(session: Option<&Session>, subject: &Subject, queue: &Option<Subject>) -> bool
@@ -38,7 +39,7 @@ fn is_open_to(
 
 /// Drops the subscriptions that may not be sent the message.
 fn keep_open(
-    all: &mut Vec<&Subscription>,
+    all: &mut Vec<&SharedSubscription>,
     sessions: &Sessions,
     publisher: &Session,
     subject: &Subject,
@@ -51,17 +52,19 @@ fn keep_open(
             sessions,
             publisher,
             subject,
-            subscription.conn,
-            &subscription.queue,
+            subscription.conn(),
+            subscription.queue(),
         )
     });
 }
 
 impl World {
-    ghost use Rattle.std.specs.Prelude.{◌≡◌, IfOk, map};
+    ghost use Rattle.std.specs.Prelude.{◌≡◌, List, IfOk, OnOk, map};
+    ghost use Rattle.events.specs.Messages as messages;
+    ghost use Rattle.sessions.specs.Replying.{with_note};
     ghost use Rattle.subscriptions.specs.Addressing.{addressed_to};
-    ghost use Rattle.queue_groups.specs.Served.{served};
-    ghost use Rattle.world.specs.Routing.{own_view, admitted};
+    ghost use Rattle.subscriptions.specs.declared.subscription.Subscription as subscriptions;
+    ghost use Rattle.world.specs.Routing.{own_view, deliveries};
 
     /// The deliveries of a message to those of the publisher's account that it is for, oldest subscription first, in a
     /// vector whose room is used again: to the plain subscriptions that may be sent it, and to the member of each queue
@@ -73,8 +76,7 @@ impl World {
         word: u64,
         room: Vec<Addressed>,
     ) -> Result<Vec<Addressed>, NoMemory>
-        ensures { IfOk result (λ all. all.items ≡ map (addressed_to message.now)
-            (served word (admitted self.now publisher.now (own_view publisher.now message.now)))) }
+        ensures { IfOk result (λ all. all.items ≡ deliveries self.now publisher.now (own_view publisher.now message.now) word) }
     {
         self.subscriptions.known();
         let subject = message.get().subject();
@@ -85,6 +87,35 @@ impl World {
         let mut all = room;
         all.clear();
         address_each(self.alloc, message, found.as_slice(), &mut all)?;
+        self.note_reply(message.get(), &mut all)?;
         Ok(all)
+    }
+
+    /// Puts down beside each delivery what its session is to note, where the message has a reply. The reply is copied
+    /// out of what was read, since it may stand long.
+    fn note_reply(&self, message: &Message, all: &mut Vec<Addressed>) -> Result<(), NoMemory>
+        ensures { OnOk result ((m : messages.Message) (subs : List subscriptions.Subscription) → all.old.items ≡ map (addressed_to m) subs
+            → all.new.items ≡ map (with_note self.now.sessions message.now.reply) all.old.items) }
+    {
+        match message.reply() {
+            None => Ok(()),
+            Some(reply) => {
+                let reply = own_subject(self.alloc, reply)?;
+                self.sessions
+                    .note_replies(self.keys, all.as_mut_slice(), &reply)?;
+                Ok(())
+            }
+        }
+    }
+}
+
+/// The same subject, in memory of its own.
+fn own_subject(alloc: Global, subject: &Subject) -> Result<Subject, NoMemory>
+    ensures { IfOk result (λ own. own ≡ subject.now) }
+{
+    let _known = subject.tokens();
+    match Subject::parse(alloc, subject.bytes()) {
+        Ok(own) => Ok(own),
+        Err(_) => Err(NoMemory),
     }
 }

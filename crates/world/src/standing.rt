@@ -5,7 +5,7 @@ use events::Sid;
 use lists::{Copying, Items, NoMemory, Shared};
 use std::alloc::Global;
 use subjects::{Pattern, Subject};
-use subscriptions::{Subscription, Subscriptions};
+use subscriptions::{SharedSubscription, Subscriptions};
 
 /// A standing subscription, as it is shown.
 #[derive(Drop)]
@@ -40,16 +40,16 @@ pub(crate) fn standing_all(
     Ok(Items::from_vec(all))
 }
 
-fn show_standing(alloc: Global, subscription: &Subscription) -> Result<Standing, NoMemory>
+fn show_standing(alloc: Global, subscription: &SharedSubscription) -> Result<Standing, NoMemory>
     ensures { IfOk result (λ shown. shown ≡ standing_of subscription.now) }
 {
     Ok(Standing {
-        id: subscription.id,
-        conn: subscription.conn,
-        subject: subscription.subject.again()?,
-        queue: subscription.queue.copy(alloc)?,
-        sid: subscription.sid.again()?,
-        received: subscription.received,
-        most: subscription.most,
+        id: subscription.id(),
+        conn: subscription.conn(),
+        subject: subscription.subject().again()?,
+        queue: subscription.queue().copy(alloc)?,
+        sid: subscription.sid().again()?,
+        received: subscription.received(),
+        most: subscription.most(),
     })
 }

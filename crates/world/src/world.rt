@@ -231,7 +231,7 @@ fn epoch_after(epoch: u128, change: &Change) -> u128
         Change::Open(_) => epoch,
         Change::Stand { .. } => epoch,
         Change::Limit { .. } => epoch,
-        Change::Deliver(_) => epoch,
+        Change::Deliver { .. } => epoch,
         Change::Drain { .. } => epoch,
         Change::Leave { .. } => epoch,
         Change::Install { .. } => epoch + 1,

@@ -1,6 +1,5 @@
 -- the one with the subject is counted on, or none has it
 use Rattle.std.proofs.Common.{◌≡◌, ◌∙◌, ap, sym, refl, is_some}
-use Rattle.reply_grants.specs.Grants.{after_answer}
 use Rattle.reply_grants.specs.Window.{window}
 use Rattle.reply_grants.proofs.Entries.{answered_first, none_from_lookup, none_dropped, none_answered}
 use Rattle.reply_grants.proofs.marks.count_answer.Goals as goal

@@ -1,5 +1,5 @@
 -- the one at the place stays, or is moved in front of those that stay
-use Rattle.std.proofs.Common.{◌≡◌, ◌∙◌, ◌+◌, sym, ap, arith}
+use Rattle.std.proofs.Common.{◌∙◌, ◌+◌, sym, ap}
 use Rattle.reply_grants.specs.Grants.{is_live}
 use Rattle.reply_grants.specs.Window.{so_far}
 use Rattle.reply_grants.proofs.Places.{with_key}

@@ -1,5 +1,5 @@
 -- the subject's entry goes last, or a new one comes behind all
-use Rattle.std.proofs.Common.{◌≡◌, ◌∙◌, ◌-◌, ap}
+use Rattle.std.proofs.Common.{◌∙◌, ◌-◌, ap}
 use Rattle.std.specs.Map.{lookup}
 use Rattle.subjects.specs.Equal.{same_subject}
 use Rattle.reply_grants.specs.Window.{window}

@@ -5,4 +5,4 @@ use Rattle.sessions.proofs.renewal.give_users.Given as goal
 
 abbrev pub invariant-loop-session : goal.invariant-loop-session
 invariant-loop-session l =
-    take l.session-index l.list ++ with_users (drop l.session-index l.list) l.users.items ≡ with_users l.initial.list l.initial.users.items
+    take l.session-index l.list ++ with_users l.now (drop l.session-index l.list) l.users.items ≡ with_users l.now l.initial.list l.initial.users.items

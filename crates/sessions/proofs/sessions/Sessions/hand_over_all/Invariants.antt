@@ -5,4 +5,4 @@ use Rattle.sessions.specs.Delivered.{delivered}
 use Rattle.sessions.proofs.sessions.Sessions.hand_over_all.Given as goal
 
 abbrev pub invariant-loop-next : goal.invariant-loop-next
-invariant-loop-next l = (delivered (drain_items l.next-iterator) l.self).0 ≡ (delivered l.fn.all.items l.initial.self).0
+invariant-loop-next l = (delivered l.now (drain_items l.next-iterator) l.self).0 ≡ (delivered l.now l.fn.all.items l.initial.self).0

@@ -1,12 +1,12 @@
 -- what is planned is what the transition makes of the message
 use Rattle.std.proofs.Common.{◌∙◌, List, Ok, ap, sym, subst}
-use Rattle.permissions.specs.Verdicts.{publish_verdict}
 use Rattle.events.specs.Messages.{Message}
 use Rattle.events.specs.declared.answer.Addressed.{Addressed}
 use Rattle.events.specs.declared.answer.Outcome.TheVariants.{Published}
 use Rattle.sessions.specs.Sessions.{session_of}
 use Rattle.sessions.specs.Delivered.{delivered}
 use Rattle.world.specs.World.{World}
+use Rattle.world.specs.Granting.{verdict_on}
 use Rattle.world.specs.Transition.{in_session, published}
 use Rattle.world.specs.Changes.{IsDecided}
 use Rattle.world.specs.declared.change.Change.TheVariants.{Deliver}
@@ -17,11 +17,12 @@ pub returns-clause-decided : goal.returns-clause-decided
 returns-clause-decided c =
     let h = c.self.inside in
     let before : World = record { capacity = h.capacity; policy = h.ready; epoch = h.epoch; moment = h.moment; sessions = h.sessions; subscriptions = h.subscriptions; number = h.number } in
-    let P : World → Type 0 = λ w. IsDecided w (in_session (session_of w.sessions c.args.conn) (λ z. published w z c.args.message.now c.args.word (publish_verdict z.user.rules c.args.message.now.subject)))
-    (Ok record { outcome = Published c.in-Allowed.by c.in_ok-items.items; change = Deliver c.from_vec.result }) in
-    subst P c.self.view_is (published_is before _ _ _ c.args.word c.subject.result.now c.in-Allowed.by c.from_vec.result c.in_ok-items.items
+    let P : World → Type 0 = λ w. IsDecided w (in_session (session_of w.sessions c.args.conn) (λ z. published w z c.args.message.now c.args.word (verdict_on w.moment z c.args.message.now.subject)))
+    (Ok record { outcome = Published c.in-Allowed.by c.in_ok-items.items; change = Deliver c.from_vec.result c.in_ok-answered_by-in-Allowed.field-0 }) in
+    subst P c.self.view_is (published_is before _ _ _ c.args.word c.subject.result.now c.in-Allowed.by c.in_ok-answered_by-in-Allowed.field-0 c.from_vec.result c.in_ok-items.items
     c.in-Some.ensures
     (c.subject.ensures ∙ ap (λ (m : Message). m.subject) c.get.ensures)
     c.in-Allowed.ensures.verdict
+    c.in_ok-answered_by-in-Allowed.ensures
     (c.from_vec.ensures ∙ c.in_ok-address_all-in-Allowed.ensures)
-    (c.in_ok-items.ensures.items ∙ ap (λ (all : List Addressed). (delivered all h.sessions).1) (c.as_slice.ensures.value ∙ sym c.from_vec.ensures)))
+    (c.in_ok-items.ensures.items h.moment ∙ ap (λ (all : List Addressed). (delivered h.moment all h.sessions).1) (c.as_slice.ensures.value ∙ sym c.from_vec.ensures)))

@@ -1,0 +1,73 @@
+-- What the guarantee says of answers: who may answer on a reply subject, and what becomes of the grants
+-- (docs/GUARANTEE.md, "Reply grants").
+use Rattle.std.specs.Prelude.{◌==◌, ◌-◌, ◌&&◌, ℕ, Bool, true, false, List, [], Option, Some, None, if◌then◌else◌, nat_lt, nat_le}
+use Rattle.std.specs.List.{list_any}
+use Rattle.subjects.specs.Subject.{Token}
+use Rattle.subjects.specs.Equal.{same_subject}
+use Rattle.policy_doc.specs.declared.document.Terms.{Terms}
+use Rattle.permissions.specs.declared.verdict.By.{By}
+use Rattle.permissions.specs.declared.verdict.By.TheVariants.{All as AllowsAll, Index, Grant as ByGrant}
+use Rattle.reply_grants.specs.Grants.{Grant}
+use Rattle.reply_grants.specs.Replies.{Table, grants_of, noted, answered_in, ended_in}
+use Rattle.ready.specs.declared.ready.User.{User}
+use Rattle.events.specs.Messages.{Message}
+use Rattle.sessions.specs.Sessions.{session_of}
+use Rattle.sessions.specs.Replying.{note_of}
+use Rattle.sessions.specs.declared.session.Session.{Session}
+use Rattle.world.specs.World.{World}
+use Rattle.hub.specs.Kept.{is_open}
+use Rattle.hub.specs.Sound.{user_at}
+
+-- ---- who may answer
+
+-- on what terms a user may answer, if there is one
+abbrev pub terms_in : Option User → Option Terms
+terms_in None = None
+terms_in (Some u) = u.rules.allow_responses
+
+-- the grants of a connection's session
+abbrev pub grants_at : Option Session → List Grant
+grants_at None = []
+grants_at (Some z) = grants_of z.replies
+
+-- it isn't older than the terms say
+abbrev pub is_young : Option ℕ → ℕ → Bool
+is_young None age = true
+is_young (Some expires) age = nat_le age expires
+
+-- a grant that is live on these terms, for a subject
+abbrev pub answers : ℕ → List Token → Terms → Grant → Bool
+answers now s terms g = same_subject s g.subject && (is_open terms.max g.count && is_young terms.expires (now - g.noted))
+
+abbrev pub has_grant : ℕ → List Token → Option Terms → List Grant → Bool
+has_grant now s None gs = false
+has_grant now s (Some terms) gs = list_any (answers now s terms) gs
+
+-- whether the user of a connection has a live grant for a subject, on the terms that it has in the policy in force
+abbrev pub may_answer : World → ℕ → ℕ → List Token → Bool
+may_answer w now conn s = has_grant now s (terms_in (user_at w conn)) (grants_at (session_of w.sessions conn))
+
+-- ---- what becomes of the grants at a publish
+
+abbrev pub is_by_grant : By → Bool
+is_by_grant AllowsAll = false
+is_by_grant (Index i) = false
+is_by_grant ByGrant = true
+
+-- an answer of this session that a grant has allowed
+abbrev pub is_answer : By → ℕ → Session → Bool
+is_answer by conn z = is_by_grant by && (z.conn == conn)
+
+-- where so many deliveries of a message enter, at least one, its reply is noted, if it has one and the user has terms
+abbrev pub noted_at : ℕ → ℕ → Option (List Token) → Option Terms → Table → Table
+noted_at now entered None terms table = table
+noted_at now entered (Some s) None table = table
+noted_at now entered (Some s) (Some terms) table = if nat_lt 0 entered then noted (note_of s table) now table else table
+
+-- An answer is counted on its grant; then the reply is noted, once, however many of the session's deliveries enter; then
+-- the grant of the answer goes, where as many have passed as may.
+abbrev pub replies_after : ℕ → By → ℕ → Message → ℕ → Session → Table
+replies_after now by conn m entered z =
+    if is_answer by conn z
+    then ended_in m.subject z.user.rules.allow_responses (noted_at now entered m.reply z.user.rules.allow_responses (answered_in m.subject z.replies))
+    else noted_at now entered m.reply z.user.rules.allow_responses z.replies

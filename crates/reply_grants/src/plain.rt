@@ -1,0 +1,66 @@
+//! Grants as they were at a moment, copied in a plain list.
+ghost use Rattle.std.specs.Prelude.{◌≡◌, ◌+◌, ◌++◌, IfOk, OnOk};
+ghost use Rattle.reply_grants.specs.Window.{window};
+
+use crate::marks::Marks;
+use lists::{Copying, Items, NoMemory};
+use std::alloc::Global;
+use std::marker::Model;
+use subjects::Subject;
+
+/// A grant as it was at a moment. A clause sees the grant.
+#[derive(Drop)]
+pub struct PlainGrant {
+    /// The subject to answer on.
+    pub subject: Subject,
+    /// The moment when it was noted.
+    pub noted: u64,
+    /// How many answers have passed on it since.
+    pub count: u64,
+}
+
+impl Model for PlainGrant {
+    ghost use Rattle.reply_grants.specs.Grants as grants;
+
+    ghost Value = { grants.Grant };
+
+    ghost view = { λ g. record { subject = g.subject; noted = g.noted; count = g.count } };
+}
+
+/// Adds the grant at a place, if there is one.
+fn add_plain(
+    alloc: Global,
+    marks: &Marks,
+    place: usize,
+    all: &mut Vec<PlainGrant>,
+) -> Result<(), NoMemory>
+    ensures { OnOk result (all.new.items ++ window (place + 1) marks.now.entries ≡ all.old.items ++ window place marks.now.entries) }
+{
+    match marks.get_index(place) {
+        None => Ok(()),
+        Some((subject, mark)) => {
+            let subject = subject.copy(alloc)?;
+            all.push(PlainGrant {
+                subject,
+                noted: mark.noted,
+                count: mark.count,
+            })?;
+            Ok(())
+        }
+    }
+}
+
+/// The grants behind the first so many, oldest first. `NoMemory` where memory could not be had.
+pub(crate) fn plain_grants(
+    alloc: Global,
+    marks: &Marks,
+    gone: usize,
+) -> Result<Items<PlainGrant>, NoMemory>
+    ensures { IfOk result (λ all. all ≡ window gone marks.now.entries) }
+{
+    let mut all = Vec::new(alloc);
+    for place in gone..marks.len() {
+        add_plain(alloc, marks, place, &mut all)?;
+    }
+    Ok(Items::from_vec(all))
+}
