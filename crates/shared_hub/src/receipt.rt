@@ -2,10 +2,10 @@ ghost use Rattle.std.specs.Prelude.{◌≡◌};
 ghost use Rattle.std.specs.List.{list_any};
 ghost use Rattle.permissions.specs.Verdicts.{subscribe_verdict};
 ghost use Rattle.ready.specs.Users.{users_of};
-ghost use Rattle.shared_hub.specs.Receipts.{has_verdict, may_have, same_verdict, is_of_policy as of_policy};
+ghost use Rattle.shared_hub.specs.Receipts.{has_verdict, may_answer, may_have, same_verdict, some_allows, is_of_policy as of_policy};
 
 use hub::{Answer, Command, Entry, Outcome, Ready, User};
-use permissions::Verdict;
+use permissions::{By, Verdict};
 use std::marker::Model;
 use subjects::{Pattern, Subject};
 
@@ -80,7 +80,7 @@ fn is_of_policy(entry: &Entry, ready: &Ready) -> bool
     match &entry.outcome {
         Outcome::Subscribed => some_may_have(ready, command),
         Outcome::Denied(verdict) => some_has_verdict(ready, command, *verdict),
-        Outcome::Published(by, _) => some_has_verdict(ready, command, Verdict::Allowed(*by)),
+        Outcome::Published(by, _) => some_allows(ready, command, *by),
         Outcome::Connected => true,
         Outcome::AuthViolation => true,
         Outcome::SameSid => true,
@@ -107,6 +107,24 @@ fn some_has_verdict(ready: &Ready, command: &Command, verdict: Verdict) -> bool
         .users()
         .iter()
         .any(|user| has_verdict(command, verdict, user))
+}
+
+/// Whether the Pub of some user was allowed by this: by its lists, or as an answer.
+fn some_allows(ready: &Ready, command: &Command, by: By) -> bool
+    ensures { result ≡ some_allows ready.now command.now by }
+{
+    match by {
+        By::All => some_has_verdict(ready, command, Verdict::Allowed(By::All)),
+        By::Index(index) => some_has_verdict(ready, command, Verdict::Allowed(By::Index(index))),
+        By::Grant => some_may_answer(ready, command),
+    }
+}
+
+/// Whether some user may publish what a command asks for as an answer alone.
+fn some_may_answer(ready: &Ready, command: &Command) -> bool
+    ensures { result ≡ list_any (may_answer command.now) (users_of ready.now) }
+{
+    ready.users().iter().any(|user| may_answer(command, user))
 }
 
 /// The user's verdict on a subscription to a pattern, as a member of that queue group or of none.
@@ -149,6 +167,24 @@ fn has_verdict(command: &Command, verdict: Verdict, user: &User) -> bool
             verdict,
         ),
         Command::Connect { .. } => false,
+        Command::Unsub { .. } => false,
+        Command::Take { .. } => false,
+        Command::Close { .. } => false,
+        Command::Reload(_) => false,
+    }
+}
+
+/// Whether the user may publish what a command asks for as an answer alone: it has terms, and its lists refuse.
+fn may_answer(command: &Command, user: &User) -> bool
+    ensures { result ≡ may_answer command.now user.now }
+{
+    match command {
+        Command::Pub { message, .. } => {
+            user.rules.terms().is_some()
+                && !user.rules.publish(message.get().subject()).is_allowed()
+        }
+        Command::Connect { .. } => false,
+        Command::Sub { .. } => false,
         Command::Unsub { .. } => false,
         Command::Take { .. } => false,
         Command::Close { .. } => false,

@@ -1,0 +1,11 @@
+//! Tests of `shared_hub` with threads, which see it as every caller does: by its public contract alone.
+#![tactic(auto)]
+
+#[cfg(test)]
+mod audits;
+#[cfg(test)]
+mod policies;
+#[cfg(test)]
+mod tests;
+#[cfg(test)]
+mod worker;
