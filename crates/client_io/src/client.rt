@@ -5,14 +5,17 @@ use devices::DeviceFailed;
 use events::Port;
 use std::alloc::Global;
 use std::marker::Model;
+use std::mem;
 
 /// A connection with what its client hasn't been sent yet. A clause sees both.
 #[derive(Drop)]
 pub struct Client {
     conn: Conn,
-    /// What the latest call of the connection gave, and how much of it is written.
+    /// What is written next, and how much of it is written.
     bytes: Vec<u8>,
     written: usize,
+    /// What the latest piece gave, which is written behind the deliveries that came before it.
+    answers: Vec<u8>,
     /// Whether frames wait that a call could not come to the end of.
     stalled: bool,
     alloc: Global,
@@ -25,14 +28,16 @@ impl Model for Client {
 
     ghost Value = { Turns.Client };
 
-    ghost view = { λ c. client c.conn (drop c.written c.bytes.items) };
+    ghost view = { λ c. client c.conn (drop c.written c.bytes.items) c.answers.items };
 }
 
-ghost use Rattle.std.specs.Prelude.{◌≡◌, ◌≢◌, ◌||◌, ◌<◌, ◌≤◌, Ok, [], true, false, is_err, length, take};
+ghost use Rattle.std.specs.Prelude.{◌≡◌, ◌≢◌, ◌||◌, ◌<◌, ◌≤◌, Ok, [], Bool, Option, true, false, is_err, length, take};
 ghost use Rattle.std.specs.Bool.{Decides};
 ghost use Rattle.std.specs.Io.KnownBytes.{Consumes, IsAtEnd};
 ghost use Rattle.conn.specs.Calls.{new_connection};
-ghost use Rattle.client_io.specs.Turns.{client, state, Writes, IsTurn, IsReadTurn, IsServing, IsGiven, IsNoRead, IsStallTold, IsDraining, IsOpening, IsOver, IsPiece, piece_length};
+ghost use Rattle.protocol.specs.Replies.{is_closed};
+ghost use Rattle.client_io.specs.declared.turn.Turn.TheVariants.{Done};
+ghost use Rattle.client_io.specs.Turns.{answers_left, client, is_early, state, waiting, Client, Writes, IsTurn, IsReadTurn, IsServing, IsGiven, IsNoRead, IsStallTold, IsDraining, IsOpening, IsOver, IsPiece, piece_length};
 
 /// What a read has brought.
 enum Piece {
@@ -64,15 +69,30 @@ fn next_piece<R: Reader>(reader: &mut R, buf: &mut [u8], frames_wait: bool) -> P
     }
 }
 
+/// How a turn ends whose call was stopped by this, while the connection stands.
+fn turn_of(stall: Option<Stall>) -> Turn
+    ensures told { IsStallTold stall result }
+    ensures neither { IsNoRead result }
+    ensures turn { (c : Client) (failed waits : Bool) → c.kept ≡ [] → is_closed c.conn.stage ≡ false → IsTurn c failed failed waits result }
+{
+    match stall {
+        None => Turn::Done,
+        Some(Stall::PieceNotTaken) => Turn::Lost,
+        Some(Stall::Memory) => Turn::Stalled(Stall::Memory),
+        Some(Stall::HistoryFull) => Turn::Stalled(Stall::HistoryFull),
+    }
+}
+
 impl Client {
     /// A connection with this number, whose client has sent nothing and been sent nothing. It takes no memory.
     pub fn new(alloc: Global, conn: u64) -> Client
-        ensures { result ≡ client (new_connection conn) [] }
+        ensures { result ≡ client (new_connection conn) [] [] }
     {
         Client {
             conn: Conn::new(alloc, conn),
             bytes: Vec::new(alloc),
             written: 0,
+            answers: Vec::new(alloc),
             stalled: false,
             alloc,
         }
@@ -92,10 +112,18 @@ impl Client {
         self.written < self.bytes.len()
     }
 
-    /// Writes what waits, as far as the writer takes it, and answers whether that was all of it.
+    /// Whether answers wait until `answer` is called.
+    pub fn has_answers(&self) -> bool
+        ensures { Decides result (self.now.answers ≢ []) }
+    {
+        !self.answers.is_empty()
+    }
+
+    /// Writes what is kept, as far as the writer takes it, and answers whether that was all of it.
     #[tactic(auto, using(crate::proofs::Writing::left_over))]
     fn write_kept<S: Writer>(&mut self, writer: &mut S) -> Result<bool, DeviceFailed>
         ensures conn { self.new.conn ≡ self.old.conn }
+        ensures answers { self.new.answers ≡ self.old.answers }
         ensures written { Writes (S.contents writer.old) (S.contents writer.new) self.old.kept self.new.kept }
         ensures all { result ≡ Ok true → self.new.kept ≡ [] }
         ensures left { result ≡ Ok false → self.new.kept ≢ [] }
@@ -114,26 +142,81 @@ impl Client {
         Ok(true)
     }
 
-    /// Writes what waits, as far as the writer takes it.
-    pub fn flush<S: Writer>(&mut self, writer: &mut S) -> Turn
+    /// Writes what is kept and then the answers, as far as the writer takes them, and answers whether that was all.
+    fn write_all<S: Writer>(&mut self, writer: &mut S) -> Result<bool, DeviceFailed>
         ensures conn { self.new.conn ≡ self.old.conn }
-        ensures written { Writes (S.contents writer.old) (S.contents writer.new) self.old.kept self.new.kept }
-        ensures turn { IsTurn self.new (S.failed writer.old) (S.failed writer.new) (S.waits writer.new) result }
+        ensures written { Writes (S.contents writer.old) (S.contents writer.new) (waiting self.old) (waiting self.new) }
+        ensures all { result ≡ Ok true → (self.new.kept ≡ []) × (self.new.answers ≡ []) }
+        ensures left { result ≡ Ok false → self.new.kept ≢ [] }
+        ensures waits { result ≡ Ok false → S.waits writer.new ≡ true }
+        ensures failed { S.failed writer.new ≡ (S.failed writer.old || is_err result) }
     {
         match self.write_kept(writer) {
-            Err(_) => return Turn::Failed,
-            Ok(false) => return Turn::Waits,
+            Err(failed) => return Err(failed),
+            Ok(false) => return Ok(false),
             Ok(true) => {}
         }
-        if self.conn.stage().is_closed() {
-            return Turn::Closed;
-        }
-        Turn::Done
+        self.bytes = mem::replace(&mut self.answers, Vec::new(self.alloc));
+        self.written = 0;
+        self.write_kept(writer)
     }
 
-    /// Keeps what a call gave, in place of what is all written, and writes it as far as the writer takes it.
+    /// Writes all that waits once the connection has closed, its closing text too.
+    fn close<S: Writer>(&mut self, writer: &mut S) -> Turn
+        requires { is_closed self.old.conn.stage ≡ true }
+        ensures conn { self.new.conn ≡ self.old.conn }
+        ensures written { Writes (S.contents writer.old) (S.contents writer.new) (waiting self.old) (waiting self.new) }
+        ensures turn { IsTurn self.new (S.failed writer.old) (S.failed writer.new) (S.waits writer.new) result }
+        ensures early { is_early result ≡ true }
+        ensures told { (stall : Option Stall) → IsStallTold stall result }
+        ensures neither { IsNoRead result }
+    {
+        match self.write_all(writer) {
+            Err(_) => Turn::Failed,
+            Ok(false) => Turn::Waits,
+            Ok(true) => Turn::Closed,
+        }
+    }
+
+    /// Writes what is kept, as far as the writer takes it. Answers wait, unless the connection has closed.
+    pub fn flush<S: Writer>(&mut self, writer: &mut S) -> Turn
+        ensures conn { self.new.conn ≡ self.old.conn }
+        ensures answers { is_closed self.old.conn.stage ≡ false → self.new.answers ≡ self.old.answers }
+        ensures written { Writes (S.contents writer.old) (S.contents writer.new) (waiting self.old) (waiting self.new) }
+        ensures turn { IsTurn self.new (S.failed writer.old) (S.failed writer.new) (S.waits writer.new) result }
+    {
+        if self.conn.stage().is_closed() {
+            return self.close(writer);
+        }
+        match self.write_kept(writer) {
+            Err(_) => Turn::Failed,
+            Ok(false) => Turn::Waits,
+            Ok(true) => Turn::Done,
+        }
+    }
+
+    /// Writes what is kept and then the answers, as far as the writer takes them.
+    pub fn answer<S: Writer>(&mut self, writer: &mut S) -> Turn
+        ensures conn { self.new.conn ≡ self.old.conn }
+        ensures written { Writes (S.contents writer.old) (S.contents writer.new) (waiting self.old) (waiting self.new) }
+        ensures all { result ≡ Turn.Done → self.new.answers ≡ [] }
+        ensures turn { IsTurn self.new (S.failed writer.old) (S.failed writer.new) (S.waits writer.new) result }
+    {
+        if self.conn.stage().is_closed() {
+            return self.close(writer);
+        }
+        match self.write_all(writer) {
+            Err(_) => Turn::Failed,
+            Ok(false) => Turn::Waits,
+            Ok(true) => Turn::Done,
+        }
+    }
+
+    /// Keeps what a call gave, in place of what is all written, and writes it as far as the writer takes it. Behind a
+    /// closing text nothing is written.
     fn tell<S: Writer>(&mut self, output: Output, writer: &mut S) -> Turn
         ensures conn { self.new.conn ≡ self.old.conn }
+        ensures answers { self.new.answers ≡ answers_left (is_closed self.old.conn.stage) self.old.answers }
         ensures written { Writes (S.contents writer.old) (S.contents writer.new) output.bytes.items self.new.kept }
         ensures turn { IsTurn self.new (S.failed writer.old) (S.failed writer.new) (S.waits writer.new) result }
         ensures told { IsStallTold output.stall result }
@@ -142,6 +225,9 @@ impl Client {
         let Output { bytes, stall, .. } = output;
         self.bytes = bytes;
         self.written = 0;
+        if self.conn.stage().is_closed() {
+            self.answers = Vec::new(self.alloc);
+        }
         match self.write_kept(writer) {
             Err(_) => return Turn::Failed,
             Ok(false) => return Turn::Waits,
@@ -150,12 +236,7 @@ impl Client {
         if self.conn.stage().is_closed() {
             return Turn::Closed;
         }
-        match stall {
-            None => Turn::Done,
-            Some(Stall::PieceNotTaken) => Turn::Lost,
-            Some(Stall::Memory) => Turn::Stalled(Stall::Memory),
-            Some(Stall::HistoryFull) => Turn::Stalled(Stall::HistoryFull),
-        }
+        turn_of(stall)
     }
 
     /// The opening: the client is sent INFO. Without memory nothing is sent, and it can be asked again.
@@ -163,21 +244,23 @@ impl Client {
         ensures opening { IsOpening self.old self.new (S.contents writer.old) (S.contents writer.new) result }
         ensures turn { IsTurn self.new (S.failed writer.old) (S.failed writer.new) (S.waits writer.new) result }
     {
-        match self.write_kept(writer) {
+        if self.conn.stage().is_closed() {
+            return self.close(writer);
+        }
+        match self.write_all(writer) {
             Err(_) => return Turn::Failed,
             Ok(false) => return Turn::Waits,
             Ok(true) => {}
-        }
-        if self.conn.stage().is_closed() {
-            return Turn::Closed;
         }
         let output = self.conn.opened(self.alloc);
         self.tell(output, writer)
     }
 
-    /// One read and what comes of it. What was kept is written first, and nothing is read before all of it is written.
-    /// Then one piece is read, no longer than the buffer, and its frames have their turns; or those that an earlier
-    /// piece has left, where they stopped.
+    /// One read and what comes of it. What waits is written first, answers too, and nothing is read before all of it is
+    /// written. Then one piece is read, no longer than the buffer, and its frames have their turns; or those that an
+    /// earlier piece has left, where they stopped. What that gives are the answers. They wait until `answer` is called,
+    /// so that deliveries that came before them can be written first; where the connection has closed they are written
+    /// at once.
     #[tactic(auto, using(crate::proofs::Writing::consumes_nothing))]
     pub fn serve<P: Port, W: Words, R: Reader, S: Writer>(
         &mut self,
@@ -195,13 +278,13 @@ impl Client {
         ensures ended { result ≡ Turn.Ended → IsAtEnd (R.remaining reader.new) }
         ensures idle { result ≡ Turn.Idle → R.waits reader.new ≡ true }
     {
-        match self.write_kept(writer) {
+        if self.conn.stage().is_closed() {
+            return self.close(writer);
+        }
+        match self.write_all(writer) {
             Err(_) => return Turn::Failed,
             Ok(false) => return Turn::Waits,
             Ok(true) => {}
-        }
-        if self.conn.stage().is_closed() {
-            return Turn::Closed;
         }
         let count = match next_piece(reader, buf, self.stalled) {
             Piece::Failed => return Turn::Failed,
@@ -212,7 +295,7 @@ impl Client {
         self.feed(port, words, writer, &buf[..count], now)
     }
 
-    /// Gives the connection a piece, and writes what it gives as far as the writer takes it.
+    /// Gives the connection a piece. What it gives are the answers, which are written where it has closed.
     fn feed<P: Port, W: Words, S: Writer>(
         &mut self,
         port: &mut P,
@@ -221,6 +304,7 @@ impl Client {
         piece: &[u8],
         now: u64,
     ) -> Turn
+        requires { self.old.kept ≡ [] }
         ensures place { P.place port.new ≡ P.place port.old }
         ensures given { IsGiven P.steps W.draws now piece.now (state self.old port.old (S.contents writer.old)) words.old (state self.new port.new (S.contents writer.new)) words.new result }
         ensures turn { IsTurn self.new (S.failed writer.old) (S.failed writer.new) (S.waits writer.new) result }
@@ -228,11 +312,17 @@ impl Client {
     {
         let output = self.conn.on_bytes(self.alloc, port, piece, now, words);
         self.stalled = output.stall.is_some();
-        self.tell(output, writer)
+        let Output { bytes, stall, .. } = output;
+        self.answers = bytes;
+        if self.conn.stage().is_closed() {
+            return self.close(writer);
+        }
+        turn_of(stall)
     }
 
     /// One drain: what was kept is written first, and nothing is taken before all of it is written. Then at most so
-    /// many deliveries are taken, and written as far as the writer takes them.
+    /// many deliveries are taken, and written as far as the writer takes them, before the answers that wait. Where it
+    /// closes the connection, those answers are dropped.
     pub fn drain<P: Port, S: Writer>(
         &mut self,
         port: &mut P,
@@ -244,13 +334,13 @@ impl Client {
         ensures draining { IsDraining P.steps now most (state self.old port.old (S.contents writer.old)) (state self.new port.new (S.contents writer.new)) result }
         ensures turn { IsTurn self.new (S.failed writer.old) (S.failed writer.new) (S.waits writer.new) result }
     {
+        if self.conn.stage().is_closed() {
+            return self.close(writer);
+        }
         match self.write_kept(writer) {
             Err(_) => return Turn::Failed,
             Ok(false) => return Turn::Waits,
             Ok(true) => {}
-        }
-        if self.conn.stage().is_closed() {
-            return Turn::Closed;
         }
         let output = self.conn.drain(self.alloc, port, most, now);
         self.tell(output, writer)
@@ -264,6 +354,7 @@ impl Client {
     {
         self.bytes = Vec::new(self.alloc);
         self.written = 0;
+        self.answers = Vec::new(self.alloc);
         self.stalled = false;
         self.conn.ended(port, now).stall
     }

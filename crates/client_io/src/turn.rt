@@ -6,13 +6,14 @@ use conn::Stall;
 /// How a turn of a connection ended.
 #[derive(Clone, Copy, Debug, PartialEq, Eq)]
 pub enum Turn {
-    /// What was asked is done, and all that it gave is written.
+    /// What was asked is done. What it gave is written, but for answers to a piece.
     Done,
     /// Nothing has come to be read. All is written.
     Idle,
     /// Bytes wait until the writer takes more. Nothing is read or drained before.
     Waits,
-    /// Memory lacked, or the history is full: the next turn goes on with it. All is written.
+    /// Memory lacked, or the history is full: the next turn goes on with it. What it gave is written, but for answers
+    /// to a piece.
     Stalled(Stall),
     /// The connection has closed, and all is written, its closing text too.
     Closed,

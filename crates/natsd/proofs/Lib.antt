@@ -1,3 +1,6 @@
-pub mod Asked
+pub mod Bounds
 pub mod Checks
+pub mod Commands
+pub mod Lines
+pub mod Rows
 pub mod Runs

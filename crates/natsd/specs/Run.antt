@@ -7,9 +7,13 @@ use Rattle.script.specs.Fault.{fault_text, is_read_failed, is_write_failed}
 use Rattle.script.specs.declared.fault.PlayFault.{PlayFault}
 use Rattle.script.specs.declared.fault.PlayFault.TheVariants.{ScriptTooLong}
 use Rattle.natsd.specs.Tasks.{done_by, input_of, IsLongScript, IsShortScript}
-use Rattle.natsd.specs.Words.{kinds_of, name_in, IsReading}
+use Rattle.natsd.specs.Words.{found_in, kinds_of, IsReading}
+use Rattle.natsd.specs.declared.status.Ran.{Ran}
+use Rattle.natsd.specs.declared.status.Ran.TheVariants as ran
 use Rattle.natsd.specs.declared.status.StartFault.{StartFault}
 use Rattle.natsd.specs.declared.status.StartFault.TheVariants as start
+use Rattle.natsd.specs.declared.words.Asked.{Asked}
+use Rattle.natsd.specs.declared.words.Asked.TheVariants as asked
 use Rattle.natsd.specs.declared.words.Task.{Task}
 use Rattle.natsd.specs.declared.words.WordsFault.{WordsFault}
 use Rattle.natsd.specs.declared.words.WordsFault.TheVariants.{WrongLine, NoMemory}
@@ -35,6 +39,10 @@ pub record Writes : Type 0 where
 
 abbrev pub writes : Option (List ℕ) → Option (List ℕ) → Bool → Bool → Writes
 writes before after failed fails = record { held_before = before; held_after = after; failed_before = failed; failed_after = fails }
+
+-- nothing is read
+abbrev pub IsUnread : Reads → Type 0
+IsUnread r = (r.reads_after ≡ r.reads_before) × (r.failed_after ≡ r.failed_before)
 
 -- nothing is written
 abbrev pub IsUnwritten : Writes → Type 0
@@ -68,16 +76,23 @@ IsEnding (Err fault) errors status = IsMistake 1 (fault_text fault ++ codes "\n"
 abbrev pub IsTaskRun : Task → Reads → Writes → Writes → ℕ → Type 0
 IsTaskRun task source sink errors status = (answer : Result ℕ PlayFault) × IsAnswer task source sink answer × IsEnding answer errors status
 
--- a task is done; a wrong line is told on the error sink, with status 2, and want of memory with status 1
-abbrev pub IsReadingRun : Result Task WordsFault → Reads → Writes → Writes → ℕ → Type 0
-IsReadingRun (Ok task) source sink errors status = IsTaskRun task source sink errors status
-IsReadingRun (Err (WrongLine text)) source sink errors status = IsUnwritten sink × IsMistake 2 (string_bytes text) errors status
-IsReadingRun (Err NoMemory) source sink errors status = IsUnwritten sink × IsMistake 1 (codes "no memory\n") errors status
+-- the program has ended, with a status of which this holds
+abbrev pub IsEnded : (ℕ → Type 0) → Ran → Type 0
+IsEnded P (ran.Ended status) = P status
+IsEnded P (ran.Serve options) = ⊥
+
+-- a task is done; where clients are to be served, nothing is done yet; a wrong line is told on the error sink, with
+-- status 2, and want of memory with status 1
+abbrev pub IsReadingRun : Result Asked WordsFault → Reads → Writes → Writes → Ran → Type 0
+IsReadingRun (Ok (asked.Task task)) source sink errors r = IsEnded (IsTaskRun task source sink errors) r
+IsReadingRun (Ok (asked.Serve options)) source sink errors r = (r ≡ ran.Serve options) × IsUnread source × IsUnwritten sink × IsUnwritten errors
+IsReadingRun (Err (WrongLine text)) source sink errors r = IsUnwritten sink × IsEnded (IsMistake 2 (string_bytes text) errors) r
+IsReadingRun (Err NoMemory) source sink errors r = IsUnwritten sink × IsEnded (IsMistake 1 (codes "no memory\n") errors) r
 
 -- what the words ask for, as clap judges them
-abbrev pub IsWordsRun : List (List ℕ) → Reads → Writes → Writes → ℕ → Type 0
-IsWordsRun words source sink errors status =
-    (read : Result Task WordsFault) × IsReading (kinds_of words) (name_in words) read × IsReadingRun read source sink errors status
+abbrev pub IsWordsRun : List (List ℕ) → Reads → Writes → Writes → Ran → Type 0
+IsWordsRun words source sink errors r =
+    (read : Result Asked WordsFault) × IsReading (kinds_of words) (found_in words) read × IsReadingRun read source sink errors r
 
 -- the program could not start
 abbrev pub IsFailedStart : StartFault → Writes → Writes → ℕ → Type 0
@@ -86,6 +101,6 @@ IsFailedStart start.NotUtf8 sink errors status =
 IsFailedStart start.NoMemory sink errors status = IsUnwritten sink × IsMistake 1 (codes "no memory\n") errors status
 IsFailedStart start.NoKeys sink errors status = IsUnwritten sink × IsMistake 1 (codes "no random keys\n") errors status
 
-abbrev pub IsRun : {S : Type 0} → (S → List (List ℕ)) → Result S StartFault → Reads → Writes → Writes → ℕ → Type 0
-IsRun words (Ok begun) source sink errors status = IsWordsRun (words begun) source sink errors status
-IsRun words (Err fault) source sink errors status = IsFailedStart fault sink errors status
+abbrev pub IsRun : {S : Type 0} → (S → List (List ℕ)) → Result S StartFault → Reads → Writes → Writes → Ran → Type 0
+IsRun words (Ok begun) source sink errors r = IsWordsRun (words begun) source sink errors r
+IsRun words (Err fault) source sink errors r = IsEnded (IsFailedStart fault sink errors) r

@@ -6,7 +6,8 @@ ghost use Rattle.reload.specs.Fault.{fault_line, is_memory};
 ghost use Rattle.natsd.specs.Check.{counts_line, is_read_failed, is_write_failed, report_of};
 
 use crate::fault::CheckFault;
-use account_config::{ConfigFault, MOST_BYTES};
+use account_config::MOST_BYTES;
+use config_walk::ConfigFault;
 use devices::{Sink, Source, read_within, write_all};
 use itoa::Buffer;
 use lists::{Items, NoMemory};

@@ -3,11 +3,15 @@
 
 mod check;
 mod fault;
+mod options;
+mod serve;
 mod status;
 mod words;
 
 use devices::{ReadSource, WriteSink};
-use status::{Start, StartFault, run};
+use policy_source::{Frames, WatchedFile};
+use serve::serve_clients;
+use status::{Ran, Start, StartFault, run};
 use std::hash::RandomState;
 use std::process::ExitCode;
 use std::random::RandomSource;
@@ -19,8 +23,22 @@ fn main(rt: HostRuntime) -> ExitCode {
     let mut source = ReadSource::new(rt.reader());
     let mut sink = WriteSink::new(io::writer(&rt));
     let mut errors = WriteSink::new(rt.stderr());
-    let status = run(rt.alloc(), &start, &mut source, &mut sink, &mut errors);
-    ExitCode::from(status)
+    match run(rt.alloc(), &start, &mut source, &mut sink, &mut errors) {
+        Ran::Ended(status) => ExitCode::from(status),
+        Ran::Serve(options) => {
+            let status = match &options.policy {
+                Some(path) => {
+                    let mut policies = WatchedFile::new(&rt, path.as_str());
+                    serve_clients(&rt, &options, &mut policies, &mut sink)
+                }
+                None => {
+                    let mut policies = Frames::new(rt.alloc(), source);
+                    serve_clients(&rt, &options, &mut policies, &mut sink)
+                }
+            };
+            ExitCode::from(status)
+        }
+    }
 }
 
 /// What the program is started with, or why it can't be had.

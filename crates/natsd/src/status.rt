@@ -4,10 +4,12 @@ ghost use Rattle.std.specs.Io.KnownBytes.{Appends};
 ghost use Rattle.devices.specs.Device.{AppendsFront};
 ghost use Rattle.script.specs.Fault.{fault_text, is_read_failed, is_write_failed};
 ghost use Rattle.natsd.specs.Tasks.{done_by, input_of, IsLongScript, IsShortScript};
+ghost use Rattle.natsd.specs.Options.{AreServable};
 ghost use Rattle.natsd.specs.Run.{reads, writes, IsMistake, IsRun, IsTaskRun, IsWordsRun};
 
 use crate::check::check;
-use crate::words::{Task, WordsFault, read_words};
+use crate::options::ServeOptions;
+use crate::words::{Asked, Task, WordsFault, read_words};
 use devices::{Sink, Source, write_all};
 use script::{PlayFault, play};
 use std::alloc::Global;
@@ -49,6 +51,15 @@ impl StartFault {
         }
         StartFault::NotUtf8
     }
+}
+
+/// What the words of a command line have come to.
+#[derive(Debug, Drop)]
+pub enum Ran {
+    /// The program has ended with this status.
+    Ended(u8),
+    /// Clients are to be served. Nothing was read or written.
+    Serve(ServeOptions),
 }
 
 /// Writes a text to the error sink, as far as that can be, and answers the status.
@@ -147,7 +158,7 @@ fn run_and_tell<R: Source, W: Sink, E: Sink>(
     }
 }
 
-/// Does what words ask for, and answers the status.
+/// Does what words ask for, unless they ask to serve.
 fn run_words<S: AsStr, R: Source, W: Sink, E: Sink>(
     alloc: Global,
     keys: RandomState,
@@ -155,22 +166,28 @@ fn run_words<S: AsStr, R: Source, W: Sink, E: Sink>(
     source: &mut R,
     sink: &mut W,
     errors: &mut E,
-) -> u8
+) -> Ran
     ensures { IsWordsRun (map S.text words.now)
         (reads (R.remaining source.old) (R.reads source.old) (R.reads source.new) (R.failed source.old) (R.failed source.new))
         (writes (W.contents sink.old) (W.contents sink.new) (W.failed sink.old) (W.failed sink.new))
         (writes (E.contents errors.old) (E.contents errors.new) (E.failed errors.old) (E.failed errors.new)) result }
 {
     match read_words(alloc, words) {
-        Ok(task) => run_and_tell(alloc, keys, &task, source, sink, errors),
+        Ok(asked) => match asked {
+            Asked::Task(task) => {
+                Ran::Ended(run_and_tell(alloc, keys, &task, source, sink, errors))
+            }
+            Asked::Serve(options) => Ran::Serve(options),
+        },
         Err(fault) => match fault {
-            WordsFault::WrongLine(text) => tell(errors, text.as_str().as_bytes(), 2),
-            WordsFault::NoMemory => tell(errors, b"no memory\n", 1),
+            WordsFault::WrongLine(text) => { Ran::Ended(tell(errors, text.as_str().as_bytes(), 2)) }
+            WordsFault::NoMemory => Ran::Ended(tell(errors, b"no memory\n", 1)),
         },
     }
 }
 
-/// The program: does what the words of its command line ask for, and answers its status.
+/// The program: does what the words of its command line ask for, and answers its status; or hands out the options of
+/// `serve`, before anything is read or written.
 ///
 /// The status is the task's, 0 or 1, with nothing on the error sink. A fault of the task has status 1, and so has want
 /// of memory for the words or of random keys; a wrong line, or a word that isn't UTF-8, has status 2. Each is told on
@@ -181,11 +198,12 @@ pub fn run<S: AsStr, R: Source, W: Sink, E: Sink>(
     source: &mut R,
     sink: &mut W,
     errors: &mut E,
-) -> u8
-    ensures { IsRun (λ begun. map S.text begun.words.items) start.now
+) -> Ran
+    ensures run { IsRun (λ begun. map S.text begun.words.items) start.now
         (reads (R.remaining source.old) (R.reads source.old) (R.reads source.new) (R.failed source.old) (R.failed source.new))
         (writes (W.contents sink.old) (W.contents sink.new) (W.failed sink.old) (W.failed sink.new))
         (writes (E.contents errors.old) (E.contents errors.new) (E.failed errors.old) (E.failed errors.new)) result }
+    ensures servable { (options : ServeOptions) → result ≡ Ran.Serve options → AreServable options }
 {
     match start {
         Ok(start) => run_words(
@@ -197,13 +215,13 @@ pub fn run<S: AsStr, R: Source, W: Sink, E: Sink>(
             errors,
         ),
         Err(fault) => match fault {
-            StartFault::NotUtf8 => tell(
+            StartFault::NotUtf8 => Ran::Ended(tell(
                 errors,
                 b"error: a word of the command line isn't UTF-8\n",
                 2,
-            ),
-            StartFault::NoMemory => tell(errors, b"no memory\n", 1),
-            StartFault::NoKeys => tell(errors, b"no random keys\n", 1),
+            )),
+            StartFault::NoMemory => Ran::Ended(tell(errors, b"no memory\n", 1)),
+            StartFault::NoKeys => Ran::Ended(tell(errors, b"no random keys\n", 1)),
         },
     }
 }

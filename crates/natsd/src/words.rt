@@ -3,12 +3,22 @@ ghost use Rattle.std.specs.Prelude.{◌≡◌, ◌∷◌, [], ℕ, List, IfOk, c
 ghost use Rattle.clap.specs.Words.{app_of, kind_of};
 ghost use Rattle.clap.specs.declared.error.kind.ErrorKind.TheVariants.{OutOfMemory};
 
+use crate::options::{ServeOptions, options_of, serve_command};
 use clap::error::ErrorKind;
 use clap::{ArgMatches, Command, Error};
 use std::alloc::{AllocError, Global};
 use std::convert::AsStr;
 
 /// What a command line asks for.
+#[derive(Debug, Drop)]
+pub enum Asked {
+    /// A task on standard input and output.
+    Task(Task),
+    /// To serve clients over sockets.
+    Serve(ServeOptions),
+}
+
+/// What is done on standard input and output.
 #[derive(Debug, Drop)]
 pub enum Task {
     /// To play a script.
@@ -59,56 +69,70 @@ fn natsd_command<'a>(alloc: Global) -> Result<Command<'a>, AllocError>
         .disable_help_subcommand(true)
         .subcommand_required(true)
         .subcommand(play)?
-        .subcommand(check)
+        .subcommand(check)?
+        .subcommand(serve_command(alloc)?)
 }
 
-ghost use Rattle.clap.specs.Words.{subcommand_name_of};
-ghost use Rattle.natsd.specs.Words.{IsReading, IsRefusal, IsTaskOrMemory, IsUnknown, IsWrongOrMemory, kinds_of, name_in, task_named};
+ghost use Rattle.clap.specs.Words.{found_of, rows_of, subcommand_rows_of};
+ghost use Rattle.natsd.specs.Options.{AreDefaults};
+ghost use Rattle.natsd.specs.Words.{found_in, kinds_of, IsAskedAs, IsAskedBy, IsReading, IsRefusal, IsServeOrMemory, IsTaskOrMemory, IsUnknown, IsWrongOrMemory};
 
 /// What is made of a line for which clap gives no matches.
-fn read_refusal(alloc: Global, error: &Error) -> Result<Task, WordsFault>
+fn read_refusal(alloc: Global, error: &Error) -> Result<Asked, WordsFault>
     ensures { IsRefusal (kind_of error.now ∷ []) result }
 {
     match error.kind() {
         ErrorKind::OutOfMemory => Err(WordsFault::NoMemory),
-        ErrorKind::DisplayHelp => Ok(Task::Help(format!(in alloc; "{error}")?)),
-        ErrorKind::DisplayVersion => Ok(Task::Version(format!(in alloc; "{error}")?)),
+        ErrorKind::DisplayHelp => Ok(Asked::Task(Task::Help(format!(in alloc; "{error}")?))),
+        ErrorKind::DisplayVersion => Ok(Asked::Task(Task::Version(format!(in alloc; "{error}")?))),
         _ => Err(WordsFault::WrongLine(format!(in alloc; "{error}")?)),
     }
 }
 
-/// The task of the subcommand that the words name: `check`, or else `play`.
-fn task_named(matches: &ArgMatches<'_>) -> Task
-    ensures { result ≡ task_named (subcommand_name_of matches.now) }
+/// What a subcommand asks for, by its name and its options: `serve`, `check`, or else `play`.
+fn asked_as(alloc: Global, name: &str, options: &ArgMatches<'_>) -> Result<Asked, AllocError>
+    ensures { IfOk result (IsAskedAs name.now (rows_of (found_of options.now))) }
 {
-    match matches.subcommand_name() {
-        None => Task::Play,
-        Some(name) => {
-            if name == "check" {
-                Task::Check
-            } else {
-                Task::Play
-            }
-        }
+    if name == "serve" {
+        return Ok(Asked::Serve(options_of(alloc, options)?));
+    }
+    if name == "check" {
+        return Ok(Asked::Task(Task::Check));
+    }
+    Ok(Asked::Task(Task::Play))
+}
+
+/// What the subcommand that the words name asks for.
+fn asked_by(alloc: Global, matches: &ArgMatches<'_>) -> Result<Asked, AllocError>
+    ensures { IfOk result (IsAskedBy (subcommand_rows_of matches.now)) }
+{
+    match matches.subcommand() {
+        None => Ok(Asked::Task(Task::Play)),
+        Some((name, options)) => asked_as(alloc, name, options),
     }
 }
 
 /// What the words of a command line ask for. The first is the program's name.
 ///
-/// The words are judged by clap: `play` asks for a script to be played, `check` for a policy to be checked,
-/// `--help`, `-h` and `play --help` for help, `--version` for the version. `WrongLine` comes with clap's text where
-/// the line is another, such as one with no word behind the name or with one that is none of these; `NoMemory` where
-/// memory could not be had. No clause says what the texts are.
-pub fn read_words<S: AsStr>(alloc: Global, words: &[S]) -> Result<Task, WordsFault>
-    ensures reading { IsReading (kinds_of (map S.text words.now)) (name_in (map S.text words.now)) result }
+/// The words are judged by clap: `play` asks for a script to be played, `check` for a policy to be checked, `serve`
+/// for clients to be served by its options, `--help`, `-h` and `play --help` for help, `--version` for the version.
+/// `WrongLine` comes with clap's text where the line is another, such as one with no word behind the name, with one
+/// that is none of these or with a number out of its bounds; `NoMemory` where memory could not be had. No clause says
+/// what the texts are.
+pub fn read_words<S: AsStr>(alloc: Global, words: &[S]) -> Result<Asked, WordsFault>
+    ensures reading { IsReading (kinds_of (map S.text words.now)) (found_in (map S.text words.now)) result }
     ensures play { (name : List ℕ) → map S.text words.now ≡ name ∷ codes "play" ∷ [] → IsTaskOrMemory Task.Play result }
     ensures check { (name : List ℕ) → map S.text words.now ≡ name ∷ codes "check" ∷ [] → IsTaskOrMemory Task.Check result }
+    ensures serve { (name : List ℕ) → map S.text words.now ≡ name ∷ codes "serve" ∷ [] → IsServeOrMemory AreDefaults result }
     ensures unknown { (name word : List ℕ) → map S.text words.now ≡ name ∷ word ∷ [] → IsUnknown word → IsWrongOrMemory result }
     ensures none { (name : List ℕ) → map S.text words.now ≡ name ∷ [] → IsWrongOrMemory result }
 {
     let command = natsd_command(alloc)?;
     match command.try_get_matches_from(words) {
-        Ok(matches) => Ok(task_named(&matches)),
+        Ok(matches) => {
+            let asked = asked_by(alloc, &matches)?;
+            Ok(asked)
+        }
         Err(error) => read_refusal(alloc, &error),
     }
 }

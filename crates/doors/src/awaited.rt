@@ -1,0 +1,84 @@
+// How much is read and taken at a time.
+ghost use Rattle.std.specs.Prelude.{◌≡◌};
+ghost use Rattle.doors.specs.Awaited.{fewer, mean, more, next_take, piece_length};
+
+/// How many deliveries are taken at a time at most.
+const MOST: usize = 256;
+
+/// How many bytes of messages are taken at a time, as far as their mean size tells.
+const ROOM: usize = 65_536;
+
+/// How many bytes are read at a time at most: some hundred events.
+pub const PIECE: usize = 4096;
+
+/// How many bytes are read at a time at least.
+const LEAST_PIECE: usize = 16;
+
+/// What is known to wait for a connection in its outbox.
+#[derive(Clone, Copy)]
+pub struct Awaited {
+    /// How many deliveries.
+    pub count: usize,
+    /// How many bytes their messages have.
+    pub bytes: usize,
+}
+
+impl Awaited {
+    /// What waits once so many more have entered, with so many bytes.
+    pub fn more(self, count: usize, bytes: usize) -> Awaited
+        ensures { result ≡ more self count bytes }
+    {
+        Awaited {
+            count: self.count.saturating_add(count),
+            bytes: self.bytes.saturating_add(bytes),
+        }
+    }
+
+    /// How many bytes a message has, by the mean.
+    fn mean(self) -> usize
+        ensures { result ≡ mean self }
+    {
+        if self.count == 0 {
+            return 0;
+        }
+        self.bytes / self.count
+    }
+
+    /// How many deliveries the next Take is to ask for: fewer where messages are large.
+    pub fn next_take(self) -> usize
+        ensures { result ≡ next_take self }
+    {
+        let each = self.mean();
+        if each == 0 {
+            return MOST;
+        }
+        (ROOM / each).max(1).min(MOST)
+    }
+
+    /// What waits once a Take has asked for so many.
+    pub fn fewer(self, most: usize) -> Awaited
+        ensures { result ≡ fewer self most }
+    {
+        let each = self.mean();
+        let count = self.count.min(most);
+        Awaited {
+            count: self.count.saturating_sub(count),
+            bytes: self.bytes.saturating_sub(each.saturating_mul(count)),
+        }
+    }
+}
+
+/// How many bytes are read at a time. A message takes 11 bytes at least, so those of a piece are less than half an outbox;
+/// where a receiver lags, a piece is an eighth of that.
+pub fn piece_length(outbox: usize, is_small: bool) -> usize
+    ensures { result ≡ piece_length outbox is_small }
+{
+    let mut length = PIECE;
+    if outbox < PIECE / 4 {
+        length = (outbox * 4).max(LEAST_PIECE);
+    }
+    if is_small {
+        length = (length / 8).max(LEAST_PIECE);
+    }
+    length
+}

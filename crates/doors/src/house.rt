@@ -1,0 +1,105 @@
+use crate::door::Door;
+use std::hash::RandomState;
+use std::sync::atomic::{AtomicU64, Ordering};
+use std::time::Clock;
+
+/// What a server keeps to.
+#[derive(Clone, Copy)]
+pub struct Limits {
+    /// How many deliveries may wait for a session, as its hub has it.
+    pub outbox: usize,
+    /// How many entries its hub holds at most.
+    pub history: usize,
+    /// The keys of hash maps, which clients can't know.
+    pub keys: RandomState,
+}
+
+/// What all threads of a server set.
+#[derive(Drop)]
+pub struct Flags {
+    /// Not 0 once the server is to stop.
+    stops: AtomicU64,
+    /// How many workers read no more.
+    rested: AtomicU64,
+    /// Until when pieces are small, since a receiver lags.
+    small_until: AtomicU64,
+}
+
+/// What all threads of a server share.
+#[derive(Drop)]
+pub struct House<'a> {
+    pub doors: &'a [Door],
+    pub limits: Limits,
+    /// The moment of the start, in milliseconds.
+    start: u64,
+    flags: &'a Flags,
+}
+
+/// Milliseconds by the system's clock, 0 where it has none.
+pub fn millis<R: Clock>(rt: &R) -> u64 {
+    match rt.monotonic() {
+        Ok(time) => u64::try_from(time.as_millis()).unwrap_or(u64::MAX),
+        Err(_) => 0,
+    }
+}
+
+impl Flags {
+    /// A server that has just begun.
+    pub fn new() -> Flags {
+        Flags {
+            stops: AtomicU64::new(0),
+            rested: AtomicU64::new(0),
+            small_until: AtomicU64::new(0),
+        }
+    }
+}
+
+impl<'a> House<'a> {
+    /// What threads share that begin at this moment.
+    pub fn new(doors: &'a [Door], limits: Limits, start: u64, flags: &'a Flags) -> House<'a> {
+        House {
+            doors,
+            limits,
+            start,
+            flags,
+        }
+    }
+
+    /// How many milliseconds have passed since the start.
+    pub fn now<R: Clock>(&self, rt: &R) -> u64 {
+        millis(rt).saturating_sub(self.start)
+    }
+
+    /// Has all workers stop.
+    pub fn stop(&self) {
+        self.flags.stops.store(1, Ordering::SeqCst);
+        for door in self.doors {
+            door.wake();
+        }
+    }
+
+    /// Whether the server is to stop.
+    pub fn stops(&self) -> bool {
+        self.flags.stops.load(Ordering::SeqCst) != 0
+    }
+
+    /// Notes that a worker reads no more.
+    pub fn rest(&self) {
+        let _ = self.flags.rested.fetch_add(1, Ordering::SeqCst);
+    }
+
+    /// Whether all workers read no more.
+    pub fn all_rest(&self) -> bool {
+        self.flags.rested.load(Ordering::SeqCst) >= self.doors.len() as u64
+    }
+
+    /// Has pieces be small until a moment, since a receiver lags.
+    pub fn read_less(&self, until: u64) {
+        self.flags.small_until.store(until, Ordering::SeqCst);
+    }
+
+    /// Whether pieces are small at a moment.
+    pub fn reads_less(&self, now: u64) -> bool {
+        now < self.flags.small_until.load(Ordering::SeqCst)
+    }
+}

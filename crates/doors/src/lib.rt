@@ -1,0 +1,15 @@
+//! What others leave for a worker, which connections answers name, what waits for them and how much of it is read and
+//! taken at a time, and what all threads of a server share.
+#![tactic(auto)]
+
+mod awaited;
+mod door;
+mod house;
+mod notices;
+mod waiting;
+
+pub use awaited::{Awaited, PIECE, piece_length};
+pub use door::{Arrival, Door, Intake, Left, Named, Waiter};
+pub use house::{Flags, House, Limits, millis};
+pub use notices::{Notices, owner_of};
+pub use waiting::PATIENCE;

@@ -1,0 +1,29 @@
+//! Where policies come from: frames of a source, or a file that is watched.
+#![tactic(auto)]
+
+mod frames;
+mod watched_file;
+
+pub use frames::Frames;
+pub use watched_file::WatchedFile;
+
+/// What comes of the policies next.
+#[derive(Drop)]
+pub enum Next {
+    /// The text of a policy.
+    Text(Vec<u8>),
+    /// Nothing yet.
+    Later,
+    /// The input has ended: the server stops.
+    End,
+    /// A wrong frame, or a failed read.
+    Bad,
+    /// Memory could not be had for it.
+    NoMemory,
+}
+
+/// Where policies come from.
+pub trait Policies {
+    /// The next, once there is one, or after a while that there is none.
+    fn next(&mut self) -> Next;
+}

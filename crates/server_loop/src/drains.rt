@@ -1,0 +1,296 @@
+use crate::worker::{Held, Worker};
+use client_io::{NonBlocking, Turn};
+use conn::Words;
+use doors::{Intake, Left, Named, PATIENCE};
+use gates::Gate;
+use shared_hub::Run;
+use std::mem;
+use std::sync::Wait;
+use std::time::Clock;
+
+/// How many Takes a connection has before others are looked at.
+const TAKES: usize = 16;
+
+/// How long pieces stay small once a receiver lags, in milliseconds.
+const SMALL_TIME: u64 = 100;
+
+/// What became of a drain.
+enum Drained {
+    /// More may wait.
+    More,
+    /// Nothing more is due, or can be written now.
+    Stops,
+    /// The turn of the connection has ended so.
+    Ends(Turn),
+}
+
+impl<'a, L: Run, R: Wait + Clock, G: Gate + Drop, W: Words + Drop> Worker<'a, L, R, G, W> {
+    /// Names the connections of the answers since, at their owners' doors. The publisher is held where one of them lags.
+    pub fn tell(&mut self, publisher: Option<u64>) {
+        let receipts = self.port.take_receipts();
+        for receipt in receipts.as_slice() {
+            self.notices.note(receipt);
+        }
+        if receipts.is_empty() {
+            return;
+        }
+        drop(receipts);
+        self.leave_names(publisher);
+    }
+
+    /// Leaves the names at their owners' doors.
+    fn leave_names(&mut self, publisher: Option<u64>) {
+        let mut waits = false;
+        let doors = self.house.doors;
+        for (worker, door) in doors.iter().enumerate() {
+            let names = self.notices.take(worker);
+            if !names.is_empty()
+                && door.leave_names(self.rt, names.as_slice(), self.index, publisher, self.now)
+            {
+                waits = true;
+            }
+        }
+        if let Some(conn) = publisher {
+            if waits {
+                self.hold(conn);
+            }
+        }
+    }
+
+    /// Reads a publisher no further for now.
+    fn hold(&mut self, conn: u64) {
+        let soon = self.now.saturating_add(SMALL_TIME);
+        self.house.read_less(soon);
+        let until = self.now.saturating_add(PATIENCE);
+        let Some(key) = self.keys.get(&conn) else {
+            return;
+        };
+        if let Some(standing) = self.clients.get_mut(*key) {
+            if self.held.push_back(Held { conn, until }).is_ok() {
+                standing.held_until = Some(until);
+            }
+        }
+    }
+
+    /// Has a publisher go on that is held until then.
+    pub fn resume(&mut self, conn: u64, until: u64) {
+        let Some(key) = self.keys.get(&conn) else {
+            return;
+        };
+        let key = *key;
+        if let Some(standing) = self.clients.get_mut(key) {
+            if standing.held_until == Some(until) {
+                standing.held_until = None;
+            }
+        }
+        self.make_ready(key);
+    }
+
+    /// Has a publisher go on whose receiver lags no more.
+    fn resume_now(&mut self, conn: u64) {
+        let Some(key) = self.keys.get(&conn) else {
+            return;
+        };
+        let key = *key;
+        if let Some(standing) = self.clients.get_mut(key) {
+            standing.held_until = None;
+        }
+        self.make_ready(key);
+    }
+
+    /// Takes what others have left here, and drains the connections that were named.
+    pub fn take_in(&mut self) {
+        let doors = self.house.doors;
+        let Some(door) = doors.get(self.index) else {
+            return;
+        };
+        let is_idle = self.ready.is_empty() && self.dirty.is_empty();
+        let left = mem::replace(&mut self.left, Vec::new(self.alloc));
+        let intake = door.take_in(self.rt, left.as_slice(), is_idle);
+        drop(left);
+        self.sleeps = intake.sleeps;
+        self.follow(intake);
+        self.drain_dirty();
+    }
+
+    /// Does what others have left.
+    fn follow(&mut self, intake: Intake) {
+        let Intake {
+            arrivals,
+            named,
+            all,
+            resumed,
+            released,
+            sleeps: _,
+        } = intake;
+        if all {
+            self.name_all();
+        }
+        for name in named.as_slice() {
+            self.name(*name);
+        }
+        for publisher in resumed.as_slice() {
+            self.resume_now(*publisher);
+        }
+        for waiter in released.as_slice() {
+            if waiter.worker == self.index {
+                self.resume_now(waiter.publisher);
+            } else if let Some(door) = self.house.doors.get(waiter.worker) {
+                door.leave_resumed(self.rt, waiter.publisher);
+            }
+        }
+        let mut arrivals = arrivals;
+        for _ in 0..arrivals.len() {
+            if let Some(arrival) = arrivals.pop() {
+                self.open(arrival.conn, arrival.socket);
+            }
+        }
+    }
+
+    /// Notes that a connection of one's own was named.
+    fn name(&mut self, name: Named) {
+        let Some(key) = self.keys.get(&name.conn) else {
+            let gone = Left {
+                conn: name.conn,
+                count: usize::MAX,
+            };
+            drop(self.left.push(gone));
+            return;
+        };
+        let key = *key;
+        if let Some(standing) = self.clients.get_mut(key) {
+            standing.awaited = standing.awaited.more(name.entered, name.bytes);
+            standing.drain = standing.drain || name.drain;
+        }
+        self.make_dirty(key);
+    }
+
+    /// Has each connection drained of all that an outbox may hold, since a name was lost.
+    fn name_all(&mut self) {
+        let most = self.house.limits.outbox;
+        for key in 0..self.clients.capacity() {
+            if let Some(standing) = self.clients.get_mut(key) {
+                standing.awaited.count = standing.awaited.count.max(most);
+                standing.drain = true;
+            }
+            self.make_dirty(key);
+        }
+    }
+
+    /// Drains the connections that are to be written to, and names whom the answers name.
+    fn drain_dirty(&mut self) {
+        for _ in 0..self.dirty.len() {
+            let Some(key) = self.dirty.pop_front() else {
+                break;
+            };
+            if let Some(standing) = self.clients.get_mut(key) {
+                standing.is_dirty = false;
+                standing.count_ahead();
+            }
+            self.drain_one(key);
+        }
+        self.tell(None);
+    }
+
+    /// Some Takes of a connection, as far as its socket takes them.
+    fn drain_one(&mut self, key: usize) {
+        for _ in 0..TAKES {
+            match self.drain_once(key) {
+                Drained::More => {}
+                Drained::Stops => return,
+                Drained::Ends(turn) => {
+                    self.after(key, turn);
+                    return;
+                }
+            }
+        }
+        self.make_dirty(key);
+    }
+
+    /// What is kept for a client is written, and then what one Take gives, or the answers that wait behind Takes.
+    fn drain_once(&mut self, key: usize) -> Drained {
+        let Some(standing) = self.clients.get_mut(key) else {
+            return Drained::Stops;
+        };
+        if standing.is_over {
+            return Drained::Stops;
+        }
+        let mut writer = NonBlocking::new(&standing.socket);
+        let turn = standing.client.flush(&mut writer);
+        if turn == Turn::Waits {
+            return self.wait_for(key);
+        }
+        if turn != Turn::Done {
+            return Drained::Ends(turn);
+        }
+        if standing.may_answer() {
+            return self.answer(key);
+        }
+        if standing.is_due() {
+            return self.take_one(key);
+        }
+        Drained::Ends(turn)
+    }
+
+    /// The answers to the latest piece, once the deliveries before them are written.
+    fn answer(&mut self, key: usize) -> Drained {
+        let Some(standing) = self.clients.get_mut(key) else {
+            return Drained::Stops;
+        };
+        standing.ahead = None;
+        let mut writer = NonBlocking::new(&standing.socket);
+        let turn = standing.client.answer(&mut writer);
+        if turn == Turn::Done && standing.is_due() {
+            Drained::More
+        } else {
+            Drained::Ends(turn)
+        }
+    }
+
+    /// One Take of a connection, once all before is written.
+    fn take_one(&mut self, key: usize) -> Drained {
+        let Some(standing) = self.clients.get_mut(key) else {
+            return Drained::Stops;
+        };
+        let most = standing.awaited.next_take();
+        let mut writer = NonBlocking::new(&standing.socket);
+        let turn = standing
+            .client
+            .drain(&mut self.port, &mut writer, most, self.now);
+        if let Turn::Stalled(_) = turn {
+            // (frames that stopped have their turns again only once the answers before them are written)
+            standing.ahead = Some(0);
+        }
+        let has_taken = turn == Turn::Done || turn == Turn::Waits;
+        if has_taken {
+            let conn = standing.client.conn().number();
+            let count = standing.taken(most);
+            drop(self.left.push(Left { conn, count }));
+        }
+        if turn == Turn::Done {
+            Drained::More
+        } else {
+            Drained::Ends(turn)
+        }
+    }
+
+    /// A connection whose socket takes nothing now. One that is to be closed is ended once it has taken nothing for long.
+    fn wait_for(&mut self, key: usize) -> Drained {
+        let Some(standing) = self.clients.get_mut(key) else {
+            return Drained::Stops;
+        };
+        if !standing.drain {
+            return Drained::Stops;
+        }
+        match standing.end_at {
+            None => standing.end_at = Some(self.now.saturating_add(PATIENCE)),
+            Some(at) => {
+                if at <= self.now {
+                    return Drained::Ends(Turn::Failed);
+                }
+            }
+        }
+        drop(self.stalled.push_back(key));
+        Drained::Stops
+    }
+}

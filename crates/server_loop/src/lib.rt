@@ -1,0 +1,13 @@
+//! The server's loop over sockets: workers, each with its own connections, and the reloads of policies.
+#![tactic(auto)]
+
+mod connections;
+mod drains;
+mod fault;
+mod reloads;
+mod server;
+mod standing;
+mod worker;
+
+pub use fault::ServeFault;
+pub use server::{Post, serve};
