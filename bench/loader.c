@@ -1,0 +1,297 @@
+/* Loads a NATS server and prints what it measured, for bench/serve: loader PORT TASK SIZE RECEIVERS COUNT WINDOW
+ *
+ * TASK is `all` (every receiver gets each of COUNT messages), `queue` (the receivers are one queue group) or `ask` (one
+ * asks COUNT times in turn, one answers). A message has SIZE bytes. The publisher writes up to 64 KiB at once, and is
+ * no more than WINDOW messages before the slowest receiver, or before the group. It prints for `all` and `queue` the
+ * deliveries a second, and for `ask` the median and the 99th percentile of the microseconds from a request to its
+ * answer.
+ * Each connection has a thread of its own, with blocking reads and writes. */
+#include <arpa/inet.h>
+#include <netinet/tcp.h>
+#include <pthread.h>
+#include <stdatomic.h>
+#include <stdio.h>
+#include <stdlib.h>
+#include <string.h>
+#include <sys/socket.h>
+#include <time.h>
+#include <unistd.h>
+
+enum { PIECE = 65536, MOST = 1024 };
+
+typedef struct {
+    int socket;
+    _Atomic long received;
+    char padding[64];
+} Receiver;
+
+static Receiver receivers[MOST];
+static int port, size, count_of_receivers;
+static long count, window;
+static _Atomic int all_received;
+static int is_queue;
+
+static void die(const char *why)
+{
+    fprintf(stderr, "loader: %s\n", why);
+    exit(1);
+}
+
+static double now(void)
+{
+    struct timespec it;
+    clock_gettime(CLOCK_MONOTONIC, &it);
+    return it.tv_sec + it.tv_nsec / 1e9;
+}
+
+static void send_all(int socket, const char *data, size_t left)
+{
+    while (left > 0) {
+        ssize_t sent = send(socket, data, left, MSG_NOSIGNAL);
+        if (sent <= 0)
+            die("the server has closed a connection that writes");
+        data += sent;
+        left -= sent;
+    }
+}
+
+/* Reads a line, byte by byte: for what isn't measured. */
+static void read_line(int socket, char *line, size_t most)
+{
+    size_t at = 0;
+    do {
+        if (at + 1 >= most || recv(socket, line + at, 1, 0) != 1)
+            die("no line came");
+    } while (line[at++] != '\n');
+    line[at] = 0;
+}
+
+static void read_pong(int socket)
+{
+    char line[4096];
+    do {
+        read_line(socket, line, sizeof line);
+        if (line[0] == '-')
+            die(line);
+    } while (strncmp(line, "PONG", 4));
+}
+
+static int connected(void)
+{
+    int it = socket(AF_INET, SOCK_STREAM, 0), on = 1;
+    struct sockaddr_in to = {.sin_family = AF_INET, .sin_port = htons(port), .sin_addr.s_addr = htonl(INADDR_LOOPBACK)};
+    static const char hello[] =
+        "CONNECT {\"user\":\"demo\",\"pass\":\"demo\",\"verbose\":false,\"pedantic\":false}\r\nPING\r\n";
+    if (it < 0 || connect(it, (struct sockaddr *)&to, sizeof to))
+        die("no connection");
+    setsockopt(it, IPPROTO_TCP, TCP_NODELAY, &on, sizeof on);
+    send_all(it, hello, sizeof hello - 1);
+    read_pong(it);
+    return it;
+}
+
+static void subscribe(int socket, const char *line)
+{
+    send_all(socket, line, strlen(line));
+    send_all(socket, "PING\r\n", 6);
+    read_pong(socket);
+}
+
+/* Counts the messages of a stream: the state between its pieces. */
+typedef struct {
+    char line[4200];
+    size_t held;
+    long skip;
+} Parser;
+
+/* Returns how many messages have ended in this piece. */
+static long messages(Parser *it, const char *data, size_t left)
+{
+    long ended = 0;
+    while (left > 0) {
+        if (it->skip > 0) {
+            size_t part = (size_t)it->skip < left ? (size_t)it->skip : left;
+            it->skip -= part;
+            data += part;
+            left -= part;
+            if (it->skip == 0)
+                ended++;
+            continue;
+        }
+        const char *end = memchr(data, '\n', left);
+        const char *line = data;
+        size_t part = end ? (size_t)(end - data) + 1 : left, length = part;
+        if (it->held || !end) {
+            if (it->held + part > sizeof it->line)
+                die("a line is too long");
+            memcpy(it->line + it->held, data, part);
+            it->held += part;
+            line = it->line;
+            length = it->held;
+        }
+        data += part;
+        left -= part;
+        if (!end)
+            break;
+        it->held = 0;
+        if (line[0] == 'M') {
+            size_t at = length - 2;
+            long digits = 0, place = 1;
+            while (at > 0 && line[at - 1] != ' ') {
+                digits += (line[--at] - '0') * place;
+                place *= 10;
+            }
+            it->skip = digits + 2;
+        } else if (line[0] == '-') {
+            fprintf(stderr, "loader: %.*s", (int)length, line);
+            exit(1);
+        }
+    }
+    return ended;
+}
+
+static void *receive(void *closure)
+{
+    Receiver *it = closure;
+    Parser parser = {.held = 0, .skip = 0};
+    char *piece = malloc(4 * PIECE);
+    for (;;) {
+        ssize_t got = recv(it->socket, piece, 4 * PIECE, 0);
+        if (got <= 0) {
+            if (atomic_load(&all_received))
+                return NULL;
+            die("the server has closed a receiver");
+        }
+        atomic_fetch_add(&it->received, messages(&parser, piece, got));
+    }
+}
+
+/* How many messages are done: of all receivers the least, of a queue group the sum. */
+static long done(void)
+{
+    long least = 0, sum = 0;
+    for (int i = 0; i < count_of_receivers; i++) {
+        long it = atomic_load_explicit(&receivers[i].received, memory_order_relaxed);
+        if (i == 0 || it < least)
+            least = it;
+        sum += it;
+    }
+    return is_queue ? sum : least;
+}
+
+static double flood(void)
+{
+    pthread_t threads[MOST];
+    char one[8192];
+    int head = snprintf(one, sizeof one, "PUB load %d\r\n", size), length = head + size + 2;
+    memset(one + head, 'x', size);
+    memcpy(one + head + size, "\r\n", 2);
+    int each = PIECE / length;
+    if (each > window)
+        each = window;
+    char *piece = malloc((size_t)each * length);
+    for (int i = 0; i < each; i++)
+        memcpy(piece + (size_t)i * length, one, length);
+    for (int i = 0; i < count_of_receivers; i++) {
+        receivers[i].socket = connected();
+        subscribe(receivers[i].socket, is_queue ? "SUB load group 1\r\n" : "SUB load 1\r\n");
+        pthread_create(&threads[i], NULL, receive, &receivers[i]);
+    }
+    int publisher = connected();
+    double begin = now();
+    for (long sent = 0; sent < count;) {
+        long part = count - sent < each ? count - sent : each;
+        while (sent + part - done() > window)
+            usleep(20);
+        send_all(publisher, piece, (size_t)part * length);
+        sent += part;
+    }
+    double last = now();
+    for (long before = -1, it; (it = done()) < count; before = it) {
+        if (it != before)
+            last = now();
+        if (now() - last > 60)
+            die("messages were lost");
+        usleep(50);
+    }
+    double passed = now() - begin;
+    atomic_store(&all_received, 1);
+    for (int i = 0; i < count_of_receivers; i++)
+        shutdown(receivers[i].socket, SHUT_RDWR);
+    for (int i = 0; i < count_of_receivers; i++)
+        pthread_join(threads[i], NULL);
+    return count * (double)(is_queue ? 1 : count_of_receivers) / passed;
+}
+
+static void *answer(void *closure)
+{
+    int socket = *(int *)closure;
+    Parser parser = {.held = 0, .skip = 0};
+    char *piece = malloc(PIECE), back[8192];
+    int head = snprintf(back, sizeof back, "PUB reply %d\r\n", size), length = head + size + 2;
+    memset(back + head, 'y', size);
+    memcpy(back + head + size, "\r\n", 2);
+    for (;;) {
+        ssize_t got = recv(socket, piece, PIECE, 0);
+        if (got <= 0)
+            return NULL;
+        for (long it = messages(&parser, piece, got); it > 0; it--)
+            send_all(socket, back, length);
+    }
+}
+
+static int by_value(const void *one, const void *two)
+{
+    double a = *(const double *)one, b = *(const double *)two;
+    return a < b ? -1 : a > b;
+}
+
+static void ask(void)
+{
+    pthread_t thread;
+    Parser parser = {.held = 0, .skip = 0};
+    int asks = connected(), answers = connected();
+    char piece[PIECE], out[8192];
+    double *took = malloc(count * sizeof *took);
+    int head = snprintf(out, sizeof out, "PUB ask reply %d\r\n", size), length = head + size + 2;
+    memset(out + head, 'x', size);
+    memcpy(out + head + size, "\r\n", 2);
+    subscribe(answers, "SUB ask 1\r\n");
+    subscribe(asks, "SUB reply 1\r\n");
+    pthread_create(&thread, NULL, answer, &answers);
+    for (long i = 0; i < count; i++) {
+        double begin = now();
+        send_all(asks, out, length);
+        long came = 0;
+        while (came == 0) {
+            ssize_t got = recv(asks, piece, sizeof piece, 0);
+            if (got <= 0)
+                die("the server has closed the one that asks");
+            came = messages(&parser, piece, got);
+        }
+        took[i] = (now() - begin) * 1e6;
+    }
+    shutdown(answers, SHUT_RDWR);
+    pthread_join(thread, NULL);
+    qsort(took, count, sizeof *took, by_value);
+    printf("%.1f %.1f\n", took[count / 2], took[count * 99 / 100]);
+}
+
+int main(int argc, char **argv)
+{
+    if (argc != 7)
+        die("PORT TASK SIZE RECEIVERS COUNT WINDOW");
+    port = atoi(argv[1]);
+    size = atoi(argv[3]);
+    count_of_receivers = atoi(argv[4]);
+    count = atol(argv[5]);
+    window = atol(argv[6]);
+    is_queue = !strcmp(argv[2], "queue");
+    if (size < 0 || size > 4096 || count_of_receivers < 1 || count_of_receivers > MOST || count < 1 || window < 1)
+        die("a number is out of range");
+    if (!strcmp(argv[2], "ask"))
+        ask();
+    else
+        printf("%.0f\n", flood());
+    return 0;
+}

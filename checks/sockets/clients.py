@@ -1,0 +1,398 @@
+"""A server and its clients, for the checks over real sockets.
+
+Each check is a script of this folder: NAME.py PROGRAM [--divide N]. It prints a line for each thing that it shows and
+last 'N passed, M failed', with status 1 where one failed. N divides the counts, for a program that was built without
+optimization. Nothing is timed, but that something happens within LIMIT seconds where it has to happen at all.
+"""
+
+import argparse
+import contextlib
+import json
+import os
+import pathlib
+import re
+import resource
+import selectors
+import socket
+import struct
+import subprocess
+import tempfile
+import threading
+import time
+import traceback
+
+LIMIT = 60
+USER = {"user": "demo", "password": "demo"}
+POLICY = {"accounts": {"A": {"users": [USER]}}}
+TEXTS = {
+    "authorization": b"-ERR 'Authorization Violation'\r\n",
+    "connections": b"-ERR 'Maximum Connections Exceeded'\r\n",
+    "payload": b"-ERR 'Maximum Payload Violation'\r\n",
+    "slow": b"-ERR 'Slow Consumer'\r\n",
+    "unknown": b"-ERR 'Unknown Protocol Operation'\r\n",
+}
+
+
+class Failed(Exception):
+    """What a check wanted and didn't find."""
+
+
+def want(holds, why):
+    if not holds:
+        raise Failed(why)
+
+
+def shown(data, most=200):
+    if len(data) <= most:
+        return repr(bytes(data))
+    return f"{bytes(data[:most // 2])!r} .. {bytes(data[-most // 2:])!r} ({len(data)} bytes)"
+
+
+def wait_for(what, why, limit=LIMIT):
+    """Waits until `what()` holds."""
+    end = time.monotonic() + limit
+    while not what():
+        want(time.monotonic() < end, f"not within {limit} s: {why}")
+        time.sleep(0.02)
+
+
+def raise_descriptors(wanted):
+    """Lets this process, and what it starts, have so many descriptors."""
+    soft, hard = resource.getrlimit(resource.RLIMIT_NOFILE)
+    want(hard == resource.RLIM_INFINITY or hard >= wanted,
+         f"the limit of descriptors has to be {wanted} at least, and {hard} is the most that can be had (ulimit -Hn)")
+    resource.setrlimit(resource.RLIMIT_NOFILE, (max(soft, wanted), hard))
+
+
+class Server:
+    """A program that serves. Policies come as frames on its standard input, or with `file` in a file."""
+
+    def __init__(self, program, *words, policy=POLICY, file=False, descriptors=None, listen="127.0.0.1:0"):
+        self.room = tempfile.TemporaryDirectory()
+        self.path = pathlib.Path(self.room.name) / "policy.json"
+        line = [program, "serve", "--listen", listen, *map(str, words)]
+        if file:
+            self.write(policy)
+            line += ["--policy", str(self.path)]
+        self.errors = open(pathlib.Path(self.room.name) / "errors", "w+b")
+        limit = None
+        if descriptors:
+            hard = resource.getrlimit(resource.RLIMIT_NOFILE)[1]
+            limit = lambda: resource.setrlimit(resource.RLIMIT_NOFILE, (descriptors, hard))
+        self.process = subprocess.Popen(line, stdin=subprocess.DEVNULL if file else subprocess.PIPE,
+                                        stdout=subprocess.PIPE, stderr=self.errors, preexec_fn=limit)
+        self.lines, self.changed, self.read = [], threading.Condition(), 0
+        self.is_at_end = False
+        threading.Thread(target=self._listen, daemon=True).start()
+        try:
+            if not file:
+                self.frame(policy)
+            found = re.fullmatch(r"listening (\S+):(\d+)", self.line())
+            want(found, f"the first line is {self.lines[0]!r}")
+            self.address = found[1], int(found[2])
+        except BaseException:
+            self.close()
+            raise
+
+    def _listen(self):
+        for line in self.process.stdout:
+            with self.changed:
+                self.lines.append(line.decode(errors="backslashreplace").removesuffix("\n"))
+                self.changed.notify_all()
+        with self.changed:
+            self.is_at_end = True
+            self.changed.notify_all()
+
+    def line(self, limit=LIMIT):
+        """Waits for the next line that was printed."""
+        with self.changed:
+            self.changed.wait_for(lambda: self.read < len(self.lines) or self.is_at_end, limit)
+            want(self.read < len(self.lines), f"nothing more was printed after {self.lines[-3:]}; {self.said()}")
+            self.read += 1
+            return self.lines[self.read - 1]
+
+    def said(self):
+        self.errors.seek(0)
+        return f"standard error: {shown(self.errors.read())}"
+
+    def write(self, policy):
+        """Puts a policy, or a text, in the place of the file's."""
+        new = self.path.with_suffix(".new")
+        new.write_text(policy if isinstance(policy, str) else json.dumps(policy))
+        os.replace(new, self.path)
+
+    def frame(self, policy):
+        """Hands a policy, or a text, in as a frame."""
+        text = (policy if isinstance(policy, str) else json.dumps(policy)).encode()
+        self.process.stdin.write(b"%d\n%b" % (len(text), text))
+        self.process.stdin.flush()
+
+    def seconds(self):
+        """Returns how much of a processor it has used."""
+        fields = pathlib.Path(f"/proc/{self.process.pid}/stat").read_text().rpartition(")")[2].split()
+        return (int(fields[11]) + int(fields[12])) / os.sysconf("SC_CLK_TCK")
+
+    def kilobytes(self):
+        """Returns how much memory it has."""
+        return int(re.search(r"VmRSS:\s+(\d+)", pathlib.Path(f"/proc/{self.process.pid}/status").read_text())[1])
+
+    def descriptors(self):
+        return len(os.listdir(f"/proc/{self.process.pid}/fd"))
+
+    def end_input(self):
+        self.process.stdin.close()
+
+    def status(self):
+        try:
+            return self.process.wait(LIMIT)
+        except subprocess.TimeoutExpired:
+            raise Failed(f"it hasn't ended within {LIMIT} s") from None
+
+    def close(self):
+        self.process.kill()
+        self.process.wait()
+        self.errors.close()
+        self.room.cleanup()
+
+    def __enter__(self):
+        return self
+
+    def __exit__(self, kind, error, trace):
+        if isinstance(error, Failed) and self.process.poll() is not None:
+            ended = f"the server has ended with {self.process.returncode}: {self.lines[-2:]}, {self.said()}"
+            error.args = (f"{error}; {ended}",)
+        self.close()
+
+
+class Client:
+    """A connection. Unless `connect` is false, its CONNECT has been accepted."""
+
+    def __init__(self, server, user="demo", connect=True, receive=None, **options):
+        self.socket = socket.socket()
+        self.socket.settimeout(LIMIT)
+        if receive:
+            self.socket.setsockopt(socket.SOL_SOCKET, socket.SO_RCVBUF, receive)
+        self.socket.connect(server.address)
+        self.socket.setsockopt(socket.IPPROTO_TCP, socket.TCP_NODELAY, 1)
+        self.got = bytearray()
+        if connect is None:
+            return
+        self.number = json.loads(self.line(b"INFO "))["client_id"]
+        if connect:
+            self.send(self.connecting(user, **options))
+            self.ping(verbose=options.get("verbose", False))
+
+    @staticmethod
+    def connecting(user="demo", **options):
+        return b"CONNECT %b\r\n" % json.dumps({"user": user, "pass": user, "verbose": False, **options}).encode()
+
+    def send(self, data):
+        self.socket.sendall(data)
+
+    def more(self):
+        """Reads what comes, and returns whether anything came."""
+        try:
+            data = self.socket.recv(1 << 18)
+        except ConnectionResetError:
+            return False
+        except TimeoutError:
+            raise Failed(f"nothing came for {LIMIT} s after {shown(self.got)}") from None
+        self.got += data
+        return bool(data)
+
+    def take(self, count):
+        while len(self.got) < count:
+            want(self.more(), f"closed after {shown(self.got)}")
+        data = bytes(self.got[:count])
+        del self.got[:count]
+        return data
+
+    def line(self, begin=b""):
+        """Returns what follows `begin` in the next line, which begins so."""
+        while b"\r\n" not in self.got:
+            want(self.more(), f"closed after {shown(self.got)}")
+        line = self.take(self.got.index(b"\r\n") + 2)
+        want(line.startswith(begin), f"wanted {begin!r}, and {shown(line)} came")
+        return line[len(begin):-2]
+
+    def ping(self, verbose=False):
+        self.send(b"PING\r\n")
+        if verbose:
+            self.line(b"+OK")
+        self.line(b"PONG")
+
+    def subscribe(self, subject, sid=b"1"):
+        self.send(b"SUB %b %b\r\nPING\r\n" % (subject, sid))
+        self.line(b"PONG")
+
+    def message(self):
+        """Returns the next message: subject, sid, reply or none, and payload."""
+        *fields, size = self.line(b"MSG ").split(b" ")
+        payload = self.take(int(size) + 2)
+        want(payload.endswith(b"\r\n"), f"no line end behind {shown(payload)}")
+        return fields[0], fields[1], fields[2] if len(fields) > 2 else None, payload[:-2]
+
+    def rest(self):
+        """Returns all that comes before the end, or a reset."""
+        while self.more():
+            pass
+        data, self.got = bytes(self.got), bytearray()
+        return data
+
+    def rest_now(self):
+        """Returns what has come already."""
+        self.socket.setblocking(False)
+        with contextlib.suppress(BlockingIOError, ConnectionResetError):
+            return self.socket.recv(1 << 18)
+        return b""
+
+    def reset(self):
+        """Closes with a reset."""
+        self.socket.setsockopt(socket.SOL_SOCKET, socket.SO_LINGER, struct.pack("ii", 1, 0))
+        self.socket.close()
+
+    def close(self):
+        self.socket.close()
+
+    def __enter__(self):
+        return self
+
+    def __exit__(self, *_):
+        self.close()
+
+
+def client_on(server, worker, workers, **options):
+    """Returns a client on this worker: connections are handed round in the order of their numbers."""
+    for _ in range(2 * workers):
+        client = Client(server, **options)
+        if (client.number - 1) % workers == worker:
+            return client
+        client.close()
+    raise Failed(f"no connection came to worker {worker} of {workers}")
+
+
+def is_alive(server):
+    """Shows that two new clients are served."""
+    with Client(server) as one, Client(server) as two:
+        one.subscribe(b"is.alive")
+        two.send(b"PUB is.alive 2\r\nhi\r\n")
+        want(one.message() == (b"is.alive", b"1", None, b"hi"), "another message came")
+
+
+class Flood:
+    """Messages of 16 bytes in writes of 64 KiB, and those who receive them."""
+
+    EACH = 2048
+
+    def __init__(self, messages, subject=b"flood", size=16):
+        self.messages, self.size = messages, size
+        numbers = [b"%0*d" % (size, it) for it in range(self.EACH)]
+        self.piece = b"".join(b"PUB %b %d\r\n%b\r\n" % (subject, size, it) for it in numbers)
+        self.pattern = b"".join(b"MSG %b 1 %d\r\n%b\r\n" % (subject, size, it) for it in numbers)
+        self.twice = self.pattern * 2
+        self.sent_bytes = len(self.piece) // self.EACH * messages
+        self.wanted = len(self.pattern) // self.EACH * messages
+
+    def is_front(self, data, at=0):
+        """Whether this is what a receiver is to get behind its first `at` bytes."""
+        size = len(self.pattern)
+        return all(data[it:it + size] == self.twice[(at + it) % size:][:len(data[it:it + size])]
+                   for it in range(0, len(data), size))
+
+    def run(self, publisher, receivers, meanwhile=None):
+        """Publishes until every receiver has all."""
+        run_floods([(self, publisher, receivers)], meanwhile)
+
+
+class Publishing:
+    """How far the publisher of a flood is."""
+
+    def __init__(self, flood, client):
+        self.flood, self.client, self.sent = flood, client, 0
+
+    def step(self):
+        """Writes what its socket takes, and returns whether all is written."""
+        at, piece = self.sent % len(self.flood.piece), memoryview(self.flood.piece)
+        with contextlib.suppress(BlockingIOError, InterruptedError):
+            self.sent += self.client.socket.send(piece[at:at + self.flood.sent_bytes - self.sent])
+        return self.sent == self.flood.sent_bytes
+
+
+class Receiving:
+    """How far a receiver of a flood is."""
+
+    def __init__(self, flood, client):
+        want(not client.got, f"before the first message: {shown(client.got)}")
+        self.flood, self.client, self.got = flood, client, 0
+
+    def step(self):
+        """Reads what has come, and returns whether all has."""
+        try:
+            data = self.client.socket.recv(len(self.flood.pattern))
+        except BlockingIOError:
+            return False
+        except ConnectionResetError:
+            data = b""
+        want(data, f"a receiver was closed after {self.got} of {self.flood.wanted} bytes")
+        want(self.flood.is_front(data, self.got), f"after {self.got} right bytes a receiver got {shown(data)}")
+        self.got += len(data)
+        want(self.got <= self.flood.wanted, "a message came twice")
+        return self.got == self.flood.wanted
+
+
+def run_floods(floods, meanwhile=None):
+    """Runs floods at once: each a flood, its publisher, and those who receive all of it. Each wrong, missing or doubled
+    byte is a failure. `meanwhile` is called with the part that is written."""
+    chooser = selectors.DefaultSelector()
+    publishing = [Publishing(flood, publisher) for flood, publisher, _ in floods]
+    receiving = [Receiving(flood, it) for flood, _, receivers in floods for it in receivers]
+    everyone = [it.client for it in (*publishing, *receiving)]
+    for it in everyone:
+        it.socket.setblocking(False)
+    for it in publishing:
+        chooser.register(it.client.socket, selectors.EVENT_READ | selectors.EVENT_WRITE, it)
+    for it in receiving:
+        chooser.register(it.client.socket, selectors.EVENT_READ, it)
+    left, last = len(publishing) + len(receiving), time.monotonic()
+    whole = sum(it.flood.sent_bytes for it in publishing)
+    while left:
+        for key, events in chooser.select(1):
+            if events & selectors.EVENT_WRITE and key.data.step():
+                chooser.modify(key.fileobj, selectors.EVENT_READ, key.data)
+                left -= 1
+            if events & selectors.EVENT_READ:
+                if isinstance(key.data, Publishing):
+                    want(False, f"a publisher was sent {shown(key.data.client.rest_now()) or 'the end'}")
+                left -= key.data.step()
+            last = time.monotonic()
+        if meanwhile:
+            meanwhile(sum(it.sent for it in publishing) / whole)
+        want(time.monotonic() < last + LIMIT,
+             f"nothing moved for {LIMIT} s: {sum(it.sent for it in publishing)} of {whole} bytes sent, "
+             f"received {[it.got for it in receiving]} of {floods[0][0].wanted} each")
+    for it in everyone:
+        it.socket.settimeout(LIMIT)
+    for it in everyone:
+        it.ping()
+
+
+def run(about, *checks):
+    """Runs the checks of a script, each with the program and what divides its counts."""
+    words = argparse.ArgumentParser(description=about, formatter_class=argparse.RawDescriptionHelpFormatter)
+    words.add_argument("program")
+    words.add_argument("--divide", type=int, default=1, metavar="N", help="divide the counts by N")
+    asked = words.parse_args()
+    asked.program = os.path.abspath(asked.program)
+    failed = 0
+    for check in checks:
+        name = (check.__doc__ or check.__name__).strip().split("\n")[0].rstrip(".")
+        begin = time.monotonic()
+        try:
+            more = check(asked.program, asked.divide)
+            print(f"passed: {name}{f': {more}' if more else ''} ({time.monotonic() - begin:.1f} s)", flush=True)
+        except Exception as error:
+            failed += 1
+            why = str(error) if isinstance(error, Failed) else traceback.format_exc()
+            print(f"FAILED: {name}: {why}", flush=True)
+    print(f"{len(checks) - failed} passed, {failed} failed")
+    raise SystemExit(1 if failed else 0)
