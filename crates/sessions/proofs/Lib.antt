@@ -5,3 +5,4 @@ pub mod Keys
 pub mod Plans
 pub mod Remaining
 pub mod Ascending
+pub mod Text

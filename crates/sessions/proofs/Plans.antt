@@ -1,11 +1,13 @@
 -- What is planned is what will be met.
-use Rattle.std.proofs.Common.{◌≡◌, ◌∙◌, ◌==◌, ◌⊎◌, inl, inr, ℕ, ◌-◌, ◌<◌, ◌≤◌, suc, zero, Bool, true, false, cond, List, [], ◌∷◌, ◌++◌, length, get_or, set, position, Option, Some, None, ap, sym, refl, arith, nat_lt}
+use Rattle.std.proofs.Common.{◌≡◌, ◌∙◌, ◌==◌, ◌⊎◌, inl, inr, ℕ, ◌-◌, ◌<◌, ◌≤◌, suc, zero, Bool, true, false, cond, List, [], ◌∷◌, ◌++◌, length, get_or, map, set, position, Option, Some, None, ap, sym, refl, arith, nat_lt}
 use Rattle.std.specs.Option.{option_map}
+use Rattle.subjects.specs.Subject.{Token}
 use Rattle.std.proofs.lemmas.List.{length-append, append_assoc}
 use Rattle.std.proofs.lemmas.List.Quantifiers.{position-Some}
 use Rattle.std.proofs.lemmas.Bool.{eqb-true, eq-eqb, ne_eqb, ltb-true, ltb-false, lt-ltb, le-ltb, cases_eq}
 use Rattle.sessions.specs.Sessions.{session_of}
 use Rattle.sessions.specs.Delivered.{noting, offered, after_offer, item_of, delivered, has_room, room_in}
+use Rattle.sessions.specs.Replying.{with_note}
 use Rattle.sessions.specs.declared.session.Session.{Session}
 use Rattle.reply_grants.specs.declared.replies.Note.{Note}
 use Rattle.events.specs.declared.answer.Addressed.{Addressed}
@@ -92,7 +94,7 @@ same_room conn n rooms is other = by (cases_eq other conn)
 -- ---- the plan
 
 -- rooms that agree on whom it is for plan the same
-pub planned-same : (all : List Addressed) (r s : ℕ → ℕ) → ((k : ℕ) (d : Addressed) → k < length all → r (get_or all k d).conn ≡ s (get_or all k d).conn) → planned all r ≡ planned all s
+planned-same : (all : List Addressed) (r s : ℕ → ℕ) → ((k : ℕ) (d : Addressed) → k < length all → r (get_or all k d).conn ≡ s (get_or all k d).conn) → planned all r ≡ planned all s
 planned-same [] r s same = refl
 planned-same (a ∷ rest) r s same =
     ap (λ n. cond (nat_lt 0 n) (Entered a.conn a.delivery.sid) (Full a.conn a.delivery.sid) ∷ planned rest (with_room a.conn (r a.conn - 1) r)) (same 0 a (omega arith))
@@ -142,8 +144,20 @@ planned-delivered now (a ∷ rest) zs =
     ∙ ap (λ more. item_of a zs ∷ more)
     (ap (planned rest) (λ i other. after_one now a zs other i) ∙ planned-delivered now rest (after_offer now a zs))
 
-pub plan_is : (now : ℕ) (all : List Addressed) (zs : List Session) (rooms : List ℕ) → ((k : ℕ) (d : Addressed) → k < length all → room_at zs rooms (get_or all k d).conn ≡ rooms_of zs (get_or all k d).conn) → planned all (room_at zs rooms) ≡ (delivered now all zs).1
-plan_is now all zs rooms noted = planned-same all (room_at zs rooms) (rooms_of zs) noted ∙ planned-delivered now all zs
+-- what is to be noted changes no plan
+planned_noted : (zs : List Session) (reply : Option (List Token)) (all : List Addressed) (rooms : ℕ → ℕ) → planned (map (with_note zs reply) all) rooms ≡ planned all rooms
+planned_noted zs reply [] rooms = refl
+planned_noted zs reply (a ∷ rest) rooms =
+    ap (λ more. cond (nat_lt 0 (rooms a.conn)) (Entered a.conn a.delivery.sid) (Full a.conn a.delivery.sid) ∷ more) (planned_noted zs reply rest (with_room a.conn (rooms a.conn - 1) rooms))
+
+pub plan_noted : (now : ℕ) (reply : Option (List Token)) (all : List Addressed) (zs : List Session) (rooms : List ℕ) →
+    ((k : ℕ) (d : Addressed) → k < length all → room_at zs rooms (get_or all k d).conn ≡ rooms_of zs (get_or all k d).conn) →
+    planned (map (with_note zs reply) all) (room_at zs rooms) ≡ (delivered now (map (with_note zs reply) all) zs).1
+plan_noted now reply all zs rooms noted =
+    planned_noted zs reply all (room_at zs rooms)
+    ∙ planned-same all (room_at zs rooms) (rooms_of zs) noted
+    ∙ sym (planned_noted zs reply all (rooms_of zs))
+    ∙ planned-delivered now (map (with_note zs reply) all) zs
 
 -- one more is planned
 pub planned-more : (items : List Item) (a : Addressed) (rest : List Addressed) (zs : List Session) (rooms after : List ℕ) →

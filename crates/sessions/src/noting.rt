@@ -4,11 +4,22 @@ ghost use Rattle.std.specs.Option.{option_copied};
 ghost use Rattle.sessions.specs.Replying.{note_of, note_for};
 
 use crate::Session;
-use lists::{Copying, NoMemory};
+use lists::NoMemory;
 use reply_grants::{Note, Replies};
 use std::alloc::Global;
 use std::hash::RandomState;
 use subjects::Subject;
+
+/// The same subject, in memory of its own: it may stand long after what it was read of has gone.
+fn own_subject(alloc: Global, subject: &Subject) -> Result<Subject, NoMemory>
+    ensures { IfOk result (λ own. own ≡ subject.now) }
+{
+    let _known = subject.tokens();
+    match Subject::parse(alloc, subject.bytes()) {
+        Ok(own) => Ok(own),
+        Err(_) => Err(NoMemory),
+    }
+}
 
 /// A note of the subject, with a table for a session that has none yet.
 fn note_of(
@@ -19,7 +30,7 @@ fn note_of(
 ) -> Result<Note, NoMemory>
     ensures { IfOk result (λ note. note ≡ note_of subject.now replies.now) }
 {
-    let subject = subject.copy(alloc)?;
+    let subject = own_subject(alloc, subject)?;
     if replies.has_table() {
         let table = Replies::none();
         Ok(Note { subject, table })
@@ -29,20 +40,20 @@ fn note_of(
     }
 }
 
-/// What is to be noted where a message with this reply enters for a session: nothing, where its user may not answer.
+/// What is to be noted where a message enters for a session: its reply, if it has one and the user may answer.
 pub(crate) fn note_for(
     alloc: Global,
     keys: RandomState,
-    reply: &Subject,
+    reply: Option<&Subject>,
     session: Option<&Session>,
 ) -> Result<Option<Note>, NoMemory>
-    ensures { IfOk result (λ noted. noted ≡ note_for (Some reply.now) (option_copied session.entry)) }
+    ensures { IfOk result (λ noted. noted ≡ note_for (option_copied reply.entry) (option_copied session.entry)) }
 {
-    match session {
-        None => Ok(None),
-        Some(session) => match session.user.rules.terms() {
+    match (reply, session) {
+        (Some(reply), Some(session)) => match session.user.rules.terms() {
             None => Ok(None),
             Some(_) => Ok(Some(note_of(alloc, keys, reply, &session.replies)?)),
         },
+        _ => Ok(None),
     }
 }

@@ -1,16 +1,20 @@
-//! What deliveries will meet, before one is handed over.
-ghost use Rattle.std.specs.Prelude.{◌≡◌, ℕ, ◌<◌, ◌≤◌, ◌-◌, ◌==◌, ◌∷◌, [], IfOk, IfSome, length, map, position, nat_lt, slice_index_or, if◌then◌else◌};
+//! What deliveries will meet, and what is to be noted with them, before one is handed over.
+ghost use Rattle.std.specs.Prelude.{◌≡◌, ℕ, ◌<◌, ◌≤◌, ◌-◌, ◌==◌, ◌∷◌, [], IfOk, OnOk, IfSome, length, map, position, nat_lt, slice_index_or, if◌then◌else◌};
 ghost use Rattle.std.specs.Option.{option_copied};
 ghost use Rattle.sessions.specs.Sessions.{session_of};
 ghost use Rattle.sessions.specs.Delivered.{has_room, room_in, delivered};
 ghost use Rattle.sessions.specs.Planned.{room_at, rooms_of, with_room, planned};
 ghost use Rattle.sessions.specs.Renewal.{connection_of};
+ghost use Rattle.sessions.specs.Replying.{note_for, with_note};
 
 use crate::Session;
+use crate::noting::note_for;
 use events::{Addressed, Item};
 use indexmap::IndexSet;
 use lists::NoMemory;
 use std::alloc::Global;
+use std::hash::RandomState;
+use subjects::Subject;
 
 /// The place of the session of a connection.
 pub(crate) fn place_in(conns: &IndexSet<u64>, list: &[Session], conn: u64) -> Option<usize>
@@ -19,16 +23,6 @@ pub(crate) fn place_in(conns: &IndexSet<u64>, list: &[Session], conn: u64) -> Op
 {
     let place = conns.get_index_of(&conn);
     place
-}
-
-/// The one delivery, where there is one and no other.
-pub(crate) fn only(all: &[Addressed]) -> Option<&Addressed>
-    ensures { IfSome result (λ next. all.now ≡ next.now ∷ []) }
-{
-    match all.split_first() {
-        None => None,
-        Some((next, rest)) => { if rest.is_empty() { Some(next) } else { None } }
-    }
 }
 
 /// Whether one more delivery has room in a session's outbox.
@@ -42,27 +36,43 @@ fn has_room(session: Option<&Session>) -> bool
     }
 }
 
-/// What a single delivery meets at the session that it is for.
-pub(crate) fn plan_one(session: Option<&Session>, next: &Addressed) -> Result<Item, NoMemory>
-    ensures { IfOk result (λ item. item ≡ (if has_room (option_copied session.entry) then Item.Entered next.now.conn next.now.delivery.sid else Item.Full next.now.conn next.now.delivery.sid)) }
+/// What a single delivery meets at the session that it is for. Beside it is put down what that is to note.
+pub(crate) fn plan_one(
+    alloc: Global,
+    keys: RandomState,
+    session: Option<&Session>,
+    next: &mut Addressed,
+    reply: Option<&Subject>,
+) -> Result<Item, NoMemory>
+    ensures item { IfOk result (λ item. item ≡ (if has_room (option_copied session.entry) then Item.Entered next.new.conn next.new.delivery.sid else Item.Full next.new.conn next.new.delivery.sid)) }
+    ensures noted { OnOk result (next.new ≡ record next.old { noted = note_for (option_copied reply.entry) (option_copied session.entry) }) }
 {
+    let noted = note_for(alloc, keys, reply, session)?;
+    next.noted = noted;
     let has_room = has_room(session);
     let item = item(next, has_room)?;
     Ok(item)
 }
 
-/// Notes how much room a connection has.
-fn note_room(conns: &IndexSet<u64>, list: &[Session], rooms: &mut [usize], conn: u64)
+/// Notes how much room a connection has, and gives its session.
+fn note_room<'a>(
+    conns: &IndexSet<u64>,
+    list: &'a [Session],
+    rooms: &mut [usize],
+    conn: u64,
+) -> Option<&'a Session>
     requires keys { conns.now.keys ≡ map connection_of list.now }
     requires within { length list.now ≤ length rooms.old }
-    ensures { (other : ℕ) → room_at list.now rooms.new other ≡ with_room conn (room_in (session_of list.now conn)) (room_at list.now rooms.old) other }
+    ensures session { option_copied result ≡ session_of list.now conn }
+    ensures room { (other : ℕ) → room_at list.now rooms.new other ≡ with_room conn (room_in (session_of list.now conn)) (room_at list.now rooms.old) other }
 {
     match place_in(conns, list, conn) {
-        None => {}
+        None => None,
         Some(place) => {
             let session = &list[place];
             let room = session.outbox.room();
             rooms[place] = room;
+            Some(session)
         }
     }
 }
@@ -84,16 +94,29 @@ fn take_room(conns: &IndexSet<u64>, list: &[Session], rooms: &mut [usize], conn:
     }
 }
 
-/// Notes the room of each connection that a delivery is for.
-fn note_rooms(conns: &IndexSet<u64>, list: &[Session], rooms: &mut [usize], all: &[Addressed])
+/// Notes the room of each connection that a delivery is for, and puts down beside each delivery what its session is to
+/// note.
+fn note_rooms(
+    alloc: Global,
+    keys: RandomState,
+    conns: &IndexSet<u64>,
+    list: &[Session],
+    rooms: &mut [usize],
+    all: &mut [Addressed],
+    reply: Option<&Subject>,
+) -> Result<(), NoMemory>
     requires keys { conns.now.keys ≡ map connection_of list.now }
     requires within { length list.now ≤ length rooms.old }
-    ensures { (k : ℕ) (d : Addressed) → k < length all.now →
-        room_at list.now rooms.new (slice_index_or all.now k d).conn ≡ rooms_of list.now (slice_index_or all.now k d).conn }
+    ensures rooms { OnOk result ((k : ℕ) (d : Addressed) → k < length all.old →
+        room_at list.now rooms.new (slice_index_or all.old k d).conn ≡ rooms_of list.now (slice_index_or all.old k d).conn) }
+    ensures noted { OnOk result (all.new ≡ map (with_note list.now (option_copied reply.entry)) all.old) }
 {
-    for next in all {
-        note_room(conns, list, rooms, next.conn);
+    for next in all.iter_mut() {
+        let session = note_room(conns, list, rooms, next.conn);
+        let noted = note_for(alloc, keys, reply, session)?;
+        next.noted = noted;
     }
+    Ok(())
 }
 
 /// What a delivery meets where there is room, or where there is none.
@@ -129,19 +152,23 @@ fn plan_each(
     Ok(items)
 }
 
-/// What each delivery will meet, where they are handed over in turn.
+/// What each delivery of a message with this reply will meet, where they are handed over in turn. Beside each is put
+/// down what its session is to note.
 pub(crate) fn plan_all(
     alloc: Global,
+    keys: RandomState,
     conns: &IndexSet<u64>,
     list: &[Session],
     rooms: &mut [usize],
-    all: &[Addressed],
+    all: &mut [Addressed],
+    reply: Option<&Subject>,
 ) -> Result<Vec<Item>, NoMemory>
     requires keys { conns.now.keys ≡ map connection_of list.now }
     requires within { length list.now ≤ length rooms.old }
-    ensures { IfOk result (λ items. (now : ℕ) → items.items ≡ (delivered now all.now list.now).1) }
+    ensures items { IfOk result (λ items. (now : ℕ) → items.items ≡ (delivered now all.new list.now).1) }
+    ensures noted { OnOk result (all.new ≡ map (with_note list.now (option_copied reply.entry)) all.old) }
 {
-    note_rooms(conns, list, rooms, all);
+    note_rooms(alloc, keys, conns, list, rooms, all, reply)?;
     let items = plan_each(alloc, conns, list, rooms, all)?;
     Ok(items)
 }

@@ -1,5 +1,4 @@
-use crate::noting::note_for;
-use crate::plan::{only, place_in, plan_all, plan_one};
+use crate::plan::{place_in, plan_all, plan_one};
 use crate::{Session, renewal};
 use events::{Addressed, Met};
 use indexmap::IndexSet;
@@ -123,39 +122,28 @@ impl Sessions {
         remove_from(&mut self.list, conn);
     }
 
-    /// What each delivery will meet, where they are handed over in turn. `NoMemory` where memory could not be had.
-    pub fn plan(&mut self, all: &[Addressed]) -> Result<Met, NoMemory>
-        ensures items { IfOk result (λ items. (now : ℕ) → items ≡ (delivered now all.now self.old).1) }
-        ensures same { self.new ≡ self.old }
-    {
-        match only(all) {
-            Some(next) => {
-                let item = plan_one(self.find(next.conn), next)?;
-                Ok(Met::one(item))
-            }
-            None => {
-                let rooms = self.rooms.as_mut_slice();
-                let items = plan_all(self.alloc, &self.conns, self.list.as_slice(), rooms, all)?;
-                Ok(Met::from_vec(items))
-            }
-        }
-    }
-
-    /// Puts down beside each delivery of a message with this reply what its session is to note where it enters. The
-    /// memory that it will take is had here. `NoMemory` where it could not be had: then it is put down of some.
-    pub fn note_replies(
-        &self,
+    /// What each delivery of a message with this reply will meet, where they are handed over in turn. Beside each is put
+    /// down what its session is to note where it enters, and the memory that this will take is had here. `NoMemory` where
+    /// memory could not be had: then it is put down of some.
+    pub fn plan(
+        &mut self,
         keys: RandomState,
         all: &mut [Addressed],
-        reply: &Subject,
-    ) -> Result<(), NoMemory>
-        ensures { OnOk result (all.new ≡ map (with_note self.now (Some reply.now)) all.old) }
+        reply: Option<&Subject>,
+    ) -> Result<Met, NoMemory>
+        ensures items { IfOk result (λ items. (now : ℕ) → items ≡ (delivered now all.new self.old).1) }
+        ensures noted { OnOk result (all.new ≡ map (with_note self.old (option_copied reply.entry)) all.old) }
+        ensures same { self.new ≡ self.old }
     {
-        for next in all.iter_mut() {
-            let noted = note_for(self.alloc, keys, reply, self.find(next.conn))?;
-            next.noted = noted;
+        if all.len() == 1 {
+            let next = &mut all[0];
+            let item = plan_one(self.alloc, keys, self.find(next.conn), next, reply)?;
+            return Ok(Met::one(item));
         }
-        Ok(())
+        let rooms = self.rooms.as_mut_slice();
+        let list = self.list.as_slice();
+        let items = plan_all(self.alloc, keys, &self.conns, list, rooms, all, reply)?;
+        Ok(Met::from_vec(items))
     }
 
     /// Hands a delivery over at a moment to the session that it is for: it waits in the outbox, and what is to be noted

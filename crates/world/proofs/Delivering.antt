@@ -1,5 +1,5 @@
 -- Deliveries that are handed over and counted.
-use Rattle.std.proofs.Common.{◌≡◌, ◌∙◌, ℕ, Bool, true, false, cond, List, [], ◌∷◌, Option, None, map, filter, ap, sym, refl, subst}
+use Rattle.std.proofs.Common.{◌≡◌, ◌∙◌, ℕ, Bool, true, false, cond, List, [], ◌∷◌, Option, map, filter, ap, sym, refl, subst}
 use Rattle.subjects.specs.Subject.{Token}
 use Rattle.events.specs.Messages.{Message}
 use Rattle.events.specs.declared.answer.Addressed.{Addressed}
@@ -45,14 +45,6 @@ module _ (zs : List Session) (reply : Option (List Token)) where
   told_noted (d ∷ ds) [] t = t
   told_noted (d ∷ ds) (Entered conn sid ∷ items) t = (t.0, told_noted ds items t.1)
   told_noted (d ∷ ds) (Full conn sid ∷ items) t = (tt, told_noted ds items t.1)
-
--- nothing is noted of a message without a reply
-pub none_noted : (zs : List Session) (reply : Option (List Token)) (m : Message) (subs : List Subscription) (all : List Addressed) → reply ≡ None → all ≡ map (addressed_to m) subs → all ≡ map (with_note zs reply) all
-none_noted zs reply m subs all none is = is ∙ same subs ∙ sym (ap (map (with_note zs reply)) is ∙ ap (λ (r : Option (List Token)). map (with_note zs r) (map (addressed_to m) subs)) none)
-  where
-    same : (subs : List Subscription) → map (addressed_to m) subs ≡ map (with_note zs None) (map (addressed_to m) subs)
-    same [] = refl
-    same (s ∷ subs) = ap (λ (all : List Addressed). addressed_to m s ∷ all) (same subs)
 
 -- each that a message has entered for counts it
 pub counted_is : (zs : List Session) (all : List Addressed) (items : List Item) (subs : List Subscription) → Apart subs → unended subs ≡ subs →

@@ -4,4 +4,3 @@ pub mod Publishing
 pub mod Reasons
 pub mod Routing
 pub mod Subscribing
-pub mod Text

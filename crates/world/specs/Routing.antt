@@ -53,11 +53,13 @@ admitted w publisher v = filter (is_admitted w.sessions publisher v) w.subscript
 
 -- ---- deliveries
 
--- the deliveries of a view, oldest subscription first, each with what its session is to note. Who is chosen is so before
--- room is looked at.
+-- the deliveries of a view, oldest subscription first. Who is chosen is so before room is looked at.
+abbrev pub addressed : World → Session → View → ℕ → List Addressed
+addressed w publisher v word = map (addressed_to v.message) (served word (admitted w publisher v))
+
+-- each with what its session is to note
 abbrev pub deliveries : World → Session → View → ℕ → List Addressed
-deliveries w publisher v word =
-    map (with_note w.sessions v.message.reply) (map (addressed_to v.message) (served word (admitted w publisher v)))
+deliveries w publisher v word = map (with_note w.sessions v.message.reply) (addressed w publisher v word)
 
 -- the view is delivered to sessions: what each of those that it is for met, and the world after it. Where the message enters, its
 -- session notes its reply, if the user may answer. Each subscription that the message has entered for counts it, and ends

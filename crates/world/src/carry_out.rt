@@ -46,12 +46,8 @@ impl World {
                 self.subscriptions.known();
                 self.subscriptions.count(all.as_slice(), items_in(told));
                 self.deliveries = all.into_vec();
-                hand_over(
-                    &mut self.sessions,
-                    &mut self.deliveries,
-                    self.moment,
-                    answered,
-                );
+                let now = self.moment;
+                hand_over(&mut self.sessions, &mut self.deliveries, now, answered);
                 Ok(())
             }
             Change::Drain { conn, most } => {

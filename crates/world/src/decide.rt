@@ -6,7 +6,7 @@ use crate::reload::{Prepared, prepare};
 use crate::verdict::{on_publish, on_subscription};
 use crate::world::World;
 use bytes::Bytes;
-use events::{Command, HubRefusal, Message, Outcome, Sid};
+use events::{Addressed, Command, HubRefusal, Message, Met, Outcome, Sid};
 use lists::{Copying, Items, NoMemory, Shared, SharedText};
 use permissions::{By, Verdict};
 use ready::Ready;
@@ -67,8 +67,10 @@ ghost use Rattle.world.specs.declared.change.Change.TheVariants as change;
 ghost use Rattle.world.specs.Changes.{answered_by};
 
 impl World {
-    ghost use Rattle.std.specs.Prelude.{◌≡◌, IfOk};
+    ghost use Rattle.std.specs.Prelude.{◌≡◌, ℕ, IfOk, OnOk, map};
     ghost use Rattle.events.specs.declared.event.Command.TheVariants as command;
+    ghost use Rattle.sessions.specs.Delivered.{delivered};
+    ghost use Rattle.sessions.specs.Replying.{with_note};
     ghost use Rattle.world.specs.Transition.{moved, IsReasoned};
     ghost use Rattle.world.specs.Changes.{IsDecided};
 
@@ -205,7 +207,7 @@ impl World {
         ensures same { self.new ≡ self.old }
     {
         let room = mem::replace(&mut self.deliveries, Vec::new(self.alloc));
-        let (by, answered, all) = match self.sessions.find(conn) {
+        let (by, answered, mut all) = match self.sessions.find(conn) {
             None => return Err(HubRefusal::NoSession),
             Some(session) => match on_publish(session, message.get().subject(), self.moment) {
                 Verdict::Allowed(by) => (
@@ -224,7 +226,7 @@ impl World {
                 }
             },
         };
-        let items = self.sessions.plan(all.as_slice())?;
+        let items = self.plan(message.get(), &mut all)?;
         Ok(Decided {
             outcome: Outcome::Published(by, items),
             change: Change::Deliver {
@@ -232,6 +234,18 @@ impl World {
                 answered,
             },
         })
+    }
+
+    /// What the deliveries of a message will meet. Beside each is put down what its session is to note.
+    fn plan(&mut self, message: &Message, all: &mut Vec<Addressed>) -> Result<Met, NoMemory>
+        ensures items { IfOk result (λ items. (now : ℕ) → items ≡ (delivered now all.new.items self.old.sessions).1) }
+        ensures noted { OnOk result (all.new.items ≡ map (with_note self.old.sessions message.now.reply) all.old.items) }
+        ensures same { self.new ≡ self.old }
+    {
+        let items = self
+            .sessions
+            .plan(self.keys, all.as_mut_slice(), message.reply())?;
+        Ok(items)
     }
 
     /// The oldest deliveries of a session's outbox.

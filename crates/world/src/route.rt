@@ -1,5 +1,5 @@
 //! A message to the subscriptions that it is for.
-ghost use Rattle.std.specs.Prelude.{◌≡◌, IfOk, filter, map};
+ghost use Rattle.std.specs.Prelude.{◌≡◌, filter, map};
 ghost use Rattle.std.specs.Option.{option_copied};
 ghost use Rattle.world.specs.Routing.{lets_through, is_open_to, is_open};
 
@@ -9,7 +9,6 @@ use events::{Addressed, Message};
 use lists::{NoMemory, Shared};
 use queue_groups::keep_chosen;
 use sessions::{Session, Sessions};
-use std::alloc::Global;
 use subjects::Subject;
 use subscriptions::{SharedSubscription, address_each};
 
@@ -59,16 +58,12 @@ fn keep_open(
 }
 
 impl World {
-    ghost use Rattle.std.specs.Prelude.{◌≡◌, List, IfOk, OnOk, map};
-    ghost use Rattle.events.specs.Messages as messages;
-    ghost use Rattle.sessions.specs.Replying.{with_note};
-    ghost use Rattle.subscriptions.specs.Addressing.{addressed_to};
-    ghost use Rattle.subscriptions.specs.declared.subscription.Subscription as subscriptions;
-    ghost use Rattle.world.specs.Routing.{own_view, deliveries};
+    ghost use Rattle.std.specs.Prelude.{◌≡◌, IfOk};
+    ghost use Rattle.world.specs.Routing.{own_view, addressed};
 
     /// The deliveries of a message to those of the publisher's account that it is for, oldest subscription first, in a
     /// vector whose room is used again: to the plain subscriptions that may be sent it, and to the member of each queue
-    /// group that the word chooses.
+    /// group that the word chooses. What their sessions are to note isn't put down yet.
     pub(crate) fn address_all(
         &self,
         publisher: &Session,
@@ -76,7 +71,7 @@ impl World {
         word: u64,
         room: Vec<Addressed>,
     ) -> Result<Vec<Addressed>, NoMemory>
-        ensures { IfOk result (λ all. all.items ≡ deliveries self.now publisher.now (own_view publisher.now message.now) word) }
+        ensures { IfOk result (λ all. all.items ≡ addressed self.now publisher.now (own_view publisher.now message.now) word) }
     {
         self.subscriptions.known();
         let subject = message.get().subject();
@@ -87,35 +82,6 @@ impl World {
         let mut all = room;
         all.clear();
         address_each(self.alloc, message, found.as_slice(), &mut all)?;
-        self.note_reply(message.get(), &mut all)?;
         Ok(all)
-    }
-
-    /// Puts down beside each delivery what its session is to note, where the message has a reply. The reply is copied
-    /// out of what was read, since it may stand long.
-    fn note_reply(&self, message: &Message, all: &mut Vec<Addressed>) -> Result<(), NoMemory>
-        ensures { OnOk result ((m : messages.Message) (subs : List subscriptions.Subscription) → all.old.items ≡ map (addressed_to m) subs
-            → all.new.items ≡ map (with_note self.now.sessions message.now.reply) all.old.items) }
-    {
-        match message.reply() {
-            None => Ok(()),
-            Some(reply) => {
-                let reply = own_subject(self.alloc, reply)?;
-                self.sessions
-                    .note_replies(self.keys, all.as_mut_slice(), &reply)?;
-                Ok(())
-            }
-        }
-    }
-}
-
-/// The same subject, in memory of its own.
-fn own_subject(alloc: Global, subject: &Subject) -> Result<Subject, NoMemory>
-    ensures { IfOk result (λ own. own ≡ subject.now) }
-{
-    let _known = subject.tokens();
-    match Subject::parse(alloc, subject.bytes()) {
-        Ok(own) => Ok(own),
-        Err(_) => Err(NoMemory),
     }
 }

@@ -4,15 +4,13 @@ use Rattle.std.proofs.lemmas.List.Kept.{AllPairs-filter}
 use Rattle.subjects.specs.Subject.{Token}
 use Rattle.events.specs.Messages.{Message}
 use Rattle.events.specs.declared.answer.Addressed.{Addressed}
-use Rattle.sessions.specs.Replying.{with_note}
-use Rattle.sessions.specs.declared.session.Session.{Session}
 use Rattle.subscriptions.specs.Subscriptions.{has_subject, having}
 use Rattle.subscriptions.specs.Addressing.{addressed_to}
 use Rattle.subscriptions.specs.declared.subscription.Subscription.{Subscription}
 use Rattle.world.specs.World.{World}
 use Rattle.queue_groups.specs.Chosen.{Rising}
 use Rattle.queue_groups.specs.Served.{served}
-use Rattle.world.specs.Routing.{own_view, is_open, is_admitted, admitted}
+use Rattle.world.specs.Routing.{own_view, is_open, is_admitted, addressed}
 use Rattle.world.proofs.Routing.{both}
 use Rattle.world.proofs.world.World.address_all.Goals as goal
 
@@ -39,8 +37,4 @@ returns c =
     ∙ ap (λ (l : List Addressed). l ++ map (addressed_to m) (those c.as_slice.result.now)) c.clear.ensures.items
     ∙ ap (λ refs. map (addressed_to m) (those refs)) c.as_slice.ensures.value
     ∙ ap (map (addressed_to m)) (c.in_ok-keep_chosen.ensures (subst Rising (sym opened) rising) ∙ ap (served c.args.word) opened) in
-    let here : c.address_each.new.all.items ≡ map (addressed_to m) (served c.args.word (admitted c.args.self.now z (own_view z m))) =
-    made ∙ ap (λ (w : World). map (addressed_to m) (served c.args.word (admitted w z (own_view z m)))) c.self.view_is in
-    c.in_ok-note_reply.ensures m (served c.args.word all) made
-    ∙ ap (λ (n : Message). map (with_note c.args.self.now.sessions n.reply) c.address_each.new.all.items) c.get-2.ensures
-    ∙ ap (map (with_note c.args.self.now.sessions m.reply)) here
+    made ∙ ap (λ (w : World). addressed w z (own_view z m) c.args.word) c.self.view_is

@@ -4,7 +4,7 @@ use Rattle.events.specs.declared.answer.Addressed.{Addressed}
 use Rattle.events.specs.declared.answer.Item.{Item}
 use Rattle.sessions.specs.Delivered.{delivered}
 use Rattle.subscriptions.specs.Limit.{unended, counted}
-use Rattle.subscriptions.specs.Turns.{TellEach, entered_ids, in_turn}
+use Rattle.subscriptions.specs.Turns.{entered_ids, in_turn}
 use Rattle.world.specs.World.{World}
 use Rattle.world.specs.Changes.{done, handed_over, IsFit}
 use Rattle.world.specs.declared.change.Change.{Change}

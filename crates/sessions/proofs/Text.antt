@@ -1,11 +1,10 @@
 -- A subject is that of its text.
-use Rattle.std.proofs.Common.{◌≡◌, ◌∙◌, ◌==◌, ◌&&◌, ◌∷◌, ℕ, Bool, true, false, not, List, [], Option, Some, None, Ok, ap, sym, refl}
+use Rattle.std.proofs.Common.{◌≡◌, ◌∙◌, ◌==◌, ◌&&◌, ◌∷◌, ℕ, Bool, true, false, not, List, [], Option, Some, None, Ok, ap, refl}
 use Rattle.std.specs.Prelude.{All}
 use Rattle.std.specs.List.{list_all}
-use Rattle.std.proofs.lemmas.Bool.{eqb-true}
 use Rattle.std.proofs.lemmas.List.Elements.{All-nil, All-cons}
 use Rattle.std.proofs.lemmas.List.Splits.{slice_split_none, slice_split_at}
-use Rattle.subjects.specs.Subject.{Token, IsSubject, is_text_byte, is_token, is_token_byte, is_wildcard, is_literal, text_of, tokens_of}
+use Rattle.subjects.specs.Subject.{Token, IsSubject, is_text_byte, is_token_byte, is_wildcard, is_literal, text_of, tokens_of}
 use Rattle.subjects.specs.Fault.{IsParse}
 use Rattle.subjects.specs.declared.error.SubjectError.{SubjectError}
 
