@@ -47,8 +47,8 @@ use Rattle.hub.specs.Replies.{is_answer}
 use Rattle.hub.proofs.Finds.{find-map, AllPairs-map}
 use Rattle.hub.proofs.Soundness.{IsApart, HasTable, tables-next}
 use Rattle.hub.proofs.Deliveries.{sent, notes_of, receives_of, as_sent, met, outboxes, items_after}
-use Rattle.dropping.specs.Dropping.{with_live, settled, dropping, AreAlike, MakesNoDifference}
-use Rattle.dropping.proofs.Tables.{live_in, live_later, filter-map, after_same, judged_same, granted_same}
+use Rattle.grant_laws.specs.Dropping.{with_live, settled, dropping, AreAlike, MakesNoDifference}
+use Rattle.grant_laws.proofs.Tables.{live_in, live_later, filter-map, after_same, judged_same, granted_same}
 
 map-twice : {X Y Z : Type 0} (f : X → Y) (g : Y → Z) (h : X → Z) (xs : List X) → ((x : X) → g (f x) ≡ h x) → map g (map f xs) ≡ map h xs
 map-twice f g h [] same = refl
