@@ -1,2 +1,5 @@
 pub mod Tables
 pub mod Law
+pub mod Noted
+pub mod History
+pub mod Requests

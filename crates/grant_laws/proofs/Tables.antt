@@ -61,11 +61,11 @@ filter-map {X} p f (x ∷ xs) same = ap (λ c. cond c (f x ∷ filter p (map f x
 
 -- ---- ages
 
-both-front : (a b : Bool) → (a && b) ≡ true → a ≡ true
+pub both-front : (a b : Bool) → (a && b) ≡ true → a ≡ true
 both-front true b h = refl
 both-front false b h = absurd (cc)
 
-both-back : (a b : Bool) → (a && b) ≡ true → b ≡ true
+pub both-back : (a b : Bool) → (a && b) ≡ true → b ≡ true
 both-back true b h = h
 both-back false b h = absurd (cc)
 

@@ -1,6 +1,7 @@
-//! A law above the hub: it makes no difference when grants that are dead are dropped.
+//! Laws above the hub, of grants to answer: what they tell of the history, and that it makes no difference when dead
+//! ones are dropped.
 #![tactic(auto)]
 
 mod laws;
 
-pub use laws::any_event;
+pub use laws::{any_event, any_history};
