@@ -42,7 +42,6 @@ use Rattle.world.specs.Granting.{or_granted, verdict_on, counted_on, ended_on}
 use Rattle.world.specs.Routing.{own_view, may_hear, lets_through, is_admitted, admitted}
 use Rattle.world.specs.Reload.{user_after, verdict_for, may_stand, stands_on, removal, removal_after}
 use Rattle.world.specs.Transition.{connected, subscribed, published, in_session, in_new_session, moved, numbered, transition}
-use Rattle.hub.specs.Sound.{IsSound}
 use Rattle.hub.specs.Replies.{is_answer}
 use Rattle.hub.proofs.Finds.{find-map, AllPairs-map}
 use Rattle.hub.proofs.Soundness.{IsApart, HasTable, tables-next}
@@ -276,15 +275,15 @@ module _ (w : World) (moment : ℕ) where
       other : Session → Bool
       other z = not (z.conn == conn)
 
-  publish : (conn : ℕ) (m : Message) (word : ℕ) → IsSound w → AreAlike (numbered n (moved whole (Pub conn m word))) (numbered n (moved left (Pub conn m word)))
-  publish conn m word sound =
+  publish : (conn : ℕ) (m : Message) (word : ℕ) → AllPairs IsApart zs → All (HasTable (max w.moment moment)) zs → AreAlike (numbered n (moved whole (Pub conn m word))) (numbered n (moved left (Pub conn m word)))
+  publish conn m word connections tables =
       in_session-same conn _ _ (λ z e.
       subst (λ (b : Bool). AreAlike (numbered n (Ok (published whole z m word (verdict_on (max w.moment moment) z m.subject)))) (numbered n (Ok (published left (with_live (max w.moment moment) z) m word (or_granted b (publish_verdict z.user.rules m.subject))))))
       (sym (granted_same m.subject (max w.moment moment) (terms_of z) z.replies))
       (by_verdict z (verdict_on (max w.moment moment) z m.subject)))
     where
       apart : AllPairs IsApart ts
-      apart = AllPairs-map IsApart (with_live (max w.moment moment)) zs (λ y z ne e. ne e) sound.connections
+      apart = AllPairs-map IsApart (with_live (max w.moment moment)) zs (λ y z ne e. ne e) connections
 
       sends : (z : Session) (by : By) →
           AreAlike (numbered n (Ok (published whole z m word (Allowed by)))) (numbered n (Ok (published left (with_live (max w.moment moment) z) m word (Allowed by))))
@@ -306,13 +305,13 @@ module _ (w : World) (moment : ℕ) where
           ∙ sym (met M by z.conn m us zs) in
           let xs_is : xs ≡ map (receives_of M by z.conn m us) zs =
           ap (λ (all : List Addressed). ended_on by z.conn m.subject (delivered M all (counted_on by z.conn m.subject zs)).0) (as_sent zs m us)
-          ∙ outboxes M z.conn m us zs by sound.connections in
+          ∙ outboxes M z.conn m us zs by connections in
           let ys_is : ys ≡ map (receives_of M by z.conn m us) ts =
           ap (λ (all : List Addressed). ended_on by z.conn m.subject (delivered M all (counted_on by z.conn m.subject ts)).0) (as_sent ts m vs)
           ∙ outboxes M z.conn m vs ts by apart
           ∙ ap (λ ss. map (receives_of M by z.conn m ss) ts) same in
           let same_sessions : map (with_live M) ys ≡ map (with_live M) xs =
-          ap (map (with_live M)) ys_is ∙ received_same M by z.conn m us zs (tables-next w moment sound) ∙ sym (ap (map (with_live M)) xs_is) in
+          ap (map (with_live M)) ys_is ∙ received_same M by z.conn m us zs tables ∙ sym (ap (map (with_live M)) xs_is) in
           subst (λ (is : List Item). AreAlike (Ok (Published by items, record whole { sessions = xs; subscriptions = unended (map (counted items) w.subscriptions); number = n })) (Ok (Published by is, record whole { sessions = ys; subscriptions = unended (map (counted is) w.subscriptions); number = n })))
           (sym same_items)
           (alike M whole n (Published by items) xs ys (unended (map (counted items) w.subscriptions)) refl same_sessions)
@@ -360,14 +359,18 @@ module _ (w : World) (moment : ℕ) where
         (λ i. record whole { policy = doc; epoch = w.epoch + 1; sessions = stay i; subscriptions = kept i; number = n }),
       )
 
-  each : (c : Command) → IsSound w → AreAlike (numbered n (moved whole c)) (numbered n (moved left c))
-  each (Connect conn user password echo) sound = connect conn user password echo
-  each (Sub conn p queue sid) sound = sub conn p queue sid
-  each (Unsub conn sid most) sound = unsub conn sid most
-  each (Pub conn m word) sound = publish conn m word sound
-  each (Take conn most) sound = take-same conn most
-  each (Close conn) sound = close conn
-  each (Reload doc) sound = reload doc
+  each : (c : Command) → AllPairs IsApart zs → All (HasTable (max w.moment moment)) zs → AreAlike (numbered n (moved whole c)) (numbered n (moved left c))
+  each (Connect conn user password echo) connections tables = connect conn user password echo
+  each (Sub conn p queue sid) connections tables = sub conn p queue sid
+  each (Unsub conn sid most) connections tables = unsub conn sid most
+  each (Pub conn m word) connections tables = publish conn m word connections tables
+  each (Take conn most) connections tables = take-same conn most
+  each (Close conn) connections tables = close conn
+  each (Reload doc) connections tables = reload doc
+
+-- wherever each connection has one session, and grants are as they always are
+pub alike_at : (w v : World) (e : Event) → AllPairs IsApart w.sessions → All (HasTable (max w.moment e.now)) w.sessions → settled v ≡ settled w → AreAlike (transition w e) (dropping v e)
+alike_at w v e connections tables same = subst (AreAlike (transition w e)) (sym (dropping_same w v e same)) (each w e.now e.what connections tables)
 
 pub no_difference : MakesNoDifference
-no_difference w v e sound same = subst (AreAlike (transition w e)) (sym (dropping_same w v e same)) (each w e.now e.what sound)
+no_difference w v e sound same = alike_at w v e sound.connections (tables-next w e.now sound) same

@@ -3,3 +3,4 @@ pub mod Law
 pub mod Noted
 pub mod History
 pub mod Requests
+pub mod Runs
