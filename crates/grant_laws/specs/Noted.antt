@@ -24,37 +24,41 @@ use Rattle.hub.specs.Sound.{user_at}
 
 -- ---- what an entry tells
 
--- whether a subject is the one to answer on
+-- whether a message is to be answered on the subject
 abbrev pub is_reply : List Token → Option (List Token) → Bool
 is_reply s None = false
 is_reply s (Some reply) = same_subject reply s
 
+-- whether such a message is published
 abbrev pub asks_on : List Token → Command → Bool
 asks_on s (Pub conn m word) = is_reply s m.reply
 asks_on s _ = false
 
+-- whether a delivery has entered for the connection
 abbrev pub is_entered_at : ℕ → Item → Bool
 is_entered_at conn (Entered c sid) = c == conn
 is_entered_at conn (Full c sid) = false
 
--- a request: a message that is to be answered on this subject has entered for the connection
+-- a request: a message that is to be answered on the subject has entered for the connection
 abbrev pub is_request : ℕ → List Token → Entry → Bool
 is_request conn s e = asks_on s e.event.what && list_any (is_entered_at conn) (items_told e)
 
+-- whether a grant has allowed the connection to publish on the subject
 abbrev pub answers_by : ℕ → List Token → Command → Outcome → Bool
 answers_by conn s (Pub c m word) (Published by items) = is_by_grant by && (conn == c) && same_subject m.subject s
 answers_by conn s _ _ = false
 
--- an answer: the connection has published on this subject, which a grant allowed
+-- an answer: the connection has published on the subject, by a grant
 abbrev pub is_answer : ℕ → List Token → Entry → Bool
 is_answer conn s e = answers_by conn s e.event.what e.outcome
 
+-- whether the session of the connection has gone, by its Close or by a Reload that reports it gone
 abbrev pub ends_for : ℕ → Command → Outcome → Bool
 ends_for conn (Close c) Closed = conn == c
 ends_for conn (Reload doc) (Reloaded gone removed) = list_any (λ (n : ℕ). n == conn) gone
 ends_for conn _ _ = false
 
--- an end: the session of the connection has gone, by its Close or by a Reload that reports it gone
+-- an end of the connection's session
 abbrev pub is_end : ℕ → Entry → Bool
 is_end conn e = ends_for conn e.event.what e.outcome
 
