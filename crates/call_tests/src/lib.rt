@@ -1,0 +1,12 @@
+//! Tests of crates below the hub, of calls that no script makes. They see each crate as every caller does, by its public
+//! contract alone.
+#![tactic(auto)]
+
+#[cfg(test)]
+mod failures;
+#[cfg(test)]
+mod grants;
+#[cfg(test)]
+mod outboxes;
+#[cfg(test)]
+mod patterns;
