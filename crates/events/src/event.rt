@@ -1,4 +1,5 @@
 ghost use Rattle.std.specs.Prelude.{◌≡◌, IfOk};
+ghost use Rattle.events.specs.declared.event.Command.TheVariants.{Connect, Sub};
 
 use crate::message::Message;
 use lists::{Copying, NoMemory, Shared, SharedText};
@@ -72,23 +73,13 @@ impl Copying for Command {
                 user,
                 password,
                 echo,
-            } => Ok(Command::Connect {
-                conn: *conn,
-                user: user.copy(alloc)?,
-                password: password.again()?,
-                echo: *echo,
-            }),
+            } => connect(alloc, *conn, user, password, *echo),
             Command::Sub {
                 conn,
                 subject,
                 queue,
                 sid,
-            } => Ok(Command::Sub {
-                conn: *conn,
-                subject: subject.again()?,
-                queue: queue.copy(alloc)?,
-                sid: sid.again()?,
-            }),
+            } => sub(alloc, *conn, subject, queue, sid),
             Command::Unsub { conn, sid, most } => Ok(Command::Unsub {
                 conn: *conn,
                 sid: sid.again()?,
@@ -111,6 +102,42 @@ impl Copying for Command {
             Command::Reload(ready) => Ok(Command::Reload(ready.copy(alloc)?)),
         }
     }
+}
+
+/// A CONNECT in the same words.
+fn connect(
+    alloc: Global,
+    conn: u64,
+    user: &Option<SharedText>,
+    password: &SharedText,
+    echo: bool,
+) -> Result<Command, NoMemory>
+    ensures { IfOk result (λ same. same ≡ Connect conn user.now password.now echo) }
+{
+    Ok(Command::Connect {
+        conn,
+        user: user.copy(alloc)?,
+        password: password.again()?,
+        echo,
+    })
+}
+
+/// A SUB of the same subject, queue name and id.
+fn sub(
+    alloc: Global,
+    conn: u64,
+    subject: &Shared<Pattern>,
+    queue: &Option<Subject>,
+    sid: &Sid,
+) -> Result<Command, NoMemory>
+    ensures { IfOk result (λ same. same ≡ Sub conn subject.now queue.now sid.now) }
+{
+    Ok(Command::Sub {
+        conn,
+        subject: subject.again()?,
+        queue: queue.copy(alloc)?,
+        sid: sid.again()?,
+    })
 }
 
 impl Copying for Event {
