@@ -47,11 +47,11 @@ use Rattle.std.specs.contracts.prelude.U64PartialOrd.TheImpl as ord
 use Rattle.std.specs.contracts.sync.ledger.Share as share_row
 use Rattle.std.proofs.sync.ledger.Share.TheSendSync as share
 use Rattle.shared_hub.specs.contracts.shared.Rest as rest_row
-use Rattle.subscriptions.specs.contracts.trees.Trees as trees
+use Rattle.subscription_ids.specs.contracts.trees.Trees as trees
 use Rattle.subscriptions.specs.contracts.table.Table as table
 use Rattle.subscriptions.specs.contracts.subscriptions.Subscriptions as subs
 use Rattle.subscriptions.proofs.shared.SharedSubscription.TheSendSync as sub
-use Rattle.subscriptions.proofs.sids.Sids.TheSendSync as sids
+use Rattle.subscription_ids.proofs.sids.Sids.TheSendSync as sids
 
 node_send : IsSend (node.the_field).row
 node_send = send-Node (search (sendable, crosses) depth 12) (λ h s. option.the_send _ (boxed.the_send _ _ _ s global.the_send frees)) (λ h s. hash_map.the_send _ _ _ _ hasher.the_row _ _ _ _ _ (vec.the_send _ _ _ (search sendable) global.the_send frees) (boxed.the_send _ _ _ s global.the_send frees) state.the_send global.the_send frees)

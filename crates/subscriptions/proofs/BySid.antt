@@ -1,5 +1,5 @@
 -- The index by connection and sid: what each change of the list and of it keeps, and what it tells of a connection.
-use Rattle.std.proofs.Common.{◌≡◌, ◌==◌, ◌<◌, ℕ, Bool, true, false, not, ◌&&◌, ◌||◌, cond, List, [], ◌∷◌, ◌++◌, map, filter, length, Option, Some, None, Vec, refl, sym, ap, subst, ◌∙◌, inl, inr, arith, nat_eq}
+use Rattle.std.proofs.Common.{◌≡◌, ◌==◌, ◌<◌, ℕ, Bool, true, false, not, ◌&&◌, ◌||◌, cond, List, [], ◌∷◌, ◌++◌, map, filter, length, Option, Some, None, MatchOption, Vec, refl, sym, ap, subst, ◌∙◌, inl, inr, arith, nat_eq}
 use Rattle.std.specs.Prelude.{find}
 use Rattle.std.specs.List.{list_any, AllByRecursion, IsDistinct}
 use Rattle.std.specs.List.Sorted.{IsPermutation}
@@ -15,8 +15,9 @@ use Rattle.std.proofs.lemmas.List.{length-map}
 use Rattle.std.proofs.lemmas.List.Sorted.{length_permutation, list_any-IsPermutation}
 use Rattle.std.proofs.lemmas.Map.Entries.{length-values_of}
 use Rattle.subscriptions.specs.declared.subscription.Subscription.{Subscription}
-use Rattle.subscriptions.specs.declared.sids.Sids.{Sids}
-use Rattle.subscriptions.specs.BySid.{Own, same_sid, id_in, id_under, id_of, IsSame, IsWith, IsWithout, IsWithoutAll, AreSidsOf}
+use Rattle.subscription_ids.specs.declared.sids.Sids.{Sids}
+use Rattle.subscription_ids.specs.Sids.{Own, same_sid, own_of, id_in, id_under, IsSame}
+use Rattle.subscriptions.specs.BySid.{id_of, IsWith, IsWithout, IsWithoutAll, AreSidsOf}
 use Rattle.subscriptions.specs.Changes.{only}
 use Rattle.subscriptions.specs.Index.{ids_of}
 use Rattle.subscriptions.specs.Kept.{NoneLike, Apart}
@@ -29,37 +30,6 @@ use Rattle.subscriptions.proofs.Apart.{Leaves, only-leaves, apart_mapped, under,
 
 abbrev id : Subscription → ℕ
 id s = s.id
-
--- ---- a change of what one connection has
-
--- what a connection has, among what each has
-abbrev of : List (ℕ × Own) → ℕ → Option Own
-of owns conn = lookup (nat_eq conn) owns
-
--- the connection a had `was` and has w now, in which v stands under bs, and else what stood there
-pub at_conn : (a : ℕ) (bs : List ℕ) (v : Option ℕ) (was w : Option Own) (old new : List (ℕ × Own)) → was ≡ of old a → ((c : ℕ) → of new c ≡ cond (a == c) w (of old c))
-    → ((sid : List ℕ) → id_in w sid ≡ cond (pointwise nat_eq bs sid) v (id_in was sid))
-    → (c : ℕ) (sid : List ℕ) → id_in (of new c) sid ≡ cond ((a == c) && pointwise nat_eq bs sid) v (id_in (of old c) sid)
-at_conn a bs v was w old new is here inside c sid = elim (cases_Bool (a == c)) [
-  | inl y ↦ rw (here c, y) (inside sid ∙ ap (λ o. cond (pointwise nat_eq bs sid) v (id_in o sid)) (is ∙ ap (λ n. of old n) (eqb-true a c y)))
-  | inr n ↦ rw (here c, n) refl
-]
-
--- what the connection a had is changed, and then goes
-pub gone_at : (a : ℕ) (w : Option Own) (old mid new : List (ℕ × Own)) → ((c : ℕ) → of mid c ≡ cond (a == c) w (of old c)) → ((c : ℕ) → of new c ≡ cond (a == c) None (of mid c)) → (c : ℕ) → of new c ≡ cond (a == c) None (of old c)
-gone_at a w old mid new first then c = then c ∙ ap (λ o. cond (a == c) None o) (first c) ∙ twice (a == c)
-  where
-    twice : (b : Bool) → cond b None (cond b w (of old c)) ≡ cond b None (of old c)
-    twice true = refl
-    twice false = refl
-
--- a map without an entry has no id
-pub nothing_in : (own : Own) → length own.entries ≡ 0 → (sid : List ℕ) → None ≡ id_in (Some own) sid
-nothing_in own none sid = here own.entries none
-  where
-    here : (es : List (Vec ℕ Global × ℕ)) → length es ≡ 0 → None ≡ lookup (λ k. pointwise nat_eq sid k.items) es
-    here [] h = refl
-    here (e ∷ es) h = absurd (omega (arith, h))
 
 -- ---- what stands under a connection and a sid
 
@@ -375,3 +345,11 @@ module _ (conn : ℕ) (own : Own) (subs : List Subscription) (apart : Apart subs
       replaced [] = refl
       replaced (r ∷ rs) = ap (λ b. cond (not b) (r ∷ without (values_of own.entries) rs) (without (values_of own.entries) rs)) (any_own r)
           ∙ ap (λ (xs : List Subscription). cond (not (is_one_of (ids_of (of_connection conn subs)) r)) (r ∷ xs) xs) (replaced rs)
+
+-- a connection has as many sids as subscriptions
+pub counted_sids : (n conn : ℕ) (sids : Sids) (subs : List Subscription) → MatchOption (own_of sids conn) (n ≡ 0) (λ own. (n ≡ length own.entries) × IsDistinct same_sid (keys_of own.entries)) → Apart subs → AreSidsOf subs sids → n ≡ length (of_connection conn subs)
+counted_sids n conn sids subs counted apart index = by (own_of sids conn) (index.each conn) counted
+  where
+    by : (o : Option Own) → ((sid : List ℕ) → id_in o sid ≡ id_of subs conn sid) → MatchOption o (n ≡ 0) (λ own. (n ≡ length own.entries) × IsDistinct same_sid (keys_of own.entries)) → n ≡ length (of_connection conn subs)
+    by None are h = h ∙ none_counted conn subs are
+    by (Some own) are h = h.0 ∙ own_count conn own subs apart h.1 are

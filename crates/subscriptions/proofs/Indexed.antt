@@ -7,19 +7,18 @@ use Rattle.std.specs.List.Sorted.{IsStrictlySortedBy}
 use Rattle.std.specs.Map.{lookup, set_value, remove_entry, values_of, keys_of}
 use Rattle.std.specs.Ordering.{nat_cmp}
 use Rattle.std.proofs.Math.Bool.{or-false, and-false}
-use Rattle.std.proofs.lemmas.Bool.{cases_Bool, both_ways, eqb-true, eq-eqb, and_parts, or_left}
+use Rattle.std.proofs.lemmas.Bool.{cases_Bool, both_ways, eqb-true, eq-eqb, and_parts}
 use Rattle.std.proofs.lemmas.Bool.Decides.{nat_tests}
 use Rattle.std.proofs.lemmas.List.Folds.{list_any-append}
 use Rattle.std.proofs.lemmas.List.Elements.{recursion_from_All}
 use Rattle.subjects.specs.Subject.{Token, same_token, in_set}
 use Rattle.sublist.specs.Tree.{same_path}
 use Rattle.sublist.specs.Pairs as pairs
-use Rattle.sublist.specs.declared.tree.Sublist.{Sublist}
-use Rattle.sublist.proofs.Index.{same_path-itself}
 use Rattle.subscriptions.specs.declared.subscription.Subscription.{Subscription}
-use Rattle.subscriptions.specs.declared.trees.Trees.{Trees}
+use Rattle.subscription_ids.specs.declared.trees.Trees.{Trees}
+use Rattle.subscription_ids.specs.Trees.{holds, IsSame, IsIndexOf}
 use Rattle.subscriptions.specs.Changes.{is_id, bumped, capped}
-use Rattle.subscriptions.specs.Index.{holds, is_of, listed, IsSame, IsWith, IsWithout, IsWithoutAll, AreIndexesOf, ids_of, if_any, found_by}
+use Rattle.subscriptions.specs.Index.{is_of, listed, IsWith, IsWithout, IsWithoutAll, AreIndexesOf, ids_of, if_any, found_by}
 use Rattle.subscriptions.specs.Kept.{IsAbove, IsKept, NoneLike, Apart}
 use Rattle.subscriptions.specs.Limit.{has_ended}
 use Rattle.subscriptions.specs.Subscriptions.{having}
@@ -238,7 +237,7 @@ indexes_without id es old new kept apart out index =
 -- ---- what is found
 
 -- the pairs of an account's subscriptions
-abbrev pairs_of : List ℕ → List Subscription → pairs.Pairs
+abbrev pub pairs_of : List ℕ → List Subscription → pairs.Pairs
 pairs_of a subs = map (λ (s : Subscription). (s.id, s.subject)) (filter (λ (s : Subscription). same_token s.account a) subs)
 
 pairs_listed : (a : List ℕ) (subs : List Subscription) (p : List Token) (i : ℕ) → pairs.listed (pairs_of a subs) p i ≡ listed subs a p i
@@ -266,7 +265,7 @@ pairs_rise a (s ∷ subs) apart = elim (cases_Bool (same_token s.account a)) [
   | inr n ↦ rw n (pairs_rise a subs apart.1)
 ]
 
-pairs_matching : (a : List ℕ) (subject : List Token) (subs : List Subscription) → pairs.matching_ids (pairs_of a subs) subject ≡ ids_of (having a subject subs)
+pub pairs_matching : (a : List ℕ) (subject : List Token) (subs : List Subscription) → pairs.matching_ids (pairs_of a subs) subject ≡ ids_of (having a subject subs)
 pairs_matching a subject [] = refl
 pairs_matching a subject (s ∷ subs) = elim (cases_Bool (same_token s.account a)) [
   | inl y ↦ elim (cases_Bool (in_set s.subject subject)) [
@@ -276,19 +275,9 @@ pairs_matching a subject (s ∷ subs) = elim (cases_Bool (same_token s.account a
   | inr n ↦ rw n (pairs_matching a subject subs)
 ]
 
--- the account's tree finds the ids of its subscriptions that have the subject
-pub found_in_tree : (subs : List Subscription) (a : List ℕ) (subject : List Token) (tree : Sublist) (ids : List ℕ) → Apart subs → ((p : List Token) (i : ℕ) → pairs.stands tree p i ≡ listed subs a p i)
-    → ((ps : pairs.Pairs) → pairs.IsIndexOf ps tree → ids ≡ pairs.matching_ids ps subject) → ids ≡ ids_of (having a subject subs)
-found_in_tree subs a subject tree ids apart each found =
-    found (pairs_of a subs) (record { ascending = pairs_rise a subs apart; each = λ p i. each p i ∙ sym (pairs_listed a subs p i) }) ∙ pairs_matching a subject subs
-
--- an account without a tree has no subscription
-pub found_in_none : (subs : List Subscription) (a : List ℕ) (subject : List Token) → ((p : List Token) (i : ℕ) → false ≡ listed subs a p i) → [] ≡ ids_of (having a subject subs)
-found_in_none [] a subject none = refl
-found_in_none (s ∷ subs) a subject none = elim (cases_Bool (same_token s.account a)) [
-  | inl y ↦ absurd (true≢false (sym (none s.subject s.id ∙ or_left (is_of s a s.subject s.id) (listed subs a s.subject s.id) (rw (y, eq-eqb s.id s.id refl) (same_path-itself s.subject)))))
-  | inr n ↦ rw n (found_in_none subs a subject (λ p i. rw n at (none p i)))
-]
+-- what the trees hold of an account are the pairs of its subscriptions
+pub account_index : (a : List ℕ) (subs : List Subscription) (trees : Trees) → Apart subs → AreIndexesOf subs trees → IsIndexOf (pairs_of a subs) a trees
+account_index a subs trees apart index = record { ascending = pairs_rise a subs apart; each = λ p i. index.each a p i ∙ sym (pairs_listed a subs p i) }
 
 -- ---- by their ids
 

@@ -1,13 +1,14 @@
 //! Changes of one subscription, by its id.
-ghost use Rattle.std.specs.Prelude.{◌≡◌, ◌∷◌, [], MatchOption, false, filter, not};
-ghost use Rattle.std.specs.Map.{lookup, set_value, remove_entry, values_of};
+ghost use Rattle.std.specs.Prelude.{◌≡◌, MatchOption, false};
+ghost use Rattle.std.specs.Map.{lookup, set_value, remove_entry};
 ghost use Rattle.subscriptions.specs.Limit.{has_ended};
 ghost use Rattle.subscriptions.specs.Changes.{bumped, capped, is_id};
-ghost use Rattle.subscriptions.specs.Index.{IsSame, IsWithout, IsWithoutAll};
+ghost use Rattle.subscription_ids.specs.Trees.{IsSame};
+ghost use Rattle.subscriptions.specs.Index.{IsWithout};
 
-use crate::trees::Trees;
-use crate::{Keeps, SharedSubscription};
+use crate::{SharedSubscription, trees};
 use std::collections::BTreeMap;
+use subscription_ids::Trees;
 
 /// One message more for the subscription of that id, if it stands. Whether it has ended by it.
 pub(crate) fn bump_at(by_id: &mut BTreeMap<u64, SharedSubscription>, id: u64) -> bool
@@ -56,30 +57,8 @@ pub(crate) fn take_out(
     match by_id.remove(&id) {
         None => None,
         Some(gone) => {
-            trees.remove(&gone);
+            trees::remove(trees, &gone);
             Some(gone)
         }
-    }
-}
-
-/// Takes a subscription out of the trees that doesn't pass a test.
-fn forget_if_failing<K: Keeps>(trees: &mut Trees, subscription: &SharedSubscription, test: &K)
-    ensures { IsWithoutAll trees.old (filter (λ s. not (K.keeps test.now s)) (subscription.now ∷ [])) trees.new }
-{
-    if !test.keeps(subscription) {
-        trees.remove(subscription);
-    }
-}
-
-/// Takes those out of the trees that don't pass a test.
-pub(crate) fn forget_failing<K: Keeps>(
-    trees: &mut Trees,
-    by_id: &BTreeMap<u64, SharedSubscription>,
-    test: &K,
-)
-    ensures { IsWithoutAll trees.old (filter (λ s. not (K.keeps test.now s)) (values_of by_id.now.entries)) trees.new }
-{
-    for subscription in by_id.values() {
-        forget_if_failing(trees, subscription, test);
     }
 }

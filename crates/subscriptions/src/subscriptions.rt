@@ -1,9 +1,8 @@
 ghost use Rattle.std.specs.Prelude.{◌≡◌, ◌==◌, Bool};
 ghost use Rattle.subscriptions.specs.declared.subscription.Subscription.{Subscription};
 
-use crate::sids::{Sids, forget_sids};
 use crate::table::Table;
-use crate::{SharedSubscription, Subscription};
+use crate::{SharedSubscription, Subscription, sids};
 use bytes::Bytes;
 use events::{Addressed, Item, Sid};
 use lists::{NoMemory, Shared};
@@ -12,6 +11,7 @@ use std::collections::btree_map::Values;
 use std::hash::RandomState;
 use std::marker::Model;
 use subjects::{Pattern, Subject};
+use subscription_ids::Sids;
 
 /// How many subscriptions of a connection may stand.
 const SUBSCRIPTIONS: usize = 4096;
@@ -159,11 +159,11 @@ impl Subscriptions {
             most: None,
         };
         let subscription = SharedSubscription::of(self.alloc, made)?;
-        self.sids.insert(&subscription)?;
+        sids::insert(&mut self.sids, &subscription)?;
         match self.table.add(subscription) {
             Ok(()) => Ok(()),
             Err(refused) => {
-                self.sids.remove(&refused);
+                sids::remove(&mut self.sids, &refused);
                 Err(NoMemory)
             }
         }
@@ -185,7 +185,7 @@ impl Subscriptions {
     fn id_of(&self, conn: u64, sid: &Sid) -> Option<u64>
         ensures { result ≡ id_of self.now conn sid.now }
     {
-        self.sids.id_of(conn, sid)
+        self.sids.id_of(conn, sid.as_slice())
     }
 
     /// A limit for the subscription of that id, which ends where it has reached it.
@@ -195,7 +195,7 @@ impl Subscriptions {
         self.table.known();
         match self.table.limit(id, most) {
             None => {}
-            Some(gone) => self.sids.remove(&gone),
+            Some(gone) => sids::remove(&mut self.sids, &gone),
         }
     }
 
@@ -206,7 +206,7 @@ impl Subscriptions {
         self.table.known();
         match self.table.count(id) {
             None => {}
-            Some(gone) => self.sids.remove(&gone),
+            Some(gone) => sids::remove(&mut self.sids, &gone),
         }
     }
 
@@ -257,7 +257,7 @@ impl Subscriptions {
         ensures { self.new ≡ filter (K.keeps test.now) self.old }
     {
         self.table.known();
-        forget_sids(&mut self.sids, &self.table, test);
+        sids::forget_failing(&mut self.sids, &self.table, test);
         self.table.keep(test);
     }
 }

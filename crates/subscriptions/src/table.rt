@@ -1,10 +1,8 @@
 //! The standing subscriptions by their ids, and the trees that find them by subject.
 ghost use Rattle.std.specs.Prelude.{◌≡◌, ◌==◌};
 
-use crate::change::{bump_at, cap_at, forget_failing, take_out};
-use crate::sids::Own;
-use crate::trees::Trees;
-use crate::{Keeps, SharedSubscription};
+use crate::change::{bump_at, cap_at, take_out};
+use crate::{Keeps, SharedSubscription, trees};
 use lists::NoMemory;
 use std::alloc::Global;
 use std::cell::Cell;
@@ -13,6 +11,7 @@ use std::collections::btree_map::Values;
 use std::hash::RandomState;
 use std::marker::Model;
 use subjects::Subject;
+use subscription_ids::{Own, Trees};
 
 /// The standing subscriptions, seen as a list, oldest first. The trees are the list's index: they find those that have a
 /// subject.
@@ -48,7 +47,7 @@ impl Table {
     ghost use Rattle.std.specs.HashMap.{values, IsUnique};
     ghost use Rattle.subscriptions.specs.declared.subscription.Subscription.{Subscription};
     ghost use Rattle.subscriptions.specs.Subscriptions.{has_same_sid, stands, having};
-    ghost use Rattle.subscriptions.specs.BySid.{same_sid};
+    ghost use Rattle.subscription_ids.specs.Sids.{same_sid};
     ghost use Rattle.subscriptions.specs.Limit.{has_ended, unended};
     ghost use Rattle.subscriptions.specs.Kept.{Apart};
     ghost use Rattle.subscriptions.specs.Changes.{only, bumped, capped};
@@ -157,13 +156,13 @@ impl Table {
         ensures err { OnErr result (self.new ≡ self.old) }
         ensures back { IfErr result (λ refused. refused ≡ subscription) }
     {
-        match self.trees.insert(&subscription) {
+        match trees::insert(&mut self.trees, &subscription) {
             Err(_) => Err(subscription),
             Ok(()) => match self.by_id.insert(subscription.id(), subscription) {
                 Ok(_) => Ok(()),
                 Err(refused) => {
                     let back = refused.value.1;
-                    self.trees.remove(&back);
+                    trees::remove(&mut self.trees, &back);
                     Err(back)
                 }
             },
@@ -217,7 +216,7 @@ impl Table {
     pub fn keep<K: Keeps>(&mut self, test: &K)
         ensures { self.new ≡ filter (K.keeps test.now) self.old }
     {
-        forget_failing(&mut self.trees, &self.by_id, test);
+        trees::forget_failing(&mut self.trees, &self.by_id, test);
         self.by_id
             .retain(|_, subscription| test.keeps(subscription));
     }

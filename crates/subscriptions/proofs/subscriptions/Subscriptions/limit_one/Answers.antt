@@ -18,5 +18,5 @@ invariant_of-self-in-Some c =
     let subs = c.self.inside.table in
     let sids = c.self.inside.sids in
     let gone = c.in-Some.gone in
-    subst (λ (xs : List Subscription). AreSidsOf xs c.remove.new.self) (sym c.limit.ensures.after)
-    (sids_ended (capped c.args.most) c.args.id subs (gone ∷ []) sids c.remove.new.self (capped-leaves c.args.most) c.known.ensures.apart c.in-Some.ensures.ended (one_gone sids c.remove.new.self gone c.remove.ensures) c.self.invariant)
+    subst (λ (xs : List Subscription). AreSidsOf xs c.remove.new.sids) (sym c.limit.ensures.after)
+    (sids_ended (capped c.args.most) c.args.id subs (gone ∷ []) sids c.remove.new.sids (capped-leaves c.args.most) c.known.ensures.apart c.in-Some.ensures.ended (one_gone sids c.remove.new.sids gone c.remove.ensures) c.self.invariant)

@@ -23,7 +23,7 @@ invariant_of-self-in-Ok-insert c =
     let all = ap (λ (xs : Entries). values_of xs) now ∙ map-append _ es ((s.id, s) ∷ []) in (
       subst IsKept (sym now) (kept-added s.id es s c.self.invariant.0 below refl c.requires.going),
       subst Apart (sym all) (apart_added (values_of es) s c.self.invariant.1 below free),
-      subst (λ (xs : List Subscription). AreIndexesOf xs c.insert.new.self) (sym all) (indexes_added (values_of es) s c.self.inside.trees c.insert.new.self c.in-Ok.ensures.ok c.self.invariant.2),
+      subst (λ (xs : List Subscription). AreIndexesOf xs c.insert.new.trees) (sym all) (indexes_added (values_of es) s c.self.inside.trees c.insert.new.trees c.in-Ok.ensures.ok c.self.invariant.2),
     )
 
 pub returns-in-Ok-insert-clause-ok : goal.returns-in-Ok-insert-clause-ok
@@ -43,8 +43,8 @@ invariant_of-self-in-Err-insert c =
     let below : All (λ (x : Subscription). x.id < s.id) (values_of es) = subst (λ (xs : List Subscription). All (λ (x : Subscription). x.id < s.id) xs) (sym c.self.view_is) c.requires.above in
     let same = c.in-Err-insert.ensures.err in
     let back : c.in-Err-insert.refused.value.1 ≡ s = ap (λ e. e.1) c.in-Err-insert.ensures.value_returned in
-    let less : IsWithout c.insert.new.self s c.remove.new.self = rw back at c.remove.ensures in (
+    let less : IsWithout c.insert.new.trees s c.remove.new.trees = rw back at c.remove.ensures in (
       subst IsKept (sym same) c.self.invariant.0,
       subst (λ (xs : Entries). Apart (values_of xs)) (sym same) c.self.invariant.1,
-      subst (λ (xs : Entries). AreIndexesOf (values_of xs) c.remove.new.self) (sym same) (indexes_undone (values_of es) s c.self.inside.trees c.insert.new.self c.remove.new.self below c.in-Ok.ensures.ok less c.self.invariant.2),
+      subst (λ (xs : Entries). AreIndexesOf (values_of xs) c.remove.new.trees) (sym same) (indexes_undone (values_of es) s c.self.inside.trees c.insert.new.trees c.remove.new.trees below c.in-Ok.ensures.ok less c.self.invariant.2),
     )

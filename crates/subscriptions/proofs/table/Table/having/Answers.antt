@@ -4,7 +4,7 @@ use Rattle.std.specs.Map.{values_of}
 use Rattle.subscriptions.specs.Index.{found_by}
 use Rattle.subscriptions.specs.Subscriptions.{has_subject, having}
 use Rattle.subscriptions.specs.declared.subscription.Subscription.{Subscription}
-use Rattle.subscriptions.proofs.Indexed.{found_by_ids}
+use Rattle.subscriptions.proofs.Indexed.{pairs_of, pairs_matching, account_index, found_by_ids}
 use Rattle.subscriptions.proofs.table.Table.having.Goals as goal
 
 pub returns : goal.returns
@@ -12,7 +12,7 @@ returns c =
     let subs = values_of c.self.inside.by_id.entries in
     let account = c.args.account.now in
     let subject = c.args.subject.now in
-    let ids = c.in_ok-matching.ensures subs c.self.invariant.1 c.self.invariant.2 in
+    let ids = c.in_ok-matching.ensures (pairs_of account subs) (account_index account subs c.self.inside.trees c.self.invariant.1 c.self.invariant.2) ∙ pairs_matching account subject subs in
     let found : found_by subs c.as_slice.result.now ≡ having account subject subs =
     rw (c.as_slice.ensures.value, ids) (found_by_ids (has_subject account subject) subs c.self.invariant.1) in
     c.in_ok-found.ensures

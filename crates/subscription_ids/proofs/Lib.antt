@@ -1,0 +1,3 @@
+mod Found
+pub mod Holding
+pub mod Owns

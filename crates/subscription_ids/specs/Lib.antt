@@ -1,0 +1,2 @@
+pub mod Sids
+pub mod Trees

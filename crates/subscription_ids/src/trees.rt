@@ -1,0 +1,125 @@
+//! The ids of subscriptions by account and subject: a tree of patterns for each account.
+ghost use Rattle.std.specs.Prelude.{◌≡◌, ◌==◌, ◌&&◌, ℕ, List, IfOk, OnOk, OnErr};
+ghost use Rattle.subjects.specs.Subject.{Token};
+ghost use Rattle.sublist.specs.Tree.{same_path};
+ghost use Rattle.sublist.specs.Pairs as pairs;
+
+use lists::NoMemory;
+use std::alloc::Global;
+use std::collections::HashMap;
+use std::hash::RandomState;
+use subjects::{Pattern, Subject};
+use sublist::{InsertError, Sublist};
+
+/// The ids of subscriptions, found by their account and a subject. A clause sees which account, pattern and id the
+/// trees hold. Whoever keeps the list of the subscriptions says in its invariant that the trees are the list's index.
+#[derive(Drop)]
+pub struct Trees {
+    alloc: Global,
+    keys: RandomState,
+    // Accounts stand in the policy and no client makes one, so their names need no hidden keys.
+    by_account: HashMap<Vec<u8>, Sublist>,
+}
+
+impl Trees {
+    ghost use Rattle.sublist.specs.Pairs.{Pairs, matching_ids};
+    ghost use Rattle.subscription_ids.specs.Trees.{IsEmpty, IsSame, IsWith, IsWithout, IsIndexOf};
+
+    /// Trees that hold nothing. Clients choose the tokens, so the tables of tokens are hashed under keys that they
+    /// can't know. It takes no memory.
+    pub fn new(alloc: Global, keys: RandomState) -> Trees
+        ensures { IsEmpty result }
+    {
+        Trees {
+            alloc,
+            keys,
+            by_account: HashMap::new(alloc),
+        }
+    }
+
+    /// Adds an id under an account and a pattern. After `NoMemory` the trees hold what they held.
+    pub fn insert(&mut self, account: &[u8], pattern: &Pattern, id: u64) -> Result<(), NoMemory>
+        ensures ok { OnOk result (IsWith self.old account.now pattern.now id self.new) }
+        ensures err { OnErr result (IsSame self.old self.new) }
+    {
+        match self.by_account.get_mut(account) {
+            Some(tree) => match add(tree, pattern, id) {
+                Ok(()) => Ok(()),
+                Err(refused) => Err(refused),
+            },
+            None => {
+                let key = Vec::from_slice(self.alloc, account)?;
+                let tree = grown(self.alloc, self.keys, pattern, id)?;
+                match self.by_account.insert(key, tree) {
+                    Ok(_) => Ok(()),
+                    Err(_) => Err(NoMemory),
+                }
+            }
+        }
+    }
+
+    /// Takes an id out from under an account and a pattern, if it is there. It takes no memory.
+    pub fn remove(&mut self, account: &[u8], pattern: &Pattern, id: u64)
+        ensures { IsWithout self.old account.now pattern.now id self.new }
+    {
+        match self.by_account.get_mut(account) {
+            None => {}
+            Some(tree) => take_out(tree, pattern, id),
+        }
+    }
+
+    /// Puts the ids of an account's pairs whose pattern has the subject, each once, in rising order, in the place of
+    /// what was in `found`.
+    pub fn matching(
+        &self,
+        account: &[u8],
+        subject: &Subject,
+        found: &mut Vec<u64>,
+    ) -> Result<(), NoMemory>
+        ensures { OnOk result ((listing : Pairs) → IsIndexOf listing account.now self.now → found.new.items ≡ matching_ids listing subject.now) }
+    {
+        match self.by_account.get(account) {
+            None => {
+                found.clear();
+                Ok(())
+            }
+            Some(tree) => match tree.matching_into(subject, found) {
+                Ok(()) => Ok(()),
+                Err(refused) => Err(refused),
+            },
+        }
+    }
+}
+
+/// Adds a pair to a tree. Where it stands already nothing changes.
+fn add(tree: &mut Sublist, pattern: &Pattern, id: u64) -> Result<(), NoMemory>
+    ensures ok { OnOk result (pairs.IsWith tree.old pattern.now id tree.new) }
+    ensures err { OnErr result (pairs.IsSame tree.old tree.new) }
+{
+    match tree.insert(pattern, id) {
+        Ok(()) => Ok(()),
+        Err(refused) => match refused {
+            InsertError::Present => Ok(()),
+            InsertError::NoMemory => Err(NoMemory),
+        },
+    }
+}
+
+/// A tree that has one pair, and nothing else.
+fn grown(alloc: Global, keys: RandomState, pattern: &Pattern, id: u64) -> Result<Sublist, NoMemory>
+    ensures { IfOk result (λ tree. (p : List Token) (i : ℕ) → pairs.stands tree p i ≡ (id == i && same_path pattern.now p)) }
+{
+    let mut tree = Sublist::new(alloc, keys);
+    add(&mut tree, pattern, id)?;
+    Ok(tree)
+}
+
+/// Takes a pair out of a tree, if it stands there.
+fn take_out(tree: &mut Sublist, pattern: &Pattern, id: u64)
+    ensures { pairs.IsWithout tree.old pattern.now id tree.new }
+{
+    match tree.remove(pattern, id) {
+        Ok(()) => {}
+        Err(_) => {}
+    }
+}
