@@ -1,29 +1,14 @@
--- The number that digits write, digit by digit, and that nine of them write a small one.
-use Rattle.std.proofs.Common.{◌≡◌, ℕ, ◌+◌, ◌-◌, ◌*◌, ◌^◌, ◌<◌, ◌≤◌, Bool, true, false, not, eqb, List, [], ◌∷◌, length, get_or, take, min, Some, None, Option, refl, sym, ap, ◌∙◌, true≢false, is_some, ◌&&◌, ◌==◌, arith, if◌then◌else◌}
-use Rattle.std.specs.Char.{is_ascii_digit, IsAsciiDigit}
+-- Nine digits write a small number.
+use Rattle.std.proofs.Common.{◌≡◌, ℕ, ◌-◌, ◌*◌, ◌^◌, ◌<◌, ◌≤◌, Bool, true, false, not, List, [], ◌∷◌, length, min, Some, None, Option, refl, sym, ap, ◌∙◌, true≢false, is_some, ◌&&◌, ◌==◌, arith, if◌then◌else◌}
+use Rattle.std.specs.Char.{is_ascii_digit}
 use Rattle.std.specs.Str.Parse.{digits_value}
-use Rattle.std.proofs.lemmas.Int.Digits.{digits_value_more}
-use Rattle.std.proofs.lemmas.Str.{digit_value_digit}
 use Rattle.std.proofs.lemmas.Str.Parse.{numerals_by_value, tells_all_ascii_digits, digits_value_short}
 use Rattle.std.specs.List.{list_all, prefix_len}
 use Rattle.std.specs.Str.{all_ascii_digits}
-use Rattle.std.proofs.lemmas.List.{take_all, get_or_default}
-use Rattle.std.proofs.lemmas.List.Sums.{list_all-from_AllPass, prefix_len-le-length}
-use Rattle.std.proofs.lemmas.Bool.{cond-true, and_from, and_parts, le-leb, ne_eqb}
-use Rattle.durations.specs.Durations.{is_number, duration_by}
-
--- one digit more
-pub number_more : (most : ℕ) (field : List ℕ) (i n m r : ℕ) → i < length field → IsAsciiDigit (get_or field i 0) → n ≡ min (digits_value 10 (take i field)) most →
-    m ≡ min (n * 10) most → r ≡ min (m + (get_or field i 0 - 48)) most → r ≡ min (digits_value 10 (take (i + 1) field)) most
-number_more most field i n m r within digit old ten new =
-    omega (arith, digits_value_more 10 field i within, digit_value_digit _ digit, digit)
-
--- every digit was read
-pub number_whole : (most : ℕ) (field : List ℕ) (i n : ℕ) → eqb (length field) 0 ≡ false → length field ≤ i → ((k : ℕ) → k < i → is_ascii_digit (get_or field k 0) ≡ true) →
-    n ≡ min (digits_value 10 (take i field)) most → Some n ≡ (if is_number field then Some (min (digits_value 10 field) most) else None)
-number_whole most field i n some end digits is =
-    let all = list_all-from_AllPass is_ascii_digit field (λ k d h. rw (get_or_default field k d 0 h) (digits k (omega arith))) in
-    sym (cond-true (is_number field) _ _ (and_from _ _ (ap not some) all) ∙ ap Some (sym (is ∙ ap (λ f. min (digits_value 10 f) most) (take_all i field end))))
+use Rattle.std.proofs.lemmas.List.Sums.{prefix_len-le-length}
+use Rattle.std.proofs.lemmas.Bool.{and_parts, le-leb, ne_eqb}
+use Rattle.digits.specs.Number.{is_number}
+use Rattle.durations.specs.Durations.{duration_by}
 
 pub within : (text : List ℕ) → prefix_len is_ascii_digit text ≤ length text
 within text = prefix_len-le-length is_ascii_digit text

@@ -1,8 +1,9 @@
-ghost use Rattle.std.specs.Prelude.{◌≡◌, ◌≤◌, ⊤, MatchOption, length, min, Some, None, if◌then◌else◌};
+ghost use Rattle.std.specs.Prelude.{◌≡◌, ◌≤◌, ⊤, MatchOption, length, Some};
 ghost use Rattle.std.specs.List.{prefix_len};
 ghost use Rattle.std.specs.Char.{is_ascii_digit};
-ghost use Rattle.std.specs.Str.Parse.{digits_value};
-ghost use Rattle.durations.specs.Durations.{is_number, unit_ms, duration_by, duration_of};
+ghost use Rattle.durations.specs.Durations.{unit_ms, duration_by, duration_of};
+
+use digits::number_of;
 
 /// The most digits that a duration has.
 const MOST_DIGITS: usize = 9;
@@ -60,23 +61,4 @@ fn times(digits: &[u8], unit: u64) -> Option<u64>
             }
         }
     }
-}
-
-/// The number that digits write, or `u64::MAX` if it is larger.
-fn number_of(digits: &[u8]) -> Option<u64>
-    ensures { result ≡ (if is_number digits.now then Some (min (digits_value 10 digits.now) u64.MAX) else None) }
-{
-    if digits.is_empty() {
-        return None;
-    }
-    let mut number = 0u64;
-    for byte in digits {
-        if !byte.is_ascii_digit() {
-            return None;
-        }
-        number = number
-            .saturating_mul(10)
-            .saturating_add((*byte - b'0') as u64);
-    }
-    Some(number)
 }

@@ -11,7 +11,8 @@ use Rattle.wire_read.specs.Command.{Command}
 use Rattle.wire_read.specs.Command.{Alone, Publish, Refused}
 use Rattle.wire_read.specs.Field.{fields, counted, first_field, after_first_field}
 use Rattle.wire_read.specs.Operation.{operation}
-use Rattle.wire_read.specs.Size.{is_number, size, sizes, count, head_within}
+use Rattle.digits.specs.Number.{is_number}
+use Rattle.wire_read.specs.Size.{size, sizes, count, head_within}
 use Rattle.wire_read.specs.Command.{command, said_by, announced, sized, headed, publication, headed_publication, subscription, ended_after, unsubscription, IsWithin}
 use Rattle.wire_read.specs.Grammar.{Has, optional, Writes, Announces, IsMalformed, IsOversized, Says}
 use Rattle.wire_read.proofs.FieldLemmas.{fields_none, fields_some}

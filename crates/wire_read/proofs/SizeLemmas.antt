@@ -1,28 +1,11 @@
--- The number that a field writes, digit by digit.
-use Rattle.std.proofs.Common.{◌≡◌, ℕ, ◌+◌, ◌-◌, ◌*◌, ◌<◌, ◌≤◌, Bool, true, false, not, cond, eqb, ltb, List, length, get_or, take, min, Some, None, Result, Ok, Err, refl, sym, ap, ◌∙◌, arith, if◌then◌else◌}
-use Rattle.std.specs.Char.{is_ascii_digit, IsAsciiDigit}
+-- The sizes that fields write.
+use Rattle.std.proofs.Common.{◌≡◌, ℕ, ◌≤◌, Bool, true, false, not, cond, ltb, List, min, Some, None, Result, Ok, Err, refl, sym, arith, if◌then◌else◌}
 use Rattle.std.specs.Str.Parse.{digits_value}
-use Rattle.std.proofs.lemmas.Int.Digits.{digits_value_more}
-use Rattle.std.proofs.lemmas.Str.{digit_value_digit}
-use Rattle.std.proofs.lemmas.List.{take_all, get_or_default}
-use Rattle.std.proofs.lemmas.List.Sums.{list_all-from_AllPass}
-use Rattle.std.proofs.lemmas.Bool.{cond-true, cond-false, and_from, ltb-false, le-ltb}
+use Rattle.std.proofs.lemmas.Bool.{cond-false, ltb-false, le-ltb}
 use Rattle.wire_read.specs.declared.fault.WireFault.{WireFault}
 use Rattle.wire_read.specs.declared.fault.WireFault.TheVariants.{ParserError, Payload}
-use Rattle.wire_read.specs.Size.{is_number, size, sizes, head_within}
-
--- one digit more
-pub number_more : (most : ℕ) (field : List ℕ) (i n m r : ℕ) → i < length field → IsAsciiDigit (get_or field i 0) → n ≡ min (digits_value 10 (take i field)) most →
-    m ≡ min (n * 10) most → r ≡ min (m + (get_or field i 0 - 48)) most → r ≡ min (digits_value 10 (take (i + 1) field)) most
-number_more most field i n m r within digit old ten new =
-    omega (arith, digits_value_more 10 field i within, digit_value_digit _ digit, digit)
-
--- every digit was read
-pub number_whole : (most : ℕ) (field : List ℕ) (i n : ℕ) → eqb (length field) 0 ≡ false → length field ≤ i → ((k : ℕ) → k < i → is_ascii_digit (get_or field k 0) ≡ true) →
-    n ≡ min (digits_value 10 (take i field)) most → Some n ≡ (if is_number field then Some (min (digits_value 10 field) most) else None)
-number_whole most field i n some end digits is =
-    let all = list_all-from_AllPass is_ascii_digit field (λ k d h. rw (get_or_default field k d 0 h) (digits k (omega arith))) in
-    sym (cond-true (is_number field) _ _ (and_from _ _ (ap not some) all) ∙ ap Some (sym (is ∙ ap (λ f. min (digits_value 10 f) most) (take_all i field end))))
+use Rattle.digits.specs.Number.{is_number}
+use Rattle.wire_read.specs.Size.{size, sizes, head_within}
 
 -- a size that was read is within the limit
 small_by : (number large : Bool) (v n : ℕ) → ltb 1048576 v ≡ large → Ok n ≡ cond (not number) (Err ParserError) (cond large (Err Payload) (Ok v)) → n ≤ 1048576

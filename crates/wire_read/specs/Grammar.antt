@@ -15,7 +15,7 @@ use Rattle.wire_read.specs.Front.{Whole, Wrong, front}
 use Rattle.wire_read.specs.Line.{is_lf, without_cr}
 use Rattle.wire_read.specs.Field.{fields, trimmed, first_field, after_first_field}
 use Rattle.wire_read.specs.Operation.{operation}
-use Rattle.wire_read.specs.Size.{is_number}
+use Rattle.digits.specs.Number.{is_number}
 use Rattle.wire_read.specs.Framing.{Framing, frames_of}
 
 -- A text is this control line with its end: bytes other than LF, and a LF. One CR right before the LF is no part of the line.

@@ -1,33 +1,14 @@
-ghost use Rattle.std.specs.Prelude.{◌≡◌, min, Some, None, if◌then◌else◌};
-ghost use Rattle.std.specs.Str.Parse.{digits_value};
-ghost use Rattle.wire_read.specs.Size.{is_number, size, sizes, count};
+ghost use Rattle.std.specs.Prelude.{◌≡◌};
+ghost use Rattle.wire_read.specs.Size.{size, sizes, count};
 
 use crate::WireFault;
+use digits::number_of;
 
 /// The most bytes of a payload, its header block among them.
 pub const MAX_PAYLOAD: u64 = 1_048_576;
 
 /// The most messages that a client may count.
 pub const MAX_COUNT: u64 = 9_223_372_036_854_775_807;
-
-/// The number that a field of digits writes, or `u64::MAX` if it is larger.
-fn number_of(field: &[u8]) -> Option<u64>
-    ensures { result ≡ (if is_number field.now then Some (min (digits_value 10 field.now) u64.MAX) else None) }
-{
-    if field.is_empty() {
-        return None;
-    }
-    let mut number = 0u64;
-    for byte in field {
-        if !byte.is_ascii_digit() {
-            return None;
-        }
-        number = number
-            .saturating_mul(10)
-            .saturating_add((*byte - b'0') as u64);
-    }
-    Some(number)
-}
 
 /// The size that a field writes.
 #[tactic(auto, unfolding(crate::specs::Size::size))]

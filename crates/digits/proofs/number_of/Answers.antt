@@ -1,6 +1,6 @@
 use Rattle.std.proofs.Common.{◌-◌, ◌^◌, sym, ◌∙◌, below_more}
-use Rattle.durations.proofs.Digits.{number_more, number_whole}
-use Rattle.durations.proofs.duration.number_of.Goals as goal
+use Rattle.digits.proofs.Reading.{number_more, number_whole}
+use Rattle.digits.proofs.number_of.Goals as goal
 
 pub loop-byte-preserved : goal.loop-byte-preserved
 loop-byte-preserved c = (
