@@ -6,11 +6,8 @@ use Rattle.sessions.specs.Renewal.{connection_of}
 use Rattle.sessions.proofs.sessions.Sessions.end.Goals as goal
 
 pub invariant_of-self : goal.invariant_of-self
-invariant_of-self c =
-    let z = c.index_mut.result.now in
-    written_keys c.self.inside.conns.keys c.self.inside.rooms.items c.self.inside.list.items c.in-Some.place z c.end.new.self c.self.invariant.0 c.self.invariant.1 c.index_mut.ensures.value
-    (ap connection_of c.end.ensures)
+invariant_of-self c = written_keys _ _ _ _ _ _ c.self.invariant.0 c.self.invariant.1 c.index_mut.ensures.value (ap connection_of c.end.ensures)
 
 pub returns-in-Some : goal.returns-in-Some
 returns-in-Some c =
-    written_there (ending c.args.subject.now) c.args.conn c.self.inside.list.items c.args.self.now c.in-Some.place c.index_mut.result.now c.end.new.self c.self.view_is c.in-Some.ensures c.index_mut.ensures.value c.end.ensures
+    written_there (ending c.args.subject.now) c.args.conn _ _ _ _ _ c.self.view_is c.in-Some.ensures c.index_mut.ensures.value c.end.ensures
