@@ -16,7 +16,7 @@ use Rattle.std.proofs.lemmas.List.Sorted.{length_permutation, list_any-IsPermuta
 use Rattle.std.proofs.lemmas.Map.Entries.{length-values_of}
 use Rattle.subscriptions.specs.declared.subscription.Subscription.{Subscription}
 use Rattle.subscription_ids.specs.declared.sids.Sids.{Sids}
-use Rattle.subscription_ids.specs.Sids.{Own, same_sid, own_of, id_in, id_under, IsSame}
+use Rattle.subscription_ids.specs.Sids.{Own, same_sid, own_of, id_in, id_under}
 use Rattle.subscriptions.specs.BySid.{id_of, IsWith, IsWithout, IsWithoutAll, AreSidsOf}
 use Rattle.subscriptions.specs.Changes.{only}
 use Rattle.subscriptions.specs.Index.{ids_of}
@@ -69,9 +69,6 @@ none_under conn sid s [] is none = refl
 none_under conn sid s (r ∷ subs) is none = rw (under_other conn sid s r is none.1) (none_under conn sid s subs is none.2)
 
 -- ---- one more
-
-pub sids_same : (subs : List Subscription) (old new : Sids) → IsSame old new → AreSidsOf subs old → AreSidsOf subs new
-sids_same subs old new same index = record { each = λ conn sid. same conn sid ∙ index.each conn sid }
 
 module _ (subs : List Subscription) (s : Subscription) (free : stands subs s.conn s.sid ≡ false) where
   free_under : (conn : ℕ) (sid : List ℕ) → is_under conn sid s ≡ true → stands subs conn sid ≡ false
