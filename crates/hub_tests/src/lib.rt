@@ -2,8 +2,4 @@
 #![tactic(auto)]
 
 #[cfg(test)]
-mod policies;
-#[cfg(test)]
-mod talk;
-#[cfg(test)]
 mod tests;

@@ -1,170 +1,191 @@
-ghost use Rattle.std.specs.Prelude.{◌≤◌};
-
-use crate::policies::Given;
-use crate::talk::{Ask, command, standing_in_words, tells, waiting_in_words};
-use hub::{Answer, Caps, Command, Event, Hub, HubRefusal};
+use bytes::Bytes;
+use hub::{Answer, Caps, Command, Event, Hub, HubRefusal, Message, Ready, Segment};
+use lists::{NoMemory, Shared, SharedText};
+use policy_doc::Policy;
 use std::alloc::Global;
 use std::hash::RandomState;
 use std::test::Fail;
+use subjects::{Pattern, Subject};
 
-const ROOM: Caps = Caps {
-    outbox: 16,
-    history: 10_000,
-};
-
-#[test]
-fn every_answer_is_remembered(rt: HostRuntime) -> Result<(), Fail> {
-    let asks = [
-        Ask::At(7),
-        Ask::Connect(1, "limited", "limited"),
-        Ask::At(3),
-        Ask::Sub(1, "foo.*", "1"),
-        Ask::At(8),
-        Ask::Sub(1, ">", "2"),
-        Ask::Unsub(1, "1", Some(2)),
-        Ask::Pub(1, "foo.a", "r.1", "NATS/1.0", "hi"),
-        Ask::Waiting(1),
-        Ask::Standing,
-        Ask::Take(1, 5),
-        Ask::Close(9),
-        Ask::Reload(Given::OneUser),
-        Ask::Waiting(1),
-        Ask::Close(1),
-        Ask::History,
-    ];
-    let want = "1.1 connected
-1.2 subscribed
-1.3 denied NoAllow
-1.4 unsubscribed
-1.5 published Index(0), entered 1 1
-1 has 1, missed false
-standing [2 1 foo.* 1 1 of 2]
-1.6 taken foo.a 1 to r.1 [NATS/1.0|hi], missed false
-NoSession
-2.7 gone 1, removed
-1 has no session
-NoSession
-history of 7, same true
-";
-    tells(&rt, rt.alloc(), ROOM, &asks, want)
+/// What a test asks of a hub, all but the last two for connection 1.
+#[derive(Clone, Copy)]
+enum Ask {
+    Connect,
+    Sub,
+    Pub,
+    Rotate,
+    /// A Take and a Close of a connection without a session.
+    StrangeTake,
+    StrangeClose,
 }
 
-// What a run answers, and the tables behind it: Connect 1, Sub, Pub, Take of 9 and Close of 9.
-fn ran(alloc: Global, keys: RandomState, caps: Caps) -> Result<String, Fail>
-    requires low { 1 ≤ caps.outbox }
-    requires high { caps.outbox ≤ 65536 }
-{
-    let mut hub = Hub::new(alloc, Given::Builtin.ready(alloc)?, caps, keys)
-        .ok()
-        .ok_or("no hub is open")?;
-    let answers = run(&mut hub, five_events(alloc)?)?;
-    let mut told = String::new(alloc);
-    for answer in answers.as_slice() {
-        told.push_str(answer_in_words(alloc, answer)?.as_str())?;
-    }
-    told.push_str(waiting_in_words(alloc, &hub, 1)?.as_str())?;
-    told.push_str(standing_in_words(alloc, &hub)?.as_str())?;
-    Ok(told)
+/// What it is told.
+#[derive(Clone, Copy, Debug, PartialEq, Eq)]
+enum Told {
+    /// The number of the entry.
+    Entry(u64),
+    Refused(HubRefusal),
+    /// The first number of the segment, and how many entries it has.
+    Segment(u64, usize),
 }
 
-// A run without its clauses: what a test asserts, it computes.
-fn run(
-    hub: &mut Hub,
-    events: Vec<Event>,
-) -> Result<Vec<Result<Answer, (Event, HubRefusal)>>, &'static str> {
-    hub.run(events).ok().ok_or("no room for the answers")
-}
+const FULL: Told = Told::Refused(HubRefusal::HistoryFull);
 
-fn five_events(alloc: Global) -> Result<Vec<Event>, Fail> {
-    let mut events = Vec::new(alloc);
-    for ask in [
-        Ask::Connect(1, "demo", "demo"),
-        Ask::Sub(1, "foo", "1"),
-        Ask::Pub(1, "foo", "r", "", "hi"),
-        Ask::Take(9, 1),
-        Ask::Close(9),
-    ] {
-        events.push(Event {
-            now: 0,
-            what: command(alloc, ask)?,
-        })?;
-    }
-    Ok(events)
-}
-
-// The number of an answer; or the refusal, and what was handed back.
-fn answer_in_words(
-    alloc: Global,
-    answer: &Result<Answer, (Event, HubRefusal)>,
-) -> Result<String, Fail> {
-    match answer {
-        Ok(answer) => Ok(format!(in alloc; "{}\n", answer.get().number)?),
-        Err((event, refusal)) => {
-            let back = name_of(&event.what);
-            Ok(format!(in alloc; "{refusal:?} to {back}\n")?)
-        }
-    }
-}
-
-fn name_of(command: &Command) -> &'static str {
-    match command {
-        Command::Connect { .. } => "Connect",
-        Command::Sub { .. } => "Sub",
-        Command::Unsub { .. } => "Unsub",
-        Command::Pub { .. } => "Pub",
-        Command::Take { .. } => "Take",
-        Command::Close { .. } => "Close",
-        Command::Reload(_) => "Reload",
-    }
-}
-
-#[test]
-fn a_run_changes_nothing_once_the_history_is_full(rt: HostRuntime) -> Result<(), Fail> {
+/// A hub over the built-in policy, whose history holds two entries.
+fn opened(alloc: Global, keys: RandomState) -> Option<Hub> {
+    let ready = Ready::of(alloc, Policy::builtin(alloc).ok()?).ok()?;
     let caps = Caps {
         outbox: 16,
         history: 2,
     };
-    let told = ran(rt.alloc(), RandomState::new(&rt)?, caps)?;
-    assert_eq!(rt;
-        told.as_str(),
-        "1
-2
-HistoryFull to Pub
-HistoryFull to Take
-HistoryFull to Close
-1 has 0, missed false
-standing [2 1 foo 1]
-"
-    );
+    Hub::new(alloc, ready, caps, keys).ok()
+}
+
+fn demo(alloc: Global) -> Option<SharedText> {
+    SharedText::of(alloc, b"demo").ok()
+}
+
+fn connect(alloc: Global) -> Option<Command> {
+    Some(Command::Connect {
+        conn: 1,
+        user: Some(demo(alloc)?),
+        password: demo(alloc)?,
+        echo: true,
+    })
+}
+
+fn subscribe(alloc: Global) -> Option<Command> {
+    let subject = Pattern::parse(alloc, b"foo").ok()?;
+    Some(Command::Sub {
+        conn: 1,
+        subject: Shared::new(alloc, subject).ok()?,
+        queue: None,
+        sid: demo(alloc)?,
+    })
+}
+
+fn publish(alloc: Global) -> Option<Command> {
+    let subject = Subject::parse(alloc, b"foo").ok()?;
+    let message = Message::new(subject, None, Bytes::new(), Bytes::new());
+    Some(Command::Pub {
+        conn: 1,
+        message: Shared::new(alloc, message).ok()?,
+        word: 7,
+    })
+}
+
+fn event(alloc: Global, ask: Ask) -> Option<Event> {
+    let what = match ask {
+        Ask::Connect => connect(alloc)?,
+        Ask::Sub => subscribe(alloc)?,
+        Ask::Pub => publish(alloc)?,
+        Ask::StrangeTake => Command::Take { conn: 9, most: 1 },
+        Ask::StrangeClose => Command::Close { conn: 9 },
+        Ask::Rotate => return None,
+    };
+    Some(Event { now: 0, what })
+}
+
+fn told_of(answer: Result<Answer, (Event, HubRefusal)>) -> Told {
+    match answer {
+        Ok(answer) => Told::Entry(answer.get().number),
+        Err((_, refusal)) => Told::Refused(refusal),
+    }
+}
+
+// A step, a run and a rotation without their clauses: what a test asserts, it computes.
+fn step(hub: &mut Hub, event: Event) -> Told {
+    told_of(hub.step(event))
+}
+
+fn run(hub: &mut Hub, events: Vec<Event>) -> Option<Vec<Result<Answer, (Event, HubRefusal)>>> {
+    hub.run(events).ok()
+}
+
+fn rotate(hub: &mut Hub) -> Result<Segment, NoMemory> {
+    hub.rotate()
+}
+
+fn told_segment(segment: &Segment) -> Told {
+    Told::Segment(segment.first_number(), segment.entries().len())
+}
+
+fn answer(alloc: Global, hub: &mut Hub, ask: Ask) -> Option<Told> {
+    match ask {
+        Ask::Rotate => Some(told_segment(&rotate(hub).ok()?)),
+        _ => Some(step(hub, event(alloc, ask)?)),
+    }
+}
+
+/// What is told of each ask, in turn.
+fn stepped(alloc: Global, hub: &mut Hub, asks: &[Ask]) -> Option<Vec<Told>> {
+    let mut all = Vec::new(alloc);
+    for ask in asks {
+        all.push(answer(alloc, hub, *ask)?).ok()?;
+    }
+    Some(all)
+}
+
+fn events(alloc: Global, asks: &[Ask]) -> Option<Vec<Event>> {
+    let mut all = Vec::new(alloc);
+    for ask in asks {
+        all.push(event(alloc, *ask)?).ok()?;
+    }
+    Some(all)
+}
+
+/// What one run tells of all.
+fn ran(alloc: Global, hub: &mut Hub, asks: &[Ask]) -> Option<Vec<Told>> {
+    let mut all = Vec::new(alloc);
+    for answer in run(hub, events(alloc, asks)?)? {
+        all.push(told_of(answer)).ok()?;
+    }
+    Some(all)
+}
+
+#[test]
+fn a_run_changes_nothing_once_the_history_is_full(rt: HostRuntime) -> Result<(), Fail> {
+    let keys = RandomState::new(&rt)?;
+    let mut hub = opened(rt.alloc(), keys).ok_or("no hub is open")?;
+    let asks = [
+        Ask::Connect,
+        Ask::Sub,
+        Ask::Pub,
+        Ask::StrangeTake,
+        Ask::StrangeClose,
+    ];
+    let told = ran(rt.alloc(), &mut hub, &asks).ok_or("memory lacked")?;
+    let want = [Told::Entry(1), Told::Entry(2), FULL, FULL, FULL];
+    assert_eq!(rt; told.as_slice(), want.as_slice());
+    assert_eq!(rt; hub.waiting(1), Some((0, false)));
+    assert_eq!(rt; hub.standing()?.len(), 1);
     Ok(())
 }
 
 #[test]
 fn a_rotation_makes_room_and_numbers_go_on(rt: HostRuntime) -> Result<(), Fail> {
-    let caps = Caps {
-        outbox: 16,
-        history: 2,
-    };
+    let keys = RandomState::new(&rt)?;
+    let mut hub = opened(rt.alloc(), keys).ok_or("no hub is open")?;
     let asks = [
-        Ask::Connect(1, "demo", "demo"),
-        Ask::Sub(1, "foo", "1"),
-        Ask::Pub(1, "foo", "r", "", "hi"),
+        Ask::Connect,
+        Ask::Sub,
+        Ask::Pub,
         Ask::Rotate,
-        Ask::Pub(1, "foo", "r", "", "hi"),
-        Ask::History,
+        Ask::Pub,
         Ask::Rotate,
         Ask::Rotate,
-        Ask::Standing,
     ];
-    let want = "1.1 connected
-1.2 subscribed
-HistoryFull
-segment of 2 from 1
-1.3 published All, entered 1 1
-history of 1, same true
-segment of 1 from 3
-segment of 0 from 4
-standing [2 1 foo 1]
-";
-    tells(&rt, rt.alloc(), caps, &asks, want)
+    let told = stepped(rt.alloc(), &mut hub, &asks).ok_or("memory lacked")?;
+    let want = [
+        Told::Entry(1),
+        Told::Entry(2),
+        FULL,
+        Told::Segment(1, 2),
+        Told::Entry(3),
+        Told::Segment(3, 1),
+        Told::Segment(4, 0),
+    ];
+    assert_eq!(rt; told.as_slice(), want.as_slice());
+    assert_eq!(rt; hub.standing()?.len(), 1);
+    Ok(())
 }
