@@ -6,8 +6,6 @@ mod error;
 mod field;
 mod info;
 mod opts;
-#[cfg(test)]
-mod tests;
 
 pub use error::ConnectError;
 pub use info::info_text;

@@ -5,8 +5,6 @@ mod device;
 mod fail_at;
 mod fault;
 mod input;
-#[cfg(test)]
-mod tests;
 
 pub use device::{DeviceFailed, ReadSource, Sink, Source, WriteSink, write_all};
 pub use fail_at::FailAt;

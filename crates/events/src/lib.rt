@@ -13,6 +13,3 @@ pub use event::{Command, Event, Sid};
 pub use message::Message;
 pub use port::Port;
 pub use refusal::HubRefusal;
-
-#[cfg(test)]
-mod tests;

@@ -10,6 +10,3 @@ pub use items::{Copying, Items};
 pub use no_memory::NoMemory;
 pub use pieces::Pieces;
 pub use shared::{Shared, SharedText};
-
-#[cfg(test)]
-mod tests;

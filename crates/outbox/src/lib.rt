@@ -2,7 +2,5 @@
 #![tactic(auto)]
 
 mod bounded;
-#[cfg(test)]
-mod tests;
 
 pub use bounded::Outbox;

@@ -3,7 +3,5 @@
 
 mod choice;
 mod groups;
-#[cfg(test)]
-mod tests;
 
 pub use choice::{Choice, Member, choose};

@@ -3,8 +3,6 @@
 
 mod fault;
 mod policy;
-#[cfg(test)]
-mod tests;
 
 pub use fault::ReloadFault;
 pub use policy::{prepare, read_valid_policy};

@@ -6,8 +6,6 @@ mod marks;
 mod plain;
 mod replies;
 mod terms;
-#[cfg(test)]
-mod tests;
 
 pub use grants::Grants;
 pub use plain::PlainGrant;

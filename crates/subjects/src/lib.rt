@@ -6,8 +6,6 @@ mod error;
 mod faults;
 mod pattern;
 mod subject;
-#[cfg(test)]
-mod tests;
 mod tokens;
 
 pub use error::SubjectError;

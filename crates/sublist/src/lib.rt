@@ -4,8 +4,6 @@
 mod error;
 mod node;
 mod step;
-#[cfg(test)]
-mod tests;
 mod tree;
 
 pub use error::{Absent, InsertError};

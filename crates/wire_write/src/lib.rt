@@ -7,6 +7,3 @@ mod message;
 
 pub use error::{ServerError, write_err};
 pub use message::{write_hmsg, write_info, write_msg, write_ok, write_pong};
-
-#[cfg(test)]
-mod tests;
