@@ -1,12 +1,10 @@
 -- What always holds of a session's grants is kept by each change of them, and what they allow.
-use Rattle.std.proofs.Common.{◌≡◌, ◌∙◌, ◌==◌, ◌&&◌, ◌||◌, ◌⊎◌, ℕ, ◌+◌, ◌-◌, ◌<◌, ◌≤◌, suc, zero, Bool, true, false, not, cond, List, [], ◌∷◌, ◌++◌, map, filter, drop, length, get_or, Option, Some, None, ap, sym, refl, subst, arith, nat_lt}
+use Rattle.std.proofs.Common.{◌≡◌, ◌∙◌, ◌==◌, ◌&&◌, ◌||◌, ℕ, ◌-◌, ◌≤◌, suc, zero, Bool, true, false, not, cond, List, [], ◌∷◌, ◌++◌, filter, drop, length, get_or, Option, Some, None, ap, sym, refl, subst, arith, nat_lt}
 use Rattle.std.specs.Prelude.{All, AllPairs, is_some}
-use Rattle.std.specs.List.{list_any}
 use Rattle.std.specs.Option.{option_map, option_or}
 use Rattle.std.specs.Cmp.Lexicographic.{pointwise_decides, bytes_decides}
-use Rattle.std.proofs.lemmas.Bool.{cases_Bool, leb-true, le-leb}
 use Rattle.std.proofs.lemmas.List.{append-nil, length-append, length-drop, length-map, drop-append-le}
-use Rattle.std.proofs.lemmas.List.Elements.{All-nil, All-cons, All-head, All-tail, All-push, All-drop, All-map, All-filter, All-weaker, filter_passes, filter-append}
+use Rattle.std.proofs.lemmas.List.Elements.{All-nil, All-cons, All-head, All-tail, All-push, All-drop, All-map, All-filter, filter_passes, filter-append}
 use Rattle.std.proofs.lemmas.List.Kept.{AllPairs-filter}
 use Rattle.std.proofs.lemmas.List.Filters.{length-filter_both}
 use Rattle.std.proofs.lemmas.List.Quantifiers.{all_pairs_push}
@@ -14,7 +12,7 @@ use Rattle.subjects.specs.Subject.{Token}
 use Rattle.subjects.specs.Equal.{same_subject, same_subject-equiv}
 use Rattle.policy_doc.specs.declared.document.Terms.{Terms}
 use Rattle.reply_grants.specs.Grants.{Grant, is_below, is_within, is_live, is_for, has_live, youngest, without, after_note, answered, after_end, after_answer}
-use Rattle.reply_grants.specs.Replies.{Table, grants_of, noted, answered_in, ended_in, both_live, judged}
+use Rattle.reply_grants.specs.Replies.{Table, grants_of, noted, answered_in, ended_in, judged}
 use Rattle.reply_grants.specs.declared.replies.Note.{Note}
 use Rattle.hub.specs.Kept.{is_open, has_answer_left, IsAfter, AreApart, AreKept, IsKeptTable}
 use Rattle.sessions.specs.Replying.{note_of}

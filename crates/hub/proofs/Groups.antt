@@ -1,6 +1,6 @@
 -- Of each queue group with an admitted member exactly one is served.
-use Rattle.std.proofs.Common.{◌≡◌, ◌∙◌, ◌<◌, ◌==◌, ◌%◌, ◌^◌, ◌||◌, ℕ, zero, suc, Bool, true, false, not, cond, List, [], ◌∷◌, map, filter, length, Option, Some, None, slice_get, get_or, ap, sym, refl, subst, inl, inr, arith, Contains}
-use Rattle.std.specs.Prelude.{All, AllPairs, is_some}
+use Rattle.std.proofs.Common.{◌≡◌, ◌∙◌, ◌<◌, ◌%◌, ◌^◌, ℕ, zero, suc, Bool, true, false, not, cond, List, [], ◌∷◌, map, filter, length, Option, Some, None, get_or, ap, sym, refl, inl, inr, arith}
+use Rattle.std.specs.Prelude.{All, is_some}
 use Rattle.std.specs.List.{list_any}
 use Rattle.std.proofs.lemmas.Bool.{cases_Bool, false≢true, ne_eqb, eq-eqb}
 use Rattle.std.proofs.lemmas.List.Elements.{All-head, All-tail}
@@ -8,7 +8,7 @@ use Rattle.std.proofs.lemmas.List.Kept.{AllPairs-filter}
 use Rattle.std.proofs.lemmas.Nat.{mod_below}
 use Rattle.std.proofs.lemmas.Option.{slice_get-get_or}
 use Rattle.subjects.specs.Subject.{Token, text_of}
-use Rattle.queue_choice.specs.Choices.{same_name, chosen}
+use Rattle.queue_choice.specs.Choices.{chosen}
 use Rattle.queue_choice.proofs.Names.{same-is}
 use Rattle.subscriptions.specs.declared.subscription.Subscription.{Subscription}
 use Rattle.queue_groups.specs.Served.{is_named, is_member, members, is_the, is_served_by, is_served, served}

@@ -7,7 +7,7 @@ use Rattle.subjects.specs.Subject.{Token, in_set}
 use Rattle.permissions.specs.Lists.{Entry, Lists, is_for}
 use Rattle.permissions.specs.declared.verdict.By.TheVariants.{All as AllowsAll}
 use Rattle.permissions.specs.declared.verdict.Verdict.TheVariants.{Allowed}
-use Rattle.permissions.specs.Verdicts.{unless_denied, delivery_verdict, HasFor, LacksFor, IsJustifiedDelivery}
+use Rattle.permissions.specs.Verdicts.{unless_denied, delivery_verdict, LacksFor, IsJustifiedDelivery}
 
 both : (a b : Bool) → (a && b) ≡ true → (a ≡ true) × (b ≡ true)
 both true b h = (refl, h)
