@@ -3,11 +3,9 @@
 
 mod connections;
 mod drains;
-mod fault;
 mod reloads;
 mod server;
 mod standing;
 mod worker;
 
-pub use fault::ServeFault;
 pub use server::{Post, serve};

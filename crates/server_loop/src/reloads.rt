@@ -1,4 +1,3 @@
-use crate::fault::ServeFault;
 use devices::{Sink, write_all};
 use doors::{House, Notices};
 use events::{Answer, Command, Event, HubRefusal};
@@ -7,6 +6,7 @@ use policy_source::{Next, Policies};
 use ready::Ready;
 use reload::prepare;
 use script_text::write_reload;
+use serve_fault::ServeFault;
 use shared_hub::Run;
 use std::alloc::Global;
 use std::sync::Wait;

@@ -1,4 +1,3 @@
-use crate::fault::{ServeFault, least};
 use crate::reloads::Reloads;
 use crate::worker::{Start, WAKER, Worker};
 use conn::Words;
@@ -8,6 +7,7 @@ use gates::{Gate, GatedPort};
 use mio::Poll;
 use mio::net::TcpListener;
 use policy_source::Policies;
+use serve_fault::{ServeFault, least};
 use shared_hub::{Run, Seat, Shared, SharedPort};
 use std::alloc::Global;
 use std::collections::VecDeque;

@@ -1,4 +1,3 @@
-use crate::fault::ServeFault;
 use crate::server::Post;
 use crate::standing::Standing;
 use conn::Words;
@@ -7,6 +6,7 @@ use gates::{Gate, GatedPort};
 use mio::event::Event;
 use mio::net::TcpListener;
 use mio::{Events, Interest, Poll, Token};
+use serve_fault::ServeFault;
 use shared_hub::{Run, Shared, SharedPort};
 use slab::Slab;
 use std::alloc::Global;

@@ -1,7 +1,7 @@
 -- Why the server has stopped.
 use Rattle.std.specs.Prelude.{ℕ, Bool, true, false, List, Option, Some, None, codes, nat_lt}
-use Rattle.server_loop.specs.declared.fault.ServeFault.{ServeFault}
-use Rattle.server_loop.specs.declared.fault.ServeFault.TheVariants.{PollFailed, BadFrame, NoMemory, TurnsSpent}
+use Rattle.serve_fault.specs.declared.fault.ServeFault.{ServeFault}
+use Rattle.serve_fault.specs.declared.fault.ServeFault.TheVariants.{PollFailed, BadFrame, NoMemory, TurnsSpent}
 
 -- what is printed
 abbrev pub fault_text : ServeFault → List ℕ

@@ -1,5 +1,5 @@
 ghost use Rattle.std.specs.Prelude.{◌≡◌, Some, codes};
-ghost use Rattle.server_loop.specs.Faults.{fault_text, least, rank};
+ghost use Rattle.serve_fault.specs.Faults.{fault_text, least, rank};
 
 use std::error::Error;
 use std::fmt;

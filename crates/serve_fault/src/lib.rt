@@ -1,0 +1,6 @@
+//! Why a server stops.
+#![tactic(auto)]
+
+mod fault;
+
+pub use fault::{ServeFault, least};
