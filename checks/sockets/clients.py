@@ -70,7 +70,7 @@ class Server:
     def __init__(self, program, *words, policy=POLICY, file=False, descriptors=None, listen="127.0.0.1:0"):
         self.room = tempfile.TemporaryDirectory()
         self.path = pathlib.Path(self.room.name) / "policy.json"
-        line = [program, "serve", "--listen", listen, *map(str, words)]
+        line = self.command(program, listen, [*map(str, words)])
         if file:
             self.write(policy)
             line += ["--policy", str(self.path)]
@@ -93,6 +93,10 @@ class Server:
         except BaseException:
             self.close()
             raise
+
+    def command(self, program, listen, words):
+        """Returns the command line."""
+        return [program, "serve", "--listen", listen, *words]
 
     def _listen(self):
         for line in self.process.stdout:

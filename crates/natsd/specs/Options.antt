@@ -5,6 +5,7 @@ use Rattle.clap.specs.Words.{App, IsUnsignedIn, app_of, Row, Rule, Text, first_o
 use Rattle.clap.specs.declared.builder.command.Command.{Command}
 use Rattle.clap.specs.declared.builder.command.Command.TheViews.{out-Command}
 use Rattle.clap.specs.declared.builder.value_parser.ValueParser.TheVariants.{Unsigned}
+use Rattle.serving.specs.Serve as serving
 use Rattle.natsd.specs.declared.options.ServeOptions.{ServeOptions}
 
 -- ---- what it takes
@@ -59,12 +60,8 @@ pub record IsOptions (rows : List Row) (o : ServeOptions) : Type 0 where
   pub history : IsNumberIn 2 most_history (one_of (codes "history") rows) o.history
 
 -- a server can be opened with these
-pub record AreServable (o : ServeOptions) : Type 0 where
-  pub worker : 1 ≤ o.workers
-  pub workers : o.workers ≤ 64
-  pub outbox : 1 ≤ o.outbox
-  pub outboxes : o.outbox ≤ 65536
-  pub history : 2 ≤ o.history
+abbrev pub AreServable : ServeOptions → Type 0
+AreServable o = serving.AreServable o.workers o.outbox o.history
 
 -- no option was given
 pub record AreDefaults (o : ServeOptions) : Type 0 where

@@ -1,0 +1,195 @@
+//! A server with its threads (docs/OPERATING.md).
+ghost use Rattle.std.specs.Prelude.{◌≡◌, ◌≤◌, ◌+◌, ⊤};
+ghost use Rattle.serving.specs.Serve.{AreServable};
+
+use crate::fault::Fault;
+use crate::opening::{first_policy, listen, open_hub, tell_listening};
+use crate::settings::Settings;
+use conn::Words;
+use devices::{Sink, write_all};
+use doors::Limits;
+use gates::Gate;
+use hub::Hub;
+use mio::net::TcpListener;
+use policy_source::Policies;
+use rand::make_rng;
+use rand::rngs::SmallRng;
+use rand_core::Rng;
+use server_loop::{Post, serve};
+use shared_hub::{Blank, Run, Seat, Shared};
+use std::alloc::{AllocGlobal, Global};
+use std::hash::RandomState;
+use std::marker::Brand;
+use std::net::Net;
+use std::random::RandomSource;
+use std::sync::Wait;
+use std::thread::Threads;
+use std::time::Clock;
+
+/// Where the gates of a server's threads come from.
+pub trait GateSource<G> {
+    /// The gate of a worker. The first worker is number 0.
+    fn worker_gate(&self, worker: usize) -> G;
+
+    /// The gate of the thread that installs policies.
+    fn reload_gate(&self) -> G;
+}
+
+/// The words of messages, as a generator draws them.
+#[derive(Drop)]
+struct Drawn {
+    generator: SmallRng,
+}
+
+impl Words for Drawn {
+    ghost draws = { λ old word new. ⊤ };
+
+    fn next(&mut self) -> u64 {
+        self.generator.next_u64()
+    }
+}
+
+/// Serves clients as the settings say, by the policies that come, until they end, and answers the status: 0 at their end,
+/// 1 at a fault. What comes to pass is printed, a line each, and the last line tells why it has ended. Each thread passes
+/// a gate of its own.
+pub fn serve_clients<
+    R: Threads + Wait + Net + Clock + RandomSource + Sync + AllocGlobal,
+    G: Gate + Send + Drop,
+    F: GateSource<G>,
+    P: Policies + Send,
+    W: Sink + Send,
+>(rt: &R, settings: Settings<'_>, gates: &F, policies: &mut P, sink: &mut W) -> u8
+    requires { AreServable settings.workers settings.outbox settings.history }
+    ensures { result ≤ 1 }
+{
+    match serve_policies(rt, settings, gates, policies, sink) {
+        Ok(()) => {
+            drop(write_all(sink, b"stopped\n"));
+            0
+        }
+        Err(fault) => {
+            drop(write_all(sink, fault.line()));
+            1
+        }
+    }
+}
+
+/// Serves clients from the first policy to the end of the policies.
+fn serve_policies<
+    R: Threads + Wait + Net + Clock + RandomSource + Sync + AllocGlobal,
+    G: Gate + Send + Drop,
+    F: GateSource<G>,
+    P: Policies + Send,
+    W: Sink + Send,
+>(rt: &R, settings: Settings<'_>, gates: &F, policies: &mut P, sink: &mut W) -> Result<(), Fault>
+    requires { AreServable settings.workers settings.outbox settings.history }
+{
+    let Some(ready) = first_policy(rt.alloc(), policies)? else {
+        return Ok(());
+    };
+    let listener = listen(rt, settings.listen)?;
+    let Ok(keys) = RandomState::new(rt) else {
+        return Err(Fault::NoKeys);
+    };
+    let (hub, limits) = open_hub(rt.alloc(), settings, ready, keys)?;
+    let seats = settings.workers + 1;
+    serve_run::<Brand, R, G, F, P, W>(
+        rt,
+        Blank::new(seats),
+        hub,
+        seats,
+        limits,
+        listener,
+        gates,
+        policies,
+        sink,
+    )
+}
+
+/// Lets threads share a hub, with so many seats, and serves.
+fn serve_run<
+    L: Run + Send + Sync,
+    R: Threads + Wait + Net + Clock + RandomSource + Sync + AllocGlobal,
+    G: Gate + Send + Drop,
+    F: GateSource<G>,
+    P: Policies + Send,
+    W: Sink + Send,
+>(
+    rt: &R,
+    blank: Blank,
+    hub: Hub,
+    seats: u64,
+    limits: Limits,
+    listener: TcpListener,
+    gates: &F,
+    policies: &mut P,
+    sink: &mut W,
+) -> Result<(), Fault>
+    requires name { blank.name ≡ L.name }
+    requires parts { blank.parts ≡ L.parts }
+    requires opening { hub.world.number ≡ L.opening }
+    requires seats { (seats ≡ L.seats) × (L.seats ≡ L.parts) }
+{
+    match Shared::<L>::with_seats(rt.alloc(), blank, hub, seats) {
+        Ok((shared, seats)) => {
+            serve_seats(rt, &shared, seats, limits, listener, gates, policies, sink)
+        }
+        Err(_) => Err(Fault::NoMemory),
+    }
+}
+
+/// Serves with a worker for each seat but the last, whose thread installs policies.
+fn serve_seats<
+    L: Run + Send + Sync,
+    R: Threads + Wait + Net + Clock + RandomSource + Sync + AllocGlobal,
+    G: Gate + Send + Drop,
+    F: GateSource<G>,
+    P: Policies + Send,
+    W: Sink + Send,
+>(
+    rt: &R,
+    shared: &Shared<L>,
+    seats: Vec<Seat<L>>,
+    limits: Limits,
+    listener: TcpListener,
+    gates: &F,
+    policies: &mut P,
+    sink: &mut W,
+) -> Result<(), Fault> {
+    let alloc = rt.alloc();
+    let mut seats = seats;
+    let Some(seat) = seats.pop() else {
+        return Err(Fault::NoMemory);
+    };
+    let posts = posts(rt, alloc, gates, seats)?;
+    tell_listening(alloc, &listener, sink)?;
+    let own = (seat, gates.reload_gate());
+    serve(
+        rt, alloc, listener, shared, posts, own, limits, policies, sink,
+    )?;
+    Ok(())
+}
+
+/// A post for each seat, with a gate and words of its own.
+fn posts<L: Run, R: RandomSource, G: Gate + Drop, F: GateSource<G>>(
+    rt: &R,
+    alloc: Global,
+    gates: &F,
+    seats: Vec<Seat<L>>,
+) -> Result<Vec<Post<L, G, Drawn>>, Fault> {
+    let mut posts = Vec::with_capacity(alloc, seats.len())?;
+    for (worker, seat) in seats.into_iter().enumerate() {
+        let Ok(generator) = make_rng::<SmallRng, R>(rt) else {
+            return Err(Fault::NoKeys);
+        };
+        let post = Post {
+            seat,
+            gate: gates.worker_gate(worker),
+            words: Drawn { generator },
+        };
+        if posts.push(post).is_err() {
+            return Err(Fault::NoMemory);
+        }
+    }
+    Ok(posts)
+}
