@@ -1,100 +1,90 @@
-//! Audits that are refused: a seat, a segment or a receipt isn't what it should be.
+//! The closing audits of a run. What they judge stays behind one handle, so that nothing large is held where one is refused.
 ghost use Rattle.std.specs.Prelude.{◌≡◌};
 
-use crate::policies::Given;
-use hub::{Caps, Command, Entry, Event, Hub, Outcome, Segment};
+use hub::{Command, Entry, Event, Hub, Outcome, Ready, Segment};
 use lists::{Copying, Shared as Handle};
-use shared_hub::{Audit, AuditFault, Parts, Receipt, Run};
+use shared_hub::{Audit, AuditFault, Parts, Receipt, Run, Seat};
 use std::alloc::Global;
-use std::hash::RandomState;
-use std::random::RandomSource;
-use std::test::Fail;
 
-pub(crate) const ROOM: Caps = Caps {
-    outbox: 16,
-    history: 10_000,
-};
+/// What an audit of all parts tells.
+#[derive(Drop)]
+pub(crate) struct Totals {
+    /// How many entries the history has.
+    entries: usize,
+    /// How many each seat has made.
+    counts: Vec<u64>,
+}
 
-/// An audit is refused where a seat is withheld, and where a receipt is remade: with its own number beside the original,
-/// with that of another entry, and with one that no entry has. The parts are handed back each time.
-pub(crate) fn refuse_forged<L: Run>(alloc: Global, parts: Parts<L>) -> Result<Parts<L>, Fail>
+impl Totals {
+    pub(crate) fn are(&self, entries: usize, counts: &[u64]) -> bool {
+        self.entries == entries && self.counts.as_slice() == counts
+    }
+}
+
+/// Whether an audit is refused for want of the last seat, which is withheld from it.
+pub(crate) fn misses_a_seat<L: Run>(alloc: Global, held: &mut Option<Parts<L>>) -> bool
     requires { L.seats ≡ L.parts }
 {
-    let own = parts.receipts.get(1).ok_or("no receipt")?.number();
-    let first = parts.receipts.get(0).ok_or("no receipt")?.number();
-    let beyond = parts.receipts.len() as u64 + 1;
-    let parts = refuse_remade(alloc, parts, own)?;
-    let parts = refuse_remade(alloc, parts, first)?;
-    refuse_remade(alloc, parts, beyond)
+    let withheld = take_seat(held);
+    let refused = is_refused(alloc, held, AuditFault::SeatMissing);
+    put_seat(held, withheld) && refused
 }
 
-/// The second receipt, which is of a Subscribed, remade with a number and handed in behind all others. Beside it a
-/// withheld seat is missed first.
-fn refuse_remade<L: Run>(alloc: Global, mut parts: Parts<L>, number: u64) -> Result<Parts<L>, Fail>
+/// Whether an audit is refused for a gap at this number, where the one segment is withheld from it.
+pub(crate) fn has_a_gap<L: Run>(alloc: Global, held: &mut Option<Parts<L>>, number: u64) -> bool
     requires { L.seats ≡ L.parts }
 {
-    let forged = remade(alloc, parts.receipts.get(1).ok_or("no receipt")?, number)?;
-    parts.receipts.push(forged)?;
-    let withheld = parts.seats.pop().ok_or("no seat")?;
-    let mut parts = refused(alloc, parts, AuditFault::SeatMissing)?;
-    parts.seats.push(withheld)?;
-    let mut parts = refused(alloc, parts, AuditFault::ReceiptMismatch(number))?;
-    parts.receipts.pop();
-    Ok(parts)
+    let withheld = take_segment(held);
+    let refused = is_refused(alloc, held, AuditFault::SegmentGap(number));
+    put_segment(held, withheld) && refused
 }
 
-/// The receipt of a Subscribed made again of its parts, with another number.
-fn remade(alloc: Global, receipt: &Receipt, number: u64) -> Result<Receipt, Fail> {
-    let (answer, command, ready) = receipt.parts();
-    let entry = Entry {
-        number,
-        epoch: answer.get().epoch,
-        outcome: Outcome::Subscribed,
-        event: Event {
-            now: 0,
-            what: command.copy(alloc)?,
-        },
-    };
-    Ok(Receipt::from_parts(Handle::new(alloc, entry)?, ready.copy(alloc)?).ok_or("no receipt")?)
-}
-
-/// An audit is refused where the first segment, of entries 1 and 2, is withheld, and where one of another hub stands in
-/// its place.
-pub(crate) fn refuse_gaps<L: Run, R: RandomSource>(
-    rt: &R,
+/// Whether an audit is refused for the second receipt, of a Subscribed, remade with this number and handed in behind all
+/// others.
+pub(crate) fn refuses_remade<L: Run>(
     alloc: Global,
-    mut parts: Parts<L>,
-) -> Result<Parts<L>, Fail>
+    held: &mut Option<Parts<L>>,
+    number: u64,
+) -> bool
     requires { L.seats ≡ L.parts }
 {
-    let own = parts.segments.pop().ok_or("no segment")?;
-    let mut parts = refused(alloc, parts, AuditFault::SegmentGap(1))?;
-    parts.segments.push(strange(alloc, RandomState::new(rt)?)?)?;
-    let mut parts = refused(alloc, parts, AuditFault::SegmentGap(3))?;
-    parts.segments.pop();
-    parts.segments.push(own)?;
-    Ok(parts)
+    let made = add_remade(alloc, held, number);
+    let refused = is_refused(alloc, held, AuditFault::ReceiptMismatch(number));
+    drop_receipt(held);
+    made && refused
 }
 
-/// Two entries of a hub with another policy.
-fn strange(alloc: Global, keys: RandomState) -> Result<Segment, Fail> {
-    let ready = Given::Other.ready(alloc).ok_or("no policy is ready")?;
-    let mut hub = Hub::new(alloc, ready, ROOM, keys)
-        .ok()
-        .ok_or("no hub is open")?;
-    reload(alloc, &mut hub).ok_or("a reload was refused")?;
-    reload(alloc, &mut hub).ok_or("a reload was refused")?;
-    Ok(rotate(&mut hub).ok_or("a rotation was refused")?)
+/// What the audit of all tells, unless it is refused.
+pub(crate) fn audited<L: Run>(alloc: Global, held: &mut Option<Parts<L>>) -> Option<Totals>
+    requires { L.seats ≡ L.parts }
+{
+    match held.take() {
+        None => None,
+        Some(parts) => match finish(alloc, parts) {
+            Ok(audit) => Some(totals_of(audit)),
+            Err(_) => None,
+        },
+    }
 }
 
-fn reload(alloc: Global, hub: &mut Hub) -> Option<()> {
-    let what = Command::Reload(Given::Other.ready(alloc)?);
-    hub.step(Event { now: 0, what }).ok()?;
-    Some(())
+/// Whether an audit is refused with this fault. What was handed in is held again.
+fn is_refused<L: Run>(alloc: Global, held: &mut Option<Parts<L>>, fault: AuditFault) -> bool
+    requires { L.seats ≡ L.parts }
+{
+    match held.take() {
+        None => false,
+        Some(parts) => match finish(alloc, parts) {
+            Ok(_) => false,
+            Err((found, parts)) => {
+                put_back(held, parts);
+                found == fault
+            }
+        },
+    }
 }
 
-fn rotate(hub: &mut Hub) -> Option<Segment> {
-    hub.rotate().ok()
+fn put_back<L: Run>(held: &mut Option<Parts<L>>, parts: Parts<L>) {
+    *held = Some(parts);
 }
 
 /// An audit without its clauses: what a test asserts, it computes.
@@ -110,31 +100,12 @@ fn finish<L: Run>(alloc: Global, parts: Parts<L>) -> Result<Audit<L>, (AuditFaul
     run.finish(alloc, seats, receipts, segments)
 }
 
-/// An audit that is refused with this fault.
-fn refused<L: Run>(alloc: Global, parts: Parts<L>, fault: AuditFault) -> Result<Parts<L>, Fail>
-    requires { L.seats ≡ L.parts }
-{
-    match finish(alloc, parts) {
-        Ok(_) => Err("the audit is whole".into()),
-        Err((found, parts)) => {
-            if found == fault {
-                Ok(parts)
-            } else {
-                Err("the audit has another fault".into())
-            }
-        }
-    }
-}
-
-/// What an audit tells: how many entries its history has, how many each seat has made, and how many subscriptions stand.
-pub(crate) fn audited<L: Run>(alloc: Global, parts: Parts<L>) -> Result<String, Fail>
-    requires { L.seats ≡ L.parts }
-{
-    let audit = finish(alloc, parts).ok().ok_or("no audit")?;
+fn totals_of<L: Run>(audit: Audit<L>) -> Totals {
     let entries = entries_of(&audit.hub, audit.segments.as_slice());
-    let counts = audit.counts.as_slice();
-    let standing = audit.hub.standing()?.len();
-    Ok(format!(in alloc; "{entries} entries, of {counts:?}, {standing} subscriptions")?)
+    Totals {
+        entries,
+        counts: audit.counts.into_vec(),
+    }
 }
 
 fn entries_of(hub: &Hub, segments: &[Segment]) -> usize {
@@ -143,4 +114,84 @@ fn entries_of(hub: &Hub, segments: &[Segment]) -> usize {
         entries = entries.saturating_add(segment.entries().len());
     }
     entries
+}
+
+fn take_seat<L: Run>(held: &mut Option<Parts<L>>) -> Option<Seat<L>> {
+    match held {
+        None => None,
+        Some(parts) => parts.seats.pop(),
+    }
+}
+
+fn put_seat<L: Run>(held: &mut Option<Parts<L>>, seat: Option<Seat<L>>) -> bool {
+    match seat {
+        None => false,
+        Some(seat) => match held {
+            None => false,
+            Some(parts) => parts.seats.push(seat).is_ok(),
+        },
+    }
+}
+
+fn take_segment<L: Run>(held: &mut Option<Parts<L>>) -> Option<Segment> {
+    match held {
+        None => None,
+        Some(parts) => parts.segments.pop(),
+    }
+}
+
+fn put_segment<L: Run>(held: &mut Option<Parts<L>>, segment: Option<Segment>) -> bool {
+    match segment {
+        None => false,
+        Some(segment) => match held {
+            None => false,
+            Some(parts) => parts.segments.push(segment).is_ok(),
+        },
+    }
+}
+
+fn add_remade<L: Run>(alloc: Global, held: &mut Option<Parts<L>>, number: u64) -> bool {
+    match held {
+        None => false,
+        Some(parts) => push_remade(alloc, &mut parts.receipts, number),
+    }
+}
+
+fn drop_receipt<L: Run>(held: &mut Option<Parts<L>>) {
+    if let Some(parts) = held {
+        parts.receipts.pop();
+    }
+}
+
+fn push_remade(alloc: Global, receipts: &mut Vec<Receipt>, number: u64) -> bool {
+    match remade(alloc, receipts.get(1), number) {
+        None => false,
+        Some(forged) => receipts.push(forged).is_ok(),
+    }
+}
+
+/// The receipt of a Subscribed made again of its parts, with another number.
+fn remade(alloc: Global, receipt: Option<&Receipt>, number: u64) -> Option<Receipt> {
+    let (answer, command, ready) = receipt?.parts();
+    let epoch = answer.get().epoch;
+    let ready = ready.copy(alloc).ok()?;
+    let what = command.copy(alloc).ok()?;
+    receipt_of(alloc, subscribed(number, epoch, what), ready)
+}
+
+fn subscribed(number: u64, epoch: u128, what: Command) -> Entry {
+    Entry {
+        number,
+        epoch,
+        outcome: Outcome::Subscribed,
+        event: Event { now: 0, what },
+    }
+}
+
+/// The receipt of an entry under a policy, if there is one.
+pub(crate) fn receipt_of(alloc: Global, entry: Entry, ready: Ready) -> Option<Receipt> {
+    match Handle::new(alloc, entry) {
+        Ok(answer) => Receipt::from_parts(answer, ready),
+        Err(_) => None,
+    }
 }

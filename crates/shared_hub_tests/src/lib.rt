@@ -6,6 +6,8 @@ mod audits;
 #[cfg(test)]
 mod policies;
 #[cfg(test)]
+mod runs;
+#[cfg(test)]
 mod tests;
 #[cfg(test)]
 mod worker;

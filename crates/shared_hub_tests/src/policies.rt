@@ -5,47 +5,33 @@ use policy_doc::{AccountDoc, Accounts, Direction, PermDoc, PermEntry, Policy, Po
 use std::alloc::Global;
 use subjects::Pattern;
 
-/// The policies of the tests. Each has one account.
+/// The policies of the tests. Each has one account, of user demo.
 #[derive(Clone, Copy)]
 pub(crate) enum Given {
     /// User demo may do everything.
     All,
-    /// User demo may subscribe to these subjects alone.
-    Only(&'static [&'static str]),
-    /// User other may do everything, and there is no demo.
-    Other,
+    /// User demo may subscribe to this subject alone.
+    Only(&'static str),
 }
 
-impl Given {
-    pub(crate) fn ready(&self, alloc: Global) -> Option<Ready> {
-        let user = match self {
-            Given::All => user(b"demo", None),
-            Given::Only(subjects) => user(b"demo", Some(permissions(alloc, subjects)?)),
-            Given::Other => user(b"other", None),
-        };
-        ready_of(alloc, user)
-    }
+pub(crate) fn ready_of(alloc: Global, given: Given) -> Option<Ready> {
+    let permissions = match given {
+        Given::All => None,
+        Given::Only(subject) => Some(permissions(entry(alloc, subject)?, alloc)?),
+    };
+    ready(alloc, account(alloc, permissions)?)
 }
 
-fn user(name: &'static [u8], permissions: Option<PermDoc>) -> UserDoc {
-    UserDoc {
-        user: Bytes::from_static(name),
-        password: Bytes::from_static(name),
-        permissions,
-    }
+fn entry(alloc: Global, subject: &str) -> Option<PermEntry> {
+    Some(PermEntry {
+        subject: Pattern::parse(alloc, subject.as_bytes()).ok()?,
+        queue: None,
+    })
 }
 
-fn permissions(alloc: Global, subjects: &[&'static str]) -> Option<PermDoc> {
+fn permissions(entry: PermEntry, alloc: Global) -> Option<PermDoc> {
     let mut entries = Vec::new(alloc);
-    for subject in subjects {
-        let subject = Pattern::parse(alloc, subject.as_bytes()).ok()?;
-        entries
-            .push(PermEntry {
-                subject,
-                queue: None,
-            })
-            .ok()?;
-    }
+    entries.push(entry).ok()?;
     Some(PermDoc {
         publish: Direction {
             allow: None,
@@ -59,13 +45,22 @@ fn permissions(alloc: Global, subjects: &[&'static str]) -> Option<PermDoc> {
     })
 }
 
-fn ready_of(alloc: Global, user: UserDoc) -> Option<Ready> {
+fn account(alloc: Global, permissions: Option<PermDoc>) -> Option<AccountDoc> {
     let mut users = Vec::new(alloc);
-    users.push(user).ok()?;
-    let users = Items::from_vec(users);
+    let demo = UserDoc {
+        user: Bytes::from_static(b"demo"),
+        password: Bytes::from_static(b"demo"),
+        permissions,
+    };
+    users.push(demo).ok()?;
+    Some(AccountDoc {
+        users: Items::from_vec(users),
+    })
+}
+
+fn ready(alloc: Global, account: AccountDoc) -> Option<Ready> {
     let mut accounts = Accounts::new(alloc);
-    accounts
-        .insert(Bytes::from_static(b"A"), AccountDoc { users })
-        .ok()?;
-    Ready::of(alloc, Policy::check(PolicyDoc { accounts }).ok()?).ok()
+    accounts.insert(Bytes::from_static(b"A"), account).ok()?;
+    let policy = Policy::check(PolicyDoc { accounts }).ok()?;
+    Ready::of(alloc, policy).ok()
 }

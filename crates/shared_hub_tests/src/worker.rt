@@ -1,14 +1,14 @@
 //! What the threads of the tests do.
-use crate::policies::Given;
+use crate::policies::{Given, ready_of};
 use bytes::Bytes;
-use hub::{Command, Event, Message, Outcome, Port, Segment};
+use hub::{Command, Delivery, Event, Message, Outcome, Port, Ready, Segment};
 use lists::{Shared as Handle, SharedText};
 use shared_hub::{Receipt, Run, Seat, Shared, SharedPort};
 use std::alloc::Global;
 use std::sync::Wait;
 use subjects::{Pattern, Subject};
 
-/// What a thread does with its seat, one after the other, on a connection of its own.
+/// What a thread does with its seat, on a connection of its own.
 #[derive(Clone, Copy)]
 pub(crate) enum Ask {
     /// A Connect of user demo.
@@ -19,13 +19,32 @@ pub(crate) enum Ask {
     Pub(&'static str),
     /// A Take, which is to give one message, with this payload.
     Take(&'static str),
-    /// A reload.
-    Reload(Given),
-    /// Two reloads. The second policy is prepared before the first.
-    Reloads(Given, Given),
+    /// A policy is prepared, and laid on those that were prepared before.
+    Prepare(Given),
+    /// A reload of the policy that lies on top.
+    Reload,
     /// A rotation.
     Rotate,
 }
+
+/// What it is told.
+#[derive(Clone, Copy, PartialEq, Eq)]
+pub(crate) enum Said {
+    Connected,
+    Subscribed,
+    Published,
+    Took,
+    Prepared,
+    Reloaded,
+    /// A reload that ended one subscription.
+    RemovedOne,
+    Rotated,
+    /// Anything else, or that memory lacked.
+    Otherwise,
+}
+
+/// An ask, and what the thread is to be told.
+pub(crate) type Row = (Ask, Said);
 
 /// Where workers work. What starts their threads knows no more of it, so that its closure captures one thing.
 pub(crate) trait Site<W> {
@@ -46,174 +65,196 @@ impl<L: Run, R: Wait> Site<Worker<L>> for Place<'_, L, R> {
     }
 }
 
-/// A thread: its asks, its connection and its seat; and in the end what it hands in, unless memory lacked.
+/// A thread: its rows, its connection and its seat; and in the end what it has.
 #[derive(Drop)]
 pub(crate) struct Worker<L: Run> {
-    pub(crate) asks: &'static [Ask],
+    pub(crate) rows: &'static [Row],
     pub(crate) conn: u64,
     pub(crate) seat: Option<Seat<L>>,
-    pub(crate) told: Option<Told>,
     pub(crate) receipts: Vec<Receipt>,
+    pub(crate) stock: Stock,
+    /// Whether it was told what its rows say.
+    pub(crate) is_right: bool,
+}
+
+/// The policies that a thread has prepared, and the segments that it has rotated out.
+#[derive(Drop)]
+pub(crate) struct Stock {
+    pub(crate) policies: Vec<Ready>,
+    pub(crate) segments: Vec<Segment>,
 }
 
 impl<L: Run> Worker<L> {
-    /// Does what it is asked, through a port.
-    pub(crate) fn work<R: Wait>(&mut self, rt: &R, alloc: Global, lock: &Shared<L>) {
+    /// Does what its rows ask, through a port.
+    fn work<R: Wait>(&mut self, rt: &R, alloc: Global, lock: &Shared<L>) {
         let Some(seat) = self.seat.take() else {
             return;
         };
         let mut port = SharedPort::new(rt, alloc, lock, seat);
-        self.told = tell_all(&mut port, alloc, self.conn, self.asks);
+        self.is_right = is_right(&mut port, alloc, self.conn, self.rows, &mut self.stock);
         let (seat, receipts) = port.into_parts();
         self.seat = Some(seat);
         self.receipts = receipts;
     }
 }
 
-/// What a thread was told, one word for answers that are alike and follow each other; and what it rotated out.
-#[derive(Drop)]
-pub(crate) struct Told {
-    pub(crate) words: String,
-    last: &'static str,
-    sids: u64,
-    pub(crate) segments: Vec<Segment>,
+/// What a thread needs of its port. What uses it has no clause of the port's to look through.
+trait Desk {
+    /// Submits a command. A Take is to give this payload.
+    fn submit(&mut self, what: Command, payload: &str) -> Said;
+
+    fn rotate(&mut self) -> Option<Segment>;
 }
 
-fn tell_all<L: Run, R: Wait>(
-    port: &mut SharedPort<'_, L, R>,
+impl<L: Run, R: Wait> Desk for SharedPort<'_, L, R> {
+    fn submit(&mut self, what: Command, payload: &str) -> Said {
+        match Port::submit(self, Event { now: 0, what }) {
+            Ok(answer) => said_of(&answer.get().outcome, payload),
+            Err(_) => Said::Otherwise,
+        }
+    }
+
+    fn rotate(&mut self) -> Option<Segment> {
+        SharedPort::rotate(self).ok()
+    }
+}
+
+/// Does what the rows ask, until it is told otherwise than they say: whether that never was.
+fn is_right<D: Desk>(
+    desk: &mut D,
     alloc: Global,
     conn: u64,
-    asks: &[Ask],
-) -> Option<Told> {
-    let mut told = Told {
-        words: String::new(alloc),
-        last: "",
-        sids: 0,
-        segments: Vec::new(alloc),
-    };
-    for ask in asks {
-        told.ask(port, alloc, conn, *ask)?;
+    rows: &[Row],
+    stock: &mut Stock,
+) -> bool {
+    for (ask, said) in rows {
+        if told(desk, alloc, conn, *ask, stock) != *said {
+            return false;
+        }
     }
-    Some(told)
+    true
 }
 
-impl Told {
-    fn ask<L: Run, R: Wait>(
-        &mut self,
-        port: &mut SharedPort<'_, L, R>,
-        alloc: Global,
-        conn: u64,
-        ask: Ask,
-    ) -> Option<()> {
-        match ask {
-            Ask::Connect => self.submit(port, connect(alloc, conn)?, ""),
-            Ask::Subs(subject, count) => self.subscribe(port, alloc, conn, subject, count),
-            Ask::Pub(subject) => self.submit(port, publish(alloc, conn, subject)?, ""),
-            Ask::Take(payload) => self.submit(port, Command::Take { conn, most: 5 }, payload),
-            Ask::Reload(given) => self.submit(port, Command::Reload(given.ready(alloc)?), ""),
-            Ask::Reloads(first, second) => {
-                let second = second.ready(alloc)?;
-                let first = first.ready(alloc)?;
-                self.submit(port, Command::Reload(first), "")?;
-                self.submit(port, Command::Reload(second), "")
-            }
-            Ask::Rotate => self.segments.push(port.rotate().ok()?).ok(),
-        }
-    }
-
-    fn subscribe<L: Run, R: Wait>(
-        &mut self,
-        port: &mut SharedPort<'_, L, R>,
-        alloc: Global,
-        conn: u64,
-        subject: &'static str,
-        count: u64,
-    ) -> Option<()> {
-        for _ in 0..count {
-            self.sids = self.sids.wrapping_add(1);
-            let what = sub(alloc, conn, subject, self.sids)?;
-            self.submit(port, what, "")?;
-        }
-        Some(())
-    }
-
-    /// Submits a command, and notes what it is told. A Take is to give this payload.
-    fn submit<L: Run, R: Wait>(
-        &mut self,
-        port: &mut SharedPort<'_, L, R>,
-        what: Command,
-        payload: &'static str,
-    ) -> Option<()> {
-        let word = match port.submit(Event { now: 0, what }) {
-            Ok(answer) => word_of(&answer.get().outcome, payload),
-            Err(_) => "refused",
-        };
-        if word != self.last {
-            self.words.push_str(word).ok()?;
-            self.words.push_str(" ").ok()?;
-            self.last = word;
-        }
-        Some(())
+fn told<D: Desk>(desk: &mut D, alloc: Global, conn: u64, ask: Ask, stock: &mut Stock) -> Said {
+    match ask {
+        Ask::Connect => submit(desk, connect(alloc, conn), ""),
+        Ask::Subs(subject, count) => subscribe(desk, alloc, conn, subject, count),
+        Ask::Pub(subject) => submit(desk, publish(alloc, conn, subject), ""),
+        Ask::Take(payload) => desk.submit(Command::Take { conn, most: 5 }, payload),
+        Ask::Prepare(given) => prepare(alloc, given, &mut stock.policies),
+        Ask::Reload => submit(desk, reload(&mut stock.policies), ""),
+        Ask::Rotate => keep(desk.rotate(), &mut stock.segments),
     }
 }
 
-fn word_of(outcome: &Outcome, payload: &str) -> &'static str {
-    match outcome {
-        Outcome::Connected => "connected",
-        Outcome::Subscribed => "subscribed",
-        Outcome::Published(_, _) => "published",
-        Outcome::Taken(_, _) => {
-            if is_taken(outcome, payload) {
-                "took"
+fn submit<D: Desk>(desk: &mut D, what: Option<Command>, payload: &str) -> Said {
+    match what {
+        None => Said::Otherwise,
+        Some(what) => desk.submit(what, payload),
+    }
+}
+
+fn subscribe<D: Desk>(desk: &mut D, alloc: Global, conn: u64, subject: &str, count: u64) -> Said {
+    for sid in 0..count {
+        let said = submit(desk, sub(alloc, conn, subject, sid), "");
+        if said != Said::Subscribed {
+            return said;
+        }
+    }
+    Said::Subscribed
+}
+
+fn prepare(alloc: Global, given: Given, policies: &mut Vec<Ready>) -> Said {
+    match ready_of(alloc, given) {
+        None => Said::Otherwise,
+        Some(ready) => {
+            if policies.push(ready).is_ok() {
+                Said::Prepared
             } else {
-                "took-otherwise"
+                Said::Otherwise
             }
         }
-        Outcome::Reloaded { gone, removed } => {
-            if removed.len() == 1 {
-                "removed-one"
-            } else if gone.len() == 1 {
-                "closed-one"
-            } else {
-                "reloaded"
-            }
-        }
-        _ => "denied",
     }
 }
 
-/// Whether one message left the outbox, and has this payload.
-fn is_taken(outcome: &Outcome, payload: &str) -> bool {
+fn keep(segment: Option<Segment>, segments: &mut Vec<Segment>) -> Said {
+    match segment {
+        None => Said::Otherwise,
+        Some(segment) => {
+            if segments.push(segment).is_ok() {
+                Said::Rotated
+            } else {
+                Said::Otherwise
+            }
+        }
+    }
+}
+
+fn said_of(outcome: &Outcome, payload: &str) -> Said {
     match outcome {
+        Outcome::Connected => Said::Connected,
+        Outcome::Subscribed => Said::Subscribed,
+        Outcome::Published(_, _) => Said::Published,
         Outcome::Taken(deliveries, missed) => {
-            !*missed
-                && deliveries.len() == 1
-                && deliveries.as_slice()[0].message.get().payload() == payload.as_bytes()
+            if !*missed && is_one(deliveries.as_slice(), payload) {
+                Said::Took
+            } else {
+                Said::Otherwise
+            }
         }
+        Outcome::Reloaded { gone, removed } => after_reload(gone.len(), removed.len()),
+        _ => Said::Otherwise,
+    }
+}
+
+/// Whether it is one delivery, with this payload.
+fn is_one(deliveries: &[Delivery], payload: &str) -> bool {
+    match deliveries {
+        [one] => one.message.get().payload() == payload.as_bytes(),
         _ => false,
     }
 }
 
-fn shared(alloc: Global, text: &str) -> Option<SharedText> {
+fn after_reload(gone: usize, removed: usize) -> Said {
+    if gone == 0 && removed == 0 {
+        Said::Reloaded
+    } else if gone == 0 && removed == 1 {
+        Said::RemovedOne
+    } else {
+        Said::Otherwise
+    }
+}
+
+fn text(alloc: Global, text: &str) -> Option<SharedText> {
     SharedText::of(alloc, text.as_bytes()).ok()
 }
 
 fn connect(alloc: Global, conn: u64) -> Option<Command> {
+    let user = text(alloc, "demo")?;
+    let password = text(alloc, "demo")?;
     Some(Command::Connect {
         conn,
-        user: Some(shared(alloc, "demo")?),
-        password: shared(alloc, "demo")?,
+        user: Some(user),
+        password,
         echo: true,
     })
 }
 
-pub(crate) fn sub(alloc: Global, conn: u64, subject: &str, sid: u64) -> Option<Command> {
+/// A subscription, under an id of its subject and a number.
+pub(crate) fn sub(alloc: Global, conn: u64, subject: &str, number: u64) -> Option<Command> {
+    let sid = sid(alloc, subject, number)?;
+    let pattern = Pattern::parse(alloc, subject.as_bytes()).ok()?;
     Some(Command::Sub {
         conn,
-        subject: Handle::new(alloc, Pattern::parse(alloc, subject.as_bytes()).ok()?).ok()?,
+        subject: Handle::new(alloc, pattern).ok()?,
         queue: None,
-        sid: shared(alloc, format!(in alloc; "{sid}").ok()?.as_str())?,
+        sid,
     })
+}
+
+fn sid(alloc: Global, subject: &str, number: u64) -> Option<SharedText> {
+    let sid = format!(in alloc; "{subject}{number}").ok()?;
+    text(alloc, sid.as_str())
 }
 
 fn publish(alloc: Global, conn: u64, subject: &str) -> Option<Command> {
@@ -225,4 +266,8 @@ fn publish(alloc: Global, conn: u64, subject: &str) -> Option<Command> {
         message: Handle::new(alloc, message).ok()?,
         word: 0,
     })
+}
+
+fn reload(policies: &mut Vec<Ready>) -> Option<Command> {
+    Some(Command::Reload(policies.pop()?))
 }
