@@ -1,5 +1,8 @@
 use crate::door::Door;
+use mio::{Poll, Token};
+use std::alloc::Global;
 use std::hash::RandomState;
+use std::net::Net;
 use std::sync::atomic::{AtomicU64, Ordering};
 use std::time::Clock;
 
@@ -102,4 +105,18 @@ impl<'a> House<'a> {
     pub fn reads_less(&self, now: u64) -> bool {
         now < self.flags.small_until.load(Ordering::SeqCst)
     }
+}
+
+/// A way to wait for sockets, and a door by which it is ended, with a waker of this token. `None` where the system gives
+/// no such way.
+pub fn open_door<R: Net>(
+    rt: &R,
+    alloc: Global,
+    limits: Limits,
+    token: Token,
+) -> Option<(Door, Poll)> {
+    let poll = Poll::new(rt).ok()?;
+    let half = limits.outbox / 2;
+    let door = Door::new(alloc, limits.keys, half, poll.registry(), token).ok()?;
+    Some((door, poll))
 }

@@ -10,6 +10,6 @@ mod waiting;
 
 pub use awaited::{Awaited, PIECE, piece_length};
 pub use door::{Arrival, Door, Intake, Left, Named, Waiter};
-pub use house::{Flags, House, Limits, millis};
+pub use house::{Flags, House, Limits, millis, open_door};
 pub use notices::{Notices, owner_of};
 pub use waiting::PATIENCE;

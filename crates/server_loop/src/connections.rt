@@ -19,13 +19,11 @@ const RETRY: u64 = 100;
 impl<'a, L: Run, R: Wait + Clock, G: Gate + Drop, W: Words + Drop> Worker<'a, L, R, G, W> {
     /// Accepts what has come, as far as there are descriptors, and hands the sockets round.
     pub fn accept(&mut self) {
-        match self.accept_at {
-            None => return,
-            Some(at) => {
-                if at > self.now {
-                    return;
-                }
-            }
+        let Some(at) = self.accept_at else {
+            return;
+        };
+        if at > self.now {
+            return;
         }
         self.accept_at = None;
         for _ in 0..ARRIVALS {

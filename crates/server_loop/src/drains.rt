@@ -62,10 +62,8 @@ impl<'a, L: Run, R: Wait + Clock, G: Gate + Drop, W: Words + Drop> Worker<'a, L,
         let soon = self.now.saturating_add(SMALL_TIME);
         self.house.read_less(soon);
         let until = self.now.saturating_add(PATIENCE);
-        let Some(key) = self.keys.get(&conn) else {
-            return;
-        };
-        if let Some(standing) = self.clients.get_mut(*key) {
+        let key = self.place_of(conn);
+        if let Some(standing) = self.clients.get_mut(key) {
             if self.held.push_back(Held { conn, until }).is_ok() {
                 standing.held_until = Some(until);
             }
@@ -73,13 +71,10 @@ impl<'a, L: Run, R: Wait + Clock, G: Gate + Drop, W: Words + Drop> Worker<'a, L,
     }
 
     /// Has a publisher go on that is held until then.
-    pub fn resume(&mut self, conn: u64, until: u64) {
-        let Some(key) = self.keys.get(&conn) else {
-            return;
-        };
-        let key = *key;
+    pub fn resume(&mut self, held: Held) {
+        let key = self.place_of(held.conn);
         if let Some(standing) = self.clients.get_mut(key) {
-            if standing.held_until == Some(until) {
+            if standing.held_until == Some(held.until) {
                 standing.held_until = None;
             }
         }
@@ -88,14 +83,16 @@ impl<'a, L: Run, R: Wait + Clock, G: Gate + Drop, W: Words + Drop> Worker<'a, L,
 
     /// Has a publisher go on whose receiver lags no more.
     fn resume_now(&mut self, conn: u64) {
-        let Some(key) = self.keys.get(&conn) else {
-            return;
-        };
-        let key = *key;
+        let key = self.place_of(conn);
         if let Some(standing) = self.clients.get_mut(key) {
             standing.held_until = None;
         }
         self.make_ready(key);
+    }
+
+    /// The place of a connection, or one that no connection has.
+    fn place_of(&self, conn: u64) -> usize {
+        self.keys.get(&conn).copied().unwrap_or(usize::MAX)
     }
 
     /// Takes what others have left here, and drains the connections that were named.
@@ -149,7 +146,7 @@ impl<'a, L: Run, R: Wait + Clock, G: Gate + Drop, W: Words + Drop> Worker<'a, L,
 
     /// Notes that a connection of one's own was named.
     fn name(&mut self, name: Named) {
-        let Some(key) = self.keys.get(&name.conn) else {
+        let Some(key) = self.keys.get(&name.conn).copied() else {
             let gone = Left {
                 conn: name.conn,
                 count: usize::MAX,
@@ -157,7 +154,6 @@ impl<'a, L: Run, R: Wait + Clock, G: Gate + Drop, W: Words + Drop> Worker<'a, L,
             drop(self.left.push(gone));
             return;
         };
-        let key = *key;
         if let Some(standing) = self.clients.get_mut(key) {
             standing.awaited = standing.awaited.more(name.entered, name.bytes);
             standing.drain = standing.drain || name.drain;

@@ -2,9 +2,8 @@ use crate::reloads::Reloads;
 use crate::worker::{Start, WAKER, Worker};
 use conn::Words;
 use devices::Sink;
-use doors::{Door, Flags, House, Limits, millis};
+use doors::{Door, Flags, House, Limits, millis, open_door};
 use gates::{Gate, GatedPort};
-use mio::Poll;
 use mio::net::TcpListener;
 use policy_source::Policies;
 use serve_fault::{ServeFault, least};
@@ -205,7 +204,9 @@ fn open_all<L: Run, R: Net, G: Drop, W: Drop>(
         let Some(post) = posts.pop_front() else {
             break;
         };
-        let (door, poll) = open_door(rt, alloc, limits)?;
+        let Some((door, poll)) = open_door(rt, alloc, limits, WAKER) else {
+            return Err(ServeFault::PollFailed);
+        };
         let start = Start {
             index,
             post,
@@ -217,21 +218,4 @@ fn open_all<L: Run, R: Net, G: Drop, W: Drop>(
         }
     }
     Ok((doors, starts))
-}
-
-/// A way to wait for sockets, and a door by which it is ended.
-fn open_door<R: Net>(rt: &R, alloc: Global, limits: Limits) -> Result<(Door, Poll), ServeFault> {
-    let Ok(poll) = Poll::new(rt) else {
-        return Err(ServeFault::PollFailed);
-    };
-    match Door::new(
-        alloc,
-        limits.keys,
-        limits.outbox / 2,
-        poll.registry(),
-        WAKER,
-    ) {
-        Ok(door) => Ok((door, poll)),
-        Err(_) => Err(ServeFault::PollFailed),
-    }
 }

@@ -188,10 +188,7 @@ impl<'a, L: Run, R: Wait + Clock, G: Gate + Drop, W: Words + Drop> Worker<'a, L,
 
     /// How long to wait for sockets: not at all where there is work.
     fn patience(&self) -> Duration {
-        let accepts = match self.accept_at {
-            None => false,
-            Some(at) => at <= self.now,
-        };
+        let accepts = matches!(self.accept_at, Some(at) if at <= self.now);
         if accepts || !self.sleeps {
             Duration::ZERO
         } else if !self.stalled.is_empty() {
@@ -264,7 +261,7 @@ impl<'a, L: Run, R: Wait + Clock, G: Gate + Drop, W: Words + Drop> Worker<'a, L,
                 drop(self.held.push_front(held));
                 return;
             }
-            self.resume(held.conn, held.until);
+            self.resume(held);
         }
     }
 
