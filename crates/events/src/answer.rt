@@ -2,13 +2,12 @@ ghost use Rattle.std.specs.Prelude.{◌≡◌, IfOk};
 
 use crate::event::{Event, Sid};
 use crate::message::Message;
-use lists::{Copying, Items, NoMemory, Shared};
+use lists::{Boxed, Copying, Items, NoMemory, Shared};
 use permissions::{By, Verdict};
 use reply_grants::Note;
 use std::alloc::Global;
 use std::marker::Model;
 use std::slice;
-use subjects::Subject;
 
 /// A message on its way to one subscription. All deliveries of a message share it.
 #[derive(Debug, Drop)]
@@ -35,12 +34,10 @@ pub struct Addressed {
     pub id: u64,
     /// The connection whose session has it.
     pub conn: u64,
-    /// The queue group that it is a member of, if it is of one.
-    pub queue: Option<Subject>,
     /// What is sent.
     pub delivery: Delivery,
     /// What its session notes where it enters: the subject to answer on, where the user may answer.
-    pub noted: Option<Note>,
+    pub noted: Option<Boxed<Note>>,
 }
 
 /// What a message met at one subscription.

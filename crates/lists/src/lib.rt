@@ -1,11 +1,14 @@
-//! What every crate of natsd shares: lists that clauses compare, the pieces of a text, and want of memory.
+//! What every crate of natsd shares: lists that clauses compare, values with several owners or in blocks of their own,
+//! the pieces of a text, and want of memory.
 #![tactic(auto)]
 
+mod boxed;
 mod items;
 mod no_memory;
 mod pieces;
 mod shared;
 
+pub use boxed::Boxed;
 pub use items::{Copying, Items};
 pub use no_memory::NoMemory;
 pub use pieces::Pieces;

@@ -2,6 +2,7 @@
 //! stay, and of each queue group the member that the message's word chooses.
 #![tactic(auto)]
 
+mod address;
 mod groups;
 
-pub use groups::keep_chosen;
+pub use address::address_served;

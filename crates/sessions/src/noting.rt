@@ -1,10 +1,10 @@
 //! What a session is to note where a request enters its outbox.
-ghost use Rattle.std.specs.Prelude.{◌≡◌, Some, IfOk};
+ghost use Rattle.std.specs.Prelude.{◌≡◌, [], None, Some, IfOk, is_some, if◌then◌else◌};
 ghost use Rattle.std.specs.Option.{option_copied};
 ghost use Rattle.sessions.specs.Replying.{note_of, note_for};
 
 use crate::Session;
-use lists::NoMemory;
+use lists::{Boxed, NoMemory};
 use reply_grants::{Note, Replies};
 use std::alloc::Global;
 use std::hash::RandomState;
@@ -21,23 +21,30 @@ fn own_subject(alloc: Global, subject: &Subject) -> Result<Subject, NoMemory>
     }
 }
 
+/// A table for a session that has none yet.
+fn table_for(alloc: Global, keys: RandomState, replies: &Replies) -> Result<Replies, NoMemory>
+    ensures { IfOk result (λ table. table ≡ (if is_some replies.now then None else Some [])) }
+{
+    if replies.has_table() {
+        Ok(Replies::none())
+    } else {
+        Replies::with_room(alloc, keys)
+    }
+}
+
 /// A note of the subject, with a table for a session that has none yet.
 fn note_of(
     alloc: Global,
     keys: RandomState,
     subject: &Subject,
     replies: &Replies,
-) -> Result<Note, NoMemory>
+) -> Result<Boxed<Note>, NoMemory>
     ensures { IfOk result (λ note. note ≡ note_of subject.now replies.now) }
 {
     let subject = own_subject(alloc, subject)?;
-    if replies.has_table() {
-        let table = Replies::none();
-        Ok(Note { subject, table })
-    } else {
-        let table = Replies::with_room(alloc, keys)?;
-        Ok(Note { subject, table })
-    }
+    let table = table_for(alloc, keys, replies)?;
+    let note = Boxed::new(alloc, Note { subject, table })?;
+    Ok(note)
 }
 
 /// What is to be noted where a message enters for a session: its reply, if it has one and the user may answer.
@@ -46,7 +53,7 @@ pub(crate) fn note_for(
     keys: RandomState,
     reply: Option<&Subject>,
     session: Option<&Session>,
-) -> Result<Option<Note>, NoMemory>
+) -> Result<Option<Boxed<Note>>, NoMemory>
     ensures { IfOk result (λ noted. noted ≡ note_for (option_copied reply.entry) (option_copied session.entry)) }
 {
     match (reply, session) {

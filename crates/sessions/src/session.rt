@@ -1,5 +1,5 @@
 use events::Delivery;
-use lists::{Copying, NoMemory};
+use lists::{Boxed, Copying, NoMemory};
 use outbox::Outbox;
 use ready::User;
 use reply_grants::{Note, Replies};
@@ -52,7 +52,7 @@ impl Session {
     }
 
     /// Offers a delivery to the outbox at a moment: it waits there, and what is to be noted is, or it is missed.
-    pub(crate) fn offer(&mut self, delivery: Delivery, noted: Option<Note>, now: u64)
+    pub(crate) fn offer(&mut self, delivery: Delivery, noted: Option<Boxed<Note>>, now: u64)
         ensures { self.new ≡ offered delivery noted now self.old }
     {
         match self.outbox.offer(delivery) {
@@ -95,11 +95,11 @@ ghost use Rattle.std.specs.Prelude.{◌≡◌};
 ghost use Rattle.sessions.specs.Delivered.{noting};
 
 /// Notes what is to be noted, if anything is.
-fn note(replies: &mut Replies, noted: Option<Note>, now: u64)
+fn note(replies: &mut Replies, noted: Option<Boxed<Note>>, now: u64)
     ensures { replies.new ≡ noting noted now replies.old }
 {
     match noted {
         None => {}
-        Some(note) => replies.note(note, now),
+        Some(note) => replies.note(note.into_inner(), now),
     }
 }

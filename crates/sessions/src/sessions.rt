@@ -154,11 +154,9 @@ impl Sessions {
         let Addressed {
             id: _,
             conn,
-            queue,
             delivery,
             noted,
         } = next;
-        drop(queue);
         match self.place_of(conn) {
             None => {}
             Some(place) => self.list[place].offer(delivery, noted, now),

@@ -52,6 +52,7 @@ use Rattle.subscriptions.specs.contracts.table.Table as table
 use Rattle.subscriptions.specs.contracts.subscriptions.Subscriptions as subs
 use Rattle.subscriptions.proofs.shared.SharedSubscription.TheSendSync as sub
 use Rattle.subscription_ids.proofs.sids.Sids.TheSendSync as sids
+use Rattle.subscription_ids.proofs.memos.Memos.TheSendSync as memos
 
 node_send : IsSend (node.the_field).row
 node_send = send-Node (search (sendable, crosses) depth 12) (λ h s. option.the_send _ (boxed.the_send _ _ _ s global.the_send frees)) (λ h s. hash_map.the_send _ _ _ _ hasher.the_row _ _ _ _ _ (vec.the_send _ _ _ (search sendable) global.the_send frees) (boxed.the_send _ _ _ s global.the_send frees) state.the_send global.the_send frees)
@@ -65,12 +66,13 @@ u8s_send = vec.the_send u8 heap_row.the_row ghosts (search sendable) global.the_
 fold_send : IsSend (by_default.the_row fold.the_row)
 fold_send = search (sendable, crosses) depth 12
 
-trees_send : IsSend (trees.the_field).row
-trees_send = struct_send (shape trees.the_type) (global.the_field_send, (state.the_field_send, (hash_map.the_send (vec_row.the_row u8 heap_row.the_row ghosts) tree.the_row (by_default.the_row fold.the_row) heap_row.the_row fold.the_row _ _ _ _ ghosts u8s_send tree_send fold_send global.the_send frees, tt)))
+trees_send : IsSend trees.the_row
+trees_send = recorded_send _ _ _ (trees.the_type).to_one (struct_send (shape trees.the_type)
+    (global.the_field_send, (state.the_field_send, (hash_map.the_send (vec_row.the_row u8 heap_row.the_row ghosts) tree.the_row (by_default.the_row fold.the_row) heap_row.the_row fold.the_row _ _ _ _ ghosts u8s_send tree_send fold_send global.the_send frees, (memos.the_field_send, tt)))))
 
-tables_send : IsSend (trees.the_field).row → IsSend table_in.the_row
+tables_send : IsSend trees.the_row → IsSend table_in.the_row
 tables_send t = recorded_send _ _ _ (table_in.the_type).to_one (struct_send (shape table_in.the_type)
-    (global.the_field_send, (tree_map.the_send u64 sub_row.the_row heap_row.the_row _ eq.ghosts ord.ghosts ghosts (search sendable) sub.the_send global.the_send frees, (t, (search (sendable, crosses) depth 12, tt)))))
+    (global.the_field_send, (tree_map.the_send u64 sub_row.the_row heap_row.the_row _ eq.ghosts ord.ghosts ghosts (search sendable) sub.the_send global.the_send frees, (t, tt))))
 
 table_send : IsSend table_in.the_row → IsSend table.the_row
 table_send t = search (sendable, t) depth 6
@@ -83,7 +85,7 @@ subs_out_send t = search (sendable, t) depth 6
 
 world_send : IsSend subs.the_row → IsSend world_in.the_row
 world_send t = recorded_send _ _ _ (world_in.the_type).to_one (struct_send (shape world_in.the_type)
-    (global.the_field_send, (state.the_field_send, (ready.the_send, (search sendable, (search sendable, (search sendable, (search sendable, (sessions.the_send, (t, (search (sendable, crosses, addressed.the_send) depth 12, tt)))))))))))
+    (global.the_field_send, (state.the_field_send, (ready.the_send, (search sendable, (search sendable, (search sendable, (search sendable, (sessions.the_send, (t, (search (sendable, crosses, addressed.the_send) depth 12, (search (sendable, crosses) depth 12, tt))))))))))))
 
 world_out_send : IsSend world_in.the_row → IsSend world.the_row
 world_out_send t = search (sendable, t) depth 6

@@ -1,3 +1,5 @@
 mod Found
 pub mod Holding
 pub mod Owns
+mod Said
+mod Text

@@ -1,2 +1,5 @@
+pub mod Held
+pub mod Memo
 pub mod Sids
+pub mod Told
 pub mod Trees

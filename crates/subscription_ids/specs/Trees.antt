@@ -1,22 +1,14 @@
 -- What the trees of the accounts hold: an account, a pattern and an id for each subscription.
-use Rattle.std.specs.Prelude.{◌≡◌, ◌==◌, ◌&&◌, ◌||◌, not, ℕ, Bool, false, List, Option, Some, None}
-use Rattle.std.specs.List.Sorted.{IsStrictlySortedBy}
-use Rattle.std.specs.Map.{lookup, keys_of}
-use Rattle.std.specs.Ordering.{nat_cmp}
+use Rattle.std.specs.Prelude.{◌≡◌, ◌==◌, ◌&&◌, ◌||◌, not, ℕ, Bool, false, List}
 use Rattle.subjects.specs.Subject.{Token, same_token}
-use Rattle.sublist.specs.declared.tree.Sublist.{Sublist}
 use Rattle.sublist.specs.Tree.{same_path}
 use Rattle.sublist.specs.Pairs as pairs
+use Rattle.subscription_ids.specs.Held as held
 use Rattle.subscription_ids.specs.declared.trees.Trees.{Trees}
-
--- whether a tree that may be missing has the pair
-abbrev pub in_tree : List Token → ℕ → Option Sublist → Bool
-in_tree p id None = false
-in_tree p id (Some tree) = pairs.stands tree p id
 
 -- whether the account's tree has the pair of this pattern and this id
 abbrev pub holds : Trees → List ℕ → List Token → ℕ → Bool
-holds trees account p id = in_tree p id (lookup (λ k. same_token account k.items) trees.by_account.entries)
+holds trees account p id = held.held trees.by_account.entries account p id
 
 -- they hold nothing
 abbrev pub IsEmpty : Trees → Type 0
@@ -35,6 +27,5 @@ abbrev pub IsWithout : Trees → List ℕ → List Token → ℕ → Trees → T
 IsWithout old account p id new = (a : List ℕ) (q : List Token) (i : ℕ) → holds new a q i ≡ (holds old a q i && not (same_token account a && (id == i && same_path p q)))
 
 -- what they hold of an account are the pairs of the list, whose ids rise
-pub record IsIndexOf (listing : pairs.Pairs) (account : List ℕ) (trees : Trees) : Type 0 where
-  pub ascending : IsStrictlySortedBy nat_cmp (keys_of listing)
-  pub each : (p : List Token) (id : ℕ) → holds trees account p id ≡ pairs.listed listing p id
+abbrev pub IsIndexOf : pairs.Pairs → List ℕ → Trees → Type 0
+IsIndexOf listing account trees = held.IsIndexOf listing account trees.by_account.entries

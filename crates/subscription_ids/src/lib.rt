@@ -1,6 +1,8 @@
 //! The ids of subscriptions, found by their account and a subject, and by their connection and sid.
 #![tactic(auto)]
 
+mod memo;
+mod memos;
 mod sids;
 mod trees;
 

@@ -3,7 +3,10 @@ ghost use Rattle.std.specs.Prelude.{◌≡◌, ◌==◌, ◌&&◌, ℕ, List, If
 ghost use Rattle.subjects.specs.Subject.{Token};
 ghost use Rattle.sublist.specs.Tree.{same_path};
 ghost use Rattle.sublist.specs.Pairs as pairs;
+ghost use Rattle.subscription_ids.specs.Held.{IsTold};
+ghost use Rattle.subscription_ids.specs.Told.{AreTold};
 
+use crate::memos::Memos;
 use lists::NoMemory;
 use std::alloc::Global;
 use std::collections::HashMap;
@@ -19,6 +22,9 @@ pub struct Trees {
     keys: RandomState,
     // Accounts stand in the policy and no client makes one, so their names need no hidden keys.
     by_account: HashMap<Vec<u8>, Sublist>,
+    // What was found in the trees as they are.
+    memos: Memos,
+    ghost told: { AreTold memos by_account.entries },
 }
 
 impl Trees {
@@ -34,6 +40,7 @@ impl Trees {
             alloc,
             keys,
             by_account: HashMap::new(alloc),
+            memos: Memos::new(alloc),
         }
     }
 
@@ -42,6 +49,7 @@ impl Trees {
         ensures ok { OnOk result (IsWith self.old account.now pattern.now id self.new) }
         ensures err { OnErr result (IsSame self.old self.new) }
     {
+        self.memos.forget();
         match self.by_account.get_mut(account) {
             Some(tree) => match add(tree, pattern, id) {
                 Ok(()) => Ok(()),
@@ -62,9 +70,26 @@ impl Trees {
     pub fn remove(&mut self, account: &[u8], pattern: &Pattern, id: u64)
         ensures { IsWithout self.old account.now pattern.now id self.new }
     {
+        self.memos.forget();
         match self.by_account.get_mut(account) {
             None => {}
             Some(tree) => take_out(tree, pattern, id),
+        }
+    }
+
+    /// Keeps what `matching` answers for a subject in mind, where it was asked for before and memory allows: then the next
+    /// `matching` needs no search. The trees hold what they held.
+    pub fn remember(&mut self, account: &[u8], subject: &Subject)
+        ensures { IsSame self.old self.new }
+    {
+        let _ = subject.tokens();
+        let text = subject.bytes();
+        if self.memos.turn(account, text) {
+            let mut found = Vec::new(self.alloc);
+            match search(&self.by_account, account, subject, &mut found) {
+                Ok(()) => self.memos.put(account, text, found),
+                Err(_) => {}
+            }
         }
     }
 
@@ -78,16 +103,36 @@ impl Trees {
     ) -> Result<(), NoMemory>
         ensures { OnOk result ((listing : Pairs) → IsIndexOf listing account.now self.now → found.new.items ≡ matching_ids listing subject.now) }
     {
-        match self.by_account.get(account) {
-            None => {
+        let _ = subject.tokens();
+        match self.memos.find(account, subject.bytes()) {
+            None => search(&self.by_account, account, subject, found),
+            Some(ids) => {
                 found.clear();
+                found.extend_from_slice(ids)?;
                 Ok(())
             }
-            Some(tree) => match tree.matching_into(subject, found) {
-                Ok(()) => Ok(()),
-                Err(refused) => Err(refused),
-            },
         }
+    }
+}
+
+/// Puts the ids of the pairs of an account's tree whose pattern has the subject in the place of what was in `found`.
+fn search(
+    by_account: &HashMap<Vec<u8>, Sublist>,
+    account: &[u8],
+    subject: &Subject,
+    found: &mut Vec<u64>,
+) -> Result<(), NoMemory>
+    ensures { OnOk result (IsTold account.now subject.now found.new.items by_account.now.entries) }
+{
+    match by_account.get(account) {
+        None => {
+            found.clear();
+            Ok(())
+        }
+        Some(tree) => match tree.matching_into(subject, found) {
+            Ok(()) => Ok(()),
+            Err(refused) => Err(refused),
+        },
     }
 }
 

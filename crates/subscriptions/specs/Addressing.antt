@@ -10,4 +10,4 @@ abbrev pub delivery_to : Message → Subscription → Delivery
 delivery_to m sub = record { message = m; sid = sub.sid }
 
 abbrev pub addressed_to : Message → Subscription → Addressed
-addressed_to m sub = record { id = sub.id; conn = sub.conn; queue = sub.queue; delivery = delivery_to m sub; noted = None }
+addressed_to m sub = record { id = sub.id; conn = sub.conn; delivery = delivery_to m sub; noted = None }

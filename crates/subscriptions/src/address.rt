@@ -4,13 +4,11 @@ ghost use Rattle.subscriptions.specs.Addressing.{addressed_to};
 
 use crate::SharedSubscription;
 use events::{Addressed, Delivery, Message};
-use lists::{Copying, NoMemory, Shared};
-use std::alloc::Global;
+use lists::{NoMemory, Shared};
 
 /// Addresses a message to subscriptions, in turn, and adds these deliveries. On `NoMemory` some of them may have been
 /// added.
 pub fn address_each(
-    alloc: Global,
     message: &Shared<Message>,
     subscriptions: &[&SharedSubscription],
     all: &mut Vec<Addressed>,
@@ -19,14 +17,14 @@ pub fn address_each(
         ++ map (addressed_to message.now) (map (λ s. s.now) subscriptions.now)) }
 {
     for subscription in subscriptions {
-        all.push(address(alloc, message, subscription)?)?;
+        all.push(addressed_to(message, subscription)?)?;
     }
     Ok(())
 }
 
-/// The message on its way to a subscription. It is not copied: the delivery is one more owner.
-fn address(
-    alloc: Global,
+/// The message on its way to a subscription. It is not copied: the delivery is one more owner. `NoMemory` where there are
+/// too many owners to count.
+pub fn addressed_to(
     message: &Shared<Message>,
     subscription: &SharedSubscription,
 ) -> Result<Addressed, NoMemory>
@@ -35,7 +33,6 @@ fn address(
     Ok(Addressed {
         id: subscription.id(),
         conn: subscription.conn(),
-        queue: subscription.queue().copy(alloc)?,
         delivery: Delivery {
             message: message.again()?,
             sid: subscription.sid().again()?,

@@ -10,7 +10,7 @@ mod subscriptions;
 mod table;
 mod trees;
 
-pub use address::address_each;
+pub use address::{address_each, addressed_to};
 pub use shared::SharedSubscription;
-pub use subscription::Subscription;
+pub use subscription::{Asked, Subscription};
 pub use subscriptions::{Keeps, Subscriptions};

@@ -2,15 +2,14 @@ ghost use Rattle.std.specs.Prelude.{◌≡◌, ◌==◌, Bool};
 ghost use Rattle.subscriptions.specs.declared.subscription.Subscription.{Subscription};
 
 use crate::table::Table;
-use crate::{SharedSubscription, Subscription, sids};
-use bytes::Bytes;
+use crate::{Asked, SharedSubscription, Subscription, sids};
 use events::{Addressed, Item, Sid};
-use lists::{NoMemory, Shared};
+use lists::NoMemory;
 use std::alloc::Global;
 use std::collections::btree_map::Values;
 use std::hash::RandomState;
 use std::marker::Model;
-use subjects::{Pattern, Subject};
+use subjects::Subject;
 use subscription_ids::Sids;
 
 /// How many subscriptions of a connection may stand.
@@ -58,6 +57,7 @@ impl Subscriptions {
     ghost use Rattle.subscriptions.specs.Kept.{Apart};
     ghost use Rattle.subscriptions.specs.Changes.{only, bumped, capped};
     ghost use Rattle.subscriptions.specs.Turns.{in_turn, entered_ids, TellEach};
+    ghost use Rattle.subscriptions.specs.Index.{found_by};
 
     /// No subscriptions. Clients choose the tokens of subjects, and sids, so what finds them is hashed under keys that
     /// they can't know.
@@ -120,34 +120,44 @@ impl Subscriptions {
         SUBSCRIPTIONS <= self.sids.count_of(conn)
     }
 
-    /// Those of an account that have the subject, oldest first. `NoMemory` where memory could not be had.
+    /// Keeps in mind which of an account have a subject, where it was asked for before and memory allows: then the next
+    /// `having` needs no search. They stay what they are.
+    pub fn remember(&mut self, account: &[u8], subject: &Subject)
+        ensures { self.new ≡ self.old }
+    {
+        self.table.remember(account, subject);
+    }
+
+    /// Puts the ids of those of an account that have the subject, oldest first, in the place of what was in `ids`.
+    /// `NoMemory` where memory could not be had.
     pub fn having(
         &self,
         account: &[u8],
         subject: &Subject,
-    ) -> Result<Vec<&SharedSubscription>, NoMemory>
-        ensures { IfOk result (λ found. map (λ s. s.now) found.items ≡ having account.now subject.now self.now) }
+        ids: &mut Vec<u64>,
+    ) -> Result<(), NoMemory>
+        ensures { OnOk result (found_by self.now ids.new.items ≡ having account.now subject.now self.now) }
     {
-        let found = self.table.having(account, subject)?;
-        Ok(found)
+        self.table.having(account, subject, ids)?;
+        Ok(())
     }
 
     /// Adds a subscription, the youngest of all, which with a queue name is a member of that queue group. On `NoMemory`
     /// nothing has changed.
-    pub fn add(
-        &mut self,
-        id: u64,
-        conn: u64,
-        account: Bytes,
-        subject: Shared<Pattern>,
-        queue: Option<Subject>,
-        sid: Sid,
-    ) -> Result<(), NoMemory>
+    pub fn add(&mut self, id: u64, asked: Asked) -> Result<(), NoMemory>
         requires above { All (λ (s : Subscription). s.id < id) self.old }
-        requires free { stands self.old conn sid ≡ false }
-        ensures ok { OnOk result (self.new ≡ self.old ++ subscription_of id conn account subject queue sid ∷ []) }
+        requires free { stands self.old asked.conn asked.sid ≡ false }
+        ensures ok { OnOk result (self.new ≡ self.old
+            ++ subscription_of id asked.conn asked.account asked.subject asked.queue asked.sid ∷ []) }
         ensures err { OnErr result (self.new ≡ self.old) }
     {
+        let Asked {
+            conn,
+            account,
+            subject,
+            queue,
+            sid,
+        } = asked;
         let made = Subscription {
             id,
             conn,

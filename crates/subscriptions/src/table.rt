@@ -5,7 +5,6 @@ use crate::change::{bump_at, cap_at, take_out};
 use crate::{Keeps, SharedSubscription, trees};
 use lists::NoMemory;
 use std::alloc::Global;
-use std::cell::Cell;
 use std::collections::BTreeMap;
 use std::collections::btree_map::Values;
 use std::hash::RandomState;
@@ -20,8 +19,6 @@ pub(crate) struct Table {
     alloc: Global,
     by_id: BTreeMap<u64, SharedSubscription>,
     trees: Trees,
-    // Room for the ids that a message finds, which the next uses again.
-    ids: Cell<Vec<u64>>,
 }
 
 impl Model for Table {
@@ -63,7 +60,6 @@ impl Table {
             alloc,
             by_id: BTreeMap::new(alloc),
             trees: Trees::new(alloc, keys),
-            ids: Cell::new(Vec::new(alloc)),
         }
     }
 
@@ -101,49 +97,25 @@ impl Table {
         found
     }
 
-    /// Those of an account that have the subject, oldest first.
+    /// Keeps in mind which of an account have a subject, where it was asked for before and memory allows: then the next
+    /// `having` needs no search. They stay what they are.
+    pub fn remember(&mut self, account: &[u8], subject: &Subject)
+        ensures { self.new ≡ self.old }
+    {
+        self.trees.remember(account, subject);
+    }
+
+    /// Puts the ids of those of an account that have the subject, oldest first, in the place of what was in `ids`.
     pub fn having(
         &self,
         account: &[u8],
         subject: &Subject,
-    ) -> Result<Vec<&SharedSubscription>, NoMemory>
-        ensures { IfOk result (λ found. map (λ s. s.now) found.items ≡ having account.now subject.now self.now) }
-    {
-        let mut ids = self.ids.replace(Vec::new(self.alloc));
-        self.trees.matching(account, subject, &mut ids)?;
-        let found = self.with_ids(ids.as_slice())?;
-        self.ids.set(ids);
-        Ok(found)
-    }
-
-    /// The subscriptions of these ids.
-    #[tactic(auto, using(crate::proofs::Indexed::found_first))]
-    fn with_ids(&self, ids: &[u64]) -> Result<Vec<&SharedSubscription>, NoMemory>
-        ensures { IfOk result (λ found. map (λ s. s.now) found.items ≡ found_by self.now ids.now) }
-    {
-        let mut found = Vec::with_capacity(self.alloc, ids.len())?;
-        for id in ids {
-            self.add_found(*id, &mut found)?;
-        }
-        Ok(found)
-    }
-
-    /// Adds the subscription of an id.
-    fn add_found<'a>(
-        &'a self,
-        id: u64,
-        found: &mut Vec<&'a SharedSubscription>,
+        ids: &mut Vec<u64>,
     ) -> Result<(), NoMemory>
-        ensures { OnOk result (map (λ s. s.now) found.new.items
-            ≡ map (λ s. s.now) found.old.items ++ found_by self.now (id ∷ [])) }
+        ensures { OnOk result (found_by self.now ids.new.items ≡ having account.now subject.now self.now) }
     {
-        match self.get(id) {
-            None => Ok(()),
-            Some(subscription) => {
-                found.push(subscription)?;
-                Ok(())
-            }
-        }
+        self.trees.matching(account, subject, ids)?;
+        Ok(())
     }
 
     /// Adds a subscription, the youngest of all. Where memory could not be had it is handed back, and nothing has

@@ -49,8 +49,7 @@ handed_over now (Some a) all zs = with_session (ending a.message.subject) a.conn
 abbrev pub done : World → Change → Outcome → World
 done w Nothing o = w
 done w (Open z) o = record w { sessions = w.sessions ++ z ∷ [] }
-done w (Stand conn account p queue sid) o =
-    record w { subscriptions = w.subscriptions ++ subscription_of (w.number + 1) conn account p queue sid ∷ [] }
+done w (Stand a) o = record w { subscriptions = w.subscriptions ++ subscription_of (w.number + 1) a.conn a.account a.subject a.queue a.sid ∷ [] }
 done w (Limit conn sid most) o = record w { subscriptions = unended (map (limited conn sid most) w.subscriptions) }
 done w (Deliver all answered) o =
     record w { sessions = handed_over w.moment answered all w.sessions; subscriptions = unended (map (counted (items_in o)) w.subscriptions) }
@@ -69,7 +68,7 @@ done w (Install doc users) o = record w {
 abbrev pub IsFit : World → Change → Outcome → Type 0
 IsFit w Nothing o = Unit {0}
 IsFit w (Open z) o = session_of w.sessions z.conn ≡ None
-IsFit w (Stand conn account p queue sid) o = stands w.subscriptions conn sid ≡ false
+IsFit w (Stand a) o = stands w.subscriptions a.conn a.sid ≡ false
 IsFit w (Limit conn sid most) o = Unit {0}
 IsFit w (Deliver all answered) o = (items_in o ≡ (delivered w.moment all w.sessions).1) × AreAddressed w.sessions all w.subscriptions
 IsFit w (Drain conn most) o = Unit {0}

@@ -26,16 +26,9 @@ impl World {
     {
         match change {
             Change::Nothing => Ok(()),
-            Change::Open(session) => self.sessions.push(session),
-            Change::Stand {
-                conn,
-                account,
-                subject,
-                queue,
-                sid,
-            } => {
-                self.subscriptions
-                    .add(self.number + 1, conn, account, subject, queue, sid)?;
+            Change::Open(session) => self.sessions.push(session.into_inner()),
+            Change::Stand(asked) => {
+                self.subscriptions.add(self.number + 1, asked.into_inner())?;
                 Ok(())
             }
             Change::Limit { conn, sid, most } => {

@@ -1,28 +1,22 @@
 //! What a command comes to is decided first, and then done.
-use bytes::Bytes;
 use events::{Addressed, Message, Outcome, Sid};
-use lists::{Items, Shared};
+use lists::{Boxed, Items, Shared};
 use ready::{Ready, User};
 use sessions::Session;
 use std::collections::VecDeque;
-use subjects::{Pattern, Subject};
+use subscriptions::Asked;
 
 /// What is to be done for a command. All memory that it takes is had, but for the one growth of a new session or
-/// subscription, which comes first.
+/// subscription, which comes first. What is large has a block of its own, since a change is handed on several times for
+/// each message.
 #[derive(Drop)]
 pub(crate) enum Change {
     /// Nothing changes.
     Nothing,
     /// A session is opened.
-    Open(Session),
+    Open(Boxed<Session>),
     /// A subscription stands.
-    Stand {
-        conn: u64,
-        account: Bytes,
-        subject: Shared<Pattern>,
-        queue: Option<Subject>,
-        sid: Sid,
-    },
+    Stand(Boxed<Asked>),
     /// A subscription takes a limit.
     Limit {
         conn: u64,

@@ -7,13 +7,14 @@ use crate::verdict::{on_publish, on_subscription};
 use crate::world::World;
 use bytes::Bytes;
 use events::{Addressed, Command, HubRefusal, Message, Met, Outcome, Sid};
-use lists::{Copying, Items, NoMemory, Shared, SharedText};
+use lists::{Boxed, Copying, Items, NoMemory, Shared, SharedText};
 use permissions::{By, Verdict};
 use ready::Ready;
 use sessions::Session;
 use std::alloc::Global;
 use std::mem;
 use subjects::{Pattern, Subject};
+use subscriptions::Asked;
 
 /// How many sessions may stand.
 pub(crate) const SESSIONS: usize = 4096;
@@ -38,15 +39,16 @@ fn stand(
     queue: &Option<Subject>,
     sid: &Sid,
 ) -> Result<Change, NoMemory>
-    ensures { IfOk result (λ made. made ≡ change.Stand conn account.now subject.now queue.now sid.now) }
+    ensures { IfOk result (λ made. made ≡ change.Stand (record { conn = conn; account = account.now; subject = subject.now; queue = queue.now; sid = sid.now })) }
 {
-    Ok(Change::Stand {
+    let asked = Asked {
         conn,
         account: account.clone()?,
         subject: subject.again()?,
         queue: queue.copy(alloc)?,
         sid: sid.again()?,
-    })
+    };
+    Ok(Change::Stand(Boxed::new(alloc, asked)?))
 }
 
 /// A publish that is to be counted: one that a grant has allowed.
@@ -99,7 +101,10 @@ impl World {
                 conn,
                 message,
                 word,
-            } => self.publish(*conn, message, *word),
+            } => {
+                self.remember(*conn, message);
+                self.publish(*conn, message, *word)
+            }
             Command::Take { conn, most } => self.take(*conn, *most),
             Command::Close { conn } => self.close(*conn),
             Command::Reload(ready) => self.reload(ready),
@@ -129,7 +134,7 @@ impl World {
                 let session = Session::new(self.alloc, conn, user, echo, self.capacity)?;
                 Ok(Decided {
                     outcome: Outcome::Connected,
-                    change: Change::Open(session),
+                    change: Change::Open(Boxed::new(self.alloc, session)?),
                 })
             }
         }
@@ -193,6 +198,17 @@ impl World {
             outcome: Outcome::Unsubscribed,
             change: Change::Limit { conn, sid, most },
         })
+    }
+
+    /// Keeps in mind whom a subject reaches in the account of a session, for the messages of that subject.
+    fn remember(&mut self, conn: u64, message: &Shared<Message>)
+        ensures { self.new ≡ self.old }
+    {
+        if let Some(session) = self.sessions.find(conn) {
+            let account = session.user.account.as_slice();
+            self.subscriptions
+                .remember(account, message.get().subject());
+        }
     }
 
     /// A message to whom it is for, where the user's permissions allow it.

@@ -1,16 +1,16 @@
 //! A message to the subscriptions that it is for.
-ghost use Rattle.std.specs.Prelude.{◌≡◌, filter, map};
+ghost use Rattle.std.specs.Prelude.{◌≡◌};
 ghost use Rattle.std.specs.Option.{option_copied};
-ghost use Rattle.world.specs.Routing.{lets_through, is_open_to, is_open};
+ghost use Rattle.world.specs.Routing.{lets_through, is_open_to};
 
 use crate::verdict::on_delivery;
 use crate::world::World;
 use events::{Addressed, Message};
 use lists::{NoMemory, Shared};
-use queue_groups::keep_chosen;
+use queue_groups::address_served;
 use sessions::{Session, Sessions};
 use subjects::Subject;
-use subscriptions::{SharedSubscription, address_each};
+use subscriptions::{Keeps, SharedSubscription};
 
 /// Whether the permissions of a session let the subject through, to a subscription with this queue name or with none.
 fn lets_through(session: Option<&Session>, subject: &Subject, queue: &Option<Subject>) -> bool
@@ -36,25 +36,28 @@ fn is_open_to(
     (publisher.echo || conn != publisher.conn) && lets_through(sessions.find(conn), subject, queue)
 }
 
-/// Drops the subscriptions that may not be sent the message.
-fn keep_open(
-    all: &mut Vec<&SharedSubscription>,
-    sessions: &Sessions,
-    publisher: &Session,
-    subject: &Subject,
-)
-    ensures { map (λ s. s.now) all.new.items
-        ≡ filter (is_open sessions.now publisher.now subject.now) (map (λ s. s.now) all.old.items) }
-{
-    all.retain(|subscription| {
+/// Which subscriptions may be sent a message of a publisher on a subject.
+#[derive(Drop)]
+struct Open<'a> {
+    sessions: &'a Sessions,
+    publisher: &'a Session,
+    subject: &'a Subject,
+}
+
+impl Keeps for Open<'_> {
+    ghost use Rattle.world.specs.Routing.{is_open};
+
+    ghost keeps = { λ test. is_open test.sessions.now test.publisher.now test.subject.now };
+
+    fn keeps(&self, subscription: &SharedSubscription) -> bool {
         is_open_to(
-            sessions,
-            publisher,
-            subject,
+            self.sessions,
+            self.publisher,
+            self.subject,
             subscription.conn(),
             subscription.queue(),
         )
-    });
+    }
 }
 
 impl World {
@@ -73,15 +76,25 @@ impl World {
     ) -> Result<Vec<Addressed>, NoMemory>
         ensures { IfOk result (λ all. all.items ≡ addressed self.now publisher.now (own_view publisher.now message.now) word) }
     {
-        self.subscriptions.known();
-        let subject = message.get().subject();
-        let account = publisher.user.account.as_slice();
-        let mut found = self.subscriptions.having(account, subject)?;
-        keep_open(&mut found, &self.sessions, publisher, subject);
-        keep_chosen(self.alloc, self.keys, &mut found, word)?;
+        let open = Open {
+            sessions: &self.sessions,
+            publisher,
+            subject: message.get().subject(),
+        };
         let mut all = room;
-        all.clear();
-        address_each(self.alloc, message, found.as_slice(), &mut all)?;
+        let mut ids = self.ids.replace(Vec::new(self.alloc));
+        address_served(
+            self.alloc,
+            self.keys,
+            &self.subscriptions,
+            publisher.user.account.as_slice(),
+            message,
+            word,
+            &open,
+            &mut ids,
+            &mut all,
+        )?;
+        self.ids.set(ids);
         Ok(all)
     }
 }

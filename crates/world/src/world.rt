@@ -8,6 +8,7 @@ use policy_doc::Policy;
 use ready::Ready;
 use sessions::Sessions;
 use std::alloc::Global;
+use std::cell::Cell;
 use std::hash::RandomState;
 use std::marker::Model;
 use subscriptions::Subscriptions;
@@ -27,6 +28,8 @@ pub struct World {
     pub(crate) subscriptions: Subscriptions,
     // Room for the deliveries of a message, which each step uses again.
     pub(crate) deliveries: Vec<Addressed>,
+    // Room for the ids that a message finds.
+    pub(crate) ids: Cell<Vec<u64>>,
 }
 
 impl Model for World {
@@ -83,6 +86,7 @@ impl World {
             sessions: Sessions::new(alloc),
             subscriptions: Subscriptions::new(alloc, keys),
             deliveries: Vec::new(alloc),
+            ids: Cell::new(Vec::new(alloc)),
         })
     }
 
@@ -226,15 +230,10 @@ fn epoch_after(epoch: u128, change: &Change) -> u128
     requires { epoch < 340282366920938463463374607431768211455 }
     ensures { result ≡ epoch_after epoch change.now }
 {
-    match change {
-        Change::Nothing => epoch,
-        Change::Open(_) => epoch,
-        Change::Stand { .. } => epoch,
-        Change::Limit { .. } => epoch,
-        Change::Deliver { .. } => epoch,
-        Change::Drain { .. } => epoch,
-        Change::Leave { .. } => epoch,
-        Change::Install { .. } => epoch + 1,
+    if matches!(change, Change::Install { .. }) {
+        epoch + 1
+    } else {
+        epoch
     }
 }
 

@@ -23,3 +23,15 @@ returns-in-Ok-insert-clause-ok c =
     let none : None ≡ lookup (has key) old = subst (λ x. None ≡ lookup (has x) old) (sym is) c.in-None.ensures.value in
     let step = first_one key old c.insert.new.self.entries c.in_ok-tree-in-None.tree update.1 (rw lent at update.3) c.args.pattern.now c.args.id none c.in_ok-tree-in-None.ensures in
     rw is at step
+
+pub invariant_of-self : goal.invariant_of-self
+invariant_of-self c = record { told = c.forget.ensures (c.get_mut.follows.lender c.add.new.tree).entries }
+
+pub invariant_of-self-in-Break-1 : goal.invariant_of-self-in-Break-1
+invariant_of-self-in-Break-1 c = record { told = c.forget.ensures c.get_mut.follows.lender-at-none.entries }
+
+pub invariant_of-self-in-Break-branch-2 : goal.invariant_of-self-in-Break-branch-2
+invariant_of-self-in-Break-branch-2 c = record { told = c.forget.ensures c.get_mut.follows.lender-at-none.entries }
+
+pub invariant_of-self-in-None : goal.invariant_of-self-in-None
+invariant_of-self-in-None c = record { told = c.forget.ensures c.insert.new.self.entries }

@@ -13,9 +13,8 @@ returns c =
     let account = c.args.account.now in
     let subject = c.args.subject.now in
     let ids = c.in_ok-matching.ensures (pairs_of account subs) (account_index account subs c.self.inside.trees c.self.invariant.1 c.self.invariant.2) ∙ pairs_matching account subject subs in
-    let found : found_by subs c.as_slice.result.now ≡ having account subject subs =
-    rw (c.as_slice.ensures.value, ids) (found_by_ids (has_subject account subject) subs c.self.invariant.1) in
-    c.in_ok-found.ensures
-    ∙ ap (λ (ss : List Subscription). found_by ss c.as_slice.result.now) (sym c.self.view_is)
+    let found : found_by subs c.matching.new.found.items ≡ having account subject subs =
+    rw ids (found_by_ids (has_subject account subject) subs c.self.invariant.1) in
+    ap (λ (ss : List Subscription). found_by ss c.matching.new.found.items) (sym c.self.view_is)
     ∙ found
     ∙ ap (λ (ss : List Subscription). having account subject ss) c.self.view_is

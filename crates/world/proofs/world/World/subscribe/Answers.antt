@@ -49,7 +49,7 @@ returns-then-has_all-clause-decided c =
 pub returns-in_ok-change-in-Allowed-clause-decided : goal.returns-in_ok-change-in-Allowed-clause-decided
 returns-in_ok-change-in-Allowed-clause-decided c =
     let free = (sym (c.stands.ensures ∙ ap (λ (w : World). stands w.subscriptions c.args.conn c.args.sid.now) c.self.view_is) ∙ c.if-stands.false) in
-    decided_by c.args.self.now _ (record { outcome = Subscribed; change = c.in_ok-change-in-Allowed.change }) Subscribed (Stand c.args.conn c.in-Some.session.now.user.account c.args.subject.now c.args.queue.now c.args.sid.now) refl c.in_ok-change-in-Allowed.ensures
+    decided_by c.args.self.now _ (record { outcome = Subscribed; change = c.in_ok-change-in-Allowed.change }) Subscribed (Stand (record { conn = c.args.conn; account = c.in-Some.session.now.user.account; subject = c.args.subject.now; queue = c.args.queue.now; sid = c.args.sid.now })) refl c.in_ok-change-in-Allowed.ensures
     (asked c.args.self.now c.args.conn _ c.in-Some.session.now _ c.args.subject.now c.args.queue.now c.args.sid.now _ (c.in-Some.ensures ∙ ap (λ (w : World). session_of w.sessions c.args.conn) c.self.view_is) c.get.ensures c.in-Allowed.ensures.verdict
     ∙ ap (λ r. Ok r) (stood c.args.self.now c.args.conn c.in-Some.session.now.user.account c.args.subject.now c.args.queue.now c.args.sid.now c.in-Allowed.field-0 free (sym (c.has_all.ensures ∙ ap (λ (w : World). has_all w.subscriptions c.args.conn) c.self.view_is) ∙ c.if-has_all.false))) free
 
