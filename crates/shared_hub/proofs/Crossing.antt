@@ -66,11 +66,10 @@ u8s_send = vec.the_send u8 heap_row.the_row ghosts (search sendable) global.the_
 fold_send : IsSend (by_default.the_row fold.the_row)
 fold_send = search (sendable, crosses) depth 12
 
-trees_send : IsSend trees.the_row
-trees_send = recorded_send _ _ _ (trees.the_type).to_one (struct_send (shape trees.the_type)
-    (global.the_field_send, (state.the_field_send, (hash_map.the_send (vec_row.the_row u8 heap_row.the_row ghosts) tree.the_row (by_default.the_row fold.the_row) heap_row.the_row fold.the_row _ _ _ _ ghosts u8s_send tree_send fold_send global.the_send frees, (memos.the_field_send, tt)))))
+trees_send : IsSend (trees.the_field).row
+trees_send = struct_send (shape trees.the_type) (global.the_field_send, (state.the_field_send, (hash_map.the_send (vec_row.the_row u8 heap_row.the_row ghosts) tree.the_row (by_default.the_row fold.the_row) heap_row.the_row fold.the_row _ _ _ _ ghosts u8s_send tree_send fold_send global.the_send frees, (memos.the_field_send, tt))))
 
-tables_send : IsSend trees.the_row → IsSend table_in.the_row
+tables_send : IsSend (trees.the_field).row → IsSend table_in.the_row
 tables_send t = recorded_send _ _ _ (table_in.the_type).to_one (struct_send (shape table_in.the_type)
     (global.the_field_send, (tree_map.the_send u64 sub_row.the_row heap_row.the_row _ eq.ghosts ord.ghosts ghosts (search sendable) sub.the_send global.the_send frees, (t, tt))))
 
