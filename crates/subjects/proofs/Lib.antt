@@ -5,3 +5,4 @@ pub mod Samples
 pub mod Inclusion
 pub mod Sharing
 pub mod Exact
+pub mod Text

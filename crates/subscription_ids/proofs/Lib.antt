@@ -2,4 +2,3 @@ mod Found
 pub mod Holding
 pub mod Owns
 mod Said
-mod Text

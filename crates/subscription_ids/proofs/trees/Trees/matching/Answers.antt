@@ -1,7 +1,7 @@
 use Rattle.std.proofs.Common.{◌≡◌, ◌∙◌, ◌++◌, ℕ, List, ap}
 use Rattle.subjects.specs.Subject.{Token, tokens_of}
 use Rattle.sublist.specs.Pairs.{matching_ids}
-use Rattle.subscription_ids.proofs.Text.{again}
+use Rattle.subjects.proofs.Text.{again}
 use Rattle.subscription_ids.proofs.trees.Trees.matching.Goals as goal
 
 pub returns-in_ok-extend_from_slice-in-Some : goal.returns-in_ok-extend_from_slice-in-Some

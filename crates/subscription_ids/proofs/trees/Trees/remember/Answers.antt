@@ -1,7 +1,7 @@
 use Rattle.std.proofs.Common.{◌≡◌, ◌∙◌, List, ap, sym}
 use Rattle.subjects.specs.Subject.{Token, tokens_of}
 use Rattle.sublist.specs.Pairs.{matching_ids}
-use Rattle.subscription_ids.proofs.Text.{again}
+use Rattle.subjects.proofs.Text.{again}
 use Rattle.subscription_ids.proofs.trees.Trees.remember.Goals as goal
 
 pub invariant_of-self : goal.invariant_of-self
