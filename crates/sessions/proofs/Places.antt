@@ -1,8 +1,10 @@
 -- The session of a connection, and its place among all.
-use Rattle.std.proofs.Common.{◌≡◌, ◌==◌, ℕ, ◌+◌, ◌<◌, ◌≤◌, Bool, true, false, cond, List, [], ◌∷◌, length, get_or, Option, Some, None, arith, refl, position, suc, zero, ap, ◌∙◌, set, nat_lt, sym, MatchOption, map, not}
+use Rattle.std.proofs.Common.{◌≡◌, ◌==◌, ℕ, ◌+◌, ◌<◌, ◌≤◌, Bool, true, false, cond, List, [], ◌∷◌, length, get_or, Option, Some, None, arith, refl, position, suc, zero, ap, ◌∙◌, set, nat_lt, sym, MatchOption, map, not, unwrap_or, AllPairs, ◌≢◌, slice_get}
 use Rattle.std.proofs.lemmas.List.{length-map}
 use Rattle.std.proofs.lemmas.List.Quantifiers.{position-Some}
-use Rattle.std.proofs.lemmas.List.Sums.{fails_before_first}
+use Rattle.std.proofs.lemmas.List.Sums.{fails_before_first, position_or_len_is}
+use Rattle.std.proofs.lemmas.Option.{slice_get_within, unwrap_or-slice_get}
+use Rattle.std.proofs.lemmas.Bool.{ne_eqb}
 use Rattle.std.proofs.lemmas.Bool.Decides.{nat_tests}
 use Rattle.std.specs.List.{position_or_len}
 use Rattle.sessions.specs.Sessions.{session_of, with_session, IsNowhere, IsPlace}
@@ -90,3 +92,17 @@ first_by_key conn (z ∷ zs) =
 -- the place among the connections is the place among the sessions
 pub position_by_key : (conn : ℕ) (zs : List Session) → position (λ k. conn == k) (map (λ (z : Session). z.conn) zs) ≡ position (λ (z : Session). z.conn == conn) zs
 position_by_key conn zs = position_cong (λ k. conn == k) (is_of conn) (map (λ (z : Session). z.conn) zs) zs (length-map zs (λ (z : Session). z.conn)) (first_by_key conn zs)
+
+-- where no connection stands twice, the place of one is where it stands
+pub place_where : (ks : List ℕ) (conn i : ℕ) → AllPairs (λ (x y : ℕ). x ≢ y) ks → slice_get ks i ≡ Some conn → Some i ≡ position (λ k. conn == k) ks
+place_where ks conn i apart stands =
+    let within : i < length ks = slice_get_within ks i conn stands in
+    let here : get_or ks i conn ≡ conn = sym (unwrap_or-slice_get ks i conn) ∙ ap (λ (o : Option ℕ). unwrap_or o conn) stands in
+    let before : (k : ℕ) → k < i → (conn == get_or ks k conn) ≡ false = λ k l. ne_eqb conn (get_or ks k conn) (λ e. apart k i conn l within (sym e ∙ sym here)) in
+    let first = position_or_len_is (λ k. conn == k) ks i conn (omega arith) before (λ h. is_same conn (get_or ks i conn) here) in
+    sym (ap (λ n. cond (nat_lt n (length ks)) (Some n) None) first ∙ is_within i (length ks) within)
+  where
+    is_same : (m n : ℕ) → n ≡ m → (m == n) ≡ true
+    is_same m n e = grind (arith, nat_tests)
+    is_within : (n m : ℕ) → n < m → cond (nat_lt n m) (Some n) None ≡ Some n
+    is_within n m h = grind (arith, nat_tests)

@@ -9,19 +9,19 @@ ghost use Rattle.sessions.specs.Replying.{note_for, with_note};
 
 use crate::Session;
 use crate::noting::note_for;
+use crate::connections::Connections;
 use events::{Addressed, Item};
-use indexmap::IndexSet;
 use lists::NoMemory;
 use std::alloc::Global;
 use std::hash::RandomState;
 use subjects::Subject;
 
 /// The place of the session of a connection.
-pub(crate) fn place_in(conns: &IndexSet<u64>, list: &[Session], conn: u64) -> Option<usize>
-    requires { conns.now.keys ≡ map connection_of list.now }
+pub(crate) fn place_in(conns: &Connections, list: &[Session], conn: u64) -> Option<usize>
+    requires { conns.now ≡ map connection_of list.now }
     ensures { result ≡ position (λ (z : Session). z.conn == conn) list.now }
 {
-    let place = conns.get_index_of(&conn);
+    let place = conns.find(conn);
     place
 }
 
@@ -56,12 +56,12 @@ pub(crate) fn plan_one(
 
 /// Notes how much room a connection has, and gives its session.
 fn note_room<'a>(
-    conns: &IndexSet<u64>,
+    conns: &Connections,
     list: &'a [Session],
     rooms: &mut [usize],
     conn: u64,
 ) -> Option<&'a Session>
-    requires keys { conns.now.keys ≡ map connection_of list.now }
+    requires keys { conns.now ≡ map connection_of list.now }
     requires within { length list.now ≤ length rooms.old }
     ensures session { option_copied result ≡ session_of list.now conn }
     ensures room { (other : ℕ) → room_at list.now rooms.new other ≡ with_room conn (room_in (session_of list.now conn)) (room_at list.now rooms.old) other }
@@ -78,8 +78,8 @@ fn note_room<'a>(
 }
 
 /// Takes one from the room of a connection, and answers whether there was any.
-fn take_room(conns: &IndexSet<u64>, list: &[Session], rooms: &mut [usize], conn: u64) -> bool
-    requires keys { conns.now.keys ≡ map connection_of list.now }
+fn take_room(conns: &Connections, list: &[Session], rooms: &mut [usize], conn: u64) -> bool
+    requires keys { conns.now ≡ map connection_of list.now }
     requires within { length list.now ≤ length rooms.old }
     ensures had { result ≡ nat_lt 0 (room_at list.now rooms.old conn) }
     ensures after { (other : ℕ) → room_at list.now rooms.new other ≡ with_room conn (room_at list.now rooms.old conn - 1) (room_at list.now rooms.old) other }
@@ -99,13 +99,13 @@ fn take_room(conns: &IndexSet<u64>, list: &[Session], rooms: &mut [usize], conn:
 fn note_rooms(
     alloc: Global,
     keys: RandomState,
-    conns: &IndexSet<u64>,
+    conns: &Connections,
     list: &[Session],
     rooms: &mut [usize],
     all: &mut [Addressed],
     reply: Option<&Subject>,
 ) -> Result<(), NoMemory>
-    requires keys { conns.now.keys ≡ map connection_of list.now }
+    requires keys { conns.now ≡ map connection_of list.now }
     requires within { length list.now ≤ length rooms.old }
     ensures rooms { OnOk result ((k : ℕ) (d : Addressed) → k < length all.old →
         room_at list.now rooms.new (slice_index_or all.old k d).conn ≡ rooms_of list.now (slice_index_or all.old k d).conn) }
@@ -135,12 +135,12 @@ fn item(next: &Addressed, has_room: bool) -> Result<Item, NoMemory>
 /// What each delivery meets, where the rooms are noted.
 fn plan_each(
     alloc: Global,
-    conns: &IndexSet<u64>,
+    conns: &Connections,
     list: &[Session],
     rooms: &mut [usize],
     all: &[Addressed],
 ) -> Result<Vec<Item>, NoMemory>
-    requires keys { conns.now.keys ≡ map connection_of list.now }
+    requires keys { conns.now ≡ map connection_of list.now }
     requires within { length list.now ≤ length rooms.old }
     ensures { IfOk result (λ items. items.items ≡ planned all.now (room_at list.now rooms.old)) }
 {
@@ -157,13 +157,13 @@ fn plan_each(
 pub(crate) fn plan_all(
     alloc: Global,
     keys: RandomState,
-    conns: &IndexSet<u64>,
+    conns: &Connections,
     list: &[Session],
     rooms: &mut [usize],
     all: &mut [Addressed],
     reply: Option<&Subject>,
 ) -> Result<Vec<Item>, NoMemory>
-    requires keys { conns.now.keys ≡ map connection_of list.now }
+    requires keys { conns.now ≡ map connection_of list.now }
     requires within { length list.now ≤ length rooms.old }
     ensures items { IfOk result (λ items. (now : ℕ) → items.items ≡ (delivered now all.new list.now).1) }
     ensures noted { OnOk result (all.new ≡ map (with_note list.now (option_copied reply.entry)) all.old) }

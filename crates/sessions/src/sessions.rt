@@ -1,7 +1,7 @@
+use crate::connections::Connections;
 use crate::plan::{place_in, plan_all, plan_one};
 use crate::{Session, renewal};
 use events::{Addressed, Met};
-use indexmap::IndexSet;
 use lists::NoMemory;
 use ready::{Ready, User};
 use std::alloc::Global;
@@ -15,7 +15,7 @@ use subjects::Subject;
 pub struct Sessions {
     alloc: Global,
     /// The connection of each, which finds its place.
-    conns: IndexSet<u64>,
+    conns: Connections,
     list: Vec<Session>,
     /// Beside each, its room while deliveries are planned.
     rooms: Vec<usize>,
@@ -30,7 +30,7 @@ impl Model for Sessions {
 
     ghost view = { λ s. s.list.items };
 
-    ghost invariant = { λ s. (s.conns.keys ≡ map connection_of s.list.items) × (length s.list.items ≤ length s.rooms.items) };
+    ghost invariant = { λ s. (s.conns ≡ map connection_of s.list.items) × (length s.list.items ≤ length s.rooms.items) };
 }
 
 impl Sessions {
@@ -48,7 +48,7 @@ impl Sessions {
     {
         Sessions {
             alloc,
-            conns: IndexSet::new(alloc),
+            conns: Connections::new(alloc),
             list: Vec::new(alloc),
             rooms: Vec::new(alloc),
         }
@@ -72,7 +72,7 @@ impl Sessions {
     pub fn known(&self)
         ensures { AllPairs IsApart self.now }
     {
-        let _keys = self.conns.as_slice();
+        self.conns.known();
     }
 
     /// The place of the session of a connection.
@@ -109,7 +109,7 @@ impl Sessions {
     {
         self.list.reserve(1)?;
         add_room(&mut self.rooms, self.list.as_slice().len())?;
-        self.conns.insert(session.conn)?;
+        self.conns.push(session.conn)?;
         self.list.push_reserved(session);
         Ok(())
     }
@@ -118,7 +118,7 @@ impl Sessions {
     pub fn remove(&mut self, conn: u64)
         ensures { self.new ≡ filter (λ (z : Session). not (z.conn == conn)) self.old }
     {
-        forget_conn(&mut self.conns, conn);
+        self.conns.remove(conn);
         remove_from(&mut self.list, conn);
     }
 
@@ -227,15 +227,15 @@ impl Sessions {
         requires { users.items ≡ filter_map (user_again_of ready.now) self.old }
         ensures { self.new ≡ remaining now ready.now self.old }
     {
-        let _keys = self.conns.as_slice();
+        self.conns.known();
         renewal::renew_list(ready, &mut self.list, users, now);
-        renewal::note_conns(&mut self.conns, self.list.as_slice());
+        self.conns.note_all(self.list.as_slice());
     }
 }
 
 ghost use Rattle.std.specs.Prelude.{◌≡◌, ◌==◌, ◌≤◌, ◌<◌, OnOk, filter, length, not};
 
-/// Makes sure that a room can be noted beside one more session. Places of sessions that have gone serve again.
+/// Makes sure that a room can be noted beside one more session. Connections of sessions that have gone serve again.
 fn add_room(rooms: &mut Vec<usize>, count: usize) -> Result<(), NoMemory>
     requires { count ≤ length rooms.old.items }
     ensures kept { count ≤ length rooms.new.items }
@@ -245,13 +245,6 @@ fn add_room(rooms: &mut Vec<usize>, count: usize) -> Result<(), NoMemory>
         rooms.push(0)?;
     }
     Ok(())
-}
-
-/// Removes a connection from those that are noted.
-fn forget_conn(conns: &mut IndexSet<u64>, conn: u64)
-    ensures { conns.new.keys ≡ filter (λ k. not (k == conn)) conns.old.keys }
-{
-    conns.retain(|other| *other != conn);
 }
 
 /// Removes the session of a connection.

@@ -4,6 +4,6 @@ use Rattle.sessions.proofs.plan.place_in.Goals as goal
 
 pub returns : goal.returns
 returns c =
-    c.get_index_of-place.ensures.index
+    c.find-place.ensures
     ∙ ap (λ (ks : List ℕ). position (λ k. c.args.conn == k) ks) c.requires
     ∙ position_by_key c.args.conn c.args.list.now

@@ -8,7 +8,7 @@ use Rattle.sessions.proofs.sessions.Sessions.drain.Goals as goal
 pub invariant_of-self : goal.invariant_of-self
 invariant_of-self c =
     let z = c.index_mut.result.now in
-    written_keys c.self.inside.conns.keys c.self.inside.rooms.items c.self.inside.list.items c.in-Some.place z c.drain.new.self c.self.invariant.0 c.self.invariant.1 c.index_mut.ensures.value
+    written_keys c.self.inside.conns c.self.inside.rooms.items c.self.inside.list.items c.in-Some.place z c.drain.new.self c.self.invariant.0 c.self.invariant.1 c.index_mut.ensures.value
     (ap connection_of c.drain.ensures)
 
 pub returns-in-Some : goal.returns-in-Some

@@ -7,4 +7,4 @@ use Rattle.sessions.proofs.Keys.{apart_by_keys}
 use Rattle.sessions.proofs.sessions.Sessions.known.Goals as goal
 
 pub returns : goal.returns
-returns c = subst (λ (zs : List Session). AllPairs IsApart zs) c.self.view_is (apart_by_keys c.self.inside.conns.keys c.self.inside.list.items c.as_slice-keys.ensures.unique c.self.invariant.0)
+returns c = subst (λ (zs : List Session). AllPairs IsApart zs) c.self.view_is (apart_by_keys c.self.inside.conns c.self.inside.list.items c.known.ensures c.self.invariant.0)

@@ -10,7 +10,7 @@ pub invariant_of-self : goal.invariant_of-self
 invariant_of-self c =
     let zs = c.self.inside.list.items in
     let n = c.args.conn in (
-      c.forget_conn.ensures
+      c.remove.ensures
           ∙ ap (filter (λ k. not (k == n))) c.self.invariant.0
           ∙ filter_keys (λ k. not (k == n)) zs
           ∙ sym (ap (map connection_of) c.remove_from.ensures),

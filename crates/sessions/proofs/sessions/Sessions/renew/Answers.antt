@@ -17,27 +17,27 @@ left : (now : ℕ) (doc : PolicyDoc) (zs old new : List Session) (us : List User
 left now doc zs old new us same users given =
     given ∙ ap (with_users now (filter (stays doc) zs)) (users ∙ ap (filter_map (user_again_of doc)) (sym same)) ∙ with_users_renewed now doc zs
 
-pub note_conns-requires-clause-room : goal.note_conns-requires-clause-room
-note_conns-requires-clause-room c =
+pub note_all-requires-clause-room : goal.note_all-requires-clause-room
+note_all-requires-clause-room c =
     let doc = c.args.ready.now in
     let zs = c.self.inside.list.items in
     let new = left c.args.now doc zs c.args.self.now c.renew_list.new.list.items c.args.users.items c.self.view_is c.requires c.renew_list.ensures in
     omega (arith, ap length (c.as_slice.ensures.value ∙ new), remaining-fewer c.args.now doc zs, ap length c.self.invariant.0, length-map zs connection_of)
 
-pub note_conns-requires-clause-apart : goal.note_conns-requires-clause-apart
-note_conns-requires-clause-apart c =
+pub note_all-requires-clause-apart : goal.note_all-requires-clause-apart
+note_all-requires-clause-apart c =
     let doc = c.args.ready.now in
     let zs = c.self.inside.list.items in
     let new = left c.args.now doc zs c.args.self.now c.renew_list.new.list.items c.args.users.items c.self.view_is c.requires c.renew_list.ensures in
     subst (λ (ys : List Session). AllPairs IsApart ys) (sym (c.as_slice.ensures.value ∙ new))
-    (remaining-apart c.args.now doc zs (apart_by_keys c.self.inside.conns.keys zs c.as_slice-keys.ensures.unique c.self.invariant.0))
+    (remaining-apart c.args.now doc zs (apart_by_keys c.self.inside.conns zs c.known.ensures c.self.invariant.0))
 
 pub invariant_of-self : goal.invariant_of-self
 invariant_of-self c =
     let doc = c.args.ready.now in
     let zs = c.self.inside.list.items in
     let new = left c.args.now doc zs c.args.self.now c.renew_list.new.list.items c.args.users.items c.self.view_is c.requires c.renew_list.ensures in (
-      c.note_conns.ensures ∙ ap (map connection_of) c.as_slice.ensures.value,
+      c.note_all.ensures ∙ ap (map connection_of) c.as_slice.ensures.value,
       omega (arith, ap length new, remaining-fewer c.args.now doc zs, c.self.invariant.1),
     )
 
