@@ -167,24 +167,16 @@ fn on_line(
                 outbox: outbox as usize,
                 history: history as usize,
             };
-            let stops = set_caps(alloc, server, number, part, caps, out)?;
-            Ok(stops)
+            Ok(set_caps(alloc, server, number, part, caps, out)?)
         }
-        Line::Policy(text) => {
-            let stops = on_policy(alloc, server, number, part, text.as_slice(), out)?;
-            Ok(stops)
-        }
-        Line::Reload(text) => {
-            let stops = on_reload(alloc, server, text.as_slice(), out)?;
-            Ok(stops)
-        }
+        Line::Policy(text) => { Ok(on_policy(alloc, server, number, part, text.as_slice(), out)?) }
+        Line::Reload(text) => { Ok(on_reload(alloc, server, text.as_slice(), out)?) }
         Line::Open(conn) => {
             let stops = open(alloc, clients, number, conn, out)?;
             Ok(stops)
         }
         Line::Client(conn, said) => {
-            let stops = on_client(alloc, server, clients.as_mut_slice(), conn, &said, out)?;
-            Ok(stops)
+            Ok(on_client(alloc, server, clients.as_mut_slice(), conn, &said, out)?)
         }
         Line::Now(moment) => {
             server.set_moment(moment);
@@ -241,8 +233,7 @@ fn play_lines<W: Sink>(
     let mut server = Server::new(alloc, keys, policy)?;
     let mut clients = Vec::new(alloc);
     let mut lines = Pieces::of(script, b'\n');
-    let mut number = 0u64;
-    let mut part = Part::Head;
+    let (mut number, mut part) = (0u64, Part::Head);
     'playing: while let Some(text) = lines.next_piece() {
         number += 1;
         let line = read_line(alloc, text)?;
