@@ -1,11 +1,10 @@
-use bytes::Bytes;
-use hub::{Answer, Caps, Command, Event, Hub, HubRefusal, Message, Ready, Segment};
-use lists::{NoMemory, Shared, SharedText};
+use hub::{Answer, Caps, Command, Event, Hub, HubRefusal, Ready, Segment};
+use lists::NoMemory;
 use policy_doc::Policy;
+use samples::{connect, publish, sub};
 use std::alloc::Global;
 use std::hash::RandomState;
 use std::test::Fail;
-use subjects::{Pattern, Subject};
 
 /// What a test asks of a hub, all but the last two for connection 1.
 #[derive(Clone, Copy)]
@@ -41,44 +40,11 @@ fn opened(alloc: Global, keys: RandomState) -> Option<Hub> {
     Hub::new(alloc, ready, caps, keys).ok()
 }
 
-fn demo(alloc: Global) -> Option<SharedText> {
-    SharedText::of(alloc, b"demo").ok()
-}
-
-fn connect(alloc: Global) -> Option<Command> {
-    Some(Command::Connect {
-        conn: 1,
-        user: Some(demo(alloc)?),
-        password: demo(alloc)?,
-        echo: true,
-    })
-}
-
-fn subscribe(alloc: Global) -> Option<Command> {
-    let subject = Pattern::parse(alloc, b"foo").ok()?;
-    Some(Command::Sub {
-        conn: 1,
-        subject: Shared::new(alloc, subject).ok()?,
-        queue: None,
-        sid: demo(alloc)?,
-    })
-}
-
-fn publish(alloc: Global) -> Option<Command> {
-    let subject = Subject::parse(alloc, b"foo").ok()?;
-    let message = Message::new(subject, None, Bytes::new(), Bytes::new());
-    Some(Command::Pub {
-        conn: 1,
-        message: Shared::new(alloc, message).ok()?,
-        word: 7,
-    })
-}
-
 fn event(alloc: Global, ask: Ask) -> Option<Event> {
     let what = match ask {
-        Ask::Connect => connect(alloc)?,
-        Ask::Sub => subscribe(alloc)?,
-        Ask::Pub => publish(alloc)?,
+        Ask::Connect => connect(alloc, 1)?,
+        Ask::Sub => sub(alloc, 1, "foo", 1)?,
+        Ask::Pub => publish(alloc, 1, "foo")?,
         Ask::StrangeTake => Command::Take { conn: 9, most: 1 },
         Ask::StrangeClose => Command::Close { conn: 9 },
         Ask::Rotate => return None,

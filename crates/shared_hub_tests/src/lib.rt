@@ -4,8 +4,6 @@
 #[cfg(test)]
 mod audits;
 #[cfg(test)]
-mod policies;
-#[cfg(test)]
 mod runs;
 #[cfg(test)]
 mod tests;

@@ -2,9 +2,9 @@
 ghost use Rattle.std.specs.Prelude.{◌≡◌, length};
 
 use crate::audits::{Totals, audited, has_a_gap, misses_a_seat, refuses_remade};
-use crate::policies::{Given, ready_of};
 use crate::worker::{Place, Row, Site, Stock, Worker};
 use hub::{Caps, Hub};
+use samples::{Given, ready_of};
 use shared_hub::{Blank, Parts, Receipt, Run, Seat, Shared, Unlocked};
 use std::alloc::Global;
 use std::hash::RandomState;

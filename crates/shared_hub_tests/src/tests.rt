@@ -1,9 +1,9 @@
 use crate::audits::receipt_of;
-use crate::policies::{Given, ready_of};
 use crate::runs::{Plan, run};
-use crate::worker::{Ask, Row, Said, sub};
+use crate::worker::{Ask, Row, Said};
 use hub::{Command, Entry, Event, Outcome};
 use permissions::Verdict;
+use samples::{Given, ready_of, sub};
 use std::alloc::Global;
 use std::hash::RandomState;
 use std::test::Fail;

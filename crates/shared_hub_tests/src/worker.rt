@@ -1,12 +1,9 @@
 //! What the threads of the tests do.
-use crate::policies::{Given, ready_of};
-use bytes::Bytes;
-use hub::{Command, Delivery, Event, Message, Outcome, Port, Ready, Segment};
-use lists::{Shared as Handle, SharedText};
+use hub::{Command, Delivery, Event, Outcome, Port, Ready, Segment};
+use samples::{Given, connect, publish, ready_of, sub};
 use shared_hub::{Receipt, Run, Seat, Shared, SharedPort};
 use std::alloc::Global;
 use std::sync::Wait;
-use subjects::{Pattern, Subject};
 
 /// What a thread does with its seat, on a connection of its own.
 #[derive(Clone, Copy)]
@@ -223,49 +220,6 @@ fn after_reload(gone: usize, removed: usize) -> Said {
     } else {
         Said::Otherwise
     }
-}
-
-fn text(alloc: Global, text: &str) -> Option<SharedText> {
-    SharedText::of(alloc, text.as_bytes()).ok()
-}
-
-fn connect(alloc: Global, conn: u64) -> Option<Command> {
-    let user = text(alloc, "demo")?;
-    let password = text(alloc, "demo")?;
-    Some(Command::Connect {
-        conn,
-        user: Some(user),
-        password,
-        echo: true,
-    })
-}
-
-/// A subscription, under an id of its subject and a number.
-pub(crate) fn sub(alloc: Global, conn: u64, subject: &str, number: u64) -> Option<Command> {
-    let sid = sid(alloc, subject, number)?;
-    let pattern = Pattern::parse(alloc, subject.as_bytes()).ok()?;
-    Some(Command::Sub {
-        conn,
-        subject: Handle::new(alloc, pattern).ok()?,
-        queue: None,
-        sid,
-    })
-}
-
-fn sid(alloc: Global, subject: &str, number: u64) -> Option<SharedText> {
-    let sid = format!(in alloc; "{subject}{number}").ok()?;
-    text(alloc, sid.as_str())
-}
-
-fn publish(alloc: Global, conn: u64, subject: &str) -> Option<Command> {
-    let payload = Bytes::copy_from_slice(alloc, subject.as_bytes()).ok()?;
-    let subject = Subject::parse(alloc, subject.as_bytes()).ok()?;
-    let message = Message::new(subject, None, Bytes::new(), payload);
-    Some(Command::Pub {
-        conn,
-        message: Handle::new(alloc, message).ok()?,
-        word: 0,
-    })
 }
 
 fn reload(policies: &mut Vec<Ready>) -> Option<Command> {

@@ -1,20 +1,21 @@
 use bytes::Bytes;
-use hub::Ready;
 use lists::Items;
 use policy_doc::{AccountDoc, Accounts, Direction, PermDoc, PermEntry, Policy, PolicyDoc, UserDoc};
+use ready::Ready;
 use std::alloc::Global;
 use subjects::Pattern;
 
 /// The policies of the tests. Each has one account, of user demo.
 #[derive(Clone, Copy)]
-pub(crate) enum Given {
+pub enum Given {
     /// User demo may do everything.
     All,
     /// User demo may subscribe to this subject alone.
     Only(&'static str),
 }
 
-pub(crate) fn ready_of(alloc: Global, given: Given) -> Option<Ready> {
+/// The policy, ready for use. There is none where memory could not be had.
+pub fn ready_of(alloc: Global, given: Given) -> Option<Ready> {
     let permissions = match given {
         Given::All => None,
         Given::Only(subject) => Some(permissions(entry(alloc, subject)?, alloc)?),
