@@ -1,22 +1,17 @@
 //! natsd: the routing core of a multi-tenant NATS server.
 #![tactic(auto)]
 
-mod check;
-mod fault;
-mod options;
 mod serve;
-mod status;
-mod words;
 
 use devices::{ReadSource, WriteSink};
 use policy_source::{Frames, WatchedFile};
 use serve::serve_clients;
-use status::{Ran, Start, StartFault, run};
 use std::hash::RandomState;
 use std::process::ExitCode;
 use std::random::RandomSource;
 use std::rt::Env;
 use std::{env, io};
+use tasks::{Ran, Start, StartFault, run};
 
 fn main(rt: HostRuntime) -> ExitCode {
     let start = start(&rt);

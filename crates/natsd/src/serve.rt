@@ -1,8 +1,8 @@
 // `natsd serve`: clients over sockets (docs/OPERATING.md).
 ghost use Rattle.std.specs.Prelude.{◌≤◌};
-ghost use Rattle.natsd.specs.Options.{AreServable};
+ghost use Rattle.command_line.specs.Options.{AreServable};
 
-use crate::options::ServeOptions;
+use command_line::ServeOptions;
 use devices::Sink;
 use gates::Open;
 use policy_source::Policies;

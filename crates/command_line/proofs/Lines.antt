@@ -1,0 +1,322 @@
+-- What a line is read as, from what clap says of it.
+use Rattle.std.proofs.Common.{refl, sym, ap, subst, Bool, true, false, not, List, codes, [], ◌∷◌, ◌≡◌, ◌==◌, ◌∙◌, ◌⊎◌, ℕ, inl, inr, Option, Some, None, Ok, Err, Result, ◌&&◌, true≢false, rules}
+use Rattle.std.specs.Prelude.{option_map, is_some, find, if◌then◌else◌}
+use Rattle.clap.specs.Words.{App, HasKind, IsAmong, Kinds, Row, Shape, Text, HasMatchesOf, built, fault_of, is_simple, is_simple_and_free, kind_of, subcommand_of, subcommand_rows_of}
+use Rattle.clap.specs.Simple.{entered, rows_at, label_of, argument_words, names_of}
+use Rattle.clap.specs.Walk.{Held, Names, answers_to, finished, nothing_held, settled, stop_after, walk, walk_from}
+use Rattle.clap.specs.Faults.{check_fault, defaults_fault, entered_fault, level_fault, settle_fault, walk_fault}
+use Rattle.clap.specs.Facts.{explicit_source}
+use Rattle.clap.specs.Takes.{is_given}
+use Rattle.std.specs.List.{list_any}
+use Rattle.clap.specs.Kinds.{or_else, check_kinds}
+use Rattle.clap.specs.declared.error.Error.{Error}
+use Rattle.clap.specs.declared.error.kind.ErrorKind.{ErrorKind}
+use Rattle.clap.specs.declared.error.kind.ErrorKind.TheVariants.{DisplayHelp, DisplayVersion, InvalidSubcommand, MissingSubcommand, OutOfMemory, UnknownArgument}
+use Rattle.clap.specs.declared.parser.matches.ArgMatches.{ArgMatches}
+use Rattle.clap.proofs.OnLiterals.{clap_on_literals}
+use Rattle.command_line.specs.declared.options.ServeOptions.{ServeOptions}
+use Rattle.command_line.specs.declared.words.Asked.{Asked}
+use Rattle.command_line.specs.declared.words.Asked.TheVariants as asked
+use Rattle.command_line.specs.declared.words.Task.TheVariants.{Play, Check, Help, Version}
+use Rattle.command_line.specs.declared.words.WordsFault.{WordsFault}
+use Rattle.command_line.specs.declared.words.WordsFault.TheVariants.{WrongLine, NoMemory}
+use Rattle.std.specs.Str.{bytes_eq}
+use Rattle.std.specs.Str.Parse.{digits_value, without_leading_plus}
+use Rattle.clap.specs.Lexer.{strip_byte}
+use Rattle.clap.specs.Words.{IsUnsignedIn}
+use Rattle.clap.specs.declared.builder.value_parser.Reading.TheVariants.{AsWritten}
+use Rattle.clap.specs.declared.parser.matches.ValueSource.TheVariants.{DefaultValue}
+use Rattle.command_line.specs.Options.{AreDefaults, IsOptions, IsNumberIn, default_listen, most_history}
+use Rattle.command_line.specs.Words.{natsd_app, kinds_of, found_in, is_mistake, IsAskedBy, IsReading, IsRefusal, IsServeOrMemory, IsTaskOrMemory, IsUnknown, IsWrongOrMemory}
+
+simple_and_free : is_simple_and_free natsd_app ≡ true
+unfolding clap_on_literals
+simple_and_free = refl
+
+simple : is_simple natsd_app ≡ true
+unfolding clap_on_literals
+simple = refl
+
+-- ---- where nothing is wrong, a task is named
+
+-- of two lists of kinds in turn, the second is empty where both are
+second : (first next : Kinds) → or_else first next ≡ [] → next ≡ []
+second [] next e = e
+second (k ∷ ks) next e = absurd (cc)
+
+-- where a subcommand is wanted, and none is missing, there is one
+wanted : (has help required argument : Bool) → required ≡ true → check_kinds help (not has && required) argument ≡ [] → has ≡ true
+wanted true help required argument r e = refl
+wanted false true required argument r e = absurd (cc)
+wanted false false true argument r e = absurd (cc)
+wanted false false false argument r e = absurd (cc)
+
+has_one : (s : Shape) (names : Names) (h : Held) (words : List Text) (has : Bool) (below : Kinds) → s.subcommand_required ≡ true → level_fault s names h words has below ≡ [] → has ≡ true
+has_one s names h words has below r e =
+    let end = (walk s.rules names h words).held in
+    let last : check_fault s (finished s.rules end) has ≡ [] =
+    second (defaults_fault (settled s.rules end).rows s.rules) _
+    (second (settle_fault s.rules s.args_override_self end) _ (second below _ (second (walk_fault s names (walk_from h) words) _ e))) in
+    wanted has
+    (not has && (s.arg_required_else_help && not (list_any (λ r. explicit_source r.source) (finished s.rules end))))
+    s.subcommand_required
+    (not (s.subcommand_negates_reqs && has) && list_any (λ a. a.required && not (is_given a.id (finished s.rules end))) s.rules)
+    r last
+
+-- one of three subcommands was found
+abbrev name_of : Option (Text × List Row) → Option Text
+name_of found = option_map (λ (p : Text × List Row). p.0) found
+
+abbrev IsOneOf : Text → Text → Text → Option (Text × List Row) → Type 0
+IsOneOf x y z found = (name_of found ≡ Some x) ⊎ ((name_of found ≡ Some y) ⊎ (name_of found ≡ Some z))
+
+-- the subcommand that was entered, by the tests of the three
+abbrev first_that : Bool → Bool → Bool → Shape → Shape → Shape → Option Shape
+first_that at_first at_next at_last s t u = if at_first then Some s else if at_next then Some t else if at_last then Some u else None
+
+by_tests : (at_first at_next at_last : Bool) (s t u : Shape) (words : List Text) →
+    is_some (option_map (λ (x : Shape). rows_at x words) (first_that at_first at_next at_last s t u)) ≡ true →
+    IsOneOf s.name t.name u.name (option_map (λ (x : Shape). rows_at x words) (first_that at_first at_next at_last s t u))
+by_tests true at_next at_last s t u words e = inl refl
+by_tests false true at_last s t u words e = inr (inl refl)
+by_tests false false true s t u words e = inr (inr refl)
+by_tests false false false s t u words e = absurd (cc)
+
+by_stop : (a : App) (s t u : Shape) (stop : Option (Text × List Text)) → a.subs ≡ s ∷ t ∷ u ∷ [] → is_some (entered a stop) ≡ true → IsOneOf s.name t.name u.name (entered a stop)
+by_stop a s t u None three e = absurd (cc)
+by_stop a s t u (Some p) three e =
+    let P : List Shape → Type 0 = λ subs.
+    is_some (option_map (λ (x : Shape). rows_at x p.1) (find (λ x. answers_to p.0 (label_of x)) subs)) ≡ true →
+    IsOneOf s.name t.name u.name (option_map (λ (x : Shape). rows_at x p.1) (find (λ x. answers_to p.0 (label_of x)) subs)) in
+    let here : P (s ∷ t ∷ u ∷ []) = by_tests (answers_to p.0 (label_of s)) (answers_to p.0 (label_of t)) (answers_to p.0 (label_of u)) s t u p.1 in
+    subst P (sym three) here e
+
+abbrev whole : App
+whole = built natsd_app
+
+abbrev stop_of : List Text → Option (Text × List Text)
+stop_of words = stop_after whole.top.rules (names_of whole) (argument_words natsd_app words)
+
+named : (words : List Text) → kinds_of words ≡ [] → IsOneOf (codes "play") (codes "check") (codes "serve") (found_in words)
+named words none =
+    by_stop whole _ _ _ (stop_of words) refl
+    (has_one whole.top (names_of whole) nothing_held (argument_words natsd_app words) (is_some (entered whole (stop_of words))) (entered_fault whole (stop_of words)) refl none)
+
+-- ---- what clap's answers come to
+
+plays : (name : Text) → (kinds_of (name ∷ codes "play" ∷ []) ≡ []) × (found_in (name ∷ codes "play" ∷ []) ≡ Some (codes "play", []))
+unfolding clap_on_literals
+plays name = (refl, refl)
+
+checks : (name : Text) → (kinds_of (name ∷ codes "check" ∷ []) ≡ []) × (found_in (name ∷ codes "check" ∷ []) ≡ Some (codes "check", []))
+unfolding clap_on_literals
+checks name = (refl, refl)
+
+-- what the options are, where none is given
+abbrev default_row : Text → Text → Row
+default_row id value = record { id = id; values = value ∷ []; count = None; source = Some DefaultValue; reading = AsWritten }
+
+abbrev default_rows : List Row
+default_rows = default_row (codes "listen") default_listen ∷ default_row (codes "workers") (codes "2") ∷ default_row (codes "outbox") (codes "1024") ∷ default_row (codes "history") (codes "1000000") ∷ []
+
+serves : (name : Text) → (kinds_of (name ∷ codes "serve" ∷ []) ≡ []) × (found_in (name ∷ codes "serve" ∷ []) ≡ Some (codes "serve", default_rows))
+unfolding clap_on_literals
+serves name = (refl, refl)
+
+two : IsUnsignedIn 1 64 (codes "2")
+two = search rules
+
+thousand : IsUnsignedIn 1 65536 (codes "1024")
+thousand = search rules
+
+million : IsUnsignedIn 2 most_history (codes "1000000")
+million = search rules
+
+abbrev rows_in : Option (Text × List Row) → List Row
+rows_in None = []
+rows_in (Some found) = found.1
+
+abbrev found_as : Text → List Row → Option (Text × List Row)
+found_as name rows = Some (name, rows)
+
+same_rows : (xs ys : List Row) → found_as (codes "serve") ys ≡ found_as (codes "serve") xs → xs ≡ ys
+same_rows xs ys e = sym (ap rows_in e)
+
+some_same : (x y : Text) → Some x ≡ Some y → x ≡ y
+some_same x y e = cc
+
+-- what is asked for, by what was found
+asked_is : (found : Option (Text × List Row)) (kinds : Kinds) (a : Asked) → kinds ≡ [] → IsOneOf (codes "play") (codes "check") (codes "serve") found → IsAskedBy found a → IsReading kinds found (Ok a)
+asked_is None kinds a none (inl e) h = absurd (cc)
+asked_is None kinds a none (inr (inl e)) h = absurd (cc)
+asked_is None kinds a none (inr (inr e)) h = absurd (cc)
+asked_is (Some found) kinds a none (inl e) h =
+    let P : Text → Type 0 = λ n. IsAskedBy (Some (n, found.1)) a → IsReading kinds (Some (n, found.1)) (Ok a) in
+    subst P (sym (some_same found.0 (codes "play") e)) (λ h. subst (λ (x : Asked). IsReading kinds (Some (codes "play", found.1)) (Ok x)) (sym h) (none, refl)) h
+asked_is (Some found) kinds a none (inr (inl e)) h =
+    let P : Text → Type 0 = λ n. IsAskedBy (Some (n, found.1)) a → IsReading kinds (Some (n, found.1)) (Ok a) in
+    subst P (sym (some_same found.0 (codes "check") e)) (λ h. subst (λ (x : Asked). IsReading kinds (Some (codes "check", found.1)) (Ok x)) (sym h) (none, refl)) h
+asked_is (Some found) kinds (asked.Serve options) none (inr (inr e)) h =
+    let P : Text → Type 0 = λ n. IsAskedBy (Some (n, found.1)) (asked.Serve options) → IsReading kinds (Some (n, found.1)) (Ok (asked.Serve options)) in
+    subst P (sym (some_same found.0 (codes "serve") e)) (λ h. (none, (found.1, refl, h))) h
+asked_is (Some found) kinds (asked.Task task) none (inr (inr e)) h =
+    let P : Text → Type 0 = λ n. IsAskedBy (Some (n, found.1)) (asked.Task task) → IsReading kinds (Some (n, found.1)) (Ok (asked.Task task)) in
+    subst P (sym (some_same found.0 (codes "serve") e)) (λ h. absurd h) h
+
+-- where the command is natsd's, and clap gives matches
+pub right : (a : App) (words : List Text) (m : ArgMatches) (got : Asked) → a ≡ natsd_app → (is_simple_and_free a ≡ true → fault_of a words ≡ []) → HasMatchesOf a words m →
+    IsAskedBy (subcommand_rows_of m) got → IsReading (kinds_of words) (found_in words) (Ok got)
+right a words m got e h found t =
+    let none : kinds_of words ≡ [] = sym (ap (λ (x : App). fault_of x words) e) ∙ h (ap is_simple_and_free e ∙ simple_and_free) in
+    let rows : subcommand_rows_of m ≡ subcommand_of natsd_app words = (found (ap is_simple e ∙ simple)).1 ∙ ap (λ (x : App). subcommand_of x words) e in
+    asked_is (found_in words) (kinds_of words) got none (named words none) (subst (λ (f : Option (Text × List Row)). IsAskedBy f got) rows t)
+
+among : (k asked : ErrorKind) (kinds : Kinds) → (OutOfMemory ≡ asked → ⊥) → (k ≡ OutOfMemory) ⊎ IsAmong k kinds → IsAmong asked (k ∷ []) → IsAmong asked kinds
+among k asked kinds other (inl e) (inl same) = absurd (other (sym (same ∙ e)))
+among k asked kinds other (inr m) (inl same) = subst (λ x. IsAmong x kinds) (sym same) m
+among k asked kinds other h (inr bad) = absurd bad
+
+no_mistake : (asked : ErrorKind) → is_mistake asked ≡ true → OutOfMemory ≡ asked → ⊥
+no_mistake asked mistake e = let bad : is_mistake OutOfMemory ≡ true = ap is_mistake e ∙ mistake in absurd (cc)
+
+by_kind : (k : ErrorKind) (kinds : Kinds) (found : Option (Text × List Row)) (r : Result Asked WordsFault) → (k ≡ OutOfMemory) ⊎ IsAmong k kinds → IsRefusal (k ∷ []) r → IsReading kinds found r
+by_kind k kinds found (Ok (asked.Serve options)) h p = absurd p
+by_kind k kinds found (Ok (asked.Task Play)) h p = absurd p
+by_kind k kinds found (Ok (asked.Task Check)) h p = absurd p
+by_kind k kinds found (Ok (asked.Task (Help text))) h p = among k DisplayHelp kinds (λ e. absurd (cc)) h p
+by_kind k kinds found (Ok (asked.Task (Version text))) h p = among k DisplayVersion kinds (λ e. absurd (cc)) h p
+by_kind k kinds found (Err (WrongLine text)) h p = (p.0, among k p.0 kinds (no_mistake p.0 p.2) h p.1, p.2)
+by_kind k kinds found (Err NoMemory) h p = tt
+
+-- and where it gives none
+pub wrong : (a : App) (words : List Text) (error : Error) (r : Result Asked WordsFault) → a ≡ natsd_app → (is_simple_and_free a ≡ true → HasKind (fault_of a words) error) →
+    IsRefusal (kind_of error ∷ []) r → IsReading (kinds_of words) (found_in words) r
+wrong a words error r e h p =
+    by_kind (kind_of error) (kinds_of words) (found_in words) r (subst (λ (x : App). HasKind (fault_of x words) error) e (h (ap is_simple_and_free e ∙ simple_and_free))) p
+
+-- ---- the words of each task
+
+abbrev names_serve : Option Text → Bool
+names_serve None = false
+names_serve (Some name) = bytes_eq name (codes "serve")
+
+differ : (x y : Option Text) → names_serve x ≡ true → names_serve y ≡ false → x ≡ y → ⊥
+differ x y a b e = true≢false (sym a ∙ (ap names_serve e ∙ b))
+
+play_if : (rows : List Row) (r : Result Asked WordsFault) → IsReading [] (Some (codes "play", rows)) r → IsTaskOrMemory Play r
+play_if rows (Ok (asked.Serve options)) h = absurd (differ _ _ refl refl (sym (ap name_of h.1.1)))
+play_if rows (Ok (asked.Task Play)) h = refl
+play_if rows (Ok (asked.Task Check)) h = absurd (cc)
+play_if rows (Ok (asked.Task (Help text))) h = absurd h
+play_if rows (Ok (asked.Task (Version text))) h = absurd h
+play_if rows (Err (WrongLine text)) h = absurd h.1
+play_if rows (Err NoMemory) h = tt
+
+check_if : (rows : List Row) (r : Result Asked WordsFault) → IsReading [] (Some (codes "check", rows)) r → IsTaskOrMemory Check r
+check_if rows (Ok (asked.Serve options)) h = absurd (differ _ _ refl refl (sym (ap name_of h.1.1)))
+check_if rows (Ok (asked.Task Play)) h = absurd (cc)
+check_if rows (Ok (asked.Task Check)) h = refl
+check_if rows (Ok (asked.Task (Help text))) h = absurd h
+check_if rows (Ok (asked.Task (Version text))) h = absurd h
+check_if rows (Err (WrongLine text)) h = absurd h.1
+check_if rows (Err NoMemory) h = tt
+
+-- each number is the one of its default's text
+number_is : (least most n m : ℕ) (t : Text) → IsNumberIn least most (Some t) n → IsUnsignedIn least most t → digits_value 10 (without_leading_plus t) ≡ m → n ≡ m
+number_is least most n m t h within e = h.read t refl within ∙ e
+
+defaults : (o : ServeOptions) → IsOptions default_rows o → AreDefaults o
+defaults o h = record {
+  policy = h.policy;
+  listen = h.listen;
+  workers = number_is 1 64 o.workers 2 (codes "2") h.workers two refl;
+  outbox = number_is 1 65536 o.outbox 1024 (codes "1024") h.outbox thousand refl;
+  history = number_is 2 most_history o.history 1000000 (codes "1000000") h.history million refl;
+}
+
+serve_if : (r : Result Asked WordsFault) → IsReading [] (Some (codes "serve", default_rows)) r → IsServeOrMemory AreDefaults r
+serve_if (Ok (asked.Serve options)) h = defaults options (subst (λ (rows : List Row). IsOptions rows options) (same_rows _ _ h.1.1) h.1.2)
+serve_if (Ok (asked.Task Play)) h = absurd (differ _ _ refl refl h.1)
+serve_if (Ok (asked.Task Check)) h = absurd (differ _ _ refl refl h.1)
+serve_if (Ok (asked.Task (Help text))) h = absurd h
+serve_if (Ok (asked.Task (Version text))) h = absurd h
+serve_if (Err (WrongLine text)) h = absurd h.1
+serve_if (Err NoMemory) h = tt
+
+-- what is read of words, by what clap says of them
+read_as : (words same : List Text) (kinds : Kinds) (found : Option (Text × List Row)) (r : Result Asked WordsFault) → words ≡ same → kinds_of same ≡ kinds → found_in same ≡ found →
+    IsReading (kinds_of words) (found_in words) r → IsReading kinds found r
+read_as words same kinds found r e k n p =
+    let P : List Text → Type 0 = λ ws. IsReading (kinds_of ws) (found_in ws) r in
+    let there : IsReading (kinds_of same) (found_in same) r = subst P e p in
+    let Q : Kinds → Type 0 = λ x. IsReading x (found_in same) r in
+    let R : Option (Text × List Row) → Type 0 = λ x. IsReading kinds x r in
+    subst R n (subst Q k there)
+
+-- the words of `natsd play`
+pub play_is_right : (words : List Text) (name : Text) (r : Result Asked WordsFault) → words ≡ name ∷ codes "play" ∷ [] → IsReading (kinds_of words) (found_in words) r → IsTaskOrMemory Play r
+play_is_right words name r e p = play_if [] r (read_as words _ _ _ r e (plays name).0 (plays name).1 p)
+
+-- the words of `natsd check`
+pub check_is_right : (words : List Text) (name : Text) (r : Result Asked WordsFault) → words ≡ name ∷ codes "check" ∷ [] → IsReading (kinds_of words) (found_in words) r → IsTaskOrMemory Check r
+check_is_right words name r e p = check_if [] r (read_as words _ _ _ r e (checks name).0 (checks name).1 p)
+
+-- the words of `natsd serve`
+pub serve_is_right : (words : List Text) (name : Text) (r : Result Asked WordsFault) → words ≡ name ∷ codes "serve" ∷ [] → IsReading (kinds_of words) (found_in words) r → IsServeOrMemory AreDefaults r
+serve_is_right words name r e p = serve_if r (read_as words _ _ _ r e (serves name).0 (serves name).1 p)
+
+-- ---- words that name no task
+
+abbrev stray : Kinds
+stray = UnknownArgument ∷ InvalidSubcommand ∷ []
+
+other_word : (name : Text) (c : ℕ) (cs : Text) → (c == 45) ≡ false → bytes_eq (codes "play") (c ∷ cs) ≡ false → bytes_eq (codes "check") (c ∷ cs) ≡ false → bytes_eq (codes "serve") (c ∷ cs) ≡ false →
+    kinds_of (name ∷ (c ∷ cs) ∷ []) ≡ stray
+unfolding clap_on_literals
+other_word name c cs hyphen play check serve = rw (play, check, serve, hyphen) (rw hyphen refl)
+
+no_hyphen : (c : ℕ) (cs : Text) → strip_byte 45 (c ∷ cs) ≡ None → (c == 45) ≡ false
+no_hyphen c cs e = by_test (c == 45) e
+  where
+    by_test : (b : Bool) → (if b then Some cs else None) ≡ None → b ≡ false
+    by_test true e = absurd (cc)
+    by_test false e = refl
+
+others : (name word : Text) → IsUnknown word → kinds_of (name ∷ word ∷ []) ≡ stray
+unfolding clap_on_literals
+others name [] h = refl
+others name (c ∷ cs) h = other_word name c cs (no_hyphen c cs h.0) h.1 h.2 h.3
+
+nothing : (name : Text) → kinds_of (name ∷ []) ≡ MissingSubcommand ∷ []
+unfolding clap_on_literals
+nothing name = refl
+
+-- a request is none of these mistakes
+wrong_if : (kinds : Kinds) (found : Option (Text × List Row)) (r : Result Asked WordsFault) → (kinds ≡ [] → ⊥) → (IsAmong DisplayHelp kinds → ⊥) → (IsAmong DisplayVersion kinds → ⊥) →
+    IsReading kinds found r → IsWrongOrMemory r
+wrong_if kinds found (Ok (asked.Serve options)) some help version h = absurd (some h.0)
+wrong_if kinds found (Ok (asked.Task Play)) some help version h = absurd (some h.0)
+wrong_if kinds found (Ok (asked.Task Check)) some help version h = absurd (some h.0)
+wrong_if kinds found (Ok (asked.Task (Help text))) some help version h = absurd (help h)
+wrong_if kinds found (Ok (asked.Task (Version text))) some help version h = absurd (version h)
+wrong_if kinds found (Err (WrongLine text)) some help version h = tt
+wrong_if kinds found (Err NoMemory) some help version h = tt
+
+is_stray : (asked : ErrorKind) → is_mistake asked ≡ false → IsAmong asked stray → ⊥
+is_stray asked request (inl e) = let bad : is_mistake UnknownArgument ≡ false = ap is_mistake (sym e) ∙ request in absurd (cc)
+is_stray asked request (inr (inl e)) = let bad : is_mistake InvalidSubcommand ≡ false = ap is_mistake (sym e) ∙ request in absurd (cc)
+is_stray asked request (inr (inr bad)) = absurd bad
+
+is_missing : (asked : ErrorKind) → is_mistake asked ≡ false → IsAmong asked (MissingSubcommand ∷ []) → ⊥
+is_missing asked request (inl e) = let bad : is_mistake MissingSubcommand ≡ false = ap is_mistake (sym e) ∙ request in absurd (cc)
+is_missing asked request (inr bad) = absurd bad
+
+-- the words of `natsd WORD`, where WORD is no task
+pub unknown_is_wrong : (words : List Text) (name word : Text) (r : Result Asked WordsFault) → words ≡ name ∷ word ∷ [] → IsUnknown word → IsReading (kinds_of words) (found_in words) r → IsWrongOrMemory r
+unknown_is_wrong words name word r e unknown p =
+    wrong_if stray _ r (λ none. absurd (cc)) (is_stray DisplayHelp refl) (is_stray DisplayVersion refl) (read_as words _ _ _ r e (others name word unknown) refl p)
+
+-- the words of `natsd` alone
+pub none_is_wrong : (words : List Text) (name : Text) (r : Result Asked WordsFault) → words ≡ name ∷ [] → IsReading (kinds_of words) (found_in words) r → IsWrongOrMemory r
+none_is_wrong words name r e p =
+    wrong_if (MissingSubcommand ∷ []) (found_in (name ∷ [])) r (λ none. absurd (cc)) (is_missing DisplayHelp refl) (is_missing DisplayVersion refl) (read_as words _ _ _ r e (nothing name) refl p)

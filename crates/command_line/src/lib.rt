@@ -1,0 +1,8 @@
+//! What the words of a command line ask for (docs/SCRIPT.md, "Statuses").
+#![tactic(auto)]
+
+mod options;
+mod words;
+
+pub use options::ServeOptions;
+pub use words::{Asked, Task, WordsFault, read_words};

@@ -1,0 +1,156 @@
+// The options of `natsd serve` (docs/OPERATING.md, "Options").
+ghost use Rattle.std.specs.Prelude.{◌≡◌, ◌≤◌, false, IfOk, option_map, string_bytes};
+ghost use Rattle.clap.specs.Words.{first_of, found_of, one_of, rows_of, rule_of};
+ghost use Rattle.command_line.specs.Options.{listen_rule, number_rule, serve_app, text_rule, IsLocalApp, IsNumberIn, IsOptions};
+
+use clap::builder::ValueParser;
+use clap::{Arg, ArgMatches, Command};
+use std::alloc::{AllocError, Global};
+
+/// What `natsd serve` is started with.
+#[derive(Debug, Drop)]
+pub struct ServeOptions {
+    /// The file of the policy, which is read again when it changes. Without one, policies come as frames on standard
+    /// input.
+    pub policy: Option<String>,
+    /// Where clients connect: an address and a port.
+    pub listen: String,
+    /// How many threads serve clients, 1 to 64.
+    pub workers: u64,
+    /// How many deliveries may wait for a session, 1 to 65,536.
+    pub outbox: u64,
+    /// How many entries the history may hold, at least 2.
+    pub history: u64,
+}
+
+const LISTEN: &str = "127.0.0.1:4222";
+
+const MOST_WORKERS: u64 = 64;
+
+const MOST_OUTBOX: u64 = 65_536;
+
+const LEAST_HISTORY: u64 = 2;
+
+/// An option that takes a text.
+fn text_option<'a>(alloc: Global, id: &'a str, shown_as: &'a str, help: &'a str) -> Arg<'a>
+    ensures rule { rule_of result ≡ text_rule id.entry.now }
+    ensures local { result.global ≡ false }
+{
+    Arg::new(alloc, id).long(id).value_name(shown_as).help(help)
+}
+
+/// Where clients connect.
+fn listen_option<'a>(alloc: Global) -> Arg<'a>
+    ensures rule { rule_of result ≡ listen_rule }
+    ensures local { result.global ≡ false }
+{
+    text_option(
+        alloc,
+        "listen",
+        "ADDR",
+        "Where clients connect, an address and a port",
+    )
+    .default_value(LISTEN)
+}
+
+/// An option that takes a number within bounds.
+fn number_option<'a>(
+    alloc: Global,
+    id: &'a str,
+    help: &'a str,
+    least: u64,
+    most: u64,
+    default: &'a str,
+) -> Arg<'a>
+    ensures rule { rule_of result ≡ number_rule id.entry.now least most default.entry.now }
+    ensures local { result.global ≡ false }
+{
+    text_option(alloc, id, "N", help)
+        .value_parser(ValueParser::unsigned(least, most))
+        .default_value(default)
+}
+
+/// What `natsd serve` takes on its command line.
+pub fn serve_command<'a>(alloc: Global) -> Result<Command<'a>, AllocError>
+    ensures { IfOk result (IsLocalApp serve_app) }
+{
+    let policy = text_option(
+        alloc,
+        "policy",
+        "FILE",
+        "The policy, read again when it changes; without it, policies come as frames on standard input",
+    );
+    let listen = listen_option(alloc);
+    let workers = number_option(
+        alloc,
+        "workers",
+        "How many threads serve clients, 1 to 64",
+        1,
+        MOST_WORKERS,
+        "2",
+    );
+    let outbox = number_option(
+        alloc,
+        "outbox",
+        "How many deliveries may wait for a client, 1 to 65536",
+        1,
+        MOST_OUTBOX,
+        "1024",
+    );
+    let history = number_option(
+        alloc,
+        "history",
+        "How many entries the history holds, at least 2",
+        LEAST_HISTORY,
+        u64::MAX,
+        "1000000",
+    );
+    Command::new(alloc, "serve")
+        .about("Serves clients over sockets, by a policy that may change while it runs")
+        .arg(policy)?
+        .arg(listen)?
+        .arg(workers)?
+        .arg(outbox)?
+        .arg(history)
+}
+
+/// The text that was given for an option, or its default.
+#[tactic(auto, using(crate::proofs::Rows::first_by_rows))]
+fn text_in(alloc: Global, matches: &ArgMatches<'_>, id: &str) -> Result<Option<String>, AllocError>
+    ensures { IfOk result (λ text. option_map string_bytes text ≡ first_of id.now (rows_of (found_of matches.now))) }
+{
+    match matches.get_str(id) {
+        None => Ok(None),
+        Some(text) => Ok(Some(String::from_str(alloc, text)?)),
+    }
+}
+
+/// The number that was given for an option, or its default. Clap lets no other through than one within the bounds.
+#[tactic(auto, using(crate::proofs::Rows::one_by_rows))]
+fn number_in(matches: &ArgMatches<'_>, id: &str, least: u64, most: u64) -> u64
+    requires { least ≤ most }
+    ensures { IsNumberIn least most (one_of id.now (rows_of (found_of matches.now))) result }
+{
+    matches
+        .get_one::<u64>(id)
+        .unwrap_or(least)
+        .clamp(least, most)
+}
+
+/// What the options of `natsd serve` say.
+pub fn options_of(alloc: Global, matches: &ArgMatches<'_>) -> Result<ServeOptions, AllocError>
+    ensures { IfOk result (IsOptions (rows_of (found_of matches.now))) }
+{
+    let policy = text_in(alloc, matches, "policy")?;
+    let listen = match text_in(alloc, matches, "listen")? {
+        Some(listen) => listen,
+        None => String::from_str(alloc, LISTEN)?,
+    };
+    Ok(ServeOptions {
+        policy,
+        listen,
+        workers: number_in(matches, "workers", 1, MOST_WORKERS),
+        outbox: number_in(matches, "outbox", 1, MOST_OUTBOX),
+        history: number_in(matches, "history", LEAST_HISTORY, u64::MAX),
+    })
+}

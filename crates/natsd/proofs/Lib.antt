@@ -1,6 +1,0 @@
-pub mod Bounds
-pub mod Checks
-pub mod Commands
-pub mod Lines
-pub mod Rows
-pub mod Runs

@@ -1,5 +1,0 @@
-pub mod Check
-pub mod Options
-pub mod Words
-pub mod Tasks
-pub mod Run

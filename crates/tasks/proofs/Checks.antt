@@ -1,0 +1,16 @@
+-- What is said of a text that is longer than a policy's may be.
+use Rattle.std.proofs.Common.{◌≡◌, ◌<◌, ◌++◌, ℕ, List, codes, length, ap, refl, Err}
+use Rattle.std.proofs.lemmas.Bool.{lt-ltb}
+use Rattle.account_config.specs.Policy.{policy_of}
+use Rattle.config_walk.specs.declared.fault.ConfigFault.TheVariants.{TooLarge}
+use Rattle.reload.specs.Fault.{fault_line}
+use Rattle.reload.specs.Reload.{judged}
+use Rattle.reload.specs.declared.fault.ReloadFault.TheVariants.{Config}
+use Rattle.tasks.specs.Check.{report_of, reported}
+
+too_large : (text : List ℕ) → 1048576 < length text → policy_of text ≡ Err TooLarge
+unfolding policy_of
+too_large text long = rw (lt-ltb 1048576 (length text) long) refl
+
+pub report_is : (text : List ℕ) → 1048576 < length text → report_of text ≡ record { text = fault_line (Config TooLarge) ++ codes "\n"; status = 1 }
+report_is text long = ap (λ read. reported (judged read)) (too_large text long)

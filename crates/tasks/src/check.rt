@@ -1,0 +1,117 @@
+// `natsd check`: what a policy comes to (docs/POLICY.md, "Checking a policy").
+ghost use Rattle.std.specs.Prelude.{◌≡◌, ◌<◌, ◌||◌, ◌++◌, false, codes, List, ℕ, length, IfOk, OnErr, IfSome};
+ghost use Rattle.std.specs.Io.KnownBytes.{Appends};
+ghost use Rattle.devices.specs.Device.{AppendsFront};
+ghost use Rattle.reload.specs.Fault.{fault_line, is_memory};
+ghost use Rattle.tasks.specs.Check.{counts_line, is_read_failed, is_write_failed, report_of};
+
+use crate::fault::CheckFault;
+use account_config::MOST_BYTES;
+use config_walk::ConfigFault;
+use devices::{Sink, Source, read_within, write_all};
+use itoa::Buffer;
+use lists::{Items, NoMemory};
+use policy_doc::Policy;
+use reload::{ReloadFault, read_valid_policy};
+use std::alloc::Global;
+
+/// The most reads that bring a policy, with the one that finds its end.
+const MOST_READS: usize = MOST_BYTES + 1;
+
+/// What is said of a policy.
+#[derive(Debug, Drop)]
+struct Report {
+    /// The line that is printed.
+    text: Items<u8>,
+    /// 0 where it is a policy, else 1.
+    status: u8,
+}
+
+/// The report on the text of a policy.
+fn report_of(alloc: Global, text: &[u8]) -> Result<Report, NoMemory>
+    ensures text { IfOk result (λ report. report.text ≡ (report_of text.now).text) }
+    ensures status { IfOk result (λ report. report.status ≡ (report_of text.now).status) }
+{
+    match read_valid_policy(alloc, text) {
+        Ok(policy) => Ok(Report {
+            text: counts_line(alloc, &policy)?,
+            status: 0,
+        }),
+        Err(fault) => Ok(Report {
+            text: fault_line(alloc, &fault)?,
+            status: 1,
+        }),
+    }
+}
+
+/// The report on a text that is longer than a policy's may be.
+fn report_too_large(alloc: Global) -> Result<Report, NoMemory>
+    ensures text { (text : List ℕ) → 1048576 < length text → IfOk result (λ report. report.text ≡ (report_of text).text) }
+    ensures status { (text : List ℕ) → 1048576 < length text → IfOk result (λ report. report.status ≡ (report_of text).status) }
+{
+    Ok(Report {
+        text: fault_line(alloc, &ReloadFault::Config(ConfigFault::TooLarge))?,
+        status: 1,
+    })
+}
+
+/// The line that says how much a policy has, with its LF: `ok`, then how many accounts, users, exports and imports.
+/// There are no exports and imports.
+fn counts_line(alloc: Global, policy: &Policy) -> Result<Items<u8>, NoMemory>
+    ensures { IfOk result (λ line. line ≡ counts_line policy.now) }
+{
+    let doc = policy.doc();
+    let mut line = Vec::from_slice(alloc, b"ok ")?;
+    line.extend_from_slice(
+        Buffer::new()
+            .format(doc.accounts.as_slice().len())
+            .as_bytes(),
+    )?;
+    line.extend_from_slice(b" ")?;
+    line.extend_from_slice(Buffer::new().format(doc.count_users()).as_bytes())?;
+    line.extend_from_slice(b" 0 0\n")?;
+    Ok(Items::from_vec(line))
+}
+
+/// The line of a fault of a text, with its LF. `NoMemory` comes also where that is the fault, which says nothing of
+/// the text.
+fn fault_line(alloc: Global, fault: &ReloadFault) -> Result<Items<u8>, NoMemory>
+    ensures told { IfOk result (λ line. line ≡ fault_line fault.now ++ codes "\n") }
+    ensures fault { IfOk result (λ line. is_memory fault.now ≡ false) }
+{
+    if fault.is_memory() {
+        return Err(NoMemory);
+    }
+    let mut line = fault.line(alloc)?;
+    line.extend_from_slice(b"\n")?;
+    Ok(Items::from_vec(line))
+}
+
+/// Checks a policy: reads the source to its end, or until the text is too large for a policy, and writes a line,
+/// `ok` with how many accounts, users, exports and imports it has, or its first fault (docs/POLICY.md, "Faults").
+/// Answers the status, 0 or 1.
+///
+/// `ReadFailed` and `WriteFailed` come where the device failed in this call, `NoMemory` where memory could not be
+/// had. What was written then is a front of the line.
+pub fn check<R: Source, W: Sink>(
+    alloc: Global,
+    source: &mut R,
+    sink: &mut W,
+) -> Result<u8, CheckFault>
+    ensures meaning { IfOk result (λ status. IfSome (R.remaining source.old) (λ text.
+        Appends (W.contents sink.old) (W.contents sink.new) (report_of text).text
+        × (status ≡ (report_of text).status))) }
+    ensures prefix { OnErr result (IfSome (R.remaining source.old) (λ text.
+        AppendsFront (W.contents sink.old) (W.contents sink.new) (report_of text).text)) }
+    ensures read_failed { R.failed source.new ≡ (R.failed source.old || is_read_failed result) }
+    ensures write_failed { W.failed sink.new ≡ (W.failed sink.old || is_write_failed result) }
+{
+    let report = match read_within(alloc, source, MOST_BYTES, MOST_READS)? {
+        Some(text) => report_of(alloc, text.as_slice())?,
+        None => report_too_large(alloc)?,
+    };
+    match write_all(sink, report.text.as_slice()) {
+        Ok(()) => Ok(report.status),
+        Err(_) => Err(CheckFault::WriteFailed),
+    }
+}

@@ -1,0 +1,8 @@
+//! Does what the words of a command line ask for, and tells what came of it (docs/SCRIPT.md, "Statuses").
+#![tactic(auto)]
+
+mod check;
+mod fault;
+mod status;
+
+pub use status::{Ran, Start, StartFault, run};
