@@ -1,5 +1,5 @@
 -- The options that a run hands out are within their bounds.
-use Rattle.std.proofs.Common.{◌≡◌, ℕ, List, Option, Some, None, Ok, Err, Result, subst}
+use Rattle.std.proofs.Common.{◌≡◌, List, Option, Ok, Err, Result, subst}
 use Rattle.clap.specs.Words.{Kinds, Row, Text}
 use Rattle.command_line.specs.Options.{AreServable, IsOptions}
 use Rattle.command_line.specs.Words.{IsReading, IsServe}
