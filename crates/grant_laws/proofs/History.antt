@@ -3,7 +3,7 @@ use Rattle.std.proofs.Common.{◌≡◌, ◌∙◌, ◌==◌, ◌&&◌, ◌||◌
 use Rattle.std.specs.Prelude.{All, AllPairs, nat_le}
 use Rattle.std.specs.List.{list_any, filter_map}
 use Rattle.std.proofs.Math.Bool.{and-false}
-use Rattle.std.proofs.lemmas.Bool.{eqb-true, eqb-false, eq-eqb, ne_eqb, lt-ltb}
+use Rattle.std.proofs.lemmas.Bool.{eqb-true, eqb-false, ne_eqb, lt-ltb}
 use Rattle.std.proofs.lemmas.List.{append_assoc, append-nil}
 use Rattle.std.proofs.lemmas.List.Elements.{All-nil, All-cons, All-push, All-map, All-filter, All-head, All-tail, filter_passes}
 use Rattle.std.proofs.lemmas.List.Kept.{AllPairs-filter}
@@ -55,7 +55,7 @@ use Rattle.hub.specs.Replies.{is_by_grant, is_answer as is_counted}
 use Rattle.hub.proofs.Finds.{find-passes, find-none, AllPairs-head, AllPairs-tail}
 use Rattle.hub.proofs.Grants.{not-false, kept_none, kept_later, kept_after, kept_judged}
 use Rattle.hub.proofs.Soundness.{IsApart, HasTable}
-use Rattle.hub.proofs.Deliveries.{notes_of, receives_of, as_sent, met, outboxes, items_after, with_room}
+use Rattle.hub.proofs.Deliveries.{found, notes_of, receives_of, as_sent, met, outboxes, items_after, with_room}
 use Rattle.grant_laws.specs.Noted.{is_reply, asks_on, is_entered_at, answers_by, ends_for, latest, IsNoted, AreNoted}
 use Rattle.grant_laws.proofs.Noted.{latest-more, after-publish, after-other, after-judged}
 
@@ -89,17 +89,6 @@ any-room : (f : Subscription → Delivery) (n : ℕ) (subs : List Subscription) 
 any-room f zero subs = none-full subs
 any-room f (suc n) [] = refl
 any-room f (suc n) (sub ∷ subs) = sym (lt-ltb 0 (suc (length (take n (map f subs)))) (omega arith))
-
--- each session is its connection's
-abbrev IsFound : List Session → Session → Type 0
-IsFound zs z = session_of zs z.conn ≡ Some z
-
-found : (zs : List Session) → AllPairs IsApart zs → All (IsFound zs) zs
-found [] apart = All-nil (IsFound [])
-found (y ∷ zs) apart =
-    All-cons (IsFound (y ∷ zs)) y zs
-    (ap (λ b. cond b (Some y) (session_of zs y.conn)) (eq-eqb y.conn y.conn refl))
-    (λ k d h. ap (λ b. cond b (Some y) (session_of zs (get_or zs k d).conn)) (ne_eqb y.conn (get_or zs k d).conn (AllPairs-head IsApart y zs apart k d h)) ∙ found zs (AllPairs-tail IsApart y zs apart) k d h)
 
 -- ---- the connections that a reload reports gone
 

@@ -192,10 +192,10 @@ map_same_on f g (x ∷ xs) same =
     ap (λ y. y ∷ map f xs) (All-head (λ x. f x ≡ g x) x xs same) ∙ ap (λ ys. g x ∷ ys) (map_same_on f g xs (All-tail (λ x. f x ≡ g x) x xs same))
 
 -- each session is its connection's
-abbrev IsFound : List Session → Session → Type 0
+abbrev pub IsFound : List Session → Session → Type 0
 IsFound zs z = session_of zs z.conn ≡ Some z
 
-found : (zs : List Session) → AllPairs IsApart zs → All (IsFound zs) zs
+pub found : (zs : List Session) → AllPairs IsApart zs → All (IsFound zs) zs
 found [] apart = All-nil (IsFound [])
 found (y ∷ zs) apart =
     All-cons (IsFound (y ∷ zs)) y zs

@@ -9,12 +9,12 @@ use Rattle.events.specs.declared.answer.Entry.{Entry}
 use Rattle.world.specs.World.{World}
 use Rattle.hub.specs.History.{State, IsLegalRun}
 use Rattle.hub.specs.Segments.{Part, held}
+use Rattle.hub.proofs.Parts.{run-number}
 use Rattle.segments.specs.Joins.{parts_of, has_number, due, IsRight, AreOneHistory}
 use Rattle.shared_hub.specs.Receipts.{Receipt}
 use Rattle.shared_hub.specs.declared.audit.AuditFault.{AuditFault}
 use Rattle.shared_hub.specs.declared.audit.AuditFault.TheVariants.{SeatMissing, SegmentGap, ReceiptMismatch, NoMemory}
 use Rattle.shared_hub.specs.Audits.{entry_after, AreGenuine, IsJoined, AreEntered, IsWhole, IsFault, IsDue, IsLookUp}
-use Rattle.shared_hub.proofs.Genuine.{run_length}
 
 -- ---- in a part
 
@@ -27,7 +27,7 @@ none-past (x ∷ es) (suc k) e = let l = none-past es k e in omega (arith, l)
 not-had : (w : World) (es : List Entry) (after : World) (n : ℕ) → IsLegalRun w es after → (b : Bool) → nat_lt w.number n ≡ b → cond b (slice_get es (n - (w.number + 1))) None ≡ None → (nat_lt w.number n && nat_le n after.number) ≡ false
 not-had w es after n run false is e = ap (λ (c : Bool). c && nat_le n after.number) is
 not-had w es after n run true is e =
-    let count = run_length w es after run in
+    let count = run-number w es after run in
     let low = ltb-true _ _ is in
     let high = none-past es (n - (w.number + 1)) e in
     ap (λ (c : Bool). c && nat_le n after.number) is ∙ lt-leb n after.number (omega (arith, count, low, high))
@@ -74,7 +74,7 @@ kept-none t (p ∷ ps) none =
 -- as many entries as the last number tells
 pub length_of : (segments : List Part) (s : State) (history : List Entry) → IsJoined segments s history → length history ≡ s.world.number
 length_of segments s history j =
-    let count = run_length j.first history s.world j.legal in
+    let count = run-number j.first history s.world j.legal in
     let zero = ap (λ (w : World). w.number) j.opens in
     omega (arith, count, zero)
 

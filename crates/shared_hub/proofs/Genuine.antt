@@ -1,14 +1,9 @@
--- How a look through the receipts goes on, and how many entries a legal run has.
-use Rattle.std.proofs.Common.{◌≡◌, ◌≢◌, ◌∙◌, ◌++◌, ◌∷◌, ◌+◌, ◌<◌, ℕ, List, [], length, take, drop, get_or, Result, Ok, Err, ap, sym, refl, subst, arith}
+-- How a look through the receipts goes on.
+use Rattle.std.proofs.Common.{◌≡◌, ◌≢◌, ◌∙◌, ◌++◌, ◌+◌, ◌<◌, ℕ, List, length, take, drop, get_or, ap, sym, refl, subst, arith}
 use Rattle.std.proofs.lemmas.List.{take_more, drop_more, take-append-drop}
 use Rattle.std.proofs.lemmas.List.Elements.{All-nil, All-push}
 use Rattle.std.proofs.lemmas.List.Quantifiers.{all_pairs_push}
 use Rattle.events.specs.declared.answer.Entry.{Entry}
-use Rattle.events.specs.declared.answer.Outcome.{Outcome}
-use Rattle.events.specs.declared.refusal.HubRefusal.{HubRefusal}
-use Rattle.world.specs.World.{World, advanced}
-use Rattle.world.specs.Transition.{moved, numbered}
-use Rattle.hub.specs.History.{IsLegalRun}
 use Rattle.shared_hub.specs.Receipts.{Receipt}
 use Rattle.shared_hub.specs.Audits.{Stands, HasNone, AreGenuine, IsMismatch}
 
@@ -38,24 +33,3 @@ mismatch-at history rs i r within good wrong = record {
   genuine = good;
   wrong = wrong;
 }
-
--- ---- how many entries
-
--- each entry raises the number by one
-number_in : ℕ → Result (Outcome × World) HubRefusal → ℕ
-number_in n (Ok r) = r.1.number
-number_in n (Err e) = n
-
-numbered-number : (n : ℕ) (r : Result (Outcome × World) HubRefusal) (o : Outcome) (next : World) → numbered n r ≡ Ok (o, next) → next.number ≡ n
-unfolding number_in
-numbered-number n (Ok r) o next e = sym (ap (number_in n) e)
-numbered-number n (Err refusal) o next e = absurd (cc)
-
--- so a run from one world to another has as many as the numbers tell
-pub run_length : (w : World) (es : List Entry) (after : World) → IsLegalRun w es after → after.number ≡ w.number + length es
-unfolding IsLegalRun
-run_length w [] after run = let e = ap (λ (v : World). v.number) run in omega (arith, e)
-run_length w (x ∷ es) after run =
-    let rest = run_length run.0 es after run.2 in
-    let here = numbered-number (w.number + 1) (moved (advanced w x.event.now) x.event.what) x.outcome run.0 run.1.outcome in
-    omega (arith, rest, here)
