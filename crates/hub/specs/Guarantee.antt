@@ -41,7 +41,7 @@ use Rattle.hub.specs.Run.{EachStep}
 
 -- ---- accepted and allowed
 
--- whether an outcome accepts its command. A limit is no denial: it comes only to what the policy allows.
+-- whether an outcome accepts its command. A limit is not a denial: it comes only to what the policy allows.
 abbrev pub accepts : Outcome → Bool
 accepts Connected = true
 accepts AuthViolation = false
