@@ -104,5 +104,6 @@ place_where ks conn i apart stands =
   where
     is_same : (m n : ℕ) → n ≡ m → (m == n) ≡ true
     is_same m n e = grind (arith, nat_tests)
+
     is_within : (n m : ℕ) → n < m → cond (nat_lt n m) (Some n) None ≡ Some n
     is_within n m h = grind (arith, nat_tests)

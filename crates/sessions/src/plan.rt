@@ -8,8 +8,8 @@ ghost use Rattle.sessions.specs.Renewal.{connection_of};
 ghost use Rattle.sessions.specs.Replying.{note_for, with_note};
 
 use crate::Session;
-use crate::noting::note_for;
 use crate::connections::Connections;
+use crate::noting::note_for;
 use events::{Addressed, Item};
 use lists::NoMemory;
 use std::alloc::Global;
