@@ -10,7 +10,8 @@ use lists::NoMemory;
 use std::alloc::Global;
 use std::marker::Model;
 
-/// How many hints there are: one for each session that a server may have.
+/// How many hints there are. Two connections whose numbers differ by a multiple of it share one, and one of them is found
+/// by its hash.
 const HINTS: usize = 4_096;
 
 /// Connections in order, each once.
