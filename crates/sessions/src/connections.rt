@@ -1,5 +1,5 @@
 //! Connections in an order of their own, each found by its number at once.
-ghost use Rattle.std.specs.Prelude.{◌≡◌, ◌==◌, ◌≤◌, ◌++◌, ◌∷◌, [], false, OnOk, OnErr, IsTrue, Some, AllPairs, filter, map, position, length, not, nat_eq, slice_get};
+ghost use Rattle.std.specs.Prelude.{◌≡◌, ◌==◌, ◌≤◌, ◌++◌, ◌∷◌, [], false, OnOk, OnErr, AllPairs, filter, map, position, length, not, nat_eq};
 ghost use Rattle.std.specs.List.{list_any, IsDistinct};
 ghost use Rattle.sessions.specs.Renewal.{connection_of};
 ghost use Rattle.sessions.specs.Sessions.{IsApart};
@@ -7,7 +7,6 @@ ghost use Rattle.sessions.specs.Sessions.{IsApart};
 use crate::{Session, renewal};
 use indexmap::IndexSet;
 use lists::NoMemory;
-use std::alloc::Global;
 use std::marker::Model;
 
 /// How many hints there are. Two connections whose numbers differ by a multiple of it share one, and one of them is found
@@ -17,9 +16,9 @@ const HINTS: usize = 4_096;
 /// Connections in order, each once.
 #[derive(Drop)]
 pub(crate) struct Connections {
-    conns: IndexSet<u64>,
+    pub conns: IndexSet<u64>,
     /// Where a connection was put down last, by its number modulo `HINTS`: mostly the place of each, found without a hash.
-    hints: Vec<usize>,
+    pub hints: Vec<usize>,
 }
 
 impl Model for Connections {
@@ -31,16 +30,6 @@ impl Model for Connections {
 }
 
 impl Connections {
-    /// No connection.
-    pub fn new(alloc: Global) -> Connections
-        ensures { result ≡ [] }
-    {
-        Connections {
-            conns: IndexSet::new(alloc),
-            hints: Vec::new(alloc),
-        }
-    }
-
     /// What always holds: no connection stands twice. It does nothing when it runs.
     pub fn known(&self)
         ensures { IsDistinct nat_eq self.now }
@@ -48,24 +37,22 @@ impl Connections {
         let _keys = self.conns.as_slice();
     }
 
-    /// Whether a connection stands at a place.
-    fn stands_at(&self, place: usize, conn: u64) -> bool
-        ensures { IsTrue result → slice_get self.now place ≡ Some conn }
-    {
-        match self.conns.get_index(place) {
-            None => false,
-            Some(found) => *found == conn,
-        }
-    }
-
     /// The place of a connection.
     pub fn find(&self, conn: u64) -> Option<usize>
         ensures { result ≡ position (λ k. conn == k) self.now }
     {
         self.known();
-        let hint = hint_of(self.hints.as_slice(), conn);
-        if self.stands_at(hint, conn) {
-            return Some(hint);
+        let hint = match self.hints.get((conn % HINTS as u64) as usize) {
+            None => 0,
+            Some(place) => *place,
+        };
+        match self.conns.get_index(hint) {
+            None => {}
+            Some(found) => {
+                if *found == conn {
+                    return Some(hint);
+                }
+            }
         }
         let place = self.conns.get_index_of(&conn);
         place
@@ -77,10 +64,9 @@ impl Connections {
         ensures ok { OnOk result (self.new ≡ self.old ++ conn ∷ []) }
         ensures err { OnErr result (self.new ≡ self.old) }
     {
-        make_hints(&mut self.hints)?;
         let place = self.conns.len();
         self.conns.insert(conn)?;
-        note_hint(self.hints.as_mut_slice(), conn, place);
+        note_hint(&mut self.hints, conn, place);
         Ok(())
     }
 
@@ -89,7 +75,7 @@ impl Connections {
         ensures { self.new ≡ filter (λ k. not (k == conn)) self.old }
     {
         self.conns.retain(|other| *other != conn);
-        note_hints(self.hints.as_mut_slice(), self.conns.as_slice());
+        note_hints(&mut self.hints, self.conns.as_slice());
     }
 
     /// Notes the connections of these sessions in place of those that were noted, which were no fewer.
@@ -99,41 +85,23 @@ impl Connections {
         ensures { self.new ≡ map connection_of list.now }
     {
         renewal::note_conns(&mut self.conns, list);
-        note_hints(self.hints.as_mut_slice(), self.conns.as_slice());
+        note_hints(&mut self.hints, self.conns.as_slice());
     }
 }
 
-/// Where a connection's hint stands.
-fn slot_of(conn: u64) -> usize {
-    (conn % HINTS as u64) as usize
-}
-
-/// Where a connection may be, or any place.
-fn hint_of(hints: &[usize], conn: u64) -> usize {
-    match hints.get(slot_of(conn)) {
-        None => 0,
-        Some(place) => *place,
+/// Notes where a connection is, where memory for the hints can be had.
+fn note_hint(hints: &mut Vec<usize>, conn: u64, place: usize) {
+    if hints.is_empty() && hints.resize(HINTS, 0).is_err() {
+        return;
     }
-}
-
-/// Makes sure that there are hints.
-fn make_hints(hints: &mut Vec<usize>) -> Result<(), NoMemory> {
-    if hints.is_empty() {
-        hints.resize(HINTS, 0)?;
-    }
-    Ok(())
-}
-
-/// Notes where a connection is, if there are hints.
-fn note_hint(hints: &mut [usize], conn: u64, place: usize) {
-    let slot = slot_of(conn);
+    let slot = (conn % HINTS as u64) as usize;
     if slot < hints.len() {
         hints[slot] = place;
     }
 }
 
 /// Notes where each connection is.
-fn note_hints(hints: &mut [usize], conns: &[u64]) {
+fn note_hints(hints: &mut Vec<usize>, conns: &[u64]) {
     for (place, conn) in conns.iter().enumerate() {
         note_hint(hints, *conn, place);
     }

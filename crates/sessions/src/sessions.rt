@@ -2,6 +2,7 @@ use crate::connections::Connections;
 use crate::plan::{place_in, plan_all, plan_one};
 use crate::{Session, renewal};
 use events::{Addressed, Met};
+use indexmap::IndexSet;
 use lists::NoMemory;
 use ready::{Ready, User};
 use std::alloc::Global;
@@ -48,7 +49,10 @@ impl Sessions {
     {
         Sessions {
             alloc,
-            conns: Connections::new(alloc),
+            conns: Connections {
+                conns: IndexSet::new(alloc),
+                hints: Vec::new(alloc),
+            },
             list: Vec::new(alloc),
             rooms: Vec::new(alloc),
         }
