@@ -43,7 +43,8 @@ pub fn scan_frames(mut frames: Vec<Frame>, bytes: Bytes) -> Result<Scan, AllocEr
                 });
             }
             Found::Whole(frame, len) => {
-                frames.push(frame)?;
+                frames.reserve(1)?;
+                frames.push_reserved(frame);
                 left.advance(len);
             }
         }

@@ -1,4 +1,4 @@
-use Rattle.std.proofs.Common.{ap, arith, length, length-drop}
+use Rattle.std.proofs.Common.{[], ◌∷◌, ◌++◌, ap, ◌∙◌, arith, length, length-drop}
 use Rattle.wire_read.specs.Framing.{behind, frames_of}
 use Rattle.wire_read.proofs.FramingLemmas.{front_len, scan_more, scan_wrong, scan_whole}
 use Rattle.wire_read.proofs.AwaitedLemmas.{nothing_awaits, found_more, found_wrong, found_whole}
@@ -31,5 +31,5 @@ loop-left-smaller c =
 pub loop-left-preserved : goal.loop-left-preserved
 loop-left-preserved c =
     rw c.advance.ensures
-    (scan_whole (behind c.args.frames.items (frames_of c.args.bytes)) c.loop-left.left c.loop-left.frames.items c.push-in-Whole.new.self.items c.in-Whole.frame c.in-Whole.len c.loop-left.invariant
-    (found_whole c.in_ok-awaited.field-0 c.in-Whole.frame c.in-Whole.len c.loop-left.left c.in_ok-awaited.ensures c.in-Whole.is) c.in_ok-push-in-Whole.ensures.items)
+    (scan_whole (behind c.args.frames.items (frames_of c.args.bytes)) c.loop-left.left c.loop-left.frames.items c.push_reserved.new.self.items c.in-Whole.frame c.in-Whole.len c.loop-left.invariant
+    (found_whole c.in_ok-awaited.field-0 c.in-Whole.frame c.in-Whole.len c.loop-left.left c.in_ok-awaited.ensures c.in-Whole.is) (c.push_reserved.ensures.items ∙ ap (λ fs. fs ++ c.in-Whole.frame ∷ []) c.reserve.ensures.items))
