@@ -1,3 +1,4 @@
 mod Reading
 mod Runs
+mod Told
 mod Written

@@ -2,9 +2,11 @@
 use Rattle.std.proofs.Common.{◌≡◌, ◌∷◌, ◌++◌, [], ℕ, List, Bool, Option, Some, None, true, false, refl, sym, subst}
 use Rattle.std.proofs.lemmas.List.{append_assoc, append-nil}
 use Rattle.wire_read.specs.declared.frame.Frame.{Frame}
+use Rattle.protocol.specs.declared.stage.Stage.{Stage}
 use Rattle.conn.specs.declared.output.Stall.{Stall}
-use Rattle.protocol.specs.Replies.{Told, is_closed}
-use Rattle.conn.specs.Turns.{Steps, Draws, Turned, Goes, Stalls, IsTurn}
+use Rattle.conn.specs.declared.turn.Turn.TheVariants as turn
+use Rattle.protocol.specs.Replies.{Told, told_text, is_closed}
+use Rattle.conn.specs.Turns.{Steps, Draws, Turned, Goes, Stalls, IsTurn, IsTurned}
 use Rattle.conn.specs.Serving.{Spot, spot, Served, served, rests, behind, UnlessClosed, IsFollowed, Serves}
 
 -- what is left, once it has had its turns, completes the whole
@@ -48,6 +50,16 @@ pub completes_goes : {P W : Type 0} (steps : Steps P) (draws : Draws W) (now con
 completes_goes steps draws now conn all start text at left f fs t p w is done =
     goes_on steps draws now conn all start text at f fs t p w (subst (λ (x : List Frame). Completes steps draws now conn all start text x at) is done)
 
+-- the same of what the code answers, once what is told is written
+pub completes_written : {P W : Type 0} (steps : Steps P) (draws : Draws W) (now conn : ℕ) (all : List Frame) (start : Spot P W) (text : List ℕ) (at : Spot P W)
+    (left : List Frame) (f : Frame) (fs : List Frame) (s : Stage) (after : List ℕ) (p : P) (w : W) → left ≡ f ∷ fs →
+    Completes steps draws now conn all start text left at → is_closed at.stage ≡ false →
+    IsTurned (λ t. IsTurn steps draws now conn at.stage at.word f at.port at.words t p w) (turn.Goes s) text after →
+    Completes steps draws now conn all start after fs (spot p w s None)
+completes_written steps draws now conn all start text at left f fs s after p w is done still (told, goes, written) =
+    subst (λ (x : List ℕ). Completes steps draws now conn all start x fs (spot p w s None)) (sym written)
+    (completes_goes steps draws now conn all start text at left f fs (told_text told s) p w is done still goes)
+
 -- the next frame stalled, and all is left
 stalled : {P W : Type 0} (steps : Steps P) (draws : Draws W) (now conn : ℕ) (all : List Frame) (start : Spot P W) (text : List ℕ) (at : Spot P W)
     (f : Frame) (fs : List Frame) (stall : Stall) (word : Option ℕ) (p : P) (w : W) →
@@ -71,6 +83,16 @@ pub completes_stalls : {P W : Type 0} (steps : Steps P) (draws : Draws W) (now c
 completes_stalls steps draws now conn all start text at left f fs stall word p w is done still turn =
     subst (λ (x : List Frame). Serves steps draws now conn all start (served text x (Some stall) (spot p w at.stage word))) (sym is)
     (stalled steps draws now conn all start text at f fs stall word p w (subst (λ (x : List Frame). Completes steps draws now conn all start text x at) is done) still turn)
+
+-- the same of what the code answers, where nothing is written
+pub completes_stopped : {P W : Type 0} (steps : Steps P) (draws : Draws W) (now conn : ℕ) (all : List Frame) (start : Spot P W) (text : List ℕ) (at : Spot P W)
+    (left : List Frame) (f : Frame) (fs : List Frame) (stall : Stall) (word : Option ℕ) (after : List ℕ) (p : P) (w : W) → left ≡ f ∷ fs →
+    Completes steps draws now conn all start text left at → is_closed at.stage ≡ false →
+    IsTurned (λ t. IsTurn steps draws now conn at.stage at.word f at.port at.words t p w) (turn.Stalls stall word) text after →
+    Serves steps draws now conn all start (served after left (Some stall) (spot p w at.stage word))
+completes_stopped steps draws now conn all start text at left f fs stall word after p w is done still (stalls, same) =
+    subst (λ (x : List ℕ). Serves steps draws now conn all start (served x left (Some stall) (spot p w at.stage word))) (sym same)
+    (completes_stalls steps draws now conn all start text at left f fs stall word p w is done still stalls)
 
 -- the connection has closed, or no frame is left
 rested : {P W : Type 0} (steps : Steps P) (draws : Draws W) (now conn : ℕ) (all : List Frame) (start : Spot P W) (text : List ℕ) (at : Spot P W) →

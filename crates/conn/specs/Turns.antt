@@ -1,11 +1,12 @@
 -- A frame's turn (docs/GUARANTEE.md, "A connection").
-use Rattle.std.specs.Prelude.{◌≡◌, ◌⊎◌, ℕ, List, [], Option, Some, None, Result, Ok, Err}
+use Rattle.std.specs.Prelude.{◌≡◌, ◌⊎◌, ◌&&◌, ℕ, Bool, true, false, not, List, ◌++◌, Option, Some, None, Result, Ok, Err}
 use Rattle.wire_read.specs.declared.frame.Frame.{Frame}
 use Rattle.events.specs.declared.event.Event.{Event}
 use Rattle.events.specs.declared.event.Command.{Command}
 use Rattle.events.specs.declared.event.Command.TheVariants as command
 use Rattle.events.specs.declared.answer.Entry.{Entry}
 use Rattle.events.specs.declared.answer.Outcome.{Outcome}
+use Rattle.events.specs.declared.answer.Outcome.TheVariants as outcome
 use Rattle.events.specs.declared.refusal.HubRefusal.{HubRefusal}
 use Rattle.events.specs.declared.refusal.HubRefusal.TheVariants as refusal
 use Rattle.protocol.specs.declared.stage.Stage.{Stage}
@@ -15,7 +16,8 @@ use Rattle.protocol.specs.declared.plan.Plan.{Plan}
 use Rattle.protocol.specs.declared.plan.Plan.TheVariants.{Tells, Asks, Publishes}
 use Rattle.conn.specs.declared.turn.Turn.{Turn}
 use Rattle.conn.specs.declared.turn.Turn.TheVariants as turn
-use Rattle.protocol.specs.Replies.{Told, told, text_line, reply_to}
+use Rattle.protocol.specs.declared.stage.Stage.TheVariants as stage
+use Rattle.protocol.specs.Replies.{Told, told, told_text, reply_to}
 use Rattle.protocol.specs.Plans.{plan_of}
 
 -- ---- what a port and the words do
@@ -54,14 +56,10 @@ pub data Turned : Type 0 where
   Goes : Told → Turned
   Stalls : Stall → Option ℕ → Turned
 
--- the same of what the code answers
-abbrev pub turned : Turn → Turned
-turned (turn.Goes r) = Goes (told r)
-turned (turn.Stalls s word) = Stalls s word
-
-abbrev pub line_of : Turn → List ℕ
-line_of (turn.Goes r) = text_line r.text
-line_of (turn.Stalls s word) = []
+-- the same of what the code answers, where what is told is written behind what was written before
+abbrev pub IsTurned : (Turned → Type 0) → Turn → List ℕ → List ℕ → Type 0
+IsTurned Is (turn.Goes s) before after = (text : List ℕ) × Is (Goes (told_text text s)) × (after ≡ before ++ text)
+IsTurned Is (turn.Stalls stall word) before after = Is (Stalls stall word) × (after ≡ before)
 
 -- after an answer: want of memory and a full history keep the frame, and all else is told
 abbrev pub turn_after : Stage → Stage → Frame → Option ℕ → Result Outcome HubRefusal → Turned
@@ -71,6 +69,22 @@ turn_after s accepted f word (Err refusal.NoSession) = Goes (reply_to s accepted
 turn_after s accepted f word (Err refusal.SessionTaken) = Goes (reply_to s accepted f (Err refusal.SessionTaken))
 turn_after s accepted f word (Err refusal.SessionLimit) = Goes (reply_to s accepted f (Err refusal.SessionLimit))
 turn_after s accepted f word (Ok o) = Goes (reply_to s accepted f (Ok o))
+
+-- ---- an answer of which nothing is told
+
+-- each accepted message of the client is answered
+abbrev pub is_verbose : Stage → Bool
+is_verbose (stage.Connected verbose _) = verbose
+is_verbose stage.Fresh = false
+is_verbose (stage.Closed _) = false
+
+abbrev pub is_published : Result Outcome HubRefusal → Bool
+is_published (Ok (outcome.Published _ _)) = true
+is_published _ = false
+
+-- a message is published, and its client asked for no answer
+abbrev pub is_quiet : Stage → Result Outcome HubRefusal → Bool
+is_quiet s r = not (is_verbose s) && is_published r
 
 -- ---- a turn
 

@@ -1,54 +1,71 @@
 // Frames, each in its turn.
-ghost use Rattle.std.specs.Prelude.{◌≡◌, ◌+◌, ◌≤◌, length};
+ghost use Rattle.std.specs.Prelude.{◌≡◌, ◌+◌, ◌++◌, ◌≤◌, length};
 ghost use Rattle.std.specs.Vec.{vec_len, vec_capacity};
-ghost use Rattle.conn.specs.Turns.{turned, turn_after, line_of, outcome_of, IsWord, IsTurn};
-ghost use Rattle.protocol.specs.Replies.{room_of};
+ghost use Rattle.conn.specs.declared.turn.Turn.TheVariants.{Goes};
+ghost use Rattle.conn.specs.Turns.{turn_after, outcome_of, is_verbose, is_published, is_quiet, IsWord, IsTurn, IsTurned};
+ghost use Rattle.protocol.specs.declared.plan.Plan.TheVariants.{Publishes};
+ghost use Rattle.protocol.specs.Plans.{plan_of};
+ghost use Rattle.protocol.specs.Replies.{text_line, room_of};
 ghost use Rattle.conn.specs.Serving.{spot, served, Serves};
 
 use crate::output::Stall;
 use crate::submit::submit;
 use crate::words::Words;
-use events::{Answer, Command, Event, HubRefusal, Port};
+use events::{Answer, Command, Event, HubRefusal, Message, Outcome, Port};
+use lists::Shared;
 use pending::Frames;
 use protocol::{
-    Plan, Reply, Stage, make_room, plan_of, put_text, reply_to_outcome, reply_to_refusal,
+    Plan, Reply, Stage, make_room, message_of, plan_of, put_text, reply_to_outcome,
+    reply_to_refusal,
 };
 use std::alloc::Global;
 use wire_read::Frame;
 
-/// What a frame's turn comes to.
+/// What a frame's turn comes to. What the client is told of it is written.
 #[derive(Clone, Copy, Debug)]
-pub enum Turn<'a> {
-    /// The client is told this, and the next frame is looked at.
-    Goes(Reply<'a>),
+pub enum Turn {
+    /// The next frame is looked at, and the connection is at this stage.
+    Goes(Stage),
     /// The frame stays, with its word if it has drawn one.
     Stalls(Stall, Option<u64>),
 }
 
-/// What a frame's turn comes to, once the hub has answered.
-fn turn_of_answer<'a>(
+/// Writes a reply for which there is room.
+fn tell(out: &mut Vec<u8>, reply: Reply<'_>) -> Turn
+    requires { vec_len out.old + length (text_line reply.text) ≤ vec_capacity out.old }
+    ensures turn { result ≡ Goes reply.entry.stage }
+    ensures text { out.new.items ≡ out.old.items ++ text_line reply.entry.text }
+{
+    put_text(out, reply.text);
+    Turn::Goes(reply.stage)
+}
+
+/// What a frame's turn comes to, once the hub has answered. There is room for any text about the frame.
+#[inline(always)]
+fn turn_of_answer(
     stage: Stage,
     accepted: Stage,
-    frame: &'a Frame,
+    frame: &Frame,
     word: Option<u64>,
     answer: &Result<Answer, HubRefusal>,
-) -> Turn<'a>
-    ensures turn { turned result ≡ turn_after stage accepted frame.now word (outcome_of answer.now) }
-    ensures short { length (line_of result) ≤ room_of frame.now }
+    out: &mut Vec<u8>,
+) -> Turn
+    requires { vec_len out.old + room_of frame.now ≤ vec_capacity out.old }
+    ensures { IsTurned (λ turned. turned ≡ turn_after stage accepted frame.now word (outcome_of answer.now)) result out.old.items out.new.items }
 {
     match answer {
         Ok(answer) => {
             let outcome = &answer.get().outcome;
-            Turn::Goes(reply_to_outcome(stage, accepted, frame, outcome))
+            tell(out, reply_to_outcome(stage, accepted, frame, outcome))
         }
         Err(HubRefusal::NoMemory) => Turn::Stalls(Stall::Memory, word),
         Err(HubRefusal::HistoryFull) => Turn::Stalls(Stall::HistoryFull, word),
-        Err(HubRefusal::NoSession) => { Turn::Goes(reply_to_refusal(stage, HubRefusal::NoSession)) }
+        Err(HubRefusal::NoSession) => tell(out, reply_to_refusal(stage, HubRefusal::NoSession)),
         Err(HubRefusal::SessionTaken) => {
-            Turn::Goes(reply_to_refusal(stage, HubRefusal::SessionTaken))
+            tell(out, reply_to_refusal(stage, HubRefusal::SessionTaken))
         }
         Err(HubRefusal::SessionLimit) => {
-            Turn::Goes(reply_to_refusal(stage, HubRefusal::SessionLimit))
+            tell(out, reply_to_refusal(stage, HubRefusal::SessionLimit))
         }
     }
 }
@@ -63,8 +80,69 @@ fn word_of<W: Words>(words: &mut W, drawn: Option<u64>) -> u64
     }
 }
 
-/// A frame's turn. Room for what is told is made before the hub is asked, so that what it answers is told.
-fn take_turn<'a, P: Port, W: Words>(
+/// Whether each accepted message of the client is answered.
+fn is_verbose(stage: Stage) -> bool
+    ensures { result ≡ is_verbose stage }
+{
+    match stage {
+        Stage::Fresh => false,
+        Stage::Connected { verbose, .. } => verbose,
+        Stage::Closed { .. } => false,
+    }
+}
+
+/// Whether a message was published.
+fn is_published(answer: &Result<Answer, HubRefusal>) -> bool
+    ensures { result ≡ is_published (outcome_of answer.now) }
+{
+    match answer {
+        Ok(answer) => matches!(&answer.get().outcome, Outcome::Published(_, _)),
+        Err(_) => false,
+    }
+}
+
+/// Whether a message was published of a client that asked for no answer, so that it is told nothing.
+fn is_quiet(stage: Stage, answer: &Result<Answer, HubRefusal>) -> bool
+    ensures { result ≡ is_quiet stage (outcome_of answer.now) }
+{
+    !is_verbose(stage) && is_published(answer)
+}
+
+/// The turn of a frame that publishes this message. Room for what is told is made before the hub is asked.
+fn publish<P: Port, W: Words>(
+    conn: u64,
+    now: u64,
+    port: &mut P,
+    words: &mut W,
+    stage: Stage,
+    word: Option<u64>,
+    frame: &Frame,
+    message: Shared<Message>,
+    out: &mut Vec<u8>,
+) -> Turn
+    requires { plan_of conn stage frame.now ≡ Publishes message }
+    ensures place { P.place port.new ≡ P.place port.old }
+    ensures turn { IsTurned (λ turned. IsTurn P.steps W.draws now conn stage word frame.now port.old words.old turned port.new words.new) result out.old.items out.new.items }
+{
+    if make_room(out, frame).is_err() {
+        return Turn::Stalls(Stall::Memory, word);
+    }
+    let drawn = word_of(words, word);
+    let what = Command::Pub {
+        conn,
+        message,
+        word: drawn,
+    };
+    let answer = submit(port, Event { now, what });
+    if is_quiet(stage, &answer) {
+        return Turn::Goes(stage);
+    }
+    turn_of_answer(stage, stage, frame, Some(drawn), &answer, out)
+}
+
+/// The turn of a frame by its plan. Room for what is told is made before the hub is asked, so that what it answers is
+/// told.
+fn take_planned_turn<P: Port, W: Words>(
     alloc: Global,
     conn: u64,
     now: u64,
@@ -72,13 +150,11 @@ fn take_turn<'a, P: Port, W: Words>(
     words: &mut W,
     stage: Stage,
     word: Option<u64>,
-    frame: &'a Frame,
+    frame: &Frame,
     out: &mut Vec<u8>,
-) -> Turn<'a>
+) -> Turn
     ensures place { P.place port.new ≡ P.place port.old }
-    ensures turn { IsTurn P.steps W.draws now conn stage word frame.now port.old words.old (turned result) port.new words.new }
-    ensures out { out.new.items ≡ out.old.items }
-    ensures room { vec_len out.new + length (line_of result) ≤ vec_capacity out.new }
+    ensures turn { IsTurned (λ turned. IsTurn P.steps W.draws now conn stage word frame.now port.old words.old turned port.new words.new) result out.old.items out.new.items }
 {
     let plan = match plan_of(alloc, conn, stage, frame) {
         Ok(plan) => plan,
@@ -88,10 +164,10 @@ fn take_turn<'a, P: Port, W: Words>(
         return Turn::Stalls(Stall::Memory, word);
     }
     match plan {
-        Plan::Tells(reply) => Turn::Goes(reply),
+        Plan::Tells(reply) => tell(out, reply),
         Plan::Asks(what, accepted) => {
             let answer = submit(port, Event { now, what });
-            turn_of_answer(stage, accepted, frame, word, &answer)
+            turn_of_answer(stage, accepted, frame, word, &answer, out)
         }
         Plan::Publishes(message) => {
             let word = word_of(words, word);
@@ -101,8 +177,32 @@ fn take_turn<'a, P: Port, W: Words>(
                 word,
             };
             let answer = submit(port, Event { now, what });
-            turn_of_answer(stage, stage, frame, Some(word), &answer)
+            turn_of_answer(stage, stage, frame, Some(word), &answer, out)
         }
+    }
+}
+
+/// A frame's turn. Room for what is told is made before the hub is asked, so that what it answers is told.
+fn take_turn<P: Port, W: Words>(
+    alloc: Global,
+    conn: u64,
+    now: u64,
+    port: &mut P,
+    words: &mut W,
+    stage: Stage,
+    word: Option<u64>,
+    frame: &Frame,
+    out: &mut Vec<u8>,
+) -> Turn
+    ensures place { P.place port.new ≡ P.place port.old }
+    ensures turn { IsTurned (λ turned. IsTurn P.steps W.draws now conn stage word frame.now port.old words.old turned port.new words.new) result out.old.items out.new.items }
+{
+    match message_of(alloc, stage, frame) {
+        Err(_) => Turn::Stalls(Stall::Memory, word),
+        Ok(message) => match message {
+            None => take_planned_turn(alloc, conn, now, port, words, stage, word, frame, out),
+            Some(message) => publish(conn, now, port, words, stage, word, frame, message, out),
+        },
     }
 }
 
@@ -164,9 +264,8 @@ pub fn serve<P: Port, W: Words>(
             Turn::Stalls(stall, kept) => {
                 return Served::new(bytes, stage, kept, Some(stall));
             }
-            Turn::Goes(reply) => {
-                put_text(&mut bytes, reply.text);
-                stage = reply.stage;
+            Turn::Goes(after) => {
+                stage = after;
                 word = None;
             }
         }

@@ -8,7 +8,7 @@ use Rattle.wire_read.specs.declared.frame.Frame.TheVariants as frame
 use Rattle.wire_write.specs.declared.error.ServerError.{ServerError}
 use Rattle.wire_write.specs.declared.error.ServerError.TheVariants as error
 use Rattle.events.specs.declared.event.Command.TheVariants as command
-use Rattle.events.specs.Messages.{message}
+use Rattle.events.specs.Messages.{Message, message}
 use Rattle.connect_opts.specs.Opts.{opts_of}
 use Rattle.connect_opts.specs.Read.{Read}
 use Rattle.connect_opts.specs.declared.opts.ConnectOpts.{ConnectOpts}
@@ -51,6 +51,22 @@ error_plan e s = Tells (reply_of_error e s)
 abbrev pub connect_plan : ℕ → Read ConnectOpts → Plan
 connect_plan conn (Ok o) = Asks (command.Connect conn o.user o.password o.echo) (stage.Connected o.verbose o.headers)
 connect_plan conn (Err _) = error_plan error.ParserError stage.Fresh
+
+-- a message, if its subjects are subjects
+abbrev pub message_if : Option (List Token) → Option (Option (List Token)) → List ℕ → List ℕ → Option Message
+message_if None reply head payload = None
+message_if (Some subject) None head payload = None
+message_if (Some subject) (Some reply) head payload = Some (message subject reply head payload)
+
+-- the message of a frame, if it is a PUB
+abbrev pub message_in : Frame → Option Message
+message_in (frame.Pub subject reply payload) = message_if (subject_if subject) (named_if reply) [] payload
+message_in _ = None
+
+-- the message that a frame publishes, if it is a PUB of a client whose CONNECT was accepted
+abbrev pub published_by : Stage → Frame → Option Message
+published_by (stage.Connected _ _) f = message_in f
+published_by _ _ = None
 
 -- a message, by its subject and the one to answer on
 abbrev pub message_plan : Stage → Option (List Token) → Option (Option (List Token)) → List ℕ → List ℕ → Plan

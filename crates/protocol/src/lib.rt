@@ -7,7 +7,7 @@ mod reply;
 mod stage;
 mod text;
 
-pub use plan::{Plan, plan_of};
+pub use plan::{Plan, message_of, plan_of};
 pub use reply::{Reply, make_room, reply_to_outcome, reply_to_refusal};
 pub use stage::Stage;
 pub use text::{Text, put_text, write_text};

@@ -1,7 +1,9 @@
 // What a frame comes to before the hub is asked.
-ghost use Rattle.std.specs.Prelude.{◌≡◌, IfOk};
+ghost use Rattle.std.specs.Prelude.{◌≡◌, ℕ, Bool, IfOk, IfSome};
 ghost use Rattle.connect_opts.specs.Opts.{opts_of};
-ghost use Rattle.protocol.specs.Plans.{plan_of, fresh_plan, connected_plan, connect_plan, publish_plan, headed_plan, subscribe_plan, error_plan, subject_if, pattern_if, named_if};
+ghost use Rattle.protocol.specs.declared.stage.Stage.{Stage};
+ghost use Rattle.protocol.specs.declared.plan.Plan.TheVariants.{Publishes};
+ghost use Rattle.protocol.specs.Plans.{plan_of, fresh_plan, connected_plan, connect_plan, message_if, message_in, published_by, publish_plan, headed_plan, subscribe_plan, error_plan, subject_if, pattern_if, named_if};
 
 use crate::reply::{Reply, fault_text, reply_of_error, reply_of_text};
 use crate::stage::Stage;
@@ -144,6 +146,28 @@ fn plan_connect(alloc: Global, conn: u64, text: &[u8]) -> Result<Plan, NoMemory>
     }
 }
 
+/// The message of a PUB or HPUB, if its subjects are subjects. Its texts are shared, not copied.
+fn message_of_texts(
+    alloc: Global,
+    subject: &Bytes,
+    reply: &Option<Bytes>,
+    head: Bytes,
+    payload: &Bytes,
+) -> Result<Option<Shared<Message>>, NoMemory>
+    ensures { IfOk result (λ message. message ≡ message_if (subject_if subject.now) (named_if reply.now) head payload.now) }
+{
+    match subject_of(subject)? {
+        None => Ok(None),
+        Some(subject) => match reply_subject_of(reply)? {
+            None => Ok(None),
+            Some(reply) => {
+                let message = Message::new(subject, reply, head, payload.clone()?);
+                Ok(Some(Shared::new(alloc, message)?))
+            }
+        },
+    }
+}
+
 /// A message of a client whose CONNECT was accepted. The block and the payload are shared, not copied.
 fn plan_publish(
     alloc: Global,
@@ -155,15 +179,9 @@ fn plan_publish(
 ) -> Result<Plan, NoMemory>
     ensures { IfOk result (λ plan. plan ≡ publish_plan stage subject.now reply.now head payload.now) }
 {
-    match subject_of(subject)? {
+    match message_of_texts(alloc, subject, reply, head, payload)? {
         None => Ok(plan_of_error(ServerError::InvalidSubject, stage)),
-        Some(subject) => match reply_subject_of(reply)? {
-            None => Ok(plan_of_error(ServerError::InvalidSubject, stage)),
-            Some(reply) => {
-                let message = Message::new(subject, reply, head, payload.clone()?);
-                Ok(Plan::Publishes(Shared::new(alloc, message)?))
-            }
-        },
+        Some(message) => Ok(Plan::Publishes(message)),
     }
 }
 
@@ -214,6 +232,30 @@ fn plan_subscribe(
                 Ok(Plan::Asks(command, stage))
             }
         },
+    }
+}
+
+/// The message of a PUB, if its subjects are subjects.
+fn message_of_pub(alloc: Global, frame: &Frame) -> Result<Option<Shared<Message>>, NoMemory>
+    ensures message { IfOk result (λ published. published ≡ message_in frame.now) }
+    ensures plan { IfOk result (λ published. IfSome published (λ message. (conn : ℕ) (stage : Stage) (headers : Bool) → connected_plan conn stage headers frame.now ≡ Publishes message)) }
+{
+    match frame {
+        Frame::Pub {
+            subject,
+            reply,
+            payload,
+        } => {
+            let message = message_of_texts(alloc, subject, reply, Bytes::new(), payload)?;
+            Ok(message)
+        }
+        Frame::Hpub { .. } => Ok(None),
+        Frame::Connect(_) => Ok(None),
+        Frame::Sub { .. } => Ok(None),
+        Frame::Unsub { .. } => Ok(None),
+        Frame::Ping => Ok(None),
+        Frame::Pong => Ok(None),
+        Frame::Fault(_) => Ok(None),
     }
 }
 
@@ -292,5 +334,22 @@ pub fn plan_of(alloc: Global, conn: u64, stage: Stage, frame: &Frame) -> Result<
             Text::Nothing,
             Stage::Closed { session },
         ))),
+    }
+}
+
+/// The message that a PUB of a client publishes whose CONNECT was accepted. Where it gives none, the frame's plan tells
+/// what it comes to.
+pub fn message_of(
+    alloc: Global,
+    stage: Stage,
+    frame: &Frame,
+) -> Result<Option<Shared<Message>>, NoMemory>
+    ensures message { IfOk result (λ published. published ≡ published_by stage frame.now) }
+    ensures plan { IfOk result (λ published. IfSome published (λ message. (conn : ℕ) → plan_of conn stage frame.now ≡ Publishes message)) }
+{
+    match stage {
+        Stage::Fresh => Ok(None),
+        Stage::Connected { .. } => message_of_pub(alloc, frame),
+        Stage::Closed { .. } => Ok(None),
     }
 }

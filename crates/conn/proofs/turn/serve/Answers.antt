@@ -1,10 +1,9 @@
 -- each turn goes on to the next, or ends them all
-use Rattle.std.proofs.Common.{◌≡◌, ◌∙◌, ◌++◌, None, Some, List, ℕ, drop, sym, subst, ap}
+use Rattle.std.proofs.Common.{◌∙◌, None, List, drop, sym, subst}
 use Rattle.wire_read.specs.declared.frame.Frame.{Frame}
-use Rattle.protocol.specs.Replies.{told, text_line}
 use Rattle.conn.specs.declared.turn.Served.{Served}
 use Rattle.conn.specs.Serving.{spot, served, Serves}
-use Rattle.conn.proofs.Runs.{Completes, completes_goes, completes_stalls, completes_closed, completes_end}
+use Rattle.conn.proofs.Runs.{Completes, completes_written, completes_stopped, completes_closed, completes_end}
 use Rattle.conn.proofs.turn.serve.Goals as goal
 
 pub returns-then-is_closed-clause-served : goal.returns-then-is_closed-clause-served
@@ -23,29 +22,23 @@ pub returns-in-Stalls-clause-served : goal.returns-in-Stalls-clause-served
 returns-in-Stalls-clause-served g c =
     let start = spot c.args.port.now c.args.words.now c.args.stage c.args.word in
     let at = spot c.loop-frame.port c.loop-frame.words c.loop-frame.stage c.loop-frame.word in
-    let after = spot c.take_turn.new.port c.take_turn.new.words c.loop-frame.stage c.in-Stalls.kept in
     subst (λ (s : Served). Serves g.P.Port.steps g.W.Words.draws c.args.now c.args.conn c.args.frames.now start (served s.bytes.items c.loop-frame.frames s.stall (spot c.take_turn.new.port c.take_turn.new.words s.stage s.word)))
     (sym c.new-in-Stalls.ensures)
-    (subst (λ (x : List ℕ). Serves g.P.Port.steps g.W.Words.draws c.args.now c.args.conn c.args.frames.now start (served x c.loop-frame.frames (Some c.in-Stalls.stall) after))
-    (sym {A = List ℕ} c.take_turn.ensures.out)
-    (completes_stalls g.P.Port.steps g.W.Words.draws c.args.now c.args.conn c.args.frames.now start c.loop-frame.bytes.items at
-    c.loop-frame.frames c.in-Some.frame.now (drop 1 c.loop-frame.frames) c.in-Stalls.stall c.in-Stalls.kept c.take_turn.new.port c.take_turn.new.words
-    c.in-Some.ensures c.loop-frame.invariant.turns (sym c.is_closed.ensures ∙ c.if-is_closed.false) c.in-Stalls.ensures.turn))
+    (completes_stopped g.P.Port.steps g.W.Words.draws c.args.now c.args.conn c.args.frames.now start c.loop-frame.bytes.items at
+    c.loop-frame.frames c.in-Some.frame.now (drop 1 c.loop-frame.frames) c.in-Stalls.stall c.in-Stalls.kept c.take_turn.new.out.items c.take_turn.new.port c.take_turn.new.words
+    c.in-Some.ensures c.loop-frame.invariant.turns (sym c.is_closed.ensures ∙ c.if-is_closed.false) c.in-Stalls.ensures.turn)
 
 pub loop-frame-preserved : goal.loop-frame-preserved
 loop-frame-preserved g c =
     let start = spot c.args.port.now c.args.words.now c.args.stage c.args.word in
     let at = spot c.loop-frame.port c.loop-frame.words c.loop-frame.stage c.loop-frame.word in
-    let next = spot c.take_turn.new.port c.take_turn.new.words c.in-Goes.reply.stage None in
-    let step = completes_goes g.P.Port.steps g.W.Words.draws c.args.now c.args.conn c.args.frames.now start c.loop-frame.bytes.items at
-    c.loop-frame.frames c.in-Some.frame.now (drop 1 c.loop-frame.frames) (told c.in-Goes.reply) c.take_turn.new.port c.take_turn.new.words
+    let next = spot c.take_turn.new.port c.take_turn.new.words c.in-Goes.after None in
+    let step = completes_written g.P.Port.steps g.W.Words.draws c.args.now c.args.conn c.args.frames.now start c.loop-frame.bytes.items at
+    c.loop-frame.frames c.in-Some.frame.now (drop 1 c.loop-frame.frames) c.in-Goes.after c.take_turn.new.out.items c.take_turn.new.port c.take_turn.new.words
     c.in-Some.ensures c.loop-frame.invariant.turns (sym c.is_closed.ensures ∙ c.if-is_closed.false) c.in-Goes.ensures.turn in
-    let bytes : c.loop-frame.bytes.items ++ text_line c.in-Goes.reply.text ≡ c.put_text.new.out.items =
-    sym {A = List ℕ} (◌∙◌ {A = List ℕ} c.put_text.ensures (ap (λ (x : List ℕ). x ++ text_line c.in-Goes.reply.text) c.take_turn.ensures.out)) in
-    let written = subst (λ (x : List ℕ). Completes g.P.Port.steps g.W.Words.draws c.args.now c.args.conn c.args.frames.now start x (drop 1 c.loop-frame.frames) next) bytes step in
     record {
       place = c.take_turn.ensures.place ∙ c.loop-frame.invariant.place;
-      turns = subst (λ (x : List Frame). Completes g.P.Port.steps g.W.Words.draws c.args.now c.args.conn c.args.frames.now start c.put_text.new.out.items x next) (sym c.drop_first.ensures) written;
+      turns = subst (λ (x : List Frame). Completes g.P.Port.steps g.W.Words.draws c.args.now c.args.conn c.args.frames.now start c.take_turn.new.out.items x next) (sym c.drop_first.ensures) step;
     }
 
 pub returns-clause-served : goal.returns-clause-served
