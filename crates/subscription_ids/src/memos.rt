@@ -171,26 +171,42 @@ fn sum_of(account: &[u8], text: &[u8]) -> u64 {
     with_bytes(with_bytes(SPREAD, account), text)
 }
 
-/// A sum with more bytes: their number, each eight of them, and the last eight.
+/// A sum with the bytes of one more text: each eight of them, and the last eight, or what a shorter one makes.
 fn with_bytes(sum: u64, bytes: &[u8]) -> u64 {
-    let (words, rest) = bytes.as_chunks::<8>();
-    let mut sum = with_word(sum, bytes.len() as u64);
-    for word in words {
-        sum = with_word(sum, u64::from_le_bytes(*word));
-    }
+    let sum = sum.wrapping_add(bytes.len() as u64);
     match bytes.last_chunk::<8>() {
-        Some(last) => with_word(sum, u64::from_le_bytes(*last)),
-        None => with_each(sum, rest),
+        None => with_word(sum, short_word(bytes)),
+        Some(last) => with_word(with_words(sum, bytes), u64::from_le_bytes(*last)),
     }
 }
 
-/// A sum with each of a few bytes.
-fn with_each(sum: u64, bytes: &[u8]) -> u64 {
+/// A sum with each eight bytes of a text.
+fn with_words(sum: u64, bytes: &[u8]) -> u64 {
     let mut sum = sum;
-    for byte in bytes {
-        sum = with_word(sum, u64::from(*byte));
+    for word in bytes.as_chunks::<8>().0 {
+        sum = with_word(sum, u64::from_le_bytes(*word));
     }
     sum
+}
+
+/// A word of the bytes of a text of fewer than eight: its first four and its last four, which may overlap, or each of
+/// still fewer.
+fn short_word(bytes: &[u8]) -> u64 {
+    match (bytes.first_chunk::<4>(), bytes.last_chunk::<4>()) {
+        (Some(first), Some(last)) => {
+            (u64::from(u32::from_le_bytes(*first)) << 32) | u64::from(u32::from_le_bytes(*last))
+        }
+        _ => packed(bytes),
+    }
+}
+
+/// The bytes of a text in one word, as far as they have room.
+fn packed(bytes: &[u8]) -> u64 {
+    let mut word = 0;
+    for byte in bytes {
+        word = (word << 8) | u64::from(*byte);
+    }
+    word
 }
 
 /// A sum with one word more.
