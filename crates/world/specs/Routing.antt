@@ -53,9 +53,14 @@ admitted w publisher v = filter (is_admitted w.sessions publisher v) w.subscript
 
 -- ---- deliveries
 
--- the deliveries of a view, oldest subscription first. Who is chosen is so before room is looked at.
+-- the deliveries of a view among sessions and subscriptions, oldest subscription first. Who is chosen is so before room is
+-- looked at.
+abbrev pub addressed_among : List Session → List Subscription → Session → View → ℕ → List Addressed
+addressed_among zs subs publisher v word = map (addressed_to v.message) (served word (filter (is_admitted zs publisher v) subs))
+
+-- the deliveries of a view in a world
 abbrev pub addressed : World → Session → View → ℕ → List Addressed
-addressed w publisher v word = map (addressed_to v.message) (served word (admitted w publisher v))
+addressed w publisher v word = addressed_among w.sessions w.subscriptions publisher v word
 
 -- each with what its session is to note
 abbrev pub deliveries : World → Session → View → ℕ → List Addressed

@@ -16,6 +16,7 @@ impl World {
 
     /// Does what was decided of a command of which this is told. Where memory could not be had for a new session or
     /// subscription, nothing has changed.
+    #[inline(always)]
     pub(crate) fn carry_out(&mut self, change: Change, told: &Outcome) -> Result<(), NoMemory>
         requires fit { IsFit self.old change told.now }
         requires fresh { self.old.number < 18446744073709551615 }
@@ -38,9 +39,9 @@ impl World {
             Change::Deliver { all, answered } => {
                 self.subscriptions.known();
                 self.subscriptions.count(all.as_slice(), items_in(told));
-                self.deliveries = all.into_vec();
-                let now = self.moment;
-                hand_over(&mut self.sessions, &mut self.deliveries, now, answered);
+                let mut all = all.into_vec();
+                hand_over(&mut self.sessions, &mut all, self.moment, answered);
+                self.deliveries = Some(all);
                 Ok(())
             }
             Change::Drain { conn, most } => {
@@ -65,6 +66,7 @@ impl World {
 
 /// Hands deliveries over in turn, of a message that may be an answer: that is counted before, and its grant goes after
 /// where as many answers have passed as may.
+#[inline(always)]
 fn hand_over(
     sessions: &mut Sessions,
     all: &mut Vec<Addressed>,

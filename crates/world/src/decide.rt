@@ -3,6 +3,7 @@ ghost use Rattle.std.specs.Prelude.{◌≡◌, IfOk, IfErr};
 
 use crate::change::{Answered, Change, Decided};
 use crate::reload::{Prepared, prepare};
+use crate::route::address_all;
 use crate::verdict::{on_publish, on_subscription};
 use crate::world::World;
 use bytes::Bytes;
@@ -12,7 +13,6 @@ use permissions::{By, Verdict};
 use ready::Ready;
 use sessions::Session;
 use std::alloc::Global;
-use std::mem;
 use subjects::{Pattern, Subject};
 use subscriptions::Asked;
 
@@ -101,10 +101,7 @@ impl World {
                 conn,
                 message,
                 word,
-            } => {
-                self.remember(*conn, message);
-                self.publish(*conn, message, *word)
-            }
+            } => self.publish(*conn, message, *word),
             Command::Take { conn, most } => self.take(*conn, *most),
             Command::Close { conn } => self.close(*conn),
             Command::Reload(ready) => self.reload(ready),
@@ -200,18 +197,8 @@ impl World {
         })
     }
 
-    /// Keeps in mind whom a subject reaches in the account of a session, for the messages of that subject.
-    fn remember(&mut self, conn: u64, message: &Shared<Message>)
-        ensures { self.new ≡ self.old }
-    {
-        if let Some(session) = self.sessions.find(conn) {
-            let account = session.user.account.as_slice();
-            self.subscriptions
-                .remember(account, message.get().subject());
-        }
-    }
-
     /// A message to whom it is for, where the user's permissions allow it.
+    #[inline(always)]
     fn publish(
         &mut self,
         conn: u64,
@@ -222,14 +209,27 @@ impl World {
         ensures reason { IfOk result (λ d. IsReasoned self.old (command.Pub conn message.now word) d.outcome) }
         ensures same { self.new ≡ self.old }
     {
-        let room = mem::replace(&mut self.deliveries, Vec::new(self.alloc));
+        let room = match self.deliveries.take() {
+            Some(room) => room,
+            None => Vec::new(self.alloc),
+        };
         let (by, answered, mut all) = match self.sessions.find(conn) {
             None => return Err(HubRefusal::NoSession),
             Some(session) => match on_publish(session, message.get().subject(), self.moment) {
                 Verdict::Allowed(by) => (
                     by,
                     answered_by(by, session.conn, message)?,
-                    self.address_all(session, message, word, room)?,
+                    address_all(
+                        self.alloc,
+                        self.keys,
+                        &self.sessions,
+                        &mut self.subscriptions,
+                        session,
+                        message,
+                        word,
+                        &mut self.ids,
+                        room,
+                    )?,
                 ),
                 Verdict::DeniedBy(index) => {
                     return Ok(unchanged(Outcome::Denied(Verdict::DeniedBy(index))));

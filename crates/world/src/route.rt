@@ -1,16 +1,17 @@
 //! A message to the subscriptions that it is for.
-ghost use Rattle.std.specs.Prelude.{◌≡◌};
+ghost use Rattle.std.specs.Prelude.{◌≡◌, IfOk};
 ghost use Rattle.std.specs.Option.{option_copied};
-ghost use Rattle.world.specs.Routing.{lets_through, is_open_to};
+ghost use Rattle.world.specs.Routing.{lets_through, is_open_to, own_view, addressed_among};
 
 use crate::verdict::on_delivery;
-use crate::world::World;
 use events::{Addressed, Message};
 use lists::{NoMemory, Shared};
 use queue_groups::address_served;
 use sessions::{Session, Sessions};
+use std::alloc::Global;
+use std::hash::RandomState;
 use subjects::Subject;
-use subscriptions::{Keeps, SharedSubscription};
+use subscriptions::{Keeps, SharedSubscription, Subscriptions};
 
 /// Whether the permissions of a session let the subject through, to a subscription with this queue name or with none.
 fn lets_through(session: Option<&Session>, subject: &Subject, queue: &Option<Subject>) -> bool
@@ -24,6 +25,7 @@ fn lets_through(session: Option<&Session>, subject: &Subject, queue: &Option<Sub
 
 /// Whether a connection may be sent a message of the publisher: it isn't the publisher's own, or that one is sent its
 /// own messages; and its permissions let the subject through.
+#[inline(always)]
 fn is_open_to(
     sessions: &Sessions,
     publisher: &Session,
@@ -49,6 +51,7 @@ impl Keeps for Open<'_> {
 
     ghost keeps = { λ test. is_open test.sessions.now test.publisher.now test.subject.now };
 
+    #[inline(always)]
     fn keeps(&self, subscription: &SharedSubscription) -> bool {
         is_open_to(
             self.sessions,
@@ -60,41 +63,44 @@ impl Keeps for Open<'_> {
     }
 }
 
-impl World {
-    ghost use Rattle.std.specs.Prelude.{◌≡◌, IfOk};
-    ghost use Rattle.world.specs.Routing.{own_view, addressed};
-
-    /// The deliveries of a message to those of the publisher's account that it is for, oldest subscription first, in a
-    /// vector whose room is used again: to the plain subscriptions that may be sent it, and to the member of each queue
-    /// group that the word chooses. What their sessions are to note isn't put down yet.
-    pub(crate) fn address_all(
-        &self,
-        publisher: &Session,
-        message: &Shared<Message>,
-        word: u64,
-        room: Vec<Addressed>,
-    ) -> Result<Vec<Addressed>, NoMemory>
-        ensures { IfOk result (λ all. all.items ≡ addressed self.now publisher.now (own_view publisher.now message.now) word) }
-    {
-        let open = Open {
-            sessions: &self.sessions,
-            publisher,
-            subject: message.get().subject(),
-        };
-        let mut all = room;
-        let mut ids = self.ids.replace(Vec::new(self.alloc));
-        address_served(
-            self.alloc,
-            self.keys,
-            &self.subscriptions,
-            publisher.user.account.as_slice(),
-            message,
-            word,
-            &open,
-            &mut ids,
-            &mut all,
-        )?;
-        self.ids.set(ids);
-        Ok(all)
-    }
+/// The deliveries of a message to those of the publisher's account that it is for, oldest subscription first, in a
+/// vector whose room is used again: to the plain subscriptions that may be sent it, and to the member of each queue
+/// group that the word chooses. What their sessions are to note isn't put down yet. Whom its subject reaches is kept in
+/// mind for the next messages of that subject.
+#[inline(always)]
+pub(crate) fn address_all(
+    alloc: Global,
+    keys: RandomState,
+    sessions: &Sessions,
+    subscriptions: &mut Subscriptions,
+    publisher: &Session,
+    message: &Shared<Message>,
+    word: u64,
+    ids: &mut Vec<u64>,
+    room: Vec<Addressed>,
+) -> Result<Vec<Addressed>, NoMemory>
+    ensures all { IfOk result (λ all. all.items ≡ addressed_among sessions.now subscriptions.old publisher.now (own_view publisher.now message.now) word) }
+    ensures same { subscriptions.new ≡ subscriptions.old }
+{
+    let account = publisher.user.account.as_slice();
+    let subject = message.get().subject();
+    subscriptions.remember(account, subject);
+    let open = Open {
+        sessions,
+        publisher,
+        subject,
+    };
+    let mut all = room;
+    address_served(
+        alloc,
+        keys,
+        subscriptions,
+        account,
+        message,
+        word,
+        &open,
+        ids,
+        &mut all,
+    )?;
+    Ok(all)
 }

@@ -8,7 +8,6 @@ use policy_doc::Policy;
 use ready::Ready;
 use sessions::Sessions;
 use std::alloc::Global;
-use std::cell::Cell;
 use std::hash::RandomState;
 use std::marker::Model;
 use subscriptions::Subscriptions;
@@ -26,10 +25,10 @@ pub struct World {
     pub(crate) number: u64,
     pub(crate) sessions: Sessions,
     pub(crate) subscriptions: Subscriptions,
-    // Room for the deliveries of a message, which each step uses again.
-    pub(crate) deliveries: Vec<Addressed>,
-    // Room for the ids that a message finds.
-    pub(crate) ids: Cell<Vec<u64>>,
+    // Room for the deliveries of a message, which each step takes and puts back.
+    pub(crate) deliveries: Option<Vec<Addressed>>,
+    // Room for the ids that a message finds, which each step uses again.
+    pub(crate) ids: Vec<u64>,
 }
 
 impl Model for World {
@@ -85,8 +84,8 @@ impl World {
             number: 0,
             sessions: Sessions::new(alloc),
             subscriptions: Subscriptions::new(alloc, keys),
-            deliveries: Vec::new(alloc),
-            ids: Cell::new(Vec::new(alloc)),
+            deliveries: None,
+            ids: Vec::new(alloc),
         })
     }
 
@@ -118,6 +117,7 @@ impl World {
 
     /// Decides, makes the event's entry, and then does what was decided. The moment is the event's already, the number
     /// the last one's still.
+    #[inline(always)]
     fn enter(&mut self, event: &Event) -> Result<(Answer, Answer), HubRefusal>
         requires fresh { self.old.number < 18446744073709551615 }
         requires epoch { self.old.epoch ≤ self.old.number + 1 }

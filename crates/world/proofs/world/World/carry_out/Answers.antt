@@ -24,7 +24,7 @@ returns-in-Deliver-clause-ok c =
     let met : List Item = (delivered before.moment c.in-Deliver.all before.sessions).1 in
     let P : World → Type 0 = λ w. after ≡ done w c.args.change told in
     subst P c.self.view_is (delivered_is before c.args.change told c.in-Deliver.all c.in-Deliver.answered _ _ c.in-Deliver.is
-    (c.hand_over.ensures ∙ ap (λ (all : List Addressed). handed_over before.moment c.in-Deliver.answered all before.sessions) c.into_vec.ensures)
+    (c.hand_over.ensures ∙ ap (λ (all : List Addressed). handed_over before.moment c.in-Deliver.answered all before.sessions) c.into_vec-all.ensures)
     (c.count.ensures.turns
     ∙ ap (λ (all : List Addressed). in_turn (entered_ids all c.items_in.result.now) before.subscriptions) c.as_slice.ensures
     ∙ ap (λ (items : List Item). in_turn (entered_ids c.in-Deliver.all items) before.subscriptions) (c.items_in.ensures ∙ fit.0)
