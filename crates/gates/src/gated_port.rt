@@ -68,6 +68,7 @@ impl<L: Run, R: Wait, G: Gate + Drop> GatedPort<'_, L, R, G> {
     }
 
     /// Enters an event, once more where the history was full.
+    #[inline(always)]
     pub fn enter(&mut self, event: Event) -> Result<Answer, (Event, HubRefusal)>
         ensures step { IsKept L.opening (kept self.old.port.seat.count self.old.port.receipts.items) event result (kept self.new.port.seat.count self.new.port.receipts.items) }
         ensures err { IfErr result (λ refused. refused.0 ≡ event) }
@@ -96,6 +97,7 @@ impl<L: Run, R: Wait, G: Gate + Drop> Port for GatedPort<'_, L, R, G> {
 
     ghost steps = { λ old event result new. IsKept L.opening (kept old.port.seat.count old.port.receipts.items) event result (kept new.port.seat.count new.port.receipts.items) };
 
+    #[inline(always)]
     fn submit(&mut self, event: Event) -> Result<Answer, (Event, HubRefusal)> {
         self.pass(Point::FrameRead);
         let result = self.enter(event);

@@ -125,6 +125,7 @@ impl Hub {
     /// history holds as many entries as it may, or number 2^64 - 1 has been given, `SessionTaken` to a Connect of a
     /// connection with a session, `NoSession` to any other command of one without, `SessionLimit` to a Connect
     /// while 4,096 sessions stand, `NoMemory` where memory could not be had. The step keeps the routing guarantee.
+    #[inline(always)]
     pub fn step(&mut self, event: Event) -> Result<Answer, (Event, HubRefusal)>
         ensures transition { IsStep self.old event result self.new }
         ensures guarantee { KeepsGuarantee self.old event result self.new }

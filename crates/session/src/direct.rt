@@ -25,6 +25,7 @@ impl Port for Direct<'_> {
 
     ghost steps = { λ old event result new. IsStep old.hub.now event result new.hub.now };
 
+    #[inline(always)]
     fn submit(&mut self, event: Event) -> Result<Answer, (Event, HubRefusal)> {
         self.hub.step(event)
     }

@@ -38,6 +38,7 @@ impl Connections {
     }
 
     /// The place of a connection.
+    #[inline(always)]
     pub fn find(&self, conn: u64) -> Option<usize>
         ensures { result ≡ position (λ k. conn == k) self.now }
     {

@@ -48,6 +48,7 @@ fn note_of(
 }
 
 /// What is to be noted where a message enters for a session: its reply, if it has one and the user may answer.
+#[inline(always)]
 pub(crate) fn note_for(
     alloc: Global,
     keys: RandomState,

@@ -80,6 +80,7 @@ impl Sessions {
     }
 
     /// The place of the session of a connection.
+    #[inline(always)]
     fn place_of(&self, conn: u64) -> Option<usize>
         ensures { MatchOption result (IsNowhere conn self.now) (IsPlace conn self.now) }
     {
@@ -88,6 +89,7 @@ impl Sessions {
     }
 
     /// The session of a connection, if it has one.
+    #[inline(always)]
     pub fn find(&self, conn: u64) -> Option<&Session>
         ensures { option_copied result ≡ session_of self.now conn }
     {
@@ -152,6 +154,7 @@ impl Sessions {
 
     /// Hands a delivery over at a moment to the session that it is for: it waits in the outbox, and what is to be noted
     /// is, or it was missed where the outbox is full. It takes no memory.
+    #[inline(always)]
     pub fn hand_over(&mut self, next: Addressed, now: u64)
         ensures { self.new ≡ after_offer now next self.old }
     {
@@ -168,6 +171,7 @@ impl Sessions {
     }
 
     /// Hands deliveries over in turn. It takes no memory, and the vector keeps its room.
+    #[inline(always)]
     pub fn hand_over_all(&mut self, all: &mut Vec<Addressed>, now: u64)
         ensures { self.new ≡ (delivered now all.old.items self.old).0 }
     {

@@ -175,6 +175,7 @@ impl<L: Run> Desk<L> {
     }
 
     /// `enter` with a seat that is lent.
+    #[inline(always)]
     pub(crate) fn enter_as(
         &mut self,
         seat: &mut Seat<L>,

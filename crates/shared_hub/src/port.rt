@@ -75,6 +75,7 @@ impl<L: Run, R: Wait> Port for SharedPort<'_, L, R> {
 
     ghost steps = { λ old event result new. IsKept L.opening (kept old.seat.count old.receipts.items) event result (kept new.seat.count new.receipts.items) };
 
+    #[inline(always)]
     fn submit(&mut self, event: Event) -> Result<Answer, (Event, HubRefusal)> {
         if self.receipts.reserve(1).is_err() {
             return Err((event, HubRefusal::NoMemory));
@@ -91,6 +92,7 @@ impl<L: Run, R: Wait> Port for SharedPort<'_, L, R> {
 }
 
 /// One more handle on an answer. Where as many stand as can be counted, it waits until one is let go.
+#[inline(always)]
 fn another<R: Wait>(rt: &R, answer: &Answer) -> Answer
     ensures { result ≡ answer.now }
 {

@@ -123,6 +123,7 @@ impl<L: Run> Shared<L> {
     }
 
     /// `submit` with a seat that is lent.
+    #[inline(always)]
     pub(crate) fn submit_as<R: Wait>(
         &self,
         rt: &R,

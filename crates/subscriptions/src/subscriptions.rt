@@ -233,6 +233,7 @@ impl Subscriptions {
     /// Counts a message that was addressed to some of them, where it has entered: `items` are what each delivery met,
     /// in turn. Those that have received all that they were to receive end. Only those that it entered for are
     /// touched.
+    #[inline(always)]
     pub fn count(&mut self, all: &[Addressed], items: &[Item])
         ensures turns { self.new ≡ in_turn (entered_ids all.now items.now) self.old }
         ensures counted { (m : Message) (p : Subscription → Bool) → all.now ≡ map (addressed_to m) (filter p self.old)

@@ -17,6 +17,7 @@ pub fn write_info(out: &mut Vec<u8>, info: &[u8]) -> Result<(), NoMemory>
 }
 
 /// Appends where a message goes, for which there is room.
+#[inline(always)]
 fn put_address(out: &mut Vec<u8>, subject: &[u8], sid: &[u8], reply: Option<&[u8]>)
     requires { vec_len out.old + length (address subject.now sid.now (option_copied reply)) ≤ vec_capacity out.old }
     ensures items { out.new.items ≡ out.old.items ++ address subject.now sid.now (option_copied reply.entry) }
