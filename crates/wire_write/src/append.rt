@@ -1,5 +1,5 @@
 // Appending several pieces with one growth.
-ghost use Rattle.std.specs.Prelude.{◌≡◌, ◌+◌, ◌++◌, ◌<◌, ◌≤◌, length, OnOk, OnErr};
+ghost use Rattle.std.specs.Prelude.{◌≡◌, ◌+◌, ◌++◌, ◌<◌, ◌≤◌, length, codes, OnOk, OnErr};
 ghost use Rattle.std.specs.Vec.{vec_len, vec_capacity};
 
 use lists::NoMemory;
@@ -33,6 +33,52 @@ pub(crate) fn put(out: &mut Vec<u8>, piece: &[u8])
     ensures capacity { vec_capacity out.old ≤ vec_capacity out.new }
 {
     let _had_room = out.extend_from_slice(piece).is_ok();
+}
+
+/// Appends a piece for which there is room, of which most are a few bytes long: these are no call.
+#[inline(always)]
+pub(crate) fn put_short(out: &mut Vec<u8>, piece: &[u8])
+    requires { vec_len out.old + length piece.now ≤ vec_capacity out.old }
+    ensures items { out.new.items ≡ out.old.items ++ piece.now }
+    ensures len { vec_len out.new ≡ vec_len out.old + length piece.now }
+    ensures capacity { vec_capacity out.old ≤ vec_capacity out.new }
+{
+    match piece {
+        [only] => out.push_reserved(*only),
+        [first, second] => {
+            out.push_reserved(*first);
+            out.push_reserved(*second);
+        }
+        [first, second, third] => {
+            out.push_reserved(*first);
+            out.push_reserved(*second);
+            out.push_reserved(*third);
+        }
+        _ => put(out, piece),
+    }
+}
+
+/// Appends a byte for which there is room.
+#[inline(always)]
+pub(crate) fn put_space(out: &mut Vec<u8>)
+    requires { vec_len out.old + 1 ≤ vec_capacity out.old }
+    ensures items { out.new.items ≡ out.old.items ++ codes " " }
+    ensures len { vec_len out.new ≡ vec_len out.old + 1 }
+    ensures capacity { vec_capacity out.old ≤ vec_capacity out.new }
+{
+    out.push_reserved(b' ');
+}
+
+/// Appends the end of a line, for which there is room.
+#[inline(always)]
+pub(crate) fn put_crlf(out: &mut Vec<u8>)
+    requires { vec_len out.old + 2 ≤ vec_capacity out.old }
+    ensures items { out.new.items ≡ out.old.items ++ codes "\r\n" }
+    ensures len { vec_len out.new ≡ vec_len out.old + 2 }
+    ensures capacity { vec_capacity out.old ≤ vec_capacity out.new }
+{
+    out.push_reserved(b'\r');
+    out.push_reserved(b'\n');
 }
 
 /// Appends three pieces, or leaves the buffer as it is.

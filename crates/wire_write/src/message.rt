@@ -2,9 +2,10 @@ ghost use Rattle.std.specs.Prelude.{◌≡◌, ◌+◌, ◌++◌, ◌<◌, ◌�
 ghost use Rattle.std.specs.Vec.{vec_len, vec_capacity};
 ghost use Rattle.wire_write.specs.Texts.{info_line, address, body, reply_room, msg_line, hmsg_line, ok_line, pong_line};
 
-use crate::append::{append, make_room, put};
+use crate::append::{append, make_room, put, put_crlf, put_short, put_space};
 use itoa::Buffer;
 use lists::NoMemory;
+use std::mem;
 
 /// Appends the INFO line, which the server writes at a connection's opening: `info` is its JSON.
 /// `NoMemory` comes only where the buffer has no room for it and can't grow, and leaves it as it was.
@@ -25,14 +26,14 @@ fn put_address(out: &mut Vec<u8>, subject: &[u8], sid: &[u8], reply: Option<&[u8
     ensures capacity { vec_capacity out.old ≤ vec_capacity out.new }
 {
     put(out, subject);
-    put(out, b" ");
-    put(out, sid);
-    put(out, b" ");
+    put_space(out);
+    put_short(out, sid);
+    put_space(out);
     match reply {
         None => {}
         Some(reply) => {
             put(out, reply);
-            put(out, b" ");
+            put_space(out);
         }
     }
 }
@@ -82,12 +83,15 @@ pub fn write_msg(
         payload,
         reply_len(reply) + size.len() + 10,
     )?;
-    put(out, b"MSG ");
-    put_address(out, subject, sid, reply);
-    put(out, size);
-    put(out, b"\r\n");
-    put(out, payload);
-    put(out, b"\r\n");
+    let alloc = *out.allocator();
+    let mut line = mem::replace(out, Vec::new(alloc));
+    put(&mut line, b"MSG ");
+    put_address(&mut line, subject, sid, reply);
+    put_short(&mut line, size);
+    put_crlf(&mut line);
+    put(&mut line, payload);
+    put_crlf(&mut line);
+    *out = line;
     Ok(())
 }
 
