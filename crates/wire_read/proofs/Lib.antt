@@ -7,3 +7,4 @@ pub mod CutLemmas
 pub mod AwaitedLemmas
 pub mod SaysLemmas
 pub mod GrammarLemmas
+pub mod PlainLemmas

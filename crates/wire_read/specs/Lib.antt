@@ -5,6 +5,7 @@ pub mod Size
 pub mod Command
 pub mod Places
 pub mod Front
+pub mod Plain
 pub mod Awaited
 pub mod Framing
 pub mod Grammar

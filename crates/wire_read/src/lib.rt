@@ -11,6 +11,7 @@ mod front;
 mod laws;
 mod line;
 mod operation;
+mod plain;
 mod progress;
 mod reader;
 mod scan;

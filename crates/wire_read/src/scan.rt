@@ -5,6 +5,7 @@ ghost use Rattle.wire_read.specs.Awaited.{IsAwaiting};
 use crate::Frame;
 use crate::awaited::Awaited;
 use crate::front::{Found, read_front};
+use crate::plain::{find_plain, push_plain};
 use bytes::Bytes;
 use std::alloc::AllocError;
 
@@ -24,29 +25,35 @@ pub fn scan_frames(mut frames: Vec<Frame>, bytes: Bytes) -> Result<Scan, AllocEr
 {
     let mut left = bytes;
     loop {
-        match read_front(&left)? {
-            Found::More(awaited) => {
-                return Ok(Scan {
-                    frames,
-                    rest: left,
-                    awaited,
-                    failed: false,
-                });
+        match find_plain(left.as_slice()) {
+            Some(at) => {
+                push_plain(&mut frames, &left, at)?;
+                left.advance(at.start + at.total + 2);
             }
-            Found::Wrong(fault) => {
-                frames.push(Frame::Fault(fault))?;
-                return Ok(Scan {
-                    frames,
-                    rest: Bytes::new(),
-                    awaited: Awaited::LineEnd,
-                    failed: true,
-                });
-            }
-            Found::Whole(frame, len) => {
-                frames.reserve(1)?;
-                frames.push_reserved(frame);
-                left.advance(len);
-            }
+            None => match read_front(&left)? {
+                Found::More(awaited) => {
+                    return Ok(Scan {
+                        frames,
+                        rest: left,
+                        awaited,
+                        failed: false,
+                    });
+                }
+                Found::Wrong(fault) => {
+                    frames.push(Frame::Fault(fault))?;
+                    return Ok(Scan {
+                        frames,
+                        rest: Bytes::new(),
+                        awaited: Awaited::LineEnd,
+                        failed: true,
+                    });
+                }
+                Found::Whole(frame, len) => {
+                    frames.reserve(1)?;
+                    frames.push_reserved(frame);
+                    left.advance(len);
+                }
+            },
         }
     }
 }
