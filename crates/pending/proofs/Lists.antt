@@ -1,6 +1,7 @@
 -- The elements of a list behind the first so many.
-use Rattle.std.proofs.Common.{◌≡◌, ℕ, zero, suc, ◌+◌, ◌≤◌, List, [], ◌∷◌, drop, length, Some, None, slice_get, arith, refl, sym}
-use Rattle.std.proofs.lemmas.List.{drop-drop}
+use Rattle.std.proofs.Common.{◌≡◌, ℕ, zero, suc, ◌+◌, ◌<◌, ◌≤◌, List, [], ◌∷◌, ◌++◌, drop, length, Some, None, slice_get, arith, refl, sym, ap, ◌∙◌, ⊎_elim, length-drop}
+use Rattle.std.proofs.lemmas.Bool.{cases_lt}
+use Rattle.std.proofs.lemmas.List.{drop-drop, drop-append-le, drop_all}
 
 -- the element at a place is the first of what is left
 pub first_left : {X : Type 0} (xs : List X) (i : ℕ) (x : X) → slice_get xs i ≡ Some x → drop i xs ≡ x ∷ drop 1 (drop i xs)
@@ -25,3 +26,27 @@ drop_past [] zero h = refl
 drop_past [] (suc i) h = refl
 drop_past (y ∷ xs) zero h = absurd (omega arith)
 drop_past (y ∷ xs) (suc i) h = drop_past xs i (omega arith)
+
+-- what is left of a list, with another behind it
+pub first_behind : {X : Type 0} (xs ys : List X) (i : ℕ) (x : X) → slice_get xs i ≡ Some x → drop i xs ++ ys ≡ x ∷ drop 1 (drop i xs ++ ys)
+first_behind xs ys i x e =
+    let left = first_left xs i x e in
+    ap (λ l. l ++ ys) left ∙ ap (λ l. x ∷ l) (sym (ap (λ l. drop 1 (l ++ ys)) left))
+
+pub none_behind : {X : Type 0} (xs ys : List X) (i : ℕ) → slice_get xs i ≡ None → (length xs ≤ i → ys ≡ []) → drop i xs ++ ys ≡ []
+none_behind xs ys i e all =
+    let none = none_left xs i e in
+    let nothing = all (omega (arith, length-drop i xs, ap length none)) in
+    rw (none, nothing) refl
+
+pub drop_one_behind : {X : Type 0} (xs ys : List X) (i : ℕ) → i < length xs → drop (i + 1) xs ++ ys ≡ drop 1 (drop i xs ++ ys)
+drop_one_behind xs ys i some =
+    ap (λ l. l ++ ys) (drop_one_more xs i) ∙ sym (drop-append-le 1 (drop i xs) ys (omega (arith, length-drop i xs)))
+
+pub last_behind : {X : Type 0} (xs ys : List X) (i : ℕ) → length xs ≤ i + 1 → (length xs ≤ i → ys ≡ []) → ys ≡ drop 1 (drop i xs ++ ys)
+last_behind xs ys i few all =
+    ⊎_elim
+    (λ (some : i < length xs).
+    sym (drop-append-le 1 (drop i xs) ys (omega (arith, length-drop i xs)) ∙ ap (λ l. l ++ ys) (drop_all 1 (drop i xs) (omega (arith, length-drop i xs)))))
+    (λ (none : length xs ≤ i). let nothing = all none in rw (drop_all i xs none, nothing) refl)
+    (cases_lt i (length xs))

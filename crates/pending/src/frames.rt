@@ -1,28 +1,45 @@
 // The frames that wait for their turn.
-ghost use Rattle.std.specs.Prelude.{◌≡◌, ◌++◌, ◌∷◌, [], drop, OnOk, OnErr, MatchOption};
+ghost use Rattle.std.specs.Prelude.{◌≡◌, ◌++◌, ◌∷◌, ◌≤◌, [], drop, length, OnOk, OnErr, MatchOption};
 ghost use Rattle.pending.specs.Reading.{frames_after, reader_after};
 
 use lists::NoMemory;
 use std::alloc::Global;
-use std::collections::VecDeque;
 use std::marker::Model;
+use std::mem::swap;
 use wire_read::{FeedError, Frame, FrameReader};
 
 /// Frames in order. Those of the latest piece may stand apart, so that to take a piece needs no memory once its
 /// frames are read. A clause sees all of them.
 #[derive(Drop)]
 pub struct Frames {
-    front: VecDeque<Frame>,
-    back: VecDeque<Frame>,
+    front: Vec<Frame>,
+    // How many of the front ones had their turn: they are dropped together. If all had, none stands apart.
+    done: usize,
+    back: Vec<Frame>,
 }
 
 impl Model for Frames {
-    ghost use Rattle.std.specs.Prelude.{List, ◌++◌};
+    ghost use Rattle.std.specs.Prelude.{◌≡◌, ◌≤◌, List, [], ◌++◌, drop, length};
     ghost use Rattle.wire_read.specs.declared.frame.Frame.{Frame};
 
     ghost Value = { List Frame };
 
-    ghost view = { λ q. q.front.items ++ q.back.items };
+    ghost view = { λ q. drop q.done q.front.items ++ q.back.items };
+
+    ghost invariant = { λ q. (q.done ≤ length q.front.items) × (length q.front.items ≤ q.done → q.back.items ≡ []) };
+}
+
+/// Drops the first frames, which had their turn, and puts the others behind what is left.
+fn gather(front: &mut Vec<Frame>, done: usize, others: &mut Vec<Frame>) -> Result<(), NoMemory>
+    requires { done ≤ length front.old.items }
+    ensures front { OnOk result (front.new.items ≡ drop done front.old.items ++ others.old.items) }
+    ensures others { OnOk result (others.new.items ≡ []) }
+    ensures front_kept { OnErr result (front.new.items ≡ front.old.items) }
+    ensures others_kept { OnErr result (others.new.items ≡ others.old.items) }
+{
+    front.append(others)?;
+    for _done in front.drain(..done) {}
+    Ok(())
 }
 
 impl Frames {
@@ -31,8 +48,9 @@ impl Frames {
         ensures { result ≡ [] }
     {
         Frames {
-            front: VecDeque::new(alloc),
-            back: VecDeque::new(alloc),
+            front: Vec::new(alloc),
+            done: 0,
+            back: Vec::new(alloc),
         }
     }
 
@@ -40,21 +58,24 @@ impl Frames {
     pub fn first(&self) -> Option<&Frame>
         ensures { MatchOption result (self.now ≡ []) (λ frame. self.now ≡ frame.now ∷ drop 1 self.now) }
     {
-        if self.front.is_empty() {
-            return self.back.front();
+        match self.front.get(self.done) {
+            Some(frame) => Some(frame),
+            None => None,
         }
-        self.front.front()
     }
 
     /// Drops the frame whose turn it was.
+    #[inline(always)]
     pub fn drop_first(&mut self)
         ensures { self.new ≡ drop 1 self.old }
     {
-        if self.front.is_empty() {
-            drop(self.back.pop_front());
+        if self.front.len() - self.done > 1 {
+            self.done += 1;
             return;
         }
-        drop(self.front.pop_front());
+        self.front.clear();
+        self.done = 0;
+        swap(&mut self.front, &mut self.back);
     }
 
     /// Drops all of them.
@@ -62,6 +83,7 @@ impl Frames {
         ensures { self.new ≡ [] }
     {
         self.front.clear();
+        self.done = 0;
         self.back.clear();
     }
 
@@ -73,10 +95,15 @@ impl Frames {
         ensures err { OnErr result (self.new ≡ self.old) }
         ensures kept { OnErr result (reader.new ≡ reader.old) }
     {
-        self.front.append(&mut self.back)?;
+        gather(&mut self.front, self.done, &mut self.back)?;
+        self.done = 0;
         match reader.feed(piece) {
             Ok(frames) => {
-                self.back = VecDeque::from(frames.into_vec());
+                if self.front.is_empty() {
+                    self.front = frames.into_vec();
+                    return Ok(());
+                }
+                self.back = frames.into_vec();
                 Ok(())
             }
             Err(FeedError::NoMemory) => Err(NoMemory),
