@@ -38,3 +38,7 @@ piece_if false whole = whole
 -- four bytes for each that an outbox holds, 16 to 4,096 of them; and an eighth of that, 16 at least
 abbrev pub piece_length : ℕ → Bool → ℕ
 piece_length outbox small = piece_if small (whole_if (nat_lt outbox 1024) outbox)
+
+-- A message takes 11 bytes at least. So with fewer than these, and those of another piece, half an outbox is free.
+abbrev pub many : ℕ → ℕ
+many outbox = outbox / 2 - piece_length outbox false / 11

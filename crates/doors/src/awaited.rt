@@ -1,6 +1,6 @@
 // How much is read and taken at a time.
 ghost use Rattle.std.specs.Prelude.{◌≡◌};
-ghost use Rattle.doors.specs.Awaited.{fewer, mean, more, next_take, piece_length};
+ghost use Rattle.doors.specs.Awaited.{fewer, many, mean, more, next_take, piece_length};
 
 /// How many deliveries are taken at a time at most.
 const MOST: usize = 256;
@@ -10,6 +10,9 @@ const ROOM: usize = 65_536;
 
 /// How many bytes are read at a time at most: some hundred events.
 pub const PIECE: usize = 4096;
+
+/// How many bytes the shortest message takes, a PUB with a subject of one byte and no payload.
+const LEAST_MESSAGE: usize = 11;
 
 /// How many bytes are read at a time at least.
 const LEAST_PIECE: usize = 16;
@@ -68,8 +71,8 @@ impl Awaited {
     }
 }
 
-/// How many bytes are read at a time. A message takes 11 bytes at least, so those of a piece are less than half an outbox;
-/// where a receiver lags, a piece is an eighth of that.
+/// How many bytes are read at a time: the messages of a piece are less than half an outbox. Where a receiver lags, a piece
+/// is an eighth of that.
 pub fn piece_length(outbox: usize, is_small: bool) -> usize
     ensures { result ≡ piece_length outbox is_small }
 {
@@ -81,4 +84,12 @@ pub fn piece_length(outbox: usize, is_small: bool) -> usize
         length = (length / 8).max(LEAST_PIECE);
     }
     length
+}
+
+/// How many deliveries wait for a connection at least that is drained before another piece is read: with fewer, those of
+/// another piece leave half an outbox free.
+pub fn many(outbox: usize) -> usize
+    ensures { result ≡ many outbox }
+{
+    (outbox / 2).saturating_sub(piece_length(outbox, false) / LEAST_MESSAGE)
 }

@@ -8,7 +8,7 @@ mod house;
 mod notices;
 mod waiting;
 
-pub use awaited::{Awaited, PIECE, piece_length};
+pub use awaited::{Awaited, PIECE, many, piece_length};
 pub use door::{Arrival, Door, Intake, Left, Named, Waiter};
 pub use house::{Flags, House, Limits, millis, open_door};
 pub use notices::{Notices, owner_of};

@@ -146,10 +146,7 @@ impl<'a, L: Run, R: Wait + Clock, G: Gate + Drop, W: Words + Drop> Worker<'a, L,
             let Some(key) = self.stalled.pop_front() else {
                 return;
             };
-            let is_over = match self.clients.get_mut(key) {
-                None => false,
-                Some(standing) => standing.is_over,
-            };
+            let is_over = matches!(self.clients.get(key), Some(standing) if standing.is_over);
             if is_over {
                 self.end(key);
             } else {

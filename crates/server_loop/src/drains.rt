@@ -1,7 +1,7 @@
 use crate::worker::{Held, Worker};
 use client_io::{NonBlocking, Turn};
 use conn::Words;
-use doors::{Intake, Left, Named, PATIENCE};
+use doors::{Intake, Left, Named, PATIENCE, many};
 use gates::Gate;
 use shared_hub::Run;
 use std::mem;
@@ -95,7 +95,7 @@ impl<'a, L: Run, R: Wait + Clock, G: Gate + Drop, W: Words + Drop> Worker<'a, L,
         self.keys.get(&conn).copied().unwrap_or(usize::MAX)
     }
 
-    /// Takes what others have left here, and drains the connections that were named.
+    /// Takes what others have left here.
     pub fn take_in(&mut self) {
         let doors = self.house.doors;
         let Some(door) = doors.get(self.index) else {
@@ -107,7 +107,6 @@ impl<'a, L: Run, R: Wait + Clock, G: Gate + Drop, W: Words + Drop> Worker<'a, L,
         drop(left);
         self.sleeps = intake.sleeps;
         self.follow(intake);
-        self.drain_dirty();
     }
 
     /// Does what others have left.
@@ -173,13 +172,19 @@ impl<'a, L: Run, R: Wait + Clock, G: Gate + Drop, W: Words + Drop> Worker<'a, L,
         }
     }
 
-    /// Drains the connections that are to be written to, and names whom the answers name.
-    fn drain_dirty(&mut self) {
+    /// Drains the connections that are to be written to: all, or only those for which many deliveries wait, since fewer
+    /// and larger writes cost less. Names whom the answers name.
+    pub fn drain_dirty(&mut self, all: bool) {
+        let many = many(self.house.limits.outbox);
         for _ in 0..self.dirty.len() {
             let Some(key) = self.dirty.pop_front() else {
                 break;
             };
             if let Some(standing) = self.clients.get_mut(key) {
+                if !all && standing.awaited.count < many {
+                    drop(self.dirty.push_back(key));
+                    continue;
+                }
                 standing.is_dirty = false;
                 standing.count_ahead();
             }
@@ -194,10 +199,7 @@ impl<'a, L: Run, R: Wait + Clock, G: Gate + Drop, W: Words + Drop> Worker<'a, L,
             match self.drain_once(key) {
                 Drained::More => {}
                 Drained::Stops => return,
-                Drained::Ends(turn) => {
-                    self.after(key, turn);
-                    return;
-                }
+                Drained::Ends(turn) => return self.after(key, turn),
             }
         }
         self.make_dirty(key);

@@ -23,8 +23,8 @@ pub const LISTENER: Token = Token(usize::MAX - 1);
 /// How many events of sockets one wait tells.
 const EVENTS: usize = 1024;
 
-/// How many pieces are read of all connections before others are looked at.
-const TURNS: usize = 64;
+/// How many pieces are read of all connections before each that is to be written to is drained.
+const TURNS: usize = 16;
 
 /// How long the end of a server may take, in milliseconds.
 const GRACE: u64 = 2000;
@@ -166,10 +166,11 @@ impl<'a, L: Run, R: Wait + Clock, G: Gate + Drop, W: Words + Drop> Worker<'a, L,
         }
     }
 
-    /// One round: what was left here, what the sockets tell, and some turns with drains between. Answers whether the
-    /// system could tell of sockets.
+    /// One round: what was left here, what the sockets tell, and some turns. As long as others have something to read only
+    /// connections are drained for which much waits. Answers whether the system could tell of sockets.
     fn round(&mut self, events: &mut Events) -> bool {
         self.take_in();
+        self.drain_dirty(true);
         if !self.wait(events) {
             return false;
         }
@@ -182,6 +183,7 @@ impl<'a, L: Run, R: Wait + Clock, G: Gate + Drop, W: Words + Drop> Worker<'a, L,
             };
             self.serve_one(key);
             self.take_in();
+            self.drain_dirty(self.ready.is_empty());
         }
         true
     }
@@ -273,6 +275,7 @@ impl<'a, L: Run, R: Wait + Clock, G: Gate + Drop, W: Words + Drop> Worker<'a, L,
             let all = self.house.all_rest();
             self.ready.clear();
             self.take_in();
+            self.drain_dirty(true);
             if all && !self.owes() {
                 return;
             }
