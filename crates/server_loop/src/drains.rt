@@ -73,12 +73,9 @@ impl<'a, L: Run, R: Wait + Clock, G: Gate + Drop, W: Words + Drop> Worker<'a, L,
     /// Has a publisher go on that is held until then.
     pub fn resume(&mut self, held: Held) {
         let key = self.place_of(held.conn);
-        if let Some(standing) = self.clients.get_mut(key) {
-            if standing.held_until == Some(held.until) {
-                standing.held_until = None;
-            }
+        if matches!(self.clients.get(key), Some(it) if it.held_until == Some(held.until)) {
+            self.resume_now(held.conn);
         }
-        self.make_ready(key);
     }
 
     /// Has a publisher go on whose receiver lags no more.
@@ -181,7 +178,7 @@ impl<'a, L: Run, R: Wait + Clock, G: Gate + Drop, W: Words + Drop> Worker<'a, L,
                 break;
             };
             if let Some(standing) = self.clients.get_mut(key) {
-                if !all && standing.awaited.count < many {
+                if !all && standing.may_wait(many) {
                     drop(self.dirty.push_back(key));
                     continue;
                 }
@@ -282,11 +279,8 @@ impl<'a, L: Run, R: Wait + Clock, G: Gate + Drop, W: Words + Drop> Worker<'a, L,
         }
         match standing.end_at {
             None => standing.end_at = Some(self.now.saturating_add(PATIENCE)),
-            Some(at) => {
-                if at <= self.now {
-                    return Drained::Ends(Turn::Failed);
-                }
-            }
+            Some(at) if at <= self.now => return Drained::Ends(Turn::Failed),
+            Some(_) => {}
         }
         drop(self.stalled.push_back(key));
         Drained::Stops

@@ -68,6 +68,11 @@ impl Standing {
         self.client.has_answers() && (self.ahead == Some(0) || !self.is_due())
     }
 
+    /// Whether its drain may wait while others have something to read: no answers wait, and fewer deliveries than many.
+    pub fn may_wait(&self, many: usize) -> bool {
+        self.awaited.count < many && !self.client.has_answers()
+    }
+
     /// Whether it may be read.
     pub fn may_read(&self) -> bool {
         self.readable && self.held_until.is_none() && !self.is_over && !self.client.has_answers()

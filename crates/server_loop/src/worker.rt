@@ -79,9 +79,7 @@ pub struct Worker<'a, L: Run, R: Wait, G: Gate + Drop, W: Words + Drop> {
 /// What pieces are read into. `None` without memory.
 fn buffer(alloc: Global) -> Option<Vec<u8>> {
     let mut buf = Vec::new(alloc);
-    if buf.resize(PIECE, 0).is_err() {
-        return None;
-    }
+    buf.resize(PIECE, 0).ok()?;
     Some(buf)
 }
 
