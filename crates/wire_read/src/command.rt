@@ -1,13 +1,10 @@
 ghost use Rattle.std.specs.Prelude.{◌≡◌, ◌≤◌, length, take, drop, IfOk};
-ghost use Rattle.wire_read.specs.Field.{counted, fields, first_field, after_first_field};
-ghost use Rattle.wire_read.specs.Operation.{operation};
+ghost use Rattle.wire_read.specs.Field.{counted, fields};
 ghost use Rattle.wire_read.specs.Size.{size, sizes};
 ghost use Rattle.wire_read.specs.Command.{command, publication, headed_publication, subscription, unsubscription, sized, headed};
 ghost use Rattle.wire_read.specs.Places.{text_at, text_if_at, frame_at, command_at};
 
-use crate::field::{
-    FieldsAt, Place, cut, cut_if, fields_of, first_place, next_place, text_at, trim,
-};
+use crate::field::{FieldsAt, Place, cut, cut_if, fields_of, first_place, text_at, trim};
 use crate::operation::{Operation, find_operation};
 use crate::size::{count_of, size_of, sizes_of};
 use crate::{Frame, WireFault};
@@ -102,18 +99,12 @@ fn publication(line: &[u8], from: usize) -> CommandAt
     requires { from ≤ length line.now }
     ensures { command_at line.now result ≡ publication (counted (fields (drop from line.now))) }
 {
-    let Some(subject) = next_place(line, from) else {
-        return CommandAt::Refused(WireFault::ParserError);
-    };
-    let Some(second) = next_place(line, subject.end) else {
-        return CommandAt::Refused(WireFault::ParserError);
-    };
-    let Some(third) = next_place(line, second.end) else {
-        return sized(line, subject, None, second);
-    };
-    match next_place(line, third.end) {
-        None => sized(line, subject, Some(second), third),
-        Some(_) => CommandAt::Refused(WireFault::ParserError),
+    match fields_of(line, from) {
+        FieldsAt::Two(subject, size) => sized(line, subject, None, size),
+        FieldsAt::Three(subject, reply, size) => sized(line, subject, Some(reply), size),
+        FieldsAt::One(_) => CommandAt::Refused(WireFault::ParserError),
+        FieldsAt::Four(_, _, _, _) => CommandAt::Refused(WireFault::ParserError),
+        FieldsAt::Other => CommandAt::Refused(WireFault::ParserError),
     }
 }
 
@@ -163,35 +154,19 @@ fn unsubscription(line: &[u8], from: usize) -> CommandAt
     }
 }
 
-/// The operation that a line names, and where the line goes on behind its name.
-#[tactic(auto, unfolding(crate::specs::Operation::operation))]
-fn first_operation(line: &[u8]) -> (Option<Operation>, usize)
-    ensures operation { result.0 ≡ operation (first_field line.now) }
-    ensures rest { drop result.1 line.now ≡ after_first_field line.now }
-    ensures within { result.1 ≤ length line.now }
-{
-    match line {
-        [b'P', b'U', b'B', b' ', ..] => (Some(Operation::Pub), 3),
-        _ => {
-            let name = first_place(line, 0);
-            (find_operation(text_at(line, name)), name.end)
-        }
-    }
-}
-
 /// What a control line says, without its end.
 #[tactic(auto, unfolding(crate::specs::Command::command))]
 pub fn read_command(line: &[u8]) -> CommandAt
     ensures { command_at line.now result ≡ command line.now }
 {
-    let (operation, end) = first_operation(line);
-    match operation {
+    let name = first_place(line, 0);
+    match find_operation(text_at(line, name)) {
         None => CommandAt::Refused(WireFault::UnknownOperation),
-        Some(Operation::Connect) => CommandAt::Alone(FrameAt::Connect(trim(line, end))),
-        Some(Operation::Pub) => publication(line, end),
-        Some(Operation::Hpub) => headed_publication(line, end),
-        Some(Operation::Sub) => subscription(line, end),
-        Some(Operation::Unsub) => unsubscription(line, end),
+        Some(Operation::Connect) => CommandAt::Alone(FrameAt::Connect(trim(line, name.end))),
+        Some(Operation::Pub) => publication(line, name.end),
+        Some(Operation::Hpub) => headed_publication(line, name.end),
+        Some(Operation::Sub) => subscription(line, name.end),
+        Some(Operation::Unsub) => unsubscription(line, name.end),
         Some(Operation::Ping) => CommandAt::Alone(FrameAt::Ping),
         Some(Operation::Pong) => CommandAt::Alone(FrameAt::Pong),
     }

@@ -111,7 +111,7 @@ pub fn first_place(line: &[u8], from: usize) -> Place
 }
 
 /// The next field of what follows a place of a line, if there is one.
-pub fn next_place(line: &[u8], from: usize) -> Option<Place>
+fn next_place(line: &[u8], from: usize) -> Option<Place>
     requires { from ≤ length line.now }
     ensures fields { MatchOption result (fields (drop from line.now) ≡ []) (λ p. fields (drop from line.now) ≡ text_at line.now p ∷ fields (drop p.end line.now)) }
     ensures within { IfSome result (λ p. p.end ≤ length line.now) }
