@@ -1,6 +1,7 @@
 -- each line's text is written before the next line is read
-use Rattle.std.proofs.Common.{◌∙◌, ◌+◌, ◌==◌, length, arith, ap, refl}
+use Rattle.std.proofs.Common.{◌∙◌, ◌+◌, ◌==◌, length, arith, ap, refl, sym}
 use Rattle.std.proofs.Math.Bool.{or-false}
+use Rattle.std.proofs.lemmas.Result.{err_from_is_err_and}
 use Rattle.std.proofs.lemmas.List.Splits.{length-slice_split}
 use Rattle.std.proofs.lemmas.List.Sums.{count_by-le-length}
 use Rattle.policy_doc.specs.declared.document.PolicyDoc.{PolicyDoc}
@@ -15,6 +16,17 @@ playing-init g c = record {
   count = omega (arith, ap length c.of-lines.ensures, length-slice_split (λ b. b == 10) c.args.script.now, count_by-le-length (λ b. b == 10) c.args.script.now);
   failed = refl;
 }
+
+-- want of memory is no failure of the sink
+pub returns-in_err-line-clause-failed : goal.returns-in_err-line-clause-failed
+returns-in_err-line-clause-failed g c =
+    let p = err_from_is_err_and c.from_residual-in_err-line.result c.from_residual-in_err-line.ensures.1 in
+    rw (p.1, p.2) (c.playing.invariant.failed ∙ sym (or-false _))
+
+pub returns-in_err-stops-clause-failed : goal.returns-in_err-stops-clause-failed
+returns-in_err-stops-clause-failed g c =
+    let p = err_from_is_err_and c.from_residual-in_err-stops.result c.from_residual-in_err-stops.ensures.1 in
+    rw (p.1, p.2) (c.playing.invariant.failed ∙ sym (or-false _))
 
 pub returns-in_err-line-clause-prefix : goal.returns-in_err-line-clause-prefix
 returns-in_err-line-clause-prefix g c = OnErr-always _ _ (plays_refused _ _ _ _ c.playing.invariant.plays)
