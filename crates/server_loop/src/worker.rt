@@ -181,7 +181,8 @@ impl<'a, L: Run, R: Wait + Clock, G: Gate + Drop, W: Words + Drop> Worker<'a, L,
             };
             self.serve_one(key);
             self.take_in();
-            self.drain_dirty(self.ready.is_empty());
+            let is_last = self.ready.is_empty();
+            self.drain_dirty(is_last);
         }
         true
     }
