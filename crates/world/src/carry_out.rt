@@ -28,10 +28,7 @@ impl World {
         match change {
             Change::Nothing => Ok(()),
             Change::Open(session) => self.sessions.push(session.into_inner()),
-            Change::Stand(asked) => {
-                self.subscriptions.add(self.number + 1, asked.into_inner())?;
-                Ok(())
-            }
+            Change::Stand(asked) => self.subscriptions.add(self.number + 1, asked.into_inner()),
             Change::Limit { conn, sid, most } => {
                 self.subscriptions.limit(conn, &sid, most);
                 Ok(())

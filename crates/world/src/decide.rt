@@ -76,8 +76,7 @@ impl World {
     ghost use Rattle.world.specs.Transition.{moved, IsReasoned};
     ghost use Rattle.world.specs.Changes.{IsDecided};
 
-    /// What a command comes to: what is told of it, and what is to be done; or why it is refused. Nothing has changed
-    /// yet.
+    /// What a command comes to: what is told, and what is to be done; or why it is refused. Nothing has changed yet.
     pub(crate) fn decide(&mut self, command: &Command) -> Result<Decided, HubRefusal>
         ensures decided { IsDecided self.old (moved self.old command.now) result }
         ensures reason { IfOk result (λ d. IsReasoned self.old command.now d.outcome) }

@@ -205,8 +205,7 @@ impl World {
     pub fn standing(&self) -> Result<Items<Standing>, NoMemory>
         ensures { IfOk result (λ all. all ≡ map standing_of self.now.subscriptions) }
     {
-        let all = standing_all(self.alloc, &self.subscriptions)?;
-        Ok(all)
+        standing_all(self.alloc, &self.subscriptions)
     }
 
     /// How many deliveries wait for the connection's session, and whether one was missed since its Connect or
