@@ -14,6 +14,8 @@ pub struct GatedPort<'a, L: Run, R: Wait, G: Gate + Drop> {
     gate: G,
     is_spent: bool,
     half: u64,
+    /// No number below this one is due, since the latest that was looked at.
+    due: u64,
 }
 
 impl<'a, L: Run, R: Wait, G: Gate + Drop> GatedPort<'a, L, R, G> {
@@ -24,6 +26,7 @@ impl<'a, L: Run, R: Wait, G: Gate + Drop> GatedPort<'a, L, R, G> {
             gate,
             is_spent: false,
             half: (history / 2) as u64,
+            due: 0,
         }
     }
 
@@ -67,6 +70,19 @@ impl<L: Run, R: Wait, G: Gate + Drop> GatedPort<'_, L, R, G> {
         drop(self.port.rotate());
     }
 
+    /// Hands the history out if that is due at a number, and notes at which number it is next.
+    fn rotate_at(&mut self, number: u64)
+        ensures seat { self.new.port.seat ≡ self.old.port.seat }
+        ensures receipts { self.new.port.receipts.items ≡ self.old.port.receipts.items }
+    {
+        let past = number.checked_rem(self.half);
+        if past == Some(0) {
+            self.rotate();
+        }
+        let multiple = number.saturating_sub(past.unwrap_or(0));
+        self.due = multiple.saturating_add(self.half);
+    }
+
     /// Enters an event, once more where the history was full.
     #[inline(always)]
     pub fn enter(&mut self, event: Event) -> Result<Answer, (Event, HubRefusal)>
@@ -75,8 +91,9 @@ impl<L: Run, R: Wait, G: Gate + Drop> GatedPort<'_, L, R, G> {
     {
         match self.port.submit(event) {
             Ok(answer) => {
-                if answer.get().number.checked_rem(self.half) == Some(0) {
-                    self.rotate();
+                let number = answer.get().number;
+                if self.due <= number {
+                    self.rotate_at(number);
                 }
                 Ok(answer)
             }
