@@ -42,3 +42,7 @@ piece_length outbox small = piece_if small (whole_if (nat_lt outbox 1024) outbox
 -- A message takes 11 bytes at least. So with fewer than these, and those of another piece, half an outbox is free.
 abbrev pub many : ℕ → ℕ
 many outbox = outbox / 2 - piece_length outbox false / 11
+
+-- what publishers of all other workers may have entered unnamed, together, is not more than many
+abbrev pub batch : ℕ → ℕ → ℕ
+batch outbox workers = many outbox / max (workers - 1) 1

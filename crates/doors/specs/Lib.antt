@@ -1,3 +1,4 @@
 pub mod Awaited
+pub mod Due
 pub mod Owners
 pub mod Waiting

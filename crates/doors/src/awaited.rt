@@ -1,6 +1,6 @@
 // How much is read and taken at a time.
 ghost use Rattle.std.specs.Prelude.{◌≡◌};
-ghost use Rattle.doors.specs.Awaited.{fewer, many, mean, more, next_take, piece_length};
+ghost use Rattle.doors.specs.Awaited.{batch, fewer, many, mean, more, next_take, piece_length};
 
 /// How many deliveries are taken at a time at most.
 const MOST: usize = 256;
@@ -92,4 +92,12 @@ pub fn many(outbox: usize) -> usize
     ensures { result ≡ many outbox }
 {
     (outbox / 2).saturating_sub(piece_length(outbox, false) / LEAST_MESSAGE)
+}
+
+/// How many deliveries may have entered for a connection of another worker before that is told, while their publisher is
+/// read further: those of all other workers together are not more than are many.
+pub fn batch(outbox: usize, workers: usize) -> usize
+    ensures { result ≡ batch outbox workers }
+{
+    many(outbox) / workers.saturating_sub(1).max(1)
 }

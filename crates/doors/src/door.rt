@@ -75,10 +75,10 @@ pub struct Door {
 }
 
 impl Intake {
-    fn empty(alloc: Global) -> Intake {
+    fn empty(alloc: Global, room: Vec<Named>) -> Intake {
         Intake {
             arrivals: Vec::new(alloc),
-            named: Vec::new(alloc),
+            named: room,
             all: false,
             resumed: Vec::new(alloc),
             released: Vec::new(alloc),
@@ -169,10 +169,10 @@ impl Hall {
     }
 
     /// All that was left, and none after it. Where nothing was left and the worker has nothing else to do, it is noted
-    /// to sleep.
-    fn take(&mut self, is_idle: bool) -> Intake {
+    /// to sleep. The next names stand in the room that is given.
+    fn take(&mut self, is_idle: bool, room: Vec<Named>) -> Intake {
         let sleeps = is_idle && self.intake.is_empty();
-        let empty = Intake::empty(self.alloc);
+        let empty = Intake::empty(self.alloc, room);
         let mut taken = mem::replace(&mut self.intake, empty);
         self.intake.sleeps = sleeps;
         taken.sleeps = sleeps;
@@ -192,7 +192,7 @@ impl Door {
         let waker = Waker::new(registry, token)?;
         let hall = Hall {
             alloc,
-            intake: Intake::empty(alloc),
+            intake: Intake::empty(alloc, Vec::new(alloc)),
             waiting: HashMap::with_hasher(alloc, keys),
             waiters: Vec::new(alloc),
             half,
@@ -249,14 +249,22 @@ impl Door {
         }
     }
 
-    /// Tells what has left the outboxes, and takes all that others have left.
-    pub fn take_in<R: Wait>(&self, rt: &R, left: &[Left], is_idle: bool) -> Intake {
+    /// Tells what has left the outboxes, and takes all that others have left. The room is a vector of names that were
+    /// taken before: the next ones stand there, so that no vector is freed by another thread than has made it.
+    pub fn take_in<R: Wait>(
+        &self,
+        rt: &R,
+        left: &[Left],
+        is_idle: bool,
+        mut room: Vec<Named>,
+    ) -> Intake {
+        room.clear();
         let mut hall = self.hall.lock(rt);
         for one in left {
             hall.let_go(*one);
         }
         hall.release();
-        let taken = hall.take(is_idle);
+        let taken = hall.take(is_idle, room);
         drop(hall);
         taken
     }

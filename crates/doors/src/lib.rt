@@ -4,12 +4,14 @@
 
 mod awaited;
 mod door;
+mod due;
 mod house;
 mod notices;
 mod waiting;
 
-pub use awaited::{Awaited, PIECE, many, piece_length};
+pub use awaited::{Awaited, PIECE, batch, many, piece_length};
 pub use door::{Arrival, Door, Intake, Left, Named, Waiter};
+pub use due::Due;
 pub use house::{Flags, House, Limits, millis, open_door};
 pub use notices::{Notices, owner_of};
 pub use waiting::PATIENCE;

@@ -5,7 +5,6 @@ use crate::door::Named;
 use events::{Command, Item, Met, Outcome};
 use shared_hub::Receipt;
 use std::alloc::Global;
-use std::mem;
 
 /// One more than how many of the latest names are looked through for one that stands already.
 const LATEST: usize = 17;
@@ -13,8 +12,11 @@ const LATEST: usize = 17;
 /// The connections that answers name, each with its owner's others.
 #[derive(Drop)]
 pub struct Notices {
-    alloc: Global,
     by_worker: Vec<Vec<Named>>,
+    /// The worker that gathers them, if it is one.
+    own: Option<usize>,
+    /// How many deliveries have entered for one connection of another worker at most.
+    most: usize,
 }
 
 /// Which worker has a connection: sockets are handed round in turn.
@@ -27,8 +29,8 @@ pub fn owner_of(conn: u64, workers: usize) -> usize
     (conn.saturating_sub(1) % workers as u64) as usize
 }
 
-/// Adds a name to others, or to what stands there of its connection.
-fn add(names: &mut Vec<Named>, name: Named) {
+/// Adds a name to others, or to what stands there of its connection. Answers how many deliveries have entered for it.
+fn add(names: &mut Vec<Named>, name: Named) -> usize {
     for back in 1..LATEST {
         let Some(index) = names.len().checked_sub(back) else {
             break;
@@ -38,11 +40,12 @@ fn add(names: &mut Vec<Named>, name: Named) {
                 latest.entered = latest.entered.saturating_add(name.entered);
                 latest.bytes = latest.bytes.saturating_add(name.bytes);
                 latest.drain = latest.drain || name.drain;
-                return;
+                return latest.entered;
             }
         }
     }
     drop(names.push(name));
+    name.entered
 }
 
 /// How many bytes a published message has, beside its subject.
@@ -57,15 +60,19 @@ fn size_of(command: &Command) -> usize {
 }
 
 impl Notices {
-    /// No names, for so many workers. Without memory there is none.
-    pub fn new(alloc: Global, workers: usize) -> Option<Notices> {
+    /// No names, for so many workers, gathered by one of them or by none. Without memory there are no notices.
+    pub fn new(alloc: Global, workers: usize, own: Option<usize>) -> Option<Notices> {
         let mut by_worker = Vec::new(alloc);
         for _ in 0..workers {
             if by_worker.push(Vec::new(alloc)).is_err() {
                 return None;
             }
         }
-        Some(Notices { alloc, by_worker })
+        Some(Notices {
+            by_worker,
+            own,
+            most: 0,
+        })
     }
 
     /// Notes whom a receipt names.
@@ -100,15 +107,33 @@ impl Notices {
                 bytes,
                 drain,
             };
-            add(names, name);
+            let entered = add(names, name);
+            if self.own != Some(owner) {
+                self.most = self.most.max(entered);
+            }
         }
     }
 
-    /// The names of a worker, which are taken out.
-    pub fn take(&mut self, worker: usize) -> Vec<Named> {
-        match self.by_worker.get_mut(worker) {
-            None => Vec::new(self.alloc),
-            Some(names) => mem::replace(names, Vec::new(self.alloc)),
+    /// How many deliveries have entered for one connection of another worker at most, since the names were cleared.
+    pub fn most(&self) -> usize {
+        self.most
+    }
+
+    /// The names of a worker's connections.
+    pub fn of(&self, worker: usize) -> &[Named] {
+        match self.by_worker.get(worker) {
+            None => &[],
+            Some(names) => names.as_slice(),
+        }
+    }
+
+    /// No names of a worker's connections any more. Their room is used again.
+    pub fn clear(&mut self, worker: usize) {
+        if let Some(names) = self.by_worker.get_mut(worker) {
+            names.clear();
+        }
+        if self.own != Some(worker) {
+            self.most = 0;
         }
     }
 }

@@ -113,10 +113,10 @@ impl<'a, L: Run, R: Wait + Clock, G: Gate + Drop, W: Words + Drop> Worker<'a, L,
             buf,
             self.now,
         );
-        standing.ahead = None;
+        standing.due.ahead = None;
         let conn = standing.client.conn().number();
         let has_answers = standing.client.has_answers();
-        self.tell(Some(conn));
+        self.tell(conn, has_answers);
         if has_answers {
             self.make_dirty(key);
         }
@@ -167,7 +167,8 @@ impl<'a, L: Run, R: Wait + Clock, G: Gate + Drop, W: Words + Drop> Worker<'a, L,
             drop(self.poll.registry().deregister(&mut standing.socket));
         }
         let stall = standing.client.end(&mut self.port, self.now);
-        self.tell(None);
+        // (a Close names nobody)
+        drop(self.port.take_receipts());
         if stall.is_some() {
             drop(self.stalled.push_back(key));
             return;

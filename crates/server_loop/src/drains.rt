@@ -1,7 +1,7 @@
 use crate::worker::{Held, Worker};
 use client_io::{NonBlocking, Turn};
 use conn::Words;
-use doors::{Intake, Left, Named, PATIENCE, many};
+use doors::{Intake, Left, Named, PATIENCE, batch, many};
 use gates::Gate;
 use shared_hub::Run;
 use std::mem;
@@ -25,32 +25,44 @@ enum Drained {
 }
 
 impl<'a, L: Run, R: Wait + Clock, G: Gate + Drop, W: Words + Drop> Worker<'a, L, R, G, W> {
-    /// Names the connections of the answers since, at their owners' doors. The publisher is held where one of them lags.
-    pub fn tell(&mut self, publisher: Option<u64>) {
-        let receipts = self.port.take_receipts();
-        for receipt in receipts.as_slice() {
+    /// Names the connections of the answers to a piece of a publisher. One's own are named at once, and those of other
+    /// workers too at its first piece of several, or where answers wait. Else they wait for more of that publisher's, so
+    /// that their workers are woken less often.
+    pub fn tell(&mut self, publisher: u64, has_answers: bool) {
+        let goes_on = self.publisher == Some(publisher);
+        if !goes_on {
+            self.tell_others();
+            self.publisher = Some(publisher);
+        }
+        for receipt in self.port.take_receipts().as_slice() {
             self.notices.note(receipt);
         }
-        if receipts.is_empty() {
-            return;
+        self.leave_names(self.index);
+        let batch = batch(self.house.limits.outbox, self.house.doors.len());
+        if has_answers || !goes_on || self.notices.most() >= batch {
+            self.tell_others();
         }
-        drop(receipts);
-        self.leave_names(publisher);
     }
 
-    /// Leaves the names at their owners' doors.
-    fn leave_names(&mut self, publisher: Option<u64>) {
-        let mut waits = false;
-        let doors = self.house.doors;
-        for (worker, door) in doors.iter().enumerate() {
-            let names = self.notices.take(worker);
-            if !names.is_empty()
-                && door.leave_names(self.rt, names.as_slice(), self.index, publisher, self.now)
-            {
-                waits = true;
-            }
+    /// Leaves the names that wait at the doors of other workers.
+    pub fn tell_others(&mut self) {
+        for worker in 0..self.house.doors.len() {
+            self.leave_names(worker);
         }
-        if let Some(conn) = publisher {
+    }
+
+    /// Leaves the names of a worker's connections at its door. The publisher is held where one of them lags.
+    fn leave_names(&mut self, worker: usize) {
+        let names = self.notices.of(worker);
+        if names.is_empty() {
+            return;
+        }
+        let Some(door) = self.house.doors.get(worker) else {
+            return;
+        };
+        let waits = door.leave_names(self.rt, names, self.index, self.publisher, self.now);
+        self.notices.clear(worker);
+        if let Some(conn) = self.publisher {
             if waits {
                 self.hold(conn);
             }
@@ -99,9 +111,9 @@ impl<'a, L: Run, R: Wait + Clock, G: Gate + Drop, W: Words + Drop> Worker<'a, L,
             return;
         };
         let is_idle = self.ready.is_empty() && self.dirty.is_empty();
-        let left = mem::replace(&mut self.left, Vec::new(self.alloc));
-        let intake = door.take_in(self.rt, left.as_slice(), is_idle);
-        drop(left);
+        let room = mem::replace(&mut self.room, Vec::new(self.alloc));
+        let intake = door.take_in(self.rt, self.left.as_slice(), is_idle, room);
+        self.left.clear();
         self.sleeps = intake.sleeps;
         self.follow(intake);
     }
@@ -122,6 +134,7 @@ impl<'a, L: Run, R: Wait + Clock, G: Gate + Drop, W: Words + Drop> Worker<'a, L,
         for name in named.as_slice() {
             self.name(*name);
         }
+        self.room = named;
         for publisher in resumed.as_slice() {
             self.resume_now(*publisher);
         }
@@ -151,8 +164,7 @@ impl<'a, L: Run, R: Wait + Clock, G: Gate + Drop, W: Words + Drop> Worker<'a, L,
             return;
         };
         if let Some(standing) = self.clients.get_mut(key) {
-            standing.awaited = standing.awaited.more(name.entered, name.bytes);
-            standing.drain = standing.drain || name.drain;
+            standing.due = standing.due.named(name);
         }
         self.make_dirty(key);
     }
@@ -162,15 +174,14 @@ impl<'a, L: Run, R: Wait + Clock, G: Gate + Drop, W: Words + Drop> Worker<'a, L,
         let most = self.house.limits.outbox;
         for key in 0..self.clients.capacity() {
             if let Some(standing) = self.clients.get_mut(key) {
-                standing.awaited.count = standing.awaited.count.max(most);
-                standing.drain = true;
+                standing.due = standing.due.unnamed(most);
             }
             self.make_dirty(key);
         }
     }
 
     /// Drains the connections that are to be written to: all, or only those for which many deliveries wait, since fewer
-    /// and larger writes cost less. Names whom the answers name.
+    /// and larger writes cost less.
     pub fn drain_dirty(&mut self, all: bool) {
         let many = many(self.house.limits.outbox);
         for _ in 0..self.dirty.len() {
@@ -178,16 +189,20 @@ impl<'a, L: Run, R: Wait + Clock, G: Gate + Drop, W: Words + Drop> Worker<'a, L,
                 break;
             };
             if let Some(standing) = self.clients.get_mut(key) {
-                if !all && standing.may_wait(many) {
+                let has_answers = standing.client.has_answers();
+                if !all && !has_answers && standing.due.may_wait(many) {
                     drop(self.dirty.push_back(key));
                     continue;
                 }
                 standing.is_dirty = false;
-                standing.count_ahead();
+                if has_answers {
+                    standing.due = standing.due.counted();
+                }
             }
             self.drain_one(key);
         }
-        self.tell(None);
+        // (a Take names nobody)
+        drop(self.port.take_receipts());
     }
 
     /// Some Takes of a connection, as far as its socket takes them.
@@ -232,7 +247,7 @@ impl<'a, L: Run, R: Wait + Clock, G: Gate + Drop, W: Words + Drop> Worker<'a, L,
         let Some(standing) = self.clients.get_mut(key) else {
             return Drained::Stops;
         };
-        standing.ahead = None;
+        standing.due.ahead = None;
         let mut writer = NonBlocking::new(&standing.socket);
         let turn = standing.client.answer(&mut writer);
         if turn == Turn::Done && standing.is_due() {
@@ -247,19 +262,20 @@ impl<'a, L: Run, R: Wait + Clock, G: Gate + Drop, W: Words + Drop> Worker<'a, L,
         let Some(standing) = self.clients.get_mut(key) else {
             return Drained::Stops;
         };
-        let most = standing.awaited.next_take();
+        let most = standing.due.awaited.next_take();
         let mut writer = NonBlocking::new(&standing.socket);
         let turn = standing
             .client
             .drain(&mut self.port, &mut writer, most, self.now);
         if let Turn::Stalled(_) = turn {
             // (frames that stopped have their turns again only once the answers before them are written)
-            standing.ahead = Some(0);
+            standing.due.ahead = Some(0);
         }
         let has_taken = turn == Turn::Done || turn == Turn::Waits;
         if has_taken {
             let conn = standing.client.conn().number();
-            let count = standing.taken(most);
+            let count = standing.due.awaited.count.min(most);
+            standing.due = standing.due.taken(most);
             drop(self.left.push(Left { conn, count }));
         }
         if turn == Turn::Done {
@@ -274,7 +290,7 @@ impl<'a, L: Run, R: Wait + Clock, G: Gate + Drop, W: Words + Drop> Worker<'a, L,
         let Some(standing) = self.clients.get_mut(key) else {
             return Drained::Stops;
         };
-        if !standing.drain {
+        if !standing.due.drain {
             return Drained::Stops;
         }
         match standing.end_at {

@@ -93,16 +93,16 @@ impl<L: Run, R: Wait + Clock, G: Gate + Drop> Reloads<'_, L, R, G> {
             Ok(()) => say(sink, line.as_slice()),
             Err(_) => say(sink, b"no memory\n"),
         }
-        let Some(mut notices) = Notices::new(self.alloc, self.house.doors.len()) else {
+        let Some(mut notices) = Notices::new(self.alloc, self.house.doors.len(), None) else {
             return;
         };
         for receipt in self.port.take_receipts().as_slice() {
             notices.note(receipt);
         }
         for (worker, door) in self.house.doors.iter().enumerate() {
-            let names = notices.take(worker);
+            let names = notices.of(worker);
             if !names.is_empty() {
-                let _ = door.leave_names(self.rt, names.as_slice(), worker, None, now);
+                let _ = door.leave_names(self.rt, names, worker, None, now);
             }
         }
     }

@@ -1,5 +1,5 @@
 use client_io::Client;
-use doors::Awaited;
+use doors::Due;
 use mio::net::TcpStream;
 
 /// A connection of a worker.
@@ -7,13 +7,8 @@ use mio::net::TcpStream;
 pub struct Standing {
     pub client: Client,
     pub socket: TcpStream,
-    /// What is known to wait in its outbox.
-    pub awaited: Awaited,
-    /// How many deliveries are to be taken before the answers to its latest piece are written: those that were known to
-    /// wait when it was read. `None` before they are counted.
-    pub ahead: Option<usize>,
-    /// Whether it is to be drained whatever waits.
-    pub drain: bool,
+    /// What is known to be due to it.
+    pub due: Due,
     /// From when on it is ended, if it is to be closed and its socket takes nothing.
     pub end_at: Option<u64>,
     /// Whether its socket may have more to read.
@@ -33,9 +28,7 @@ impl Standing {
         Standing {
             client,
             socket,
-            awaited: Awaited { count: 0, bytes: 0 },
-            ahead: None,
-            drain: false,
+            due: Due::nothing(),
             end_at: None,
             readable: true,
             held_until: None,
@@ -45,32 +38,9 @@ impl Standing {
         }
     }
 
-    /// Notes that a Take has asked for so many, and answers how many of those that were known it had.
-    pub fn taken(&mut self, most: usize) -> usize {
-        let known = self.awaited.count.min(most);
-        self.awaited = self.awaited.fewer(most);
-        if let Some(ahead) = self.ahead {
-            self.ahead = Some(ahead.saturating_sub(most));
-        }
-        self.drain = false;
-        known
-    }
-
-    /// Notes how many deliveries come before the answers that wait, if some do and that isn't noted yet.
-    pub fn count_ahead(&mut self) {
-        if self.client.has_answers() && self.ahead.is_none() {
-            self.ahead = Some(self.awaited.count);
-        }
-    }
-
     /// Whether answers wait, and all deliveries that come before them are taken.
     pub fn may_answer(&self) -> bool {
-        self.client.has_answers() && (self.ahead == Some(0) || !self.is_due())
-    }
-
-    /// Whether its drain may wait while others have something to read: no answers wait, and fewer deliveries than many.
-    pub fn may_wait(&self, many: usize) -> bool {
-        self.awaited.count < many && !self.client.has_answers()
+        self.client.has_answers() && self.due.may_answer(self.is_connected())
     }
 
     /// Whether it may be read.
@@ -80,6 +50,10 @@ impl Standing {
 
     /// Whether a Take is due.
     pub fn is_due(&self) -> bool {
-        (self.awaited.count > 0 || self.drain) && self.client.conn().stage().is_connected()
+        self.due.is_due(self.is_connected())
+    }
+
+    fn is_connected(&self) -> bool {
+        self.client.conn().stage().is_connected()
     }
 }

@@ -1,7 +1,7 @@
 use crate::server::Post;
 use crate::standing::Standing;
 use conn::Words;
-use doors::{House, Left, Notices, PIECE, millis};
+use doors::{House, Left, Named, Notices, PIECE, millis};
 use gates::{Gate, GatedPort};
 use mio::event::Event;
 use mio::net::TcpListener;
@@ -70,6 +70,10 @@ pub struct Worker<'a, L: Run, R: Wait, G: Gate + Drop, W: Words + Drop> {
     /// What has left outboxes since the door was told.
     pub left: Vec<Left>,
     pub notices: Notices,
+    /// The publisher of the latest piece of a round.
+    pub publisher: Option<u64>,
+    /// Room for names that others leave.
+    pub room: Vec<Named>,
     pub buf: Vec<u8>,
     pub now: u64,
     /// Whether others know that it sleeps, and will wake it.
@@ -92,7 +96,6 @@ impl<'a, L: Run, R: Wait + Clock, G: Gate + Drop, W: Words + Drop> Worker<'a, L,
         house: &'a House<'a>,
         start: Start<L, G, W>,
     ) -> Option<Worker<'a, L, R, G, W>> {
-        let notices = Notices::new(alloc, house.doors.len())?;
         let buf = buffer(alloc)?;
         let Start {
             index,
@@ -101,6 +104,7 @@ impl<'a, L: Run, R: Wait + Clock, G: Gate + Drop, W: Words + Drop> Worker<'a, L,
             listener,
         } = start;
         let Post { seat, gate, words } = post;
+        let notices = Notices::new(alloc, house.doors.len(), Some(index))?;
         let port = SharedPort::new(rt, alloc, shared, seat);
         Some(Worker {
             rt,
@@ -121,6 +125,8 @@ impl<'a, L: Run, R: Wait + Clock, G: Gate + Drop, W: Words + Drop> Worker<'a, L,
             held: VecDeque::new(alloc),
             left: Vec::new(alloc),
             notices,
+            publisher: None,
+            room: Vec::new(alloc),
             buf,
             now: 0,
             sleeps: false,
@@ -184,6 +190,8 @@ impl<'a, L: Run, R: Wait + Clock, G: Gate + Drop, W: Words + Drop> Worker<'a, L,
             let is_last = self.ready.is_empty();
             self.drain_dirty(is_last);
         }
+        self.tell_others();
+        self.publisher = None;
         true
     }
 
