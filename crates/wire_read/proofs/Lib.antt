@@ -1,6 +1,3 @@
-pub mod FieldLemmas
-pub mod PlaceLemmas
-pub mod LineLemmas
 pub mod SizeLemmas
 pub mod FramingLemmas
 pub mod CutLemmas

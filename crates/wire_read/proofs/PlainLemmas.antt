@@ -10,10 +10,10 @@ use Rattle.std.proofs.lemmas.List.Splits.{slice_split_none, slice_split_at}
 use Rattle.digits.specs.Number.{is_number}
 use Rattle.wire_read.specs.declared.fault.WireFault.TheVariants.{ParserError, Payload}
 use Rattle.wire_read.specs.declared.frame.Frame.TheVariants as frame
-use Rattle.wire_read.specs.declared.operation.Operation.TheVariants as operations
-use Rattle.wire_read.specs.Line.{is_lf, without_cr}
-use Rattle.wire_read.specs.Field.{is_separator, has_byte, fields}
-use Rattle.wire_read.specs.Operation.{operation}
+use Rattle.control_lines.specs.declared.operation.Operation.TheVariants as operations
+use Rattle.control_lines.specs.Line.{is_lf, without_cr}
+use Rattle.control_lines.specs.Field.{is_separator, has_byte, fields}
+use Rattle.control_lines.specs.Operation.{operation}
 use Rattle.wire_read.specs.Size.{size}
 use Rattle.wire_read.specs.Front.{Whole, front}
 use Rattle.wire_read.specs.Plain.{is_word_byte, IsPlain}

@@ -7,11 +7,11 @@ use Rattle.wire_read.specs.declared.frame.Frame.TheVariants.{Pub, Hpub}
 use Rattle.wire_read.specs.Command.{Announced}
 use Rattle.wire_read.specs.Command.{Command}
 use Rattle.wire_read.specs.Command.{Alone, Publish, Refused}
-use Rattle.wire_read.specs.declared.line.Line.{Line}
-use Rattle.wire_read.specs.declared.line.Line.TheVariants.{Open, TooLong, Ended}
+use Rattle.control_lines.specs.declared.line.Line.{Line}
+use Rattle.control_lines.specs.declared.line.Line.TheVariants.{Open, TooLong, Ended}
 use Rattle.wire_read.specs.declared.front.End.{End}
 use Rattle.wire_read.specs.declared.front.End.TheVariants as ends
-use Rattle.wire_read.specs.Line.{line_of, without_cr}
+use Rattle.control_lines.specs.Line.{line_of, without_cr}
 use Rattle.wire_read.specs.Command.{command}
 
 -- a frame and how many bytes it takes, less than a frame, or no frame however the bytes go on

@@ -1,6 +1,3 @@
-pub mod Line
-pub mod Field
-pub mod Operation
 pub mod Size
 pub mod Command
 pub mod Places

@@ -1,14 +1,16 @@
 ghost use Rattle.std.specs.Prelude.{◌≡◌, ◌≤◌, length, take, drop, IfOk};
-ghost use Rattle.wire_read.specs.Field.{counted, fields};
+ghost use Rattle.control_lines.specs.Field.{counted, fields};
+ghost use Rattle.control_lines.specs.Places.{text_at, text_if_at};
 ghost use Rattle.wire_read.specs.Size.{size, sizes};
 ghost use Rattle.wire_read.specs.Command.{command, publication, headed_publication, subscription, unsubscription, sized, headed};
-ghost use Rattle.wire_read.specs.Places.{text_at, text_if_at, frame_at, command_at};
+ghost use Rattle.wire_read.specs.Places.{frame_at, command_at};
 
-use crate::field::{FieldsAt, Place, cut, cut_if, fields_of, first_place, text_at, trim};
-use crate::operation::{Operation, find_operation};
 use crate::size::{count_of, size_of, sizes_of};
 use crate::{Frame, WireFault};
 use bytes::Bytes;
+use control_lines::{
+    FieldsAt, Operation, Place, cut, cut_if, fields_of, find_operation, first_place, text_at, trim,
+};
 use std::alloc::AllocError;
 
 /// What the line of a message says of it.

@@ -1,18 +1,18 @@
 ghost use Rattle.std.specs.Prelude.{◌≡◌, ◌<◌, ◌≤◌, ◌+◌, length, take, drop, IfOk};
-ghost use Rattle.wire_read.specs.Line.{line_of};
-ghost use Rattle.wire_read.specs.declared.line.Line.TheVariants as line_is;
+ghost use Rattle.control_lines.specs.Line.{line_of};
+ghost use Rattle.control_lines.specs.Places.{text_at, text_if_at};
+ghost use Rattle.control_lines.specs.declared.line.Line.TheVariants as line_is;
 ghost use Rattle.wire_read.specs.Awaited.{IsFound, AwaitsBlock, front_of};
 ghost use Rattle.wire_read.specs.Command.{IsWithin};
 ghost use Rattle.wire_read.specs.Front.{after_announced, end_of, message};
-ghost use Rattle.wire_read.specs.Places.{announced_at, text_at, text_if_at};
+ghost use Rattle.wire_read.specs.Places.{announced_at};
 ghost use Rattle.wire_read.specs.declared.front.Found.TheVariants as found;
 
 use crate::awaited::Awaited;
 use crate::command::{AnnouncedAt, CommandAt, frame_of, read_command};
-use crate::field::{cut, cut_if};
-use crate::line::{Line, find_line, len_without_cr};
 use crate::{Frame, WireFault};
 use bytes::Bytes;
+use control_lines::{Line, cut, cut_if, find_line, len_without_cr};
 use std::alloc::AllocError;
 
 /// What some bytes begin with.

@@ -2,7 +2,7 @@ ghost use Rattle.wire_read.specs.Awaited.{IsAwaiting, IsStep};
 
 use crate::awaited::Awaited;
 use crate::buffer::Buffer;
-use crate::line::{MAX_CONTROL_LINE, len_without_cr};
+use control_lines::{MAX_CONTROL_LINE, len_without_cr};
 use memchr::memchr;
 
 /// What a piece does to the bytes before it.

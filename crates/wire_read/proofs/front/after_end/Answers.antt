@@ -1,6 +1,6 @@
 use Rattle.std.proofs.Common.{◌≡◌, ◌+◌, ℕ, List, drop, take, sym, ap, ◌∙◌, subst, arith}
 use Rattle.std.proofs.lemmas.Grind.{common_steps}
-use Rattle.wire_read.specs.Line.{without_cr}
+use Rattle.control_lines.specs.Line.{without_cr}
 use Rattle.wire_read.specs.Command.{command, Alone, Publish, Refused}
 use Rattle.wire_read.specs.Front.{after_announced}
 use Rattle.wire_read.specs.Places.{announced_at, frame_at}

@@ -1,7 +1,7 @@
 use Rattle.std.proofs.Common.{not, sym, ap, ◌∙◌, arith}
 use Rattle.std.proofs.lemmas.List.Sums.{prefix_len_is}
-use Rattle.wire_read.specs.Field.{is_field_byte}
-use Rattle.wire_read.proofs.field.field_len.Goals as goal
+use Rattle.control_lines.specs.Field.{is_field_byte}
+use Rattle.control_lines.proofs.field.field_len.Goals as goal
 
 pub returns-then-is_separator-clause-value : goal.returns-then-is_separator-clause-value
 returns-then-is_separator-clause-value c =

@@ -1,8 +1,8 @@
 -- Control lines (NATS documentation, "Client Protocol"; docs/PROTOCOL.md, "Control lines").
 use Rattle.std.specs.Prelude.{ℕ, ◌-◌, ◌==◌, Bool, List, length, take, slice_index, nat_lt, if◌then◌else◌}
 use Rattle.std.specs.List.{before_first, position_or_len}
-use Rattle.wire_read.specs.declared.line.Line.{Line}
-use Rattle.wire_read.specs.declared.line.Line.TheVariants.{Open, TooLong, Ended}
+use Rattle.control_lines.specs.declared.line.Line.{Line}
+use Rattle.control_lines.specs.declared.line.Line.TheVariants.{Open, TooLong, Ended}
 
 -- a line ends before the first LF
 abbrev pub is_lf : ℕ → Bool

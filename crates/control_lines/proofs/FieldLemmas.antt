@@ -4,7 +4,7 @@ use Rattle.std.specs.List.{slice_split, onto_first, prefix_len, take_while}
 use Rattle.std.proofs.lemmas.List.{drop_all}
 use Rattle.std.proofs.lemmas.List.Sums.{take_while-cons, prefix_len-le-length}
 use Rattle.std.proofs.lemmas.Bool.{cond-true, ne_eqb}
-use Rattle.wire_read.specs.Field.{is_separator, has_byte, fields, trimmed, first_field, after_first_field}
+use Rattle.control_lines.specs.Field.{is_separator, has_byte, fields, trimmed, first_field, after_first_field}
 
 module _ (p : ℕ → Bool) where
   abbrev other : ℕ → Bool

@@ -1,8 +1,8 @@
 -- The operations that a client may name (NATS documentation, "Client Protocol").
 use Rattle.std.specs.Prelude.{ℕ, List, Option, Some, None, codes, if◌then◌else◌}
 use Rattle.std.specs.Str.{str_eq_ignore_ascii_case}
-use Rattle.wire_read.specs.declared.operation.Operation.{Operation}
-use Rattle.wire_read.specs.declared.operation.Operation.TheVariants.{Connect, Pub, Hpub, Sub, Unsub, Ping, Pong}
+use Rattle.control_lines.specs.declared.operation.Operation.{Operation}
+use Rattle.control_lines.specs.declared.operation.Operation.TheVariants.{Connect, Pub, Hpub, Sub, Unsub, Ping, Pong}
 
 -- the operation that a field names, in any case of letters
 unfoldable pub operation : List ℕ → Option Operation

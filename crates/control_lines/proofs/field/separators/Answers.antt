@@ -1,7 +1,7 @@
 use Rattle.std.proofs.Common.{sym, ◌∙◌, arith}
 use Rattle.std.proofs.lemmas.List.Sums.{prefix_len_is}
-use Rattle.wire_read.specs.Field.{is_separator}
-use Rattle.wire_read.proofs.field.separators.Goals as goal
+use Rattle.control_lines.specs.Field.{is_separator}
+use Rattle.control_lines.proofs.field.separators.Goals as goal
 
 pub returns-then-not-is_separator-clause-value : goal.returns-then-not-is_separator-clause-value
 returns-then-not-is_separator-clause-value c =

@@ -5,9 +5,9 @@ use Rattle.std.proofs.lemmas.List.{take-take, get_or-take}
 use Rattle.std.proofs.lemmas.List.Sums.{position_or_len_is, passes_at_first, prefix_len-le-length}
 use Rattle.std.proofs.lemmas.Bool.{cases_lt, eqb-true, eqb-false, ltb-true, ltb-false, eq-eqb, ne_eqb, lt-ltb, le-ltb, cond-true, cond-false, false_from_ne_true}
 use Rattle.memchr.specs.Find.{IsFirstByte, is_byte}
-use Rattle.wire_read.specs.declared.line.Line.{Line}
-use Rattle.wire_read.specs.declared.line.Line.TheVariants.{Open, TooLong, Ended}
-use Rattle.wire_read.specs.Line.{is_lf, without_cr, is_too_long, line_of}
+use Rattle.control_lines.specs.declared.line.Line.{Line}
+use Rattle.control_lines.specs.declared.line.Line.TheVariants.{Open, TooLong, Ended}
+use Rattle.control_lines.specs.Line.{is_lf, without_cr, is_too_long, line_of}
 
 -- a line has one byte more than it has without its CR, at most
 pub without_cr-bounds : (line : List ℕ) → (length (without_cr line) ≤ length line) × (length line ≤ length (without_cr line) + 1)

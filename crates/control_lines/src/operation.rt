@@ -1,6 +1,6 @@
 ghost use Rattle.std.specs.Prelude.{◌≡◌};
 ghost use Rattle.std.specs.Str.{str_eq_ignore_ascii_case};
-ghost use Rattle.wire_read.specs.Operation.{operation};
+ghost use Rattle.control_lines.specs.Operation.{operation};
 
 /// The operations that a client may name.
 #[derive(Clone, Copy)]

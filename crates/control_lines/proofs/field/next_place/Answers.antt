@@ -1,8 +1,8 @@
 -- a field has a byte
 use Rattle.std.proofs.Common.{arith, ◌-◌, drop, length-take, length-drop}
-use Rattle.wire_read.specs.Places.{text_at}
-use Rattle.wire_read.proofs.FieldLemmas.{fields_end, fields_more}
-use Rattle.wire_read.proofs.field.next_place.Goals as goal
+use Rattle.control_lines.specs.Places.{text_at}
+use Rattle.control_lines.proofs.FieldLemmas.{fields_end, fields_more}
+use Rattle.control_lines.proofs.field.next_place.Goals as goal
 
 pub returns-then-place-clause-fields : goal.returns-then-place-clause-fields
 returns-then-place-clause-fields c =

@@ -1,6 +1,6 @@
 use Rattle.std.proofs.Common.{arith}
-use Rattle.wire_read.proofs.LineLemmas.{found_long, found_short, none_long, none_short}
-use Rattle.wire_read.proofs.line.find_line.Goals as goal
+use Rattle.control_lines.proofs.LineLemmas.{found_long, found_short, none_long, none_short}
+use Rattle.control_lines.proofs.line.find_line.Goals as goal
 
 pub returns-then-len_without_cr-gt-MAX_CONTROL_LINE :
     goal.returns-then-len_without_cr-gt-MAX_CONTROL_LINE

@@ -1,7 +1,7 @@
 ghost use Rattle.std.specs.Prelude.{◌≡◌, ◌∷◌, ◌≤◌, [], length, take, drop, IfOk, IfSome, MatchOption};
 ghost use Rattle.std.specs.List.{prefix_len};
-ghost use Rattle.wire_read.specs.Field.{is_separator, is_field_byte, first_field, after_first_field, fields, counted, trimmed};
-ghost use Rattle.wire_read.specs.Places.{text_at, text_if_at, fields_at};
+ghost use Rattle.control_lines.specs.Field.{is_separator, is_field_byte, first_field, after_first_field, fields, counted, trimmed};
+ghost use Rattle.control_lines.specs.Places.{text_at, text_if_at, fields_at};
 
 use bytes::Bytes;
 use std::alloc::AllocError;

@@ -1,5 +1,5 @@
 ghost use Rattle.std.specs.Prelude.{◌≡◌, length};
-ghost use Rattle.wire_read.specs.Line.{line_of, without_cr};
+ghost use Rattle.control_lines.specs.Line.{line_of, without_cr};
 
 use memchr::memchr;
 
