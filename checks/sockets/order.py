@@ -5,6 +5,8 @@ A client that drains sends UNSUB and PING, and drops what comes for that subscri
 what comes late.
 """
 
+import threading
+
 from clients import Client, Server, client_on, run, want
 
 COUNT = 500
@@ -53,5 +55,41 @@ def one_piece(program, divide):
             pong_is_last(client, count, b"%04d")
 
 
+def publish_on(client, stop):
+    piece = b"PUB last 4\r\nabcd\r\n" * 100
+    while not stop.is_set():
+        client.send(piece)
+
+
+def end_in_flood(client, sid):
+    """Subscribes until a message has come, and returns how many came before the PONG."""
+    client.send(b"SUB last %b\r\n" % sid)
+    count = 0
+    while (line := client.line()) != b"PONG":
+        want(line.startswith(b"MSG last %b " % sid), f"{line!r} came behind the PONG to its UNSUB")
+        client.take(6)
+        count += 1
+        if count == 1:
+            client.send(b"UNSUB %b\r\nPING\r\n" % sid)
+    return count
+
+
+def flooded(program, divide):
+    """What another on another worker has published, and wasn't answered, before the UNSUB"""
+    rounds = max(5 * ROUNDS // divide, 10)
+    with Server(program, "--workers", 2) as server:
+        publisher, receiver = client_on(server, 0, 2), client_on(server, 1, 2)
+        stop = threading.Event()
+        flood = threading.Thread(target=publish_on, args=(publisher, stop))
+        flood.start()
+        try:
+            count = sum(end_in_flood(receiver, b"%d" % it) for it in range(rounds))
+            receiver.ping()
+        finally:
+            stop.set()
+            flood.join()
+    return f"{rounds} times, {count} messages"
+
+
 if __name__ == "__main__":
-    run(__doc__.split("\n")[0], same_worker, other_worker, one_piece)
+    run(__doc__.split("\n")[0], same_worker, other_worker, one_piece, flooded)

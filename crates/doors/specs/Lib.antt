@@ -1,4 +1,1 @@
-pub mod Awaited
-pub mod Due
 pub mod Owners
-pub mod Waiting

@@ -1,6 +1,6 @@
-use crate::waiting::Waiting;
 use mio::net::TcpStream;
 use mio::{Registry, Token, Waker};
+use pacing::{Named, Waiting};
 use std::alloc::Global;
 use std::collections::HashMap;
 use std::hash::RandomState;
@@ -14,22 +14,21 @@ pub struct Arrival {
     pub socket: TcpStream,
 }
 
-/// A connection that answers name: so many deliveries have entered its outbox, with so many bytes in all, or it is to
-/// be drained for another reason.
-#[derive(Clone, Copy)]
-pub struct Named {
-    pub conn: u64,
-    pub entered: usize,
-    pub bytes: usize,
-    /// Whether a delivery was missed, or the session is gone.
-    pub drain: bool,
-}
-
 /// So many deliveries have left a connection's outbox.
 #[derive(Clone, Copy)]
 pub struct Left {
     pub conn: u64,
     pub count: usize,
+}
+
+impl Left {
+    /// All that a connection had is gone with it.
+    pub fn all(conn: u64) -> Left {
+        Left {
+            conn,
+            count: usize::MAX,
+        }
+    }
 }
 
 /// A publisher that is read no further while a receiver lags.

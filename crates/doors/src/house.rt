@@ -26,6 +26,8 @@ pub struct Flags {
     rested: AtomicU64,
     /// Until when pieces are small, since a receiver lags.
     small_until: AtomicU64,
+    /// How many workers may have entered deliveries for others' connections that they haven't named yet.
+    telling: AtomicU64,
 }
 
 /// What all threads of a server share.
@@ -53,6 +55,7 @@ impl Flags {
             stops: AtomicU64::new(0),
             rested: AtomicU64::new(0),
             small_until: AtomicU64::new(0),
+            telling: AtomicU64::new(0),
         }
     }
 }
@@ -94,6 +97,20 @@ impl<'a> House<'a> {
     /// Whether all workers read no more.
     pub fn all_rest(&self) -> bool {
         self.flags.rested.load(Ordering::SeqCst) >= self.doors.len() as u64
+    }
+
+    /// Notes that a worker may enter deliveries before it names them, or that it has named all.
+    pub fn note_telling(&self, tells: bool) {
+        let _ = if tells {
+            self.flags.telling.fetch_add(1, Ordering::SeqCst)
+        } else {
+            self.flags.telling.fetch_sub(1, Ordering::SeqCst)
+        };
+    }
+
+    /// How many workers may have entered deliveries that they haven't named yet.
+    pub fn telling(&self) -> u64 {
+        self.flags.telling.load(Ordering::SeqCst)
     }
 
     /// Has pieces be small until a moment, since a receiver lags.

@@ -1,10 +1,12 @@
 ghost use Rattle.std.specs.Prelude.{◌≡◌};
 ghost use Rattle.doors.specs.Owners.{owner};
 
-use crate::door::Named;
+use crate::door::Door;
 use events::{Command, Item, Met, Outcome};
+use pacing::Named;
 use shared_hub::Receipt;
 use std::alloc::Global;
+use std::sync::Wait;
 
 /// One more than how many of the latest names are looked through for one that stands already.
 const LATEST: usize = 17;
@@ -15,8 +17,8 @@ pub struct Notices {
     by_worker: Vec<Vec<Named>>,
     /// The worker that gathers them, if it is one.
     own: Option<usize>,
-    /// How many deliveries have entered for one connection of another worker at most.
-    most: usize,
+    /// How many deliveries have entered for one connection of another worker at most, since the names were cleared.
+    pub most: usize,
 }
 
 /// Which worker has a connection: sockets are handed round in turn.
@@ -59,6 +61,17 @@ fn size_of(command: &Command) -> usize {
     }
 }
 
+/// Whether this is the receipt of a Take that gave less than it asked for.
+pub fn gave_less(receipts: &[Receipt], most: usize) -> bool {
+    match receipts {
+        [receipt] => match &receipt.parts().0.get().outcome {
+            Outcome::Taken(all, _) => all.len() < most,
+            _ => false,
+        },
+        _ => false,
+    }
+}
+
 impl Notices {
     /// No names, for so many workers, gathered by one of them or by none. Without memory there are no notices.
     pub fn new(alloc: Global, workers: usize, own: Option<usize>) -> Option<Notices> {
@@ -75,8 +88,15 @@ impl Notices {
         })
     }
 
+    /// Notes whom receipts name.
+    pub fn note_all(&mut self, receipts: &[Receipt]) {
+        for receipt in receipts {
+            self.note(receipt);
+        }
+    }
+
     /// Notes whom a receipt names.
-    pub fn note(&mut self, receipt: &Receipt) {
+    fn note(&mut self, receipt: &Receipt) {
         let (answer, command, _) = receipt.parts();
         match &answer.get().outcome {
             Outcome::Published(_, met) => self.note_met(met, size_of(command)),
@@ -114,26 +134,35 @@ impl Notices {
         }
     }
 
-    /// How many deliveries have entered for one connection of another worker at most, since the names were cleared.
-    pub fn most(&self) -> usize {
-        self.most
-    }
-
-    /// The names of a worker's connections.
-    pub fn of(&self, worker: usize) -> &[Named] {
-        match self.by_worker.get(worker) {
-            None => &[],
-            Some(names) => names.as_slice(),
+    /// Leaves the names of a worker's connections at its door, if there are some. Answers whether their publisher, whose
+    /// worker this is by its index, is to wait for one of them.
+    pub fn leave<R: Wait>(
+        &mut self,
+        rt: &R,
+        doors: &[Door],
+        worker: usize,
+        index: usize,
+        publisher: Option<u64>,
+        now: u64,
+    ) -> bool {
+        let (Some(names), Some(door)) = (self.by_worker.get_mut(worker), doors.get(worker)) else {
+            return false;
+        };
+        if names.is_empty() {
+            return false;
         }
-    }
-
-    /// No names of a worker's connections any more. Their room is used again.
-    pub fn clear(&mut self, worker: usize) {
-        if let Some(names) = self.by_worker.get_mut(worker) {
-            names.clear();
-        }
+        let waits = door.leave_names(rt, names.as_slice(), index, publisher, now);
+        names.clear();
         if self.own != Some(worker) {
             self.most = 0;
+        }
+        waits
+    }
+
+    /// Leaves all names at their doors, for which no publisher is to wait.
+    pub fn leave_all<R: Wait>(&mut self, rt: &R, doors: &[Door], now: u64) {
+        for worker in 0..doors.len() {
+            let _ = self.leave(rt, doors, worker, worker, None, now);
         }
     }
 }

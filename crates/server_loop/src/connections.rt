@@ -2,10 +2,11 @@ use crate::standing::Standing;
 use crate::worker::Worker;
 use client_io::{Client, NonBlocking, Turn};
 use conn::Words;
-use doors::{Arrival, Left, owner_of, piece_length};
+use doors::{Arrival, Left, owner_of};
 use gates::Gate;
 use mio::net::TcpStream;
 use mio::{Interest, Token};
+use pacing::piece_length;
 use shared_hub::Run;
 use std::sync::Wait;
 use std::time::Clock;
@@ -94,10 +95,15 @@ impl<'a, L: Run, R: Wait + Clock, G: Gate + Drop, W: Words + Drop> Worker<'a, L,
             return;
         };
         standing.is_ready = false;
+        let conn = standing.client.conn().number();
         if !standing.may_read() {
             return;
         }
-        let Some(buf) = self.buf.as_mut_slice().get_mut(..most) else {
+        let goes_on = self.begin_piece(conn);
+        let (Some(standing), Some(buf)) = (
+            self.clients.get_mut(key),
+            self.buf.as_mut_slice().get_mut(..most),
+        ) else {
             return;
         };
         if buf.is_empty() {
@@ -113,10 +119,13 @@ impl<'a, L: Run, R: Wait + Clock, G: Gate + Drop, W: Words + Drop> Worker<'a, L,
             buf,
             self.now,
         );
-        standing.due.ahead = None;
-        let conn = standing.client.conn().number();
         let has_answers = standing.client.has_answers();
-        self.tell(conn, has_answers);
+        standing.due.ahead = None;
+        if has_answers && self.house.telling() > 1 {
+            // (others may have entered deliveries before, and not named them)
+            standing.due.ahead = Some(self.house.limits.outbox);
+        }
+        self.tell(goes_on, has_answers);
         if has_answers {
             self.make_dirty(key);
         }
@@ -175,10 +184,6 @@ impl<'a, L: Run, R: Wait + Clock, G: Gate + Drop, W: Words + Drop> Worker<'a, L,
         }
         drop(self.clients.try_remove(key));
         drop(self.keys.remove(&conn));
-        let all = Left {
-            conn,
-            count: usize::MAX,
-        };
-        drop(self.left.push(all));
+        drop(self.left.push(Left::all(conn)));
     }
 }

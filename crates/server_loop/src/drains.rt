@@ -1,8 +1,9 @@
 use crate::worker::{Held, Worker};
 use client_io::{NonBlocking, Turn};
 use conn::Words;
-use doors::{Intake, Left, Named, PATIENCE, batch, many};
+use doors::{Intake, Left, gave_less};
 use gates::Gate;
+use pacing::{Named, PATIENCE, batch, many};
 use shared_hub::Run;
 use std::mem;
 use std::sync::Wait;
@@ -25,21 +26,28 @@ enum Drained {
 }
 
 impl<'a, L: Run, R: Wait + Clock, G: Gate + Drop, W: Words + Drop> Worker<'a, L, R, G, W> {
-    /// Names the connections of the answers to a piece of a publisher. One's own are named at once, and those of other
-    /// workers too at its first piece of several, or where answers wait. Else they wait for more of that publisher's, so
-    /// that their workers are woken less often.
-    pub fn tell(&mut self, publisher: u64, has_answers: bool) {
+    /// A piece of a publisher begins: others know that its receivers are still to be named, and those of the publisher
+    /// before are named. Answers whether it was this one.
+    pub fn begin_piece(&mut self, publisher: u64) -> bool {
         let goes_on = self.publisher == Some(publisher);
         if !goes_on {
             self.tell_others();
             self.publisher = Some(publisher);
         }
-        for receipt in self.port.take_receipts().as_slice() {
-            self.notices.note(receipt);
+        if !self.tells {
+            self.tells = true;
+            self.house.note_telling(true);
         }
+        goes_on
+    }
+
+    /// Names the receivers of a piece. One's own are named at once, and those of other workers too at a publisher's first
+    /// piece, or where answers wait. Else they wait for more of that publisher, so that others are woken less often.
+    pub fn tell(&mut self, goes_on: bool, has_answers: bool) {
+        self.notices.note_all(self.port.take_receipts().as_slice());
         self.leave_names(self.index);
         let batch = batch(self.house.limits.outbox, self.house.doors.len());
-        if has_answers || !goes_on || self.notices.most() >= batch {
+        if has_answers || !goes_on || self.notices.most >= batch {
             self.tell_others();
         }
     }
@@ -49,21 +57,20 @@ impl<'a, L: Run, R: Wait + Clock, G: Gate + Drop, W: Words + Drop> Worker<'a, L,
         for worker in 0..self.house.doors.len() {
             self.leave_names(worker);
         }
+        if self.tells {
+            self.tells = false;
+            self.house.note_telling(false);
+        }
     }
 
     /// Leaves the names of a worker's connections at its door. The publisher is held where one of them lags.
     fn leave_names(&mut self, worker: usize) {
-        let names = self.notices.of(worker);
-        if names.is_empty() {
-            return;
-        }
-        let Some(door) = self.house.doors.get(worker) else {
-            return;
-        };
-        let waits = door.leave_names(self.rt, names, self.index, self.publisher, self.now);
-        self.notices.clear(worker);
-        if let Some(conn) = self.publisher {
-            if waits {
+        let (doors, index, publisher) = (self.house.doors, self.index, self.publisher);
+        if self
+            .notices
+            .leave(self.rt, doors, worker, index, publisher, self.now)
+        {
+            if let Some(conn) = publisher {
                 self.hold(conn);
             }
         }
@@ -156,11 +163,7 @@ impl<'a, L: Run, R: Wait + Clock, G: Gate + Drop, W: Words + Drop> Worker<'a, L,
     /// Notes that a connection of one's own was named.
     fn name(&mut self, name: Named) {
         let Some(key) = self.keys.get(&name.conn).copied() else {
-            let gone = Left {
-                conn: name.conn,
-                count: usize::MAX,
-            };
-            drop(self.left.push(gone));
+            drop(self.left.push(Left::all(name.conn)));
             return;
         };
         if let Some(standing) = self.clients.get_mut(key) {
@@ -201,8 +204,6 @@ impl<'a, L: Run, R: Wait + Clock, G: Gate + Drop, W: Words + Drop> Worker<'a, L,
             }
             self.drain_one(key);
         }
-        // (a Take names nobody)
-        drop(self.port.take_receipts());
     }
 
     /// Some Takes of a connection, as far as its socket takes them.
@@ -262,7 +263,7 @@ impl<'a, L: Run, R: Wait + Clock, G: Gate + Drop, W: Words + Drop> Worker<'a, L,
         let Some(standing) = self.clients.get_mut(key) else {
             return Drained::Stops;
         };
-        let most = standing.due.awaited.next_take();
+        let most = standing.due.next_take();
         let mut writer = NonBlocking::new(&standing.socket);
         let turn = standing
             .client
@@ -276,6 +277,9 @@ impl<'a, L: Run, R: Wait + Clock, G: Gate + Drop, W: Words + Drop> Worker<'a, L,
             let conn = standing.client.conn().number();
             let count = standing.due.awaited.count.min(most);
             standing.due = standing.due.taken(most);
+            if gave_less(self.port.take_receipts().as_slice(), most) {
+                standing.due = standing.due.emptied();
+            }
             drop(self.left.push(Left { conn, count }));
         }
         if turn == Turn::Done {

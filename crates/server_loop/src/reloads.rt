@@ -96,14 +96,7 @@ impl<L: Run, R: Wait + Clock, G: Gate + Drop> Reloads<'_, L, R, G> {
         let Some(mut notices) = Notices::new(self.alloc, self.house.doors.len(), None) else {
             return;
         };
-        for receipt in self.port.take_receipts().as_slice() {
-            notices.note(receipt);
-        }
-        for (worker, door) in self.house.doors.iter().enumerate() {
-            let names = notices.of(worker);
-            if !names.is_empty() {
-                let _ = door.leave_names(self.rt, names, worker, None, now);
-            }
-        }
+        notices.note_all(self.port.take_receipts().as_slice());
+        notices.leave_all(self.rt, self.house.doors, now);
     }
 }

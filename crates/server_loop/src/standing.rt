@@ -1,6 +1,6 @@
 use client_io::Client;
-use doors::Due;
 use mio::net::TcpStream;
+use pacing::Due;
 
 /// A connection of a worker.
 #[derive(Drop)]
@@ -40,7 +40,7 @@ impl Standing {
 
     /// Whether answers wait, and all deliveries that come before them are taken.
     pub fn may_answer(&self) -> bool {
-        self.client.has_answers() && self.due.may_answer(self.is_connected())
+        self.client.has_answers() && (self.due.is_answer_next() || !self.is_due())
     }
 
     /// Whether it may be read.
@@ -50,10 +50,6 @@ impl Standing {
 
     /// Whether a Take is due.
     pub fn is_due(&self) -> bool {
-        self.due.is_due(self.is_connected())
-    }
-
-    fn is_connected(&self) -> bool {
-        self.client.conn().stage().is_connected()
+        self.due.is_due(self.client.conn().stage().is_connected())
     }
 }

@@ -1,11 +1,12 @@
 use crate::server::Post;
 use crate::standing::Standing;
 use conn::Words;
-use doors::{House, Left, Named, Notices, PIECE, millis};
+use doors::{House, Left, Notices, millis};
 use gates::{Gate, GatedPort};
 use mio::event::Event;
 use mio::net::TcpListener;
 use mio::{Events, Interest, Poll, Token};
+use pacing::{Named, PIECE};
 use serve_fault::ServeFault;
 use shared_hub::{Run, Shared, SharedPort};
 use slab::Slab;
@@ -70,8 +71,9 @@ pub struct Worker<'a, L: Run, R: Wait, G: Gate + Drop, W: Words + Drop> {
     /// What has left outboxes since the door was told.
     pub left: Vec<Left>,
     pub notices: Notices,
-    /// The publisher of the latest piece of a round.
+    /// The publisher of the latest piece of a round, and whether others know that receivers are still to be named.
     pub publisher: Option<u64>,
+    pub tells: bool,
     /// Room for names that others leave.
     pub room: Vec<Named>,
     pub buf: Vec<u8>,
@@ -126,6 +128,7 @@ impl<'a, L: Run, R: Wait + Clock, G: Gate + Drop, W: Words + Drop> Worker<'a, L,
             left: Vec::new(alloc),
             notices,
             publisher: None,
+            tells: false,
             room: Vec::new(alloc),
             buf,
             now: 0,

@@ -1,7 +1,7 @@
 -- How many deliveries wait for a receiver, and since when they are more than half an outbox.
 use Rattle.std.specs.Prelude.{ℕ, ◌+◌, ◌-◌, Bool, true, false, Option, Some, None, nat_lt, nat_eq}
 use Rattle.std.specs.Io.Iter.{u64_saturate}
-use Rattle.doors.specs.declared.waiting.Waiting.{Waiting}
+use Rattle.pacing.specs.declared.waiting.Waiting.{Waiting}
 
 abbrev pub waiting : ℕ → Option ℕ → Waiting
 waiting count since = record { count = count; since = since }

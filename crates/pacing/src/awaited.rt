@@ -1,6 +1,6 @@
 // How much is read and taken at a time.
 ghost use Rattle.std.specs.Prelude.{◌≡◌};
-ghost use Rattle.doors.specs.Awaited.{batch, fewer, many, mean, more, next_take, piece_length};
+ghost use Rattle.pacing.specs.Awaited.{batch, fewer, many, mean, more, next_take, piece_length};
 
 /// How many deliveries are taken at a time at most.
 const MOST: usize = 256;

@@ -1,17 +1,21 @@
 // What is due to a connection, and when.
 ghost use Rattle.std.specs.Prelude.{◌≡◌};
-ghost use Rattle.doors.specs.Due.{counted, is_due, is_nothing, may_answer, may_wait, named, nothing, taken, unnamed};
+ghost use Rattle.pacing.specs.Due.{counted, emptied, is_due, is_nothing, may_wait, named, next_take, nothing, taken, unnamed};
 
 use crate::awaited::Awaited;
-use crate::door::Named;
+use crate::named::Named;
+
+/// How many deliveries are taken at a time of which nothing is known.
+const FEW: usize = 16;
 
 /// What is due to a connection: the deliveries that are known to wait in its outbox, and the answers behind them.
 #[derive(Clone, Copy)]
 pub struct Due {
     /// What is known to wait in its outbox.
     pub awaited: Awaited,
-    /// How many deliveries are to be taken before the answers to its latest piece are written: those that were known to
-    /// wait when it was read. `None` before they are counted.
+    /// How many deliveries are to be taken before the answers to its latest piece are written, while Takes give as many as
+    /// they ask for: those that were known to wait when it was read; or as many as an outbox holds, where others may not
+    /// be named yet. `None` before they are counted.
     pub ahead: Option<usize>,
     /// Whether it is to be drained whatever waits.
     pub drain: bool,
@@ -37,6 +41,21 @@ impl Due {
             awaited: self.awaited.more(name.entered, name.bytes),
             ahead: self.ahead,
             drain: self.drain || name.drain,
+        }
+    }
+
+    /// What is due once a Take has given less than it asked for: its outbox was empty then, so answers that wait come next.
+    pub fn emptied(self) -> Due
+        ensures { result ≡ emptied self }
+    {
+        let ahead = match self.ahead {
+            None => None,
+            Some(_) => Some(0),
+        };
+        Due {
+            awaited: self.awaited,
+            ahead,
+            drain: self.drain,
         }
     }
 
@@ -89,24 +108,27 @@ impl Due {
     pub fn is_due(self, is_connected: bool) -> bool
         ensures { result ≡ is_due self is_connected }
     {
-        (self.awaited.count > 0 || self.drain) && is_connected
+        (self.awaited.count > 0 || self.drain || self.ahead.unwrap_or(0) > 0) && is_connected
+    }
+
+    /// How many deliveries the next Take is to ask for: few where nothing is known of their size.
+    pub fn next_take(self) -> usize
+        ensures { result ≡ next_take self }
+    {
+        if self.awaited.count == 0 && !self.drain {
+            return FEW;
+        }
+        self.awaited.next_take()
     }
 
     /// Whether all deliveries are taken that come before the answers.
-    fn is_answer_next(self) -> bool
+    pub fn is_answer_next(self) -> bool
         ensures { result ≡ is_nothing self.ahead }
     {
         match self.ahead {
             None => false,
             Some(ahead) => ahead == 0,
         }
-    }
-
-    /// Whether answers that wait may be written: all deliveries that come before them are taken, or none is due.
-    pub fn may_answer(self, is_connected: bool) -> bool
-        ensures { result ≡ may_answer self is_connected }
-    {
-        self.is_answer_next() || !self.is_due(is_connected)
     }
 
     /// Whether a drain may wait while others have something to read, where so many deliveries are many.

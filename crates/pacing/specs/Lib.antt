@@ -1,0 +1,3 @@
+pub mod Awaited
+pub mod Due
+pub mod Waiting
