@@ -7,9 +7,11 @@ mod items;
 mod no_memory;
 mod pieces;
 mod shared;
+mod shared_bytes;
 
 pub use boxed::Boxed;
 pub use items::{Copying, Items};
 pub use no_memory::NoMemory;
 pub use pieces::Pieces;
 pub use shared::{Shared, SharedText};
+pub use shared_bytes::SharedBytes;

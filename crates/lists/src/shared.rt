@@ -3,7 +3,7 @@ ghost use Rattle.std.specs.Prelude.{◌≡◌, IfOk};
 use crate::{Copying, NoMemory};
 use std::alloc::Global;
 use std::marker::Model;
-use std::sync::{Arc, ArcSlice};
+use std::sync::Arc;
 
 /// A value with several owners. One more owner takes no memory and copies nothing. A clause sees the value.
 #[derive(Debug, Drop)]
@@ -55,19 +55,20 @@ impl<T> Copying for Shared<T> {
     }
 }
 
-/// A short text with several owners, as a name or an id. One more owner takes no memory. A clause sees its bytes.
+/// A short text with several owners, as a name or an id. One more owner takes no memory. A clause sees its bytes. It has
+/// eight bytes, since each delivery that waits has one.
 #[derive(Debug, Drop)]
 pub struct SharedText {
-    bytes: ArcSlice<u8>,
+    bytes: Arc<Vec<u8>>,
 }
 
 impl Model for SharedText {
     ghost use Rattle.std.specs.Prelude.{List, ℕ};
-    ghost use Rattle.std.specs.Arc.{arc_slice_items};
+    ghost use Rattle.std.specs.Arc.{arc_value};
 
     ghost Value = { List ℕ };
 
-    ghost view = { λ text. arc_slice_items text.bytes };
+    ghost view = { λ text. (arc_value text.bytes).items };
 }
 
 impl SharedText {
@@ -76,7 +77,7 @@ impl SharedText {
         ensures { IfOk result (λ text. text ≡ bytes.now) }
     {
         Ok(SharedText {
-            bytes: ArcSlice::from_slice(alloc, bytes)?,
+            bytes: Arc::new(alloc, Vec::from_slice(alloc, bytes)?)?,
         })
     }
 
@@ -92,7 +93,7 @@ impl SharedText {
         ensures { IfOk result (λ same. same ≡ self.now) }
     {
         Ok(SharedText {
-            bytes: self.bytes.clone()?,
+            bytes: Arc::try_clone(&self.bytes)?,
         })
     }
 }
