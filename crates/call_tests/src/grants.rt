@@ -15,7 +15,8 @@ fn two_answers_pass_for_one_second(rt: HostRuntime) -> Result<(), Fail> {
         max: Some(2),
         expires: Some(1_000),
     });
-    let reply = subject(&rt, "r.1")?;
+    let answered = subject(&rt, "r.1")?;
+    let reply = answered.lend();
     let mut all = Grants::with_room(rt.alloc(), RandomState::new(&rt)?)?;
     assert!(rt; !all.live(&reply, 5_000, terms));
     all.note(subject(&rt, "r.1")?, 5_000);

@@ -48,7 +48,7 @@ fn answer(
 }
 
 fn reached(rt: &HostRuntime, tree: &Sublist, text: &str) -> Result<String, Fail> {
-    let found = tree.matching(&Subject::parse(rt.alloc(), text.as_bytes())?)?;
+    let found = tree.matching(&Subject::parse(rt.alloc(), text.as_bytes())?.lend())?;
     Ok(format!(in rt.alloc(); "{found:?}")?)
 }
 

@@ -2,7 +2,7 @@ ghost use Rattle.std.specs.Prelude.{◌≡◌, ◌↔◌, IsTrue, false};
 ghost use Rattle.std.specs.Bool.{OnFalse};
 ghost use Rattle.subjects.specs.Subject.{Token, in_set, covers, Covers, Lacks};
 
-use subjects::{Pattern, Subject};
+use subjects::{Pattern, SubjectRef};
 
 /// What a permission is asked for: one subject, or all subjects of a pattern.
 pub(crate) trait Asked {
@@ -21,7 +21,7 @@ pub(crate) trait Asked {
         ensures missing { OnFalse result (Lacks entry.now self.now) };
 }
 
-impl Asked for Subject {
+impl Asked for SubjectRef<'_> {
     ghost is_within = { in_set };
 
     ghost IsWithin = { λ entry subject. IsTrue (in_set entry subject) };

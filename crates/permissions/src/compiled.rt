@@ -5,7 +5,7 @@ use policy_doc::{PermDoc, Terms, UserDoc};
 use std::alloc::Global;
 use std::marker::Model;
 use std::sync::Arc;
-use subjects::{Pattern, Subject};
+use subjects::{Pattern, Subject, SubjectRef};
 
 /// A user's permission lists, ready to be asked. Copies share them. A clause sees the lists.
 #[derive(Debug, Drop)]
@@ -69,7 +69,7 @@ impl Compiled {
 
     /// Whether the user may publish on a subject (docs/POLICY.md, "Publish"). A denial names its reason:
     /// the least deny entry that has the subject, or an allow list none of whose entries has it.
-    pub fn publish(&self, subject: &Subject) -> Verdict
+    pub fn publish(&self, subject: &SubjectRef<'_>) -> Verdict
         ensures verdict { result ≡ publish_verdict self.now subject.now }
         ensures justified { IsJustifiedPublish subject.now self.now.publish result }
     {
@@ -98,7 +98,7 @@ impl Compiled {
     /// Whether a message on a subject may be sent to a subscription of the user that has a queue or none
     /// (docs/POLICY.md, "Delivery"): `DeniedBy` the least deny entry of its subscribe lists that has the subject and
     /// is plain or has the queue in its queue part, else `Allowed(All)`.
-    pub fn admits(&self, subject: &Subject, queue: Option<&Subject>) -> Verdict
+    pub fn admits(&self, subject: &SubjectRef<'_>, queue: Option<&Subject>) -> Verdict
         ensures verdict { result ≡ delivery_verdict self.now subject.now (option_copied queue.entry) }
         ensures justified { IsJustifiedDelivery subject.now (option_copied queue.entry) self.now.subscribe result }
     {

@@ -9,7 +9,7 @@ ghost use Rattle.permissions.specs.Verdicts.{publish_by, by_entry_with, subscrib
 use crate::asked::Asked;
 use crate::{By, Verdict};
 use policy_doc::{Direction, PermEntry};
-use subjects::{Pattern, Subject};
+use subjects::{Pattern, Subject, SubjectRef};
 
 /// Which entries of a list are looked at, by their queue parts.
 #[derive(Clone, Copy, Debug)]
@@ -27,7 +27,7 @@ pub(crate) enum Among {
 }
 
 /// The verdict of a direction's lists on a publish.
-pub(crate) fn on_publish(rules: &Direction, subject: &Subject) -> Verdict
+pub(crate) fn on_publish(rules: &Direction, subject: &SubjectRef<'_>) -> Verdict
     ensures verdict { result ≡ publish_by rules.now subject.now }
     ensures justified { IsJustifiedPublish subject.now rules.now result }
 {
@@ -41,7 +41,7 @@ pub(crate) fn on_publish(rules: &Direction, subject: &Subject) -> Verdict
 }
 
 /// The verdict of an allow list on a publish.
-fn by_entry(entries: &[PermEntry], subject: &Subject) -> Verdict
+fn by_entry(entries: &[PermEntry], subject: &SubjectRef<'_>) -> Verdict
     ensures verdict { result ≡ by_entry_with subject.now entries.now }
     ensures justified { IsByEntry (λ e. IsTrue (in_set e.subject subject.now)) (λ e. in_set e.subject subject.now ≡ false) entries.now result }
 {
@@ -150,7 +150,7 @@ fn has_queue(entry: &PermEntry, queue: Option<&Subject>) -> bool
     ensures { result ≡ names (option_copied queue.entry) entry.now }
 {
     match (&entry.queue, queue) {
-        (Some(part), Some(name)) => part.matches(name),
+        (Some(part), Some(name)) => part.matches(&name.lend()),
         (Some(_), None) => false,
         (None, _) => false,
     }

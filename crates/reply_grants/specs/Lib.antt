@@ -1,3 +1,4 @@
 pub mod Grants
 pub mod Window
 pub mod Replies
+pub mod Looked

@@ -6,7 +6,7 @@ use policy_doc::Terms;
 use std::alloc::Global;
 use std::hash::RandomState;
 use std::marker::Model;
-use subjects::Subject;
+use subjects::{Subject, SubjectRef};
 
 /// The reply subjects that a user may answer on, at most 1,024. A clause sees the grants from the oldest to the youngest.
 #[derive(Drop)]
@@ -62,14 +62,14 @@ impl Grants {
     }
 
     /// Whether a grant for the subject is live under these terms. Without terms none is.
-    pub fn live(&self, subject: &Subject, now: u64, terms: Option<Terms>) -> bool
+    pub fn live(&self, subject: &SubjectRef<'_>, now: u64, terms: Option<Terms>) -> bool
         ensures { result ≡ has_live subject.now now terms self.now }
     {
         is_live(&self.marks, self.gone, subject, now, terms)
     }
 
     /// Counts an answer on the subject's grant, if it has one.
-    pub fn spend(&mut self, subject: &Subject)
+    pub fn spend(&mut self, subject: &SubjectRef<'_>)
         ensures { self.new ≡ after_answer subject.now self.old }
     {
         count_answer(&mut self.marks, subject);
@@ -77,7 +77,7 @@ impl Grants {
 
     /// Drops the subject's grant, if it has one, where as many answers have passed on it as these terms allow, however
     /// old it is.
-    pub fn end(&mut self, subject: &Subject, terms: Option<Terms>)
+    pub fn end(&mut self, subject: &SubjectRef<'_>, terms: Option<Terms>)
         ensures { self.new ≡ after_end subject.now terms self.old }
     {
         if !self.live(subject, 0, terms) {

@@ -1,6 +1,7 @@
 //! The reply subjects that a user may answer on: since when, and how many answers have passed.
 #![tactic(auto)]
 
+mod asked;
 mod grants;
 mod marks;
 mod plain;

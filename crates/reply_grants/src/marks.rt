@@ -1,19 +1,20 @@
 //! The marks of reply subjects from the oldest to the youngest, behind some that were dropped and wait to be removed.
 //! They are removed many at a time, so that a note walks over no others. No function takes memory.
-ghost use Rattle.std.specs.Prelude.{◌≡◌, ◌+◌, ◌-◌, ◌*◌, ◌^◌, ◌<◌, ◌≤◌, ◌++◌, ◌∷◌, [], ℕ, List, None, Some, cond, length, map, filter, drop, slice_get};
+ghost use Rattle.std.specs.Prelude.{◌≡◌, ◌+◌, ◌-◌, ◌*◌, ◌^◌, ◌<◌, ◌≤◌, ◌++◌, ◌∷◌, [], ℕ, List, None, Some, cond, length, map, filter, drop, slice_get, is_some, IfSome};
 ghost use Rattle.std.specs.List.{remove};
-ghost use Rattle.indexmap.specs.IndexMap.{spare, get};
+ghost use Rattle.indexmap.specs.IndexMap.{spare, get, index_of_by, IsUnique};
 ghost use Rattle.subjects.specs.Subject.{Token};
 ghost use Rattle.subjects.specs.Equal.{same_subject};
 ghost use Rattle.reply_grants.specs.Grants as grants;
 ghost use Rattle.reply_grants.specs.Grants.{after_answer, has_live, without};
 ghost use Rattle.reply_grants.specs.Window.{Entry, IsKept, grant_of, so_far, window};
 
+use crate::asked::Asked;
 use crate::terms::allow;
 use indexmap::IndexMap;
 use policy_doc::Terms;
 use std::hash::RandomState;
-use subjects::Subject;
+use subjects::{Subject, SubjectRef};
 
 /// How many grants may stand.
 pub(crate) const MOST: usize = 1024;
@@ -50,17 +51,29 @@ impl Mark {
     }
 }
 
+/// The place of the subject's mark.
+#[inline(always)]
+fn place_of(marks: &Marks, subject: &SubjectRef<'_>) -> Option<usize>
+    ensures index { result ≡ index_of_by (same_subject subject.now) marks.now }
+    ensures found { is_some result ≡ is_some (get same_subject marks.now subject.now) }
+    ensures within { IfSome result (λ i. i < length marks.now.entries) }
+    ensures unique { IsUnique same_subject marks.now }
+{
+    let place = marks.get_index_of(Asked::of(subject));
+    place
+}
+
 /// Whether a live grant behind the first so many has the subject.
 pub(crate) fn is_live(
     marks: &Marks,
     gone: usize,
-    subject: &Subject,
+    subject: &SubjectRef<'_>,
     now: u64,
     terms: Option<Terms>,
 ) -> bool
     ensures { result ≡ has_live subject.now now terms (window gone marks.now.entries) }
 {
-    match marks.get_index_of(subject) {
+    match place_of(marks, subject) {
         None => false,
         Some(place) => {
             if place < gone {
@@ -73,12 +86,12 @@ pub(crate) fn is_live(
 }
 
 /// Counts one answer more on the subject, if it stands.
-pub(crate) fn count_answer(marks: &mut Marks, subject: &Subject)
+pub(crate) fn count_answer(marks: &mut Marks, subject: &SubjectRef<'_>)
     ensures window { (gone : ℕ) → window gone marks.new.entries ≡ after_answer subject.now (window gone marks.old.entries) }
     ensures held { length marks.new.entries ≡ length marks.old.entries }
     ensures free { spare marks.new ≡ spare marks.old }
 {
-    if let Some(mark) = marks.get_mut(subject) {
+    if let Some(mark) = marks.get_mut(Asked::of(subject)) {
         mark.count = mark.count.saturating_add(1);
     }
 }
@@ -196,14 +209,14 @@ pub(crate) fn drop_dead(marks: &mut Marks, gone: usize, now: u64, terms: Option<
 }
 
 /// Drops the subject's, if it stands. Answers how many are dropped then.
-pub(crate) fn drop_one(marks: &mut Marks, gone: usize, subject: &Subject) -> usize
+pub(crate) fn drop_one(marks: &mut Marks, gone: usize, subject: &SubjectRef<'_>) -> usize
     requires { gone ≤ length marks.old.entries }
     ensures window { window result marks.new.entries ≡ without subject.now (window gone marks.old.entries) }
     ensures dropped { (gone ≤ result) × (result ≤ length marks.new.entries) }
     ensures held { length marks.new.entries ≡ length marks.old.entries }
     ensures free { spare marks.new ≡ spare marks.old }
 {
-    match marks.get_index_of(subject) {
+    match place_of(marks, subject) {
         None => gone,
         Some(at) => {
             if at < gone {

@@ -4,7 +4,7 @@ use policy_doc::Terms;
 use std::alloc::Global;
 use std::hash::RandomState;
 use std::marker::Model;
-use subjects::Subject;
+use subjects::{Subject, SubjectRef};
 
 /// The grants of a user that may never have any: there is no table before its first need. A clause sees the table's
 /// grants, if there is one.
@@ -76,7 +76,7 @@ impl Replies {
     }
 
     /// Whether a grant for the subject is live under these terms. Without terms none is.
-    pub fn live(&self, subject: &Subject, now: u64, terms: Option<Terms>) -> bool
+    pub fn live(&self, subject: &SubjectRef<'_>, now: u64, terms: Option<Terms>) -> bool
         ensures { result ≡ has_live subject.now now terms (grants_of self.now) }
     {
         match &self.table {
@@ -86,7 +86,7 @@ impl Replies {
     }
 
     /// Counts an answer on the subject's grant, if it has one.
-    pub fn answer(&mut self, subject: &Subject)
+    pub fn answer(&mut self, subject: &SubjectRef<'_>)
         ensures { self.new ≡ answered_in subject.now self.old }
     {
         match &mut self.table {
@@ -96,7 +96,7 @@ impl Replies {
     }
 
     /// Drops the subject's grant, if it has one, where as many answers have passed on it as these terms allow.
-    pub fn end(&mut self, subject: &Subject, terms: Option<Terms>)
+    pub fn end(&mut self, subject: &SubjectRef<'_>, terms: Option<Terms>)
         ensures { self.new ≡ ended_in subject.now terms self.old }
     {
         match &mut self.table {

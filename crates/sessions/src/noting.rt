@@ -8,10 +8,10 @@ use lists::{Boxed, NoMemory};
 use reply_grants::{Note, Replies};
 use std::alloc::Global;
 use std::hash::RandomState;
-use subjects::Subject;
+use subjects::{Subject, SubjectRef};
 
 /// The same subject, in memory of its own: it may stand long after what it was read of has gone.
-fn own_subject(alloc: Global, subject: &Subject) -> Result<Subject, NoMemory>
+fn own_subject(alloc: Global, subject: &SubjectRef<'_>) -> Result<Subject, NoMemory>
     ensures { IfOk result (λ own. own ≡ subject.now) }
 {
     let _known = subject.tokens();
@@ -36,7 +36,7 @@ fn table_for(alloc: Global, keys: RandomState, replies: &Replies) -> Result<Repl
 fn note_of(
     alloc: Global,
     keys: RandomState,
-    subject: &Subject,
+    subject: &SubjectRef<'_>,
     replies: &Replies,
 ) -> Result<Boxed<Note>, NoMemory>
     ensures { IfOk result (λ note. note ≡ note_of subject.now replies.now) }
@@ -52,7 +52,7 @@ fn note_of(
 pub(crate) fn note_for(
     alloc: Global,
     keys: RandomState,
-    reply: Option<&Subject>,
+    reply: Option<&SubjectRef<'_>>,
     session: Option<&Session>,
 ) -> Result<Option<Boxed<Note>>, NoMemory>
     ensures { IfOk result (λ noted. noted ≡ note_for (option_copied reply.entry) (option_copied session.entry)) }

@@ -14,7 +14,7 @@ use events::{Addressed, Item};
 use lists::NoMemory;
 use std::alloc::Global;
 use std::hash::RandomState;
-use subjects::Subject;
+use subjects::SubjectRef;
 
 /// The place of the session of a connection.
 pub(crate) fn place_in(conns: &Connections, list: &[Session], conn: u64) -> Option<usize>
@@ -42,7 +42,7 @@ pub(crate) fn plan_one(
     keys: RandomState,
     session: Option<&Session>,
     next: &mut Addressed,
-    reply: Option<&Subject>,
+    reply: Option<&SubjectRef<'_>>,
 ) -> Result<Item, NoMemory>
     ensures item { IfOk result (λ item. item ≡ (if has_room (option_copied session.entry) then Item.Entered next.new.conn next.new.delivery.sid else Item.Full next.new.conn next.new.delivery.sid)) }
     ensures noted { OnOk result (next.new ≡ record next.old { noted = note_for (option_copied reply.entry) (option_copied session.entry) }) }
@@ -103,7 +103,7 @@ fn note_rooms(
     list: &[Session],
     rooms: &mut [usize],
     all: &mut [Addressed],
-    reply: Option<&Subject>,
+    reply: Option<&SubjectRef<'_>>,
 ) -> Result<(), NoMemory>
     requires keys { conns.now ≡ map connection_of list.now }
     requires within { length list.now ≤ length rooms.old }
@@ -161,7 +161,7 @@ pub(crate) fn plan_all(
     list: &[Session],
     rooms: &mut [usize],
     all: &mut [Addressed],
-    reply: Option<&Subject>,
+    reply: Option<&SubjectRef<'_>>,
 ) -> Result<Vec<Item>, NoMemory>
     requires keys { conns.now ≡ map connection_of list.now }
     requires within { length list.now ≤ length rooms.old }

@@ -4,7 +4,7 @@ use outbox::Outbox;
 use ready::User;
 use reply_grants::{Note, Replies};
 use std::alloc::Global;
-use subjects::Subject;
+use subjects::SubjectRef;
 
 /// A client that has shown who it is.
 #[derive(Drop)]
@@ -62,21 +62,21 @@ impl Session {
     }
 
     /// Whether a live grant lets the user publish on a subject, whatever its lists say.
-    pub fn may_answer(&self, subject: &Subject, now: u64) -> bool
+    pub fn may_answer(&self, subject: &SubjectRef<'_>, now: u64) -> bool
         ensures { result ≡ is_granted now subject.now self.now }
     {
         self.replies.live(subject, now, self.user.rules.terms())
     }
 
     /// Counts an answer on the grant for a subject, if there is one.
-    pub(crate) fn answer(&mut self, subject: &Subject)
+    pub(crate) fn answer(&mut self, subject: &SubjectRef<'_>)
         ensures { self.new ≡ answering subject.now self.old }
     {
         self.replies.answer(subject);
     }
 
     /// Drops the grant for a subject, if there is one, where as many answers have passed on it as may.
-    pub(crate) fn end(&mut self, subject: &Subject)
+    pub(crate) fn end(&mut self, subject: &SubjectRef<'_>)
         ensures { self.new ≡ ending subject.now self.old }
     {
         self.replies.end(subject, self.user.rules.terms());

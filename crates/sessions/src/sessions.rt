@@ -9,7 +9,7 @@ use std::alloc::Global;
 use std::collections::VecDeque;
 use std::hash::RandomState;
 use std::marker::Model;
-use subjects::Subject;
+use subjects::SubjectRef;
 
 /// The sessions, each found by its connection at once. A clause sees them as a list, in order of connecting.
 #[derive(Drop)]
@@ -135,7 +135,7 @@ impl Sessions {
         &mut self,
         keys: RandomState,
         all: &mut [Addressed],
-        reply: Option<&Subject>,
+        reply: Option<&SubjectRef<'_>>,
     ) -> Result<Met, NoMemory>
         ensures items { IfOk result (λ items. (now : ℕ) → items ≡ (delivered now all.new self.old).1) }
         ensures noted { OnOk result (all.new ≡ map (with_note self.old (option_copied reply.entry)) all.old) }
@@ -181,7 +181,7 @@ impl Sessions {
     }
 
     /// Counts an answer on the grant that a connection's session has for a subject, if it has one.
-    pub fn answer(&mut self, conn: u64, subject: &Subject)
+    pub fn answer(&mut self, conn: u64, subject: &SubjectRef<'_>)
         ensures { self.new ≡ with_session (answering subject.now) conn self.old }
     {
         match self.place_of(conn) {
@@ -191,7 +191,7 @@ impl Sessions {
     }
 
     /// Drops that grant where as many answers have passed on it as may.
-    pub fn end(&mut self, conn: u64, subject: &Subject)
+    pub fn end(&mut self, conn: u64, subject: &SubjectRef<'_>)
         ensures { self.new ≡ with_session (ending subject.now) conn self.old }
     {
         match self.place_of(conn) {

@@ -1,5 +1,5 @@
 -- What is wrong with a text as a pattern or as a subject (docs/GUARANTEE.md, "Subjects").
-use Rattle.std.specs.Prelude.{◌≡◌, ◌==◌, ℕ, Bool, true, false, not, List, length, Option, Some, None, Result, Ok, Err, if◌then◌else◌, nat_lt, codes}
+use Rattle.std.specs.Prelude.{◌≡◌, ◌==◌, ℕ, Bool, true, false, not, List, length, Option, Some, None, is_some, Result, Ok, Err, if◌then◌else◌, nat_lt, codes}
 use Rattle.std.specs.List.{list_any, list_all}
 use Rattle.subjects.specs.Subject.{Token, tokens_of, is_text_byte, is_wildcard, tail_is_last}
 use Rattle.subjects.specs.declared.error.SubjectError.{SubjectError}
@@ -23,6 +23,13 @@ or_wildcard None any = if any then Some Wildcard else None
 -- a subject's text has a pattern's faults, and then may have no wildcard
 abbrev pub subject_fault : List ℕ → Option SubjectError
 subject_fault text = or_wildcard (pattern_fault text) (list_any is_wildcard (tokens_of text))
+
+-- the tokens of a text that is a subject, or a pattern
+abbrev pub subject_if : List ℕ → Option (List Token)
+subject_if text = if is_some (subject_fault text) then None else Some (tokens_of text)
+
+abbrev pub pattern_if : List ℕ → Option (List Token)
+pattern_if text = if is_some (pattern_fault text) then None else Some (tokens_of text)
 
 -- The tokens of a text with no fault, or want of memory for them; else the text's fault.
 abbrev pub IsParse : List ℕ → Option SubjectError → Result (List Token) SubjectError → Type 0

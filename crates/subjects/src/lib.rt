@@ -6,9 +6,11 @@ mod error;
 mod faults;
 mod pattern;
 mod subject;
+mod subject_ref;
 mod tokens;
 
 pub use error::SubjectError;
 pub use pattern::Pattern;
 pub use subject::Subject;
+pub use subject_ref::SubjectRef;
 pub use tokens::{is_star, is_tail};

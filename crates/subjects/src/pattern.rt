@@ -1,16 +1,15 @@
 ghost use Rattle.std.specs.Prelude.{◌≡◌, ◌↔◌, IsTrue};
 
 use crate::tokens::tokens_in;
-use crate::{Subject, SubjectError, compare, faults};
-use bytes::Bytes;
-use lists::{Copying, NoMemory, Pieces};
+use crate::{SubjectError, SubjectRef, compare, faults};
+use lists::{Copying, NoMemory, Pieces, SharedBytes};
 use std::alloc::Global;
 use std::marker::Model;
 
 /// A subject that may have wildcards, as a subscription and a permission have it. A clause sees its tokens.
 #[derive(Debug, Drop)]
 pub struct Pattern {
-    text: Bytes,
+    text: SharedBytes,
 }
 
 impl Model for Pattern {
@@ -40,7 +39,7 @@ impl Pattern {
         match faults::pattern_fault(text) {
             Some(fault) => Err(fault),
             None => Ok(Pattern {
-                text: Bytes::copy_from_slice(alloc, text)?,
+                text: SharedBytes::copy_from_slice(alloc, text)?,
             }),
         }
     }
@@ -53,7 +52,7 @@ impl Pattern {
     }
 
     /// Whether the subject is one of the pattern's.
-    pub fn matches(&self, subject: &Subject) -> bool
+    pub fn matches(&self, subject: &SubjectRef<'_>) -> bool
         ensures { result ≡ in_set self.now subject.now }
     {
         compare::in_set(self.tokens(), subject.tokens())
@@ -101,7 +100,7 @@ impl Pattern {
 impl Copying for Pattern {
     fn copy(&self, alloc: Global) -> Result<Pattern, NoMemory> {
         Ok(Pattern {
-            text: self.text.clone()?,
+            text: self.text.again()?,
         })
     }
 }

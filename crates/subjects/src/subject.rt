@@ -2,9 +2,8 @@ ghost use Rattle.std.specs.Cmp.{partial_equiv_from_equiv};
 ghost use Rattle.subjects.specs.Equal.{same_subject, same_subject-equiv, hashed, hashed-alike};
 
 use crate::tokens::tokens_in;
-use crate::{SubjectError, faults};
-use bytes::Bytes;
-use lists::{Copying, NoMemory, Pieces};
+use crate::{SubjectError, SubjectRef, faults};
+use lists::{Copying, NoMemory, Pieces, SharedBytes};
 use std::alloc::Global;
 use std::hash::{Hash, Hasher};
 use std::marker::Model;
@@ -12,7 +11,7 @@ use std::marker::Model;
 /// A concrete subject of at most 512 tokens, as a message has it. A clause sees its tokens.
 #[derive(Debug, Drop)]
 pub struct Subject {
-    text: Bytes,
+    text: SharedBytes,
 }
 
 impl Model for Subject {
@@ -41,19 +40,8 @@ impl Subject {
         match faults::subject_fault(text) {
             Some(fault) => Err(fault),
             None => Ok(Subject {
-                text: Bytes::copy_from_slice(alloc, text)?,
+                text: SharedBytes::copy_from_slice(alloc, text)?,
             }),
-        }
-    }
-
-    /// The same of a text that is handed over: nothing is copied, and no memory is taken.
-    pub fn from_bytes(text: Bytes) -> Result<Subject, SubjectError>
-        ensures tokens { IsParse text (subject_fault text) result }
-        ensures grammar { AcceptsExactly (IsSubject (tokens_of text)) result }
-    {
-        match faults::subject_fault(text.as_slice()) {
-            Some(fault) => Err(fault),
-            None => Ok(Subject { text }),
         }
     }
 
@@ -62,6 +50,13 @@ impl Subject {
         ensures { result.now ≡ text_of self.now }
     {
         self.text.as_slice()
+    }
+
+    /// The subject, whose text stands here.
+    pub fn lend(&self) -> SubjectRef<'_>
+        ensures { result ≡ self.now }
+    {
+        SubjectRef::known(self.text.as_slice())
     }
 
     /// The tokens in order.
@@ -76,7 +71,7 @@ impl Subject {
 impl Copying for Subject {
     fn copy(&self, alloc: Global) -> Result<Subject, NoMemory> {
         Ok(Subject {
-            text: self.text.clone()?,
+            text: self.text.again()?,
         })
     }
 }
@@ -87,7 +82,7 @@ impl PartialEq for Subject {
     ghost laws = { partial_equiv_from_equiv same_subject-equiv };
 
     fn eq(&self, other: &Self) -> bool {
-        self.text == other.text
+        self.text.as_slice() == other.text.as_slice()
     }
 }
 

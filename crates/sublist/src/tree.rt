@@ -6,7 +6,7 @@ use crate::{Absent, InsertError};
 use lists::NoMemory;
 use std::alloc::Global;
 use std::hash::RandomState;
-use subjects::{Pattern, Subject};
+use subjects::{Pattern, SubjectRef};
 
 /// Pairs of a pattern and an id, found by subject. An id may stand with several patterns.
 ///
@@ -72,7 +72,7 @@ impl Sublist {
 
     /// The ids of the pairs whose pattern has the subject, each once, in rising order. `NoMemory` where memory
     /// could not be had for them.
-    pub fn matching(&self, subject: &Subject) -> Result<Vec<u64>, NoMemory>
+    pub fn matching(&self, subject: &SubjectRef<'_>) -> Result<Vec<u64>, NoMemory>
         ensures pairs { IfOk result (λ found. IsMatching self.now subject.now found.items) }
         ensures index { IfOk result (λ found. (pairs : Pairs) → IsIndexOf pairs self.now → found.items ≡ matching_ids pairs subject.now) }
     {
@@ -82,7 +82,11 @@ impl Sublist {
     }
 
     /// Puts the ids of `matching` in the place of what was in `found`. `NoMemory` leaves it empty.
-    pub fn matching_into(&self, subject: &Subject, found: &mut Vec<u64>) -> Result<(), NoMemory>
+    pub fn matching_into(
+        &self,
+        subject: &SubjectRef<'_>,
+        found: &mut Vec<u64>,
+    ) -> Result<(), NoMemory>
         ensures pairs { OnOk result (IsMatching self.now subject.now found.new.items) }
         ensures index { OnOk result ((pairs : Pairs) → IsIndexOf pairs self.now → found.new.items ≡ matching_ids pairs subject.now) }
         ensures err { OnErr result (found.new.items ≡ []) }

@@ -11,7 +11,7 @@ use lists::NoMemory;
 use std::alloc::Global;
 use std::collections::HashMap;
 use std::hash::RandomState;
-use subjects::{Pattern, Subject};
+use subjects::{Pattern, SubjectRef};
 use sublist::{InsertError, Sublist};
 
 /// The ids of subscriptions, found by their account and a subject. A clause sees which account, pattern and id the
@@ -79,7 +79,7 @@ impl Trees {
 
     /// Keeps what `matching` answers for a subject in mind, where it was asked for before and memory allows: then the next
     /// `matching` needs no search. The trees hold what they held.
-    pub fn remember(&mut self, account: &[u8], subject: &Subject)
+    pub fn remember(&mut self, account: &[u8], subject: &SubjectRef<'_>)
         ensures { IsSame self.old self.new }
     {
         let _ = subject.tokens();
@@ -98,7 +98,7 @@ impl Trees {
     pub fn matching(
         &self,
         account: &[u8],
-        subject: &Subject,
+        subject: &SubjectRef<'_>,
         found: &mut Vec<u64>,
     ) -> Result<(), NoMemory>
         ensures { OnOk result ((listing : Pairs) → IsIndexOf listing account.now self.now → found.new.items ≡ matching_ids listing subject.now) }
@@ -119,7 +119,7 @@ impl Trees {
 fn search(
     by_account: &HashMap<Vec<u8>, Sublist>,
     account: &[u8],
-    subject: &Subject,
+    subject: &SubjectRef<'_>,
     found: &mut Vec<u64>,
 ) -> Result<(), NoMemory>
     ensures { OnOk result (IsTold account.now subject.now found.new.items by_account.now.entries) }

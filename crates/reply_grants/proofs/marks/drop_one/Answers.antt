@@ -13,10 +13,10 @@ returns-in-None-clause-window c =
 pub returns-then-at-gone-clause-window : goal.returns-then-at-gone-clause-window
 returns-then-at-gone-clause-window c =
     let it = placed c.args.subject.now c.args.marks.now.entries c.in-Some.at c.in-Some.ensures.index in
-    sym (without_before c.args.subject.now it.0 c.args.marks.now.entries c.in-Some.at c.args.gone it.1 c.get_index_of.ensures.unique c.if-at-gone.true)
+    sym (without_before c.args.subject.now it.0 c.args.marks.now.entries c.in-Some.at c.args.gone it.1 c.place_of.ensures.unique c.if-at-gone.true)
 
 pub returns-else-at-gone-clause-window : goal.returns-else-at-gone-clause-window
 returns-else-at-gone-clause-window c =
     let it = placed c.args.subject.now c.args.marks.now.entries c.in-Some.at c.in-Some.ensures.index in
     ap (λ es. window (c.args.gone + 1) es) c.move_index.ensures.entries
-    ∙ moved_away c.args.subject.now it.0 c.args.marks.now.entries c.in-Some.at c.args.gone it.1 c.get_index_of.ensures.unique c.if-at-gone.false
+    ∙ moved_away c.args.subject.now it.0 c.args.marks.now.entries c.in-Some.at c.args.gone it.1 c.place_of.ensures.unique c.if-at-gone.false

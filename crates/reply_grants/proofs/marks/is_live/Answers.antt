@@ -14,7 +14,7 @@ returns-in-None c =
 pub returns-then-place-gone : goal.returns-then-place-gone
 returns-then-place-gone c =
     let it = placed c.args.subject.now c.args.marks.now.entries c.in-Some.place c.in-Some.ensures.index in
-    sym (live_before c.args.subject.now it.0 c.args.now c.args.terms _ c.in-Some.place c.args.gone it.1 c.get_index_of.ensures.unique c.if-place-gone.true)
+    sym (live_before c.args.subject.now it.0 c.args.now c.args.terms _ c.in-Some.place c.args.gone it.1 c.place_of.ensures.unique c.if-place-gone.true)
 
 pub returns-else-place-gone : goal.returns-else-place-gone
 returns-else-place-gone c =
@@ -22,4 +22,4 @@ returns-else-place-gone c =
     let it = placed s c.args.marks.now.entries c.in-Some.place c.in-Some.ensures.index in
     let mark = same_mark s it.0 c.index.result.now c.args.marks.now.entries c.in-Some.place it.1 c.index.ensures in
     c.is_live.ensures s ∙ ap (λ m. is_live c.args.now c.args.terms (grant_of (s, m))) mark
-    ∙ sym (live_at s it.0 c.args.now c.args.terms _ c.in-Some.place c.args.gone it.1 c.get_index_of.ensures.unique c.if-place-gone.false)
+    ∙ sym (live_at s it.0 c.args.now c.args.terms _ c.in-Some.place c.args.gone it.1 c.place_of.ensures.unique c.if-place-gone.false)

@@ -1,5 +1,5 @@
 -- the connection is new among the keys
-use Rattle.std.proofs.Common.{◌≡◌, ◌∙◌, ◌==◌, ◌++◌, ◌∷◌, [], sym, ap, List, ℕ, Bool, None, length, map, cond, arith}
+use Rattle.std.proofs.Common.{◌≡◌, ◌∙◌, ◌==◌, ◌++◌, ◌∷◌, [], sym, ap, List, ℕ, length, map, arith}
 use Rattle.std.specs.List.{list_any}
 use Rattle.std.proofs.lemmas.List.{map-append, length-append}
 use Rattle.sessions.specs.Sessions.{session_of}
