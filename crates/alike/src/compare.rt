@@ -14,7 +14,7 @@ use policy_doc::{
 };
 use ready::Ready;
 use reply_grants::PlainGrant;
-use subjects::{Pattern, Subject};
+use subjects::{Pattern, Subject, SubjectRef};
 
 /// What can be compared with another of its kind.
 pub trait Alike {
@@ -133,21 +133,21 @@ impl Alike for PlainGrant {
 }
 
 /// Whether both are there and alike, or neither is there.
-fn are_alike_where_given(one: Option<&Subject>, other: Option<&Subject>) -> bool
-    ensures { Decides result (option_copied one.entry ≡ option_copied other.entry) }
+fn are_alike_where_given(one: Option<SubjectRef<'_>>, other: Option<SubjectRef<'_>>) -> bool
+    ensures { Decides result (one ≡ other) }
 {
     match one {
         None => other.is_none(),
         Some(one) => match other {
             None => false,
-            Some(other) => one.is_like(other),
+            Some(other) => are_same_pieces(one.tokens(), other.tokens()),
         },
     }
 }
 
 impl Alike for Message {
     fn is_like(&self, other: &Message) -> bool {
-        self.subject().is_like(other.subject())
+        are_same_pieces(self.subject().tokens(), other.subject().tokens())
             && are_alike_where_given(self.reply(), other.reply())
             && are_same_bytes(self.head(), other.head())
             && are_same_bytes(self.payload(), other.payload())
@@ -385,7 +385,7 @@ fn is_unsub(command: &Command, number: u64, id: &SharedText, limit: &Option<u64>
     }
 }
 
-fn is_pub(command: &Command, number: u64, sent: &Shared<Message>, drawn: u64) -> bool
+fn is_pub(command: &Command, number: u64, sent: &Message, drawn: u64) -> bool
     ensures { Decides result (command.now ≡ Pub number sent.now drawn) }
 {
     match command {

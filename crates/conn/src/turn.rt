@@ -12,7 +12,6 @@ use crate::output::Stall;
 use crate::submit::submit;
 use crate::words::Words;
 use events::{Answer, Command, Event, HubRefusal, Message, Outcome, Port};
-use lists::Shared;
 use pending::Frames;
 use protocol::{
     Plan, Reply, Stage, make_room, message_of, plan_of, put_text, reply_to_outcome,
@@ -117,7 +116,7 @@ fn publish<P: Port, W: Words>(
     stage: Stage,
     word: Option<u64>,
     frame: &Frame,
-    message: Shared<Message>,
+    message: Message,
     out: &mut Vec<u8>,
 ) -> Turn
     requires { plan_of conn stage frame.now ≡ Publishes message }
@@ -197,7 +196,7 @@ fn take_turn<P: Port, W: Words>(
     ensures place { P.place port.new ≡ P.place port.old }
     ensures turn { IsTurned (λ turned. IsTurn P.steps W.draws now conn stage word frame.now port.old words.old turned port.new words.new) result out.old.items out.new.items }
 {
-    match message_of(alloc, stage, frame) {
+    match message_of(stage, frame) {
         Err(_) => Turn::Stalls(Stall::Memory, word),
         Ok(message) => match message {
             None => take_planned_turn(alloc, conn, now, port, words, stage, word, frame, out),

@@ -1,9 +1,9 @@
-ghost use Rattle.std.specs.Prelude.{◌≡◌, ◌∷◌, ◌≤◌, [], length, take, drop, IfOk, IfSome, MatchOption};
+ghost use Rattle.std.specs.Prelude.{◌≡◌, ◌+◌, ◌∷◌, ◌≤◌, [], length, take, drop, IfOk, IfSome, MatchOption};
 ghost use Rattle.std.specs.List.{prefix_len};
 ghost use Rattle.control_lines.specs.Field.{is_separator, is_field_byte, first_field, after_first_field, fields, counted, trimmed};
-ghost use Rattle.control_lines.specs.Places.{text_at, text_if_at, fields_at};
+ghost use Rattle.control_lines.specs.Places.{text_at, text_if_at, fields_at, AreInOrder, IsBehind};
 
-use bytes::Bytes;
+use lists::SharedBytes;
 use std::alloc::AllocError;
 
 /// Where a field stands in its line.
@@ -34,17 +34,21 @@ pub fn text_at(line: &[u8], place: Place) -> &[u8]
 
 /// The text at a place of the line of the first `len` bytes, which it shares.
 #[tactic(auto, using(crate::proofs::PlaceLemmas::cut_is))]
-pub fn cut(bytes: &Bytes, len: usize, place: Place) -> Result<Bytes, AllocError>
+pub fn cut(bytes: &SharedBytes, len: usize, place: Place) -> Result<SharedBytes, AllocError>
     requires { len ≤ length bytes.now }
     ensures { IfOk result (λ text. text ≡ text_at (take len bytes.now) place) }
 {
     let end = place.end.min(len);
-    let text = bytes.slice(place.start.min(end)..end)?;
+    let text = bytes.part(place.start.min(end)..end)?;
     Ok(text)
 }
 
 /// The same of a place that may be there.
-pub fn cut_if(bytes: &Bytes, len: usize, place: Option<Place>) -> Result<Option<Bytes>, AllocError>
+pub fn cut_if(
+    bytes: &SharedBytes,
+    len: usize,
+    place: Option<Place>,
+) -> Result<Option<SharedBytes>, AllocError>
     requires { len ≤ length bytes.now }
     ensures { IfOk result (λ text. text ≡ text_if_at (take len bytes.now) place) }
 {
@@ -102,6 +106,7 @@ pub fn first_place(line: &[u8], from: usize) -> Place
     requires { from ≤ length line.now }
     ensures text { text_at line.now result ≡ first_field (drop from line.now) }
     ensures rest { drop result.end line.now ≡ after_first_field (drop from line.now) }
+    ensures behind { result.start ≡ from + prefix_len is_separator (drop from line.now) }
     ensures ordered { result.start ≤ result.end }
     ensures within { result.end ≤ length line.now }
 {
@@ -114,7 +119,7 @@ pub fn first_place(line: &[u8], from: usize) -> Place
 fn next_place(line: &[u8], from: usize) -> Option<Place>
     requires { from ≤ length line.now }
     ensures fields { MatchOption result (fields (drop from line.now) ≡ []) (λ p. fields (drop from line.now) ≡ text_at line.now p ∷ fields (drop p.end line.now)) }
-    ensures within { IfSome result (λ p. p.end ≤ length line.now) }
+    ensures within { IfSome result (λ p. IsBehind from line.now p) }
 {
     let place = first_place(line, from);
     if place.start == place.end {
@@ -124,10 +129,11 @@ fn next_place(line: &[u8], from: usize) -> Option<Place>
     }
 }
 
-/// The fields of what follows a place of a line.
+/// The fields of what follows a place of a line, each behind the separators behind the one before.
 pub fn fields_of(line: &[u8], from: usize) -> FieldsAt
     requires { from ≤ length line.now }
-    ensures { fields_at line.now result ≡ counted (fields (drop from line.now)) }
+    ensures texts { fields_at line.now result ≡ counted (fields (drop from line.now)) }
+    ensures order { AreInOrder from line.now result }
 {
     let Some(first) = next_place(line, from) else {
         return FieldsAt::Other;

@@ -54,7 +54,6 @@ fn add(names: &mut Vec<Named>, name: Named) -> usize {
 fn size_of(command: &Command) -> usize {
     match command {
         Command::Pub { message, .. } => {
-            let message = message.get();
             message.head().len().saturating_add(message.payload().len())
         }
         _ => 0,

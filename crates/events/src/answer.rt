@@ -13,7 +13,7 @@ use std::slice;
 #[derive(Debug, Drop)]
 pub struct Delivery {
     /// What is sent: its subject is the one that the subscriber sees.
-    pub message: Shared<Message>,
+    pub message: Message,
     /// The client's own id of the subscription.
     pub sid: Sid,
 }

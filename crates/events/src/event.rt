@@ -48,7 +48,7 @@ pub enum Command {
     /// members of queue groups.
     Pub {
         conn: u64,
-        message: Shared<Message>,
+        message: Message,
         word: u64,
     },
     /// The next deliveries of a session's outbox, `most` at most, oldest first.

@@ -1,16 +1,20 @@
+ghost use Rattle.std.specs.Prelude.{◌≡◌, ◌↔◌, IsTrue, is_some};
 ghost use Rattle.std.specs.Option.{option_copied};
+ghost use Rattle.subjects.specs.Fault.{subject_if};
+ghost use Rattle.subjects.specs.Subject.{tokens_of, IsSubject};
+ghost use Rattle.events.specs.Messages.{is_subject_if, has_subjects, IsSubjectIf, HasSubjects};
 
-use bytes::Bytes;
+use lists::{Copying, NoMemory};
+use message_text::MessageText;
+use std::alloc::Global;
 use std::marker::Model;
-use subjects::Subject;
+use subjects::SubjectRef;
 
-/// What is published: all that those whom it is for are sent alike. A clause sees its four parts.
+/// What is published: all that those whom it is for are sent alike. A clause sees its four parts. It is one part of what
+/// was read, so one more owner takes no memory.
 #[derive(Debug, Drop)]
 pub struct Message {
-    subject: Subject,
-    reply: Option<Subject>,
-    head: Bytes,
-    payload: Bytes,
+    text: MessageText,
 }
 
 impl Model for Message {
@@ -18,53 +22,97 @@ impl Model for Message {
 
     ghost Value = { Messages.Message };
 
-    ghost view = { λ m. record { subject = m.subject; reply = m.reply; head = m.head; payload = m.payload } };
+    ghost view = { λ m. Messages.read_as m.text };
+
+    ghost invariant = { λ m. Messages.HasSubjects m.text };
+}
+
+/// Whether a text is a subject.
+fn is_subject(text: &[u8]) -> bool
+    ensures tokens { result ≡ is_some (subject_if text.now) }
+    ensures grammar { IsTrue result ↔ IsSubject (tokens_of text.now) }
+{
+    SubjectRef::of(text).is_some()
+}
+
+/// Whether a text is a subject, if there is one.
+fn is_subject_if(text: Option<&[u8]>) -> bool
+    ensures tokens { result ≡ is_subject_if (option_copied text.entry) }
+    ensures grammar { IsTrue result ↔ IsSubjectIf (option_copied text.entry) }
+{
+    match text {
+        None => true,
+        Some(text) => is_subject(text),
+    }
+}
+
+/// Whether the subject of a message is one, and the subject to answer on, if it names one.
+fn has_subjects(text: &MessageText) -> bool
+    ensures tokens { result ≡ has_subjects text.now }
+    ensures grammar { IsTrue result ↔ HasSubjects text.now }
+{
+    is_subject(text.subject()) && is_subject_if(text.reply())
 }
 
 impl Message {
-    ghost use Rattle.std.specs.Prelude.{◌≡◌};
-    ghost use Rattle.std.specs.Option.{option_copied};
-    ghost use Rattle.events.specs.Messages.{message};
-    ghost use Rattle.subjects.specs.Subject.{IsSubject};
+    ghost use Rattle.std.specs.Prelude.{◌≡◌, IfOk};
+    ghost use Rattle.events.specs.Messages.{message_of};
 
-    /// A message on a subject, with the subject to answer on, if it has one, its header block, which is empty where
-    /// it has none, and its payload.
-    pub fn new(subject: Subject, reply: Option<Subject>, head: Bytes, payload: Bytes) -> Message
-        ensures { result ≡ message subject reply head payload }
+    /// The message of these texts, if its subjects are subjects.
+    pub fn of(text: MessageText) -> Option<Message>
+        ensures { result ≡ message_of text }
     {
-        Message {
-            subject,
-            reply,
-            head,
-            payload,
+        if has_subjects(&text) {
+            Some(Message { text })
+        } else {
+            None
         }
     }
 
     /// The subject that it is published on.
-    pub fn subject(&self) -> &Subject
-        ensures { result.now ≡ self.now.subject }
+    pub fn subject(&self) -> SubjectRef<'_>
+        ensures { result ≡ self.now.subject }
     {
-        &self.subject
+        SubjectRef::known(self.text.subject())
     }
 
     /// The subject to answer on, if it has one.
-    pub fn reply(&self) -> Option<&Subject>
-        ensures { option_copied result ≡ self.now.reply }
+    pub fn reply(&self) -> Option<SubjectRef<'_>>
+        ensures { result ≡ self.now.reply }
     {
-        self.reply.as_ref()
+        match self.text.reply() {
+            None => None,
+            Some(text) => Some(SubjectRef::known(text)),
+        }
     }
 
     /// The header block, which is empty where it has none.
     pub fn head(&self) -> &[u8]
         ensures { result.now ≡ self.now.head }
     {
-        self.head.as_slice()
+        self.text.head()
     }
 
     /// The payload.
     pub fn payload(&self) -> &[u8]
         ensures { result.now ≡ self.now.payload }
     {
-        self.payload.as_slice()
+        self.text.payload()
+    }
+
+    /// One more owner. `NoMemory` where there are too many to count.
+    pub fn again(&self) -> Result<Message, NoMemory>
+        ensures { IfOk result (λ same. same ≡ self.now) }
+    {
+        Ok(Message {
+            text: self.text.again()?,
+        })
+    }
+}
+
+impl Copying for Message {
+    fn copy(&self, _alloc: Global) -> Result<Message, NoMemory> {
+        let same = self.again()?;
+        Ok(same)
     }
 }

@@ -21,14 +21,14 @@ pub fn write_delivery(out: &mut Vec<u8>, headers: bool, delivery: &Delivery) -> 
     ensures ok { OnOk result (out.new.items ≡ out.old.items ++ delivery_text headers delivery.now) }
     ensures err { OnErr result (out.new.items ≡ out.old.items) }
 {
-    let message = delivery.message.get();
-    let subject = message.subject().bytes();
+    let message = &delivery.message;
+    let subject = message.subject();
     let sid = delivery.sid.as_slice();
     let reply_subject = reply_subject_text(message);
     let head = message.head();
     let payload = message.payload();
     if headers && !head.is_empty() {
-        return write_hmsg(out, subject, sid, reply_subject, head, payload);
+        return write_hmsg(out, subject.bytes(), sid, reply_subject, head, payload);
     }
-    write_msg(out, subject, sid, reply_subject, payload)
+    write_msg(out, subject.bytes(), sid, reply_subject, payload)
 }

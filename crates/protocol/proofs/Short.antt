@@ -12,8 +12,10 @@ use Rattle.protocol.specs.declared.stage.Stage.{Stage}
 use Rattle.protocol.specs.declared.stage.Stage.TheVariants as stage
 use Rattle.protocol.specs.declared.plan.Plan.{Plan}
 use Rattle.protocol.specs.declared.plan.Plan.TheVariants.{Tells, Asks, Publishes}
+use Rattle.subjects.specs.Fault.{pattern_if}
+use Rattle.events.specs.Messages.{Message, message_of}
 use Rattle.protocol.specs.Replies.{text_line, fault_text, closed_from, room_of}
-use Rattle.protocol.specs.Plans.{text_plan, connect_plan, message_plan, pattern_plan, fresh_plan, connected_plan, plan_of, subject_if, pattern_if, named_if}
+use Rattle.protocol.specs.Plans.{text_plan, connect_plan, message_plan, pattern_plan, fresh_plan, connected_plan, plan_of, named_if}
 
 -- what is told without the hub has at most 64 bytes
 abbrev pub IsShort : Plan → Type 0
@@ -31,10 +33,9 @@ connect_short : (conn : ℕ) (r : Read ConnectOpts) → IsShort (connect_plan co
 connect_short conn (Ok o) = tt
 connect_short conn (Err _) = search rules
 
-message_short : (s : Stage) (subject : Option (List Token)) (reply : Option (Option (List Token))) (head payload : List ℕ) → IsShort (message_plan s subject reply head payload)
-message_short s None reply head payload = search rules
-message_short s (Some subject) None head payload = search rules
-message_short s (Some subject) (Some reply) head payload = tt
+message_short : (s : Stage) (m : Option Message) → IsShort (message_plan s m)
+message_short s None = search rules
+message_short s (Some m) = tt
 
 pattern_short : (conn : ℕ) (s : Stage) (pattern : Option (List Token)) (queue : Option (Option (List Token))) (sid : List ℕ) → IsShort (pattern_plan conn s pattern queue sid)
 pattern_short conn s None queue sid = search rules
@@ -46,16 +47,16 @@ fresh_short conn (frame.Connect t) = connect_short conn (opts_of t)
 fresh_short conn frame.Ping = search rules
 fresh_short conn frame.Pong = search rules
 fresh_short conn (frame.Fault f) = fault_short f (stage.Closed false)
-fresh_short conn (frame.Pub _ _ _) = search rules
-fresh_short conn (frame.Hpub _ _ _ _) = search rules
+fresh_short conn (frame.Pub _) = search rules
+fresh_short conn (frame.Hpub _) = search rules
 fresh_short conn (frame.Sub _ _ _) = search rules
 fresh_short conn (frame.Unsub _ _) = search rules
 
 connected_short : (conn : ℕ) (s : Stage) (headers : Bool) (f : Frame) → IsShort (connected_plan conn s headers f)
 connected_short conn s headers (frame.Connect _) = search rules
-connected_short conn s headers (frame.Pub subject reply payload) = message_short s (subject_if subject) (named_if reply) [] payload
-connected_short conn s true (frame.Hpub subject reply head payload) = message_short s (subject_if subject) (named_if reply) head payload
-connected_short conn s false (frame.Hpub subject reply head payload) = search rules
+connected_short conn s headers (frame.Pub texts) = message_short s (message_of texts)
+connected_short conn s true (frame.Hpub texts) = message_short s (message_of texts)
+connected_short conn s false (frame.Hpub texts) = search rules
 connected_short conn s headers (frame.Sub subject queue sid) = pattern_short conn s (pattern_if subject) (named_if queue) sid
 connected_short conn s headers (frame.Unsub sid most) = tt
 connected_short conn s headers frame.Ping = search rules
@@ -69,8 +70,8 @@ plan_short conn (stage.Closed session) f = search rules
 
 -- the room for a text about a frame is enough for it
 pub room_enough : (f : Frame) → 64 ≤ room_of f
-room_enough (frame.Pub subject _ _) = omega arith
-room_enough (frame.Hpub subject _ _ _) = omega arith
+room_enough (frame.Pub texts) = omega arith
+room_enough (frame.Hpub texts) = omega arith
 room_enough (frame.Sub subject None _) = omega arith
 room_enough (frame.Sub subject (Some queue) _) = omega arith
 room_enough (frame.Connect _) = omega arith

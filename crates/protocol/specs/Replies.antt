@@ -72,8 +72,8 @@ fault_text fault.Payload = text.Error error.PayloadViolation
 
 -- that the user may not do what a frame asks; no others are denied
 abbrev pub denied_line : Frame → List ℕ
-denied_line (frame.Pub subject _ _) = publish_denied_line subject
-denied_line (frame.Hpub subject _ _ _) = publish_denied_line subject
+denied_line (frame.Pub texts) = publish_denied_line texts.subject
+denied_line (frame.Hpub texts) = publish_denied_line texts.subject
 denied_line (frame.Sub subject queue _) = subscription_denied_line subject queue
 denied_line _ = []
 
@@ -84,8 +84,8 @@ queue_room (Some queue) = length queue + 80
 
 -- room enough for any text about a frame
 abbrev pub room_of : Frame → ℕ
-room_of (frame.Pub subject _ _) = length subject + 64
-room_of (frame.Hpub subject _ _ _) = length subject + 64
+room_of (frame.Pub texts) = length texts.subject + 64
+room_of (frame.Hpub texts) = length texts.subject + 64
 room_of (frame.Sub subject queue _) = length subject + queue_room queue
 room_of _ = 64
 

@@ -3,15 +3,17 @@ ghost use Rattle.std.specs.Prelude.{◌≡◌, ℕ, Bool, IfOk, IfSome};
 ghost use Rattle.connect_opts.specs.Opts.{opts_of};
 ghost use Rattle.protocol.specs.declared.stage.Stage.{Stage};
 ghost use Rattle.protocol.specs.declared.plan.Plan.TheVariants.{Publishes};
-ghost use Rattle.protocol.specs.Plans.{plan_of, fresh_plan, connected_plan, connect_plan, message_if, message_in, published_by, publish_plan, headed_plan, subscribe_plan, error_plan, subject_if, pattern_if, named_if};
+ghost use Rattle.subjects.specs.Fault.{subject_if, pattern_if};
+ghost use Rattle.events.specs.Messages as read;
+ghost use Rattle.protocol.specs.Plans.{plan_of, fresh_plan, connected_plan, connect_plan, message_in, published_by, publish_plan, headed_plan, subscribe_plan, error_plan, named_if};
 
 use crate::reply::{Reply, fault_text, reply_of_error, reply_of_text};
 use crate::stage::Stage;
 use crate::text::Text;
-use bytes::Bytes;
 use connect_opts::{ConnectError, ConnectOpts};
 use events::{Command, Message};
-use lists::{NoMemory, Shared, SharedText};
+use lists::{NoMemory, Shared, SharedBytes, SharedText};
+use message_text::MessageText;
 use std::alloc::Global;
 use subjects::{Pattern, Subject};
 use wire_read::Frame;
@@ -25,27 +27,11 @@ pub enum Plan {
     /// The hub is asked. Where a CONNECT is accepted the connection is then at this stage.
     Asks(Command, Stage),
     /// The hub is asked to publish a message, with a word.
-    Publishes(Shared<Message>),
-}
-
-/// The subject of a text, if it is one. It shares the text.
-fn subject_of(text: &Bytes) -> Result<Option<Subject>, NoMemory>
-    ensures { IfOk result (λ subject. subject ≡ subject_if text.now) }
-{
-    match Subject::from_bytes(text.clone()?) {
-        Ok(subject) => Ok(Some(subject)),
-        Err(error) => {
-            if error.is_no_memory() {
-                Err(NoMemory)
-            } else {
-                Ok(None)
-            }
-        }
-    }
+    Publishes(Message),
 }
 
 /// The subject of a text, if it is one, with bytes of its own.
-fn own_subject_of(alloc: Global, text: &[u8]) -> Result<Option<Subject>, NoMemory>
+fn subject_of(alloc: Global, text: &[u8]) -> Result<Option<Subject>, NoMemory>
     ensures { IfOk result (λ subject. subject ≡ subject_if text.now) }
 {
     match Subject::parse(alloc, text) {
@@ -76,27 +62,14 @@ fn pattern_of(alloc: Global, text: &[u8]) -> Result<Option<Pattern>, NoMemory>
     }
 }
 
-/// The subject to answer on: none where a message names none, and where it names no subject there is no answer.
-fn reply_subject_of(text: &Option<Bytes>) -> Result<Option<Option<Subject>>, NoMemory>
-    ensures { IfOk result (λ reply. reply ≡ named_if text.now) }
-{
-    match text {
-        None => Ok(Some(None)),
-        Some(text) => match subject_of(text)? {
-            None => Ok(None),
-            Some(subject) => Ok(Some(Some(subject))),
-        },
-    }
-}
-
 /// The queue name that a SUB names, with bytes of its own, since it may stand for long: none where it names none, and
 /// where it names no subject there is no answer.
-fn queue_of(alloc: Global, text: &Option<Bytes>) -> Result<Option<Option<Subject>>, NoMemory>
+fn queue_of(alloc: Global, text: &Option<SharedBytes>) -> Result<Option<Option<Subject>>, NoMemory>
     ensures { IfOk result (λ queue. queue ≡ named_if text.now) }
 {
     match text {
         None => Ok(Some(None)),
-        Some(text) => match own_subject_of(alloc, text.as_slice())? {
+        Some(text) => match subject_of(alloc, text.as_slice())? {
             None => Ok(None),
             Some(queue) => Ok(Some(Some(queue))),
         },
@@ -111,7 +84,7 @@ fn plan_of_error(error: ServerError<'static>, stage: Stage) -> Plan
 }
 
 /// A text of its own bytes. It may stand for long, and would keep all that was read with it.
-fn own_text(alloc: Global, text: &Bytes) -> Result<SharedText, NoMemory>
+fn own_text(alloc: Global, text: &SharedBytes) -> Result<SharedText, NoMemory>
     ensures { IfOk result (λ own. own ≡ text.now) }
 {
     let own = SharedText::of(alloc, text.as_slice())?;
@@ -146,60 +119,30 @@ fn plan_connect(alloc: Global, conn: u64, text: &[u8]) -> Result<Plan, NoMemory>
     }
 }
 
-/// The message of a PUB or HPUB, if its subjects are subjects. Its texts are shared, not copied.
-fn message_of_texts(
-    alloc: Global,
-    subject: &Bytes,
-    reply: &Option<Bytes>,
-    head: Bytes,
-    payload: &Bytes,
-) -> Result<Option<Shared<Message>>, NoMemory>
-    ensures { IfOk result (λ message. message ≡ message_if (subject_if subject.now) (named_if reply.now) head payload.now) }
+/// The message of these texts, if its subjects are subjects. They are shared, not copied.
+fn message_of_text(text: &MessageText) -> Result<Option<Message>, NoMemory>
+    ensures { IfOk result (λ message. message ≡ read.message_of text.now) }
 {
-    match subject_of(subject)? {
-        None => Ok(None),
-        Some(subject) => match reply_subject_of(reply)? {
-            None => Ok(None),
-            Some(reply) => {
-                let message = Message::new(subject, reply, head, payload.clone()?);
-                Ok(Some(Shared::new(alloc, message)?))
-            }
-        },
-    }
+    let message = Message::of(text.again()?);
+    Ok(message)
 }
 
-/// A message of a client whose CONNECT was accepted. The block and the payload are shared, not copied.
-fn plan_publish(
-    alloc: Global,
-    stage: Stage,
-    subject: &Bytes,
-    reply: &Option<Bytes>,
-    head: Bytes,
-    payload: &Bytes,
-) -> Result<Plan, NoMemory>
-    ensures { IfOk result (λ plan. plan ≡ publish_plan stage subject.now reply.now head payload.now) }
+/// A message of a client whose CONNECT was accepted.
+fn plan_publish(stage: Stage, text: &MessageText) -> Result<Plan, NoMemory>
+    ensures { IfOk result (λ plan. plan ≡ publish_plan stage text.now) }
 {
-    match message_of_texts(alloc, subject, reply, head, payload)? {
+    match message_of_text(text)? {
         None => Ok(plan_of_error(ServerError::InvalidSubject, stage)),
         Some(message) => Ok(Plan::Publishes(message)),
     }
 }
 
 /// A message with a header block. A client that has not declared headers may send none.
-fn plan_headed(
-    alloc: Global,
-    stage: Stage,
-    headers: bool,
-    subject: &Bytes,
-    reply: &Option<Bytes>,
-    head: &Bytes,
-    payload: &Bytes,
-) -> Result<Plan, NoMemory>
-    ensures { IfOk result (λ plan. plan ≡ headed_plan stage headers subject.now reply.now head.now payload.now) }
+fn plan_headed(stage: Stage, headers: bool, text: &MessageText) -> Result<Plan, NoMemory>
+    ensures { IfOk result (λ plan. plan ≡ headed_plan stage headers text.now) }
 {
     if headers {
-        let head = head.clone()?;
-        plan_publish(alloc, stage, subject, reply, head, payload)
+        plan_publish(stage, text)
     } else {
         Ok(plan_of_error(ServerError::ParserError, stage))
     }
@@ -210,9 +153,9 @@ fn plan_subscribe(
     alloc: Global,
     conn: u64,
     stage: Stage,
-    subject: &Bytes,
-    queue: &Option<Bytes>,
-    sid: &Bytes,
+    subject: &SharedBytes,
+    queue: &Option<SharedBytes>,
+    sid: &SharedBytes,
 ) -> Result<Plan, NoMemory>
     ensures { IfOk result (λ plan. plan ≡ subscribe_plan conn stage subject.now queue.now sid.now) }
 {
@@ -236,20 +179,16 @@ fn plan_subscribe(
 }
 
 /// The message of a PUB, if its subjects are subjects.
-fn message_of_pub(alloc: Global, frame: &Frame) -> Result<Option<Shared<Message>>, NoMemory>
+fn message_of_pub(frame: &Frame) -> Result<Option<Message>, NoMemory>
     ensures message { IfOk result (λ published. published ≡ message_in frame.now) }
     ensures plan { IfOk result (λ published. IfSome published (λ message. (conn : ℕ) (stage : Stage) (headers : Bool) → connected_plan conn stage headers frame.now ≡ Publishes message)) }
 {
     match frame {
-        Frame::Pub {
-            subject,
-            reply,
-            payload,
-        } => {
-            let message = message_of_texts(alloc, subject, reply, Bytes::new(), payload)?;
+        Frame::Pub(text) => {
+            let message = message_of_text(text)?;
             Ok(message)
         }
-        Frame::Hpub { .. } => Ok(None),
+        Frame::Hpub(_) => Ok(None),
         Frame::Connect(_) => Ok(None),
         Frame::Sub { .. } => Ok(None),
         Frame::Unsub { .. } => Ok(None),
@@ -271,8 +210,8 @@ fn plan_fresh(alloc: Global, conn: u64, frame: &Frame) -> Result<Plan, NoMemory>
             fault_text(*fault),
             Stage::Closed { session: false },
         ))),
-        Frame::Pub { .. } => Ok(plan_of_error(ServerError::Authorization, Stage::Fresh)),
-        Frame::Hpub { .. } => Ok(plan_of_error(ServerError::Authorization, Stage::Fresh)),
+        Frame::Pub(_) => Ok(plan_of_error(ServerError::Authorization, Stage::Fresh)),
+        Frame::Hpub(_) => Ok(plan_of_error(ServerError::Authorization, Stage::Fresh)),
         Frame::Sub { .. } => Ok(plan_of_error(ServerError::Authorization, Stage::Fresh)),
         Frame::Unsub { .. } => Ok(plan_of_error(ServerError::Authorization, Stage::Fresh)),
     }
@@ -290,17 +229,8 @@ fn plan_connected(
 {
     match frame {
         Frame::Connect(_) => Ok(plan_of_error(ServerError::InvalidProtocol, stage)),
-        Frame::Pub {
-            subject,
-            reply,
-            payload,
-        } => plan_publish(alloc, stage, subject, reply, Bytes::new(), payload),
-        Frame::Hpub {
-            subject,
-            reply,
-            head,
-            payload,
-        } => plan_headed(alloc, stage, headers, subject, reply, head, payload),
+        Frame::Pub(text) => plan_publish(stage, text),
+        Frame::Hpub(text) => plan_headed(stage, headers, text),
         Frame::Sub {
             subject,
             queue,
@@ -339,17 +269,13 @@ pub fn plan_of(alloc: Global, conn: u64, stage: Stage, frame: &Frame) -> Result<
 
 /// The message that a PUB of a client publishes whose CONNECT was accepted. Where it gives none, the frame's plan tells
 /// what it comes to.
-pub fn message_of(
-    alloc: Global,
-    stage: Stage,
-    frame: &Frame,
-) -> Result<Option<Shared<Message>>, NoMemory>
+pub fn message_of(stage: Stage, frame: &Frame) -> Result<Option<Message>, NoMemory>
     ensures message { IfOk result (λ published. published ≡ published_by stage frame.now) }
     ensures plan { IfOk result (λ published. IfSome published (λ message. (conn : ℕ) → plan_of conn stage frame.now ≡ Publishes message)) }
 {
     match stage {
         Stage::Fresh => Ok(None),
-        Stage::Connected { .. } => message_of_pub(alloc, frame),
+        Stage::Connected { .. } => message_of_pub(frame),
         Stage::Closed { .. } => Ok(None),
     }
 }

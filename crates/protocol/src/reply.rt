@@ -6,9 +6,8 @@ ghost use Rattle.protocol.specs.Replies.{text_line, told, denied_line, fault_tex
 
 use crate::stage::Stage;
 use crate::text::Text;
-use bytes::Bytes;
 use events::{HubRefusal, Outcome};
-use lists::NoMemory;
+use lists::{NoMemory, SharedBytes};
 use wire_read::{Frame, WireFault};
 use wire_write::ServerError;
 
@@ -20,7 +19,7 @@ pub struct Reply<'a> {
 }
 
 /// Room enough for the rest of any text about a SUB, which may name a queue.
-fn queue_room(queue: &Option<Bytes>) -> usize
+fn queue_room(queue: &Option<SharedBytes>) -> usize
     ensures { result ≡ queue_room queue.now }
 {
     match queue {
@@ -35,8 +34,8 @@ fn room_of(frame: &Frame) -> Option<usize>
 {
     match frame {
         Frame::Connect(_) => Some(64),
-        Frame::Pub { subject, .. } => Some(subject.len() + 64),
-        Frame::Hpub { subject, .. } => Some(subject.len() + 64),
+        Frame::Pub(text) => Some(text.subject().len() + 64),
+        Frame::Hpub(text) => Some(text.subject().len() + 64),
         Frame::Sub { subject, queue, .. } => subject.len().checked_add(queue_room(queue)),
         Frame::Unsub { .. } => Some(64),
         Frame::Ping => Some(64),
@@ -78,7 +77,7 @@ fn ok_if(stage: Stage) -> Text<'static>
 }
 
 /// The bytes of a queue name, if there is one.
-fn bytes_of(queue: &Option<Bytes>) -> Option<&[u8]>
+fn bytes_of(queue: &Option<SharedBytes>) -> Option<&[u8]>
     ensures { option_copied result ≡ queue.now }
 {
     match queue {
@@ -93,8 +92,8 @@ fn denied(frame: &Frame) -> Text<'_>
     ensures short { length (text_line result) ≤ room_of frame.now }
 {
     match frame {
-        Frame::Pub { subject, .. } => Text::Error(ServerError::PublishDenied(subject.as_slice())),
-        Frame::Hpub { subject, .. } => Text::Error(ServerError::PublishDenied(subject.as_slice())),
+        Frame::Pub(text) => Text::Error(ServerError::PublishDenied(text.subject())),
+        Frame::Hpub(text) => Text::Error(ServerError::PublishDenied(text.subject())),
         Frame::Sub { subject, queue, .. } => Text::Error(ServerError::SubscriptionDenied {
             subject: subject.as_slice(),
             queue: bytes_of(queue),

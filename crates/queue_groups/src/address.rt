@@ -9,7 +9,7 @@ ghost use Rattle.queue_groups.specs.Served.{served};
 
 use crate::groups::keep_chosen;
 use events::{Addressed, Message};
-use lists::{NoMemory, Shared};
+use lists::NoMemory;
 use std::alloc::Global;
 use std::hash::RandomState;
 use subscriptions::{Keeps, SharedSubscription, Subscriptions, address_each, addressed_to};
@@ -58,7 +58,7 @@ fn address_plain<K: Keeps>(
     subscriptions: &Subscriptions,
     id: u64,
     test: &K,
-    message: &Shared<Message>,
+    message: &Message,
     all: &mut Vec<Addressed>,
 ) -> Result<bool, NoMemory>
     ensures added { IfOk result (λ plain. plain ≡ true → all.new.items ≡ all.old.items
@@ -87,7 +87,7 @@ fn address_all_plain<K: Keeps>(
     subscriptions: &Subscriptions,
     ids: &[u64],
     test: &K,
-    message: &Shared<Message>,
+    message: &Message,
     all: &mut Vec<Addressed>,
 ) -> Result<bool, NoMemory>
     ensures added { IfOk result (λ plain. plain ≡ true → all.new.items ≡ all.old.items
@@ -110,7 +110,7 @@ pub fn address_served<K: Keeps>(
     keys: RandomState,
     subscriptions: &Subscriptions,
     account: &[u8],
-    message: &Shared<Message>,
+    message: &Message,
     word: u64,
     test: &K,
     ids: &mut Vec<u64>,
@@ -120,7 +120,7 @@ pub fn address_served<K: Keeps>(
         (served word (filter (K.keeps test.now) (having account.now message.now.subject subscriptions.now)))) }
 {
     subscriptions.known();
-    subscriptions.having(account, message.get().subject(), ids)?;
+    subscriptions.having(account, &message.subject(), ids)?;
     all.clear();
     if address_all_plain(subscriptions, ids.as_slice(), test, message, all)? {
         return Ok(());

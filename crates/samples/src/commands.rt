@@ -1,8 +1,8 @@
-use bytes::Bytes;
 use events::{Command, Message};
-use lists::{Shared, SharedText};
+use lists::{Shared, SharedBytes, SharedText};
+use message_text::{MessageText, TextsAt};
 use std::alloc::Global;
-use subjects::{Pattern, Subject};
+use subjects::Pattern;
 
 fn text(alloc: Global, text: &str) -> Option<SharedText> {
     SharedText::of(alloc, text.as_bytes()).ok()
@@ -39,12 +39,18 @@ fn sid(alloc: Global, subject: &str, number: u64) -> Option<SharedText> {
 
 /// A message whose payload is its subject.
 pub fn publish(alloc: Global, conn: u64, subject: &str) -> Option<Command> {
-    let payload = Bytes::copy_from_slice(alloc, subject.as_bytes()).ok()?;
-    let subject = Subject::parse(alloc, subject.as_bytes()).ok()?;
-    let message = Message::new(subject, None, Bytes::new(), payload);
+    let mut text = Vec::from_slice(alloc, subject.as_bytes()).ok()?;
+    text.extend_from_slice(subject.as_bytes()).ok()?;
+    let at = TextsAt {
+        subject: subject.len(),
+        reply: None,
+        head: 0,
+        payload: subject.len(),
+    };
+    let text = SharedBytes::from_vec(alloc, text).ok()?;
     Some(Command::Pub {
         conn,
-        message: Shared::new(alloc, message).ok()?,
+        message: Message::of(MessageText::new(text, at).ok()?)?,
         word: 0,
     })
 }

@@ -163,7 +163,7 @@ fn has_verdict(command: &Command, verdict: Verdict, user: &User) -> bool
             is_same(on_subscription(user, subject.get(), queue), verdict)
         }
         Command::Pub { message, .. } => is_same(
-            user.rules.publish(message.get().subject()),
+            user.rules.publish(&message.subject()),
             verdict,
         ),
         Command::Connect { .. } => false,
@@ -181,7 +181,7 @@ fn may_answer(command: &Command, user: &User) -> bool
     match command {
         Command::Pub { message, .. } => {
             user.rules.terms().is_some()
-                && !user.rules.publish(message.get().subject()).is_allowed()
+                && !user.rules.publish(&message.subject()).is_allowed()
         }
         Command::Connect { .. } => false,
         Command::Sub { .. } => false,

@@ -207,7 +207,7 @@ fn said_of(outcome: &Outcome, payload: &str) -> Said {
 /// Whether it is one delivery, with this payload.
 fn is_one(deliveries: &[Delivery], payload: &str) -> bool {
     match deliveries {
-        [one] => one.message.get().payload() == payload.as_bytes(),
+        [one] => one.message.payload() == payload.as_bytes(),
         _ => false,
     }
 }

@@ -4,12 +4,12 @@ ghost use Rattle.subscriptions.specs.Addressing.{addressed_to};
 
 use crate::SharedSubscription;
 use events::{Addressed, Delivery, Message};
-use lists::{NoMemory, Shared};
+use lists::NoMemory;
 
 /// Addresses a message to subscriptions, in turn, and adds these deliveries. On `NoMemory` some of them may have been
 /// added.
 pub fn address_each(
-    message: &Shared<Message>,
+    message: &Message,
     subscriptions: &[&SharedSubscription],
     all: &mut Vec<Addressed>,
 ) -> Result<(), NoMemory>
@@ -25,7 +25,7 @@ pub fn address_each(
 /// The message on its way to a subscription. It is not copied: the delivery is one more owner. `NoMemory` where there are
 /// too many owners to count.
 pub fn addressed_to(
-    message: &Shared<Message>,
+    message: &Message,
     subscription: &SharedSubscription,
 ) -> Result<Addressed, NoMemory>
     ensures { IfOk result (λ addressed. addressed ≡ addressed_to message.now subscription.now) }

@@ -9,7 +9,7 @@ use std::alloc::Global;
 use std::collections::btree_map::Values;
 use std::hash::RandomState;
 use std::marker::Model;
-use subjects::Subject;
+use subjects::SubjectRef;
 use subscription_ids::Sids;
 
 /// How many subscriptions of a connection may stand.
@@ -122,7 +122,7 @@ impl Subscriptions {
 
     /// Keeps in mind which of an account have a subject, where it was asked for before and memory allows: then the next
     /// `having` needs no search. They stay what they are.
-    pub fn remember(&mut self, account: &[u8], subject: &Subject)
+    pub fn remember(&mut self, account: &[u8], subject: &SubjectRef<'_>)
         ensures { self.new ≡ self.old }
     {
         self.table.remember(account, subject);
@@ -133,7 +133,7 @@ impl Subscriptions {
     pub fn having(
         &self,
         account: &[u8],
-        subject: &Subject,
+        subject: &SubjectRef<'_>,
         ids: &mut Vec<u64>,
     ) -> Result<(), NoMemory>
         ensures { OnOk result (found_by self.now ids.new.items ≡ having account.now subject.now self.now) }

@@ -9,7 +9,7 @@ use std::collections::BTreeMap;
 use std::collections::btree_map::Values;
 use std::hash::RandomState;
 use std::marker::Model;
-use subjects::Subject;
+use subjects::SubjectRef;
 use subscription_ids::{Own, Trees};
 
 /// The standing subscriptions, seen as a list, oldest first. The trees are the list's index: they find those that have a
@@ -99,7 +99,7 @@ impl Table {
 
     /// Keeps in mind which of an account have a subject, where it was asked for before and memory allows: then the next
     /// `having` needs no search. They stay what they are.
-    pub fn remember(&mut self, account: &[u8], subject: &Subject)
+    pub fn remember(&mut self, account: &[u8], subject: &SubjectRef<'_>)
         ensures { self.new ≡ self.old }
     {
         self.trees.remember(account, subject);
@@ -109,7 +109,7 @@ impl Table {
     pub fn having(
         &self,
         account: &[u8],
-        subject: &Subject,
+        subject: &SubjectRef<'_>,
         ids: &mut Vec<u64>,
     ) -> Result<(), NoMemory>
         ensures { OnOk result (found_by self.now ids.new.items ≡ having account.now subject.now self.now) }

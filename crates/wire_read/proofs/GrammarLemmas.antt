@@ -4,6 +4,7 @@ use Rattle.std.specs.List.{before_first, position_or_len}
 use Rattle.std.proofs.lemmas.List.{get_or_append_left, get_or_at, take_at, drop_at, take_more, take-append-drop, get_or-take}
 use Rattle.std.proofs.lemmas.List.Sums.{position_or_len_is, fails_before_first, passes_at_first}
 use Rattle.std.proofs.lemmas.Bool.{eqb-true, eqb-false, ne_eqb, cond-false}
+use Rattle.message_text.specs.Texts.{texts}
 use Rattle.wire_read.specs.declared.fault.WireFault.{WireFault}
 use Rattle.wire_read.specs.declared.fault.WireFault.TheVariants.{ParserError, ControlLine}
 use Rattle.wire_read.specs.declared.frame.Frame.{Frame}
@@ -116,8 +117,8 @@ no_end g taken (b ∷ c ∷ cs) none = by_test (eqb b 13) (eqb c 10) refl refl
 -- a frame that a line says by itself
 spelled_alone : (f : Frame) (line text : List ℕ) → IsLine line text → Says line (Alone f) → IsSpelling f text
 spelled_alone (frame.Connect options) line text is says = (line, is, says)
-spelled_alone (frame.Pub subject reply payload) line text is says = absurd says
-spelled_alone (frame.Hpub subject reply head payload) line text is says = absurd says
+spelled_alone (frame.Pub t) line text is says = absurd says
+spelled_alone (frame.Hpub t) line text is says = absurd says
 spelled_alone (frame.Sub subject queue sid) line text is says = (line, is, says)
 spelled_alone (frame.Unsub sid most) line text is says = (line, is, says)
 spelled_alone frame.Ping line text is says = (line, is, says)
@@ -127,7 +128,7 @@ spelled_alone (frame.Fault fault) line text is says = absurd says
 -- a message by the bytes that its line announced
 spelled_block : (line start s : List ℕ) (reply : Option (List ℕ)) (head : Option ℕ) (block text : List ℕ) → IsLine line start → Announces line s reply head (length block) →
     text ≡ start ++ (block ++ 13 ∷ 10 ∷ []) → IsSpelling (message s reply head block) text
-spelled_block line start s reply None block text is says e = (line, start, is, says, e)
+spelled_block line start s reply None block text is says e = (refl, (line, start, is, says, e))
 spelled_block line start s reply (Some k) block text is says e =
     let len : length (take k block) ≡ k = omega (arith, length-take k block, says.6) in
     rw (len, take-append-drop k block) (line, start, is, says, e)
@@ -206,11 +207,13 @@ is_read (frame.Unsub sid most) text more is = read_alone (frame.Unsub sid most) 
 is_read frame.Ping text more is = read_alone frame.Ping is.0 text more is.1 is.2
 is_read frame.Pong text more is = read_alone frame.Pong is.0 text more is.1 is.2
 is_read (frame.Fault fault) text more is = read_alone (frame.Fault fault) is.0 text more is.1 is.2
-is_read (frame.Pub subject reply payload) text more is = read_message subject reply None payload text more is
-is_read (frame.Hpub subject reply head payload) text more is =
-    read_message subject reply (Some (length head)) (head ++ payload) text more is
-    ∙ ap (λ h. Whole (frame.Hpub subject reply h (drop (length head) (head ++ payload))) (length text)) (take_at head payload (length head) refl)
-    ∙ ap (λ p. Whole (frame.Hpub subject reply head p) (length text)) (drop_at head payload (length head) refl)
+is_read (frame.Pub t) text more is =
+    read_message t.subject t.reply None t.payload text more is.1
+    ∙ ap (λ h. Whole (frame.Pub (texts t.subject t.reply h t.payload)) (length text)) (sym is.0)
+is_read (frame.Hpub t) text more is =
+    read_message t.subject t.reply (Some (length t.head)) (t.head ++ t.payload) text more is
+    ∙ ap (λ h. Whole (frame.Hpub (texts t.subject t.reply h (drop (length t.head) (t.head ++ t.payload)))) (length text)) (take_at t.head t.payload (length t.head) refl)
+    ∙ ap (λ p. Whole (frame.Hpub (texts t.subject t.reply t.head p)) (length text)) (drop_at t.head t.payload (length t.head) refl)
 
 shown_by : (c : Command) (stream : List ℕ) (end : ℕ) (w : WireFault) → line_of stream ≡ Ended end → Says (without_cr (take end stream)) c →
     after_line c (end + 1) (drop (end + 1) stream) ≡ Wrong w → Shows w stream
@@ -283,8 +286,8 @@ only_by [] stream rest failed is =
 only_by (frame.Fault w ∷ fs) stream rest failed is =
     rw (is.1, is.2, is.3) (sym (step_by stream (Wrong w) (is_fault stream w is.0)))
 only_by (frame.Connect o ∷ fs) stream rest failed is = only_whole _ fs stream is.0 is.1 rest failed is.2 is.3 (only_by fs is.1 rest failed is.4)
-only_by (frame.Pub s r p ∷ fs) stream rest failed is = only_whole _ fs stream is.0 is.1 rest failed is.2 is.3 (only_by fs is.1 rest failed is.4)
-only_by (frame.Hpub s r h p ∷ fs) stream rest failed is = only_whole _ fs stream is.0 is.1 rest failed is.2 is.3 (only_by fs is.1 rest failed is.4)
+only_by (frame.Pub t ∷ fs) stream rest failed is = only_whole _ fs stream is.0 is.1 rest failed is.2 is.3 (only_by fs is.1 rest failed is.4)
+only_by (frame.Hpub t ∷ fs) stream rest failed is = only_whole _ fs stream is.0 is.1 rest failed is.2 is.3 (only_by fs is.1 rest failed is.4)
 only_by (frame.Sub s q i ∷ fs) stream rest failed is = only_whole _ fs stream is.0 is.1 rest failed is.2 is.3 (only_by fs is.1 rest failed is.4)
 only_by (frame.Unsub i m ∷ fs) stream rest failed is = only_whole _ fs stream is.0 is.1 rest failed is.2 is.3 (only_by fs is.1 rest failed is.4)
 only_by (frame.Pong ∷ fs) stream rest failed is = only_whole _ fs stream is.0 is.1 rest failed is.2 is.3 (only_by fs is.1 rest failed is.4)
@@ -298,8 +301,8 @@ found_whole : (f : Frame) (fs : List Frame) (stream text more rest : List ℕ) (
     IsFramedBy more fs rest failed → IsFramedBy stream (f ∷ fs) rest failed
 found_whole (frame.Fault w) fs stream text more rest failed cut spelled after = absurd spelled.2
 found_whole (frame.Connect o) fs stream text more rest failed cut spelled after = (text, more, cut, spelled, after)
-found_whole (frame.Pub s r p) fs stream text more rest failed cut spelled after = (text, more, cut, spelled, after)
-found_whole (frame.Hpub s r h p) fs stream text more rest failed cut spelled after = (text, more, cut, spelled, after)
+found_whole (frame.Pub t) fs stream text more rest failed cut spelled after = (text, more, cut, spelled, after)
+found_whole (frame.Hpub t) fs stream text more rest failed cut spelled after = (text, more, cut, spelled, after)
 found_whole (frame.Sub s q i) fs stream text more rest failed cut spelled after = (text, more, cut, spelled, after)
 found_whole (frame.Unsub i m) fs stream text more rest failed cut spelled after = (text, more, cut, spelled, after)
 found_whole frame.Pong fs stream text more rest failed cut spelled after = (text, more, cut, spelled, after)

@@ -1,3 +1,4 @@
+pub mod TextLemmas
 pub mod SizeLemmas
 pub mod FramingLemmas
 pub mod CutLemmas

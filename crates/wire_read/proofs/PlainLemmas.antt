@@ -8,6 +8,7 @@ use Rattle.std.proofs.lemmas.List.{get_or_at, take_at, drop_at, take-append-drop
 use Rattle.std.proofs.lemmas.List.Elements.{All-nil, All-cons, All-append}
 use Rattle.std.proofs.lemmas.List.Splits.{slice_split_none, slice_split_at}
 use Rattle.digits.specs.Number.{is_number}
+use Rattle.message_text.specs.Texts.{texts}
 use Rattle.wire_read.specs.declared.fault.WireFault.TheVariants.{ParserError, Payload}
 use Rattle.wire_read.specs.declared.frame.Frame.TheVariants as frame
 use Rattle.control_lines.specs.declared.operation.Operation.TheVariants as operations
@@ -143,11 +144,11 @@ text_len s d p =
     omega (arith, start_len s d, length-append (start_with s d) (p ++ 13 ∷ 10 ∷ []), length-append p (13 ∷ 10 ∷ []))
 
 reads : (s d p more : List ℕ) → All IsWord s → All IsWord d → (length s ≡ 0 → ⊥) → length s ≤ 2000 → length d ≤ 2000 → Ok (length p) ≡ size d →
-    front (bytes_with s d (p ++ 13 ∷ 10 ∷ more)) ≡ Whole (frame.Pub s None p) (length s + length d + 7 + length p + 2)
+    front (bytes_with s d (p ++ 13 ∷ 10 ∷ more)) ≡ Whole (frame.Pub (texts s None [] p)) (length s + length d + 7 + length p + 2)
 reads s d p more is_s is_d some few_s few_d is =
     ap front (sym (text_then s d p more))
-    ∙ is_read (frame.Pub s None p) (text_with s d p) more (line_with s d, start_with s d, line_is s d is_s is_d few_s few_d, announces s d (length p) is_s is_d some is, refl)
-    ∙ ap (Whole (frame.Pub s None p)) (text_len s d p)
+    ∙ is_read (frame.Pub (texts s None [] p)) (text_with s d p) more (refl, (line_with s d, start_with s d, line_is s d is_s is_d few_s few_d, announces s d (length p) is_s is_d some is, refl))
+    ∙ ap (Whole (frame.Pub (texts s None [] p))) (text_len s d p)
 
 -- the texts stand at their places
 at_places : (s d p more : List ℕ) → All IsWord s → All IsWord d → (length s ≡ 0 → ⊥) → length s ≤ 2000 → length d ≤ 2000 → Ok (length p) ≡ size d →
@@ -159,12 +160,12 @@ at_places s d p more is_s is_d some few_s few_d is =
     let behind : drop (length s + length d + 7) (bytes_with s d rest) ≡ rest =
     ap (drop (length s + length d + 7)) (sym (start_then s d rest)) ∙ drop_at (start_with s d) rest (length s + length d + 7) (start_len s d) in
     record {
-      subject = omega (arith, long);
+      subject = omega arith;
       payload = omega (arith, long, length-append p (13 ∷ 10 ∷ more));
       whole =
           reads s d p more is_s is_d some few_s few_d is
-          ∙ ap (λ t. Whole (frame.Pub t None p) (length s + length d + 7 + length p + 2)) (sym (take_at s (32 ∷ (d ++ 13 ∷ 10 ∷ rest)) (length s) refl))
-          ∙ ap (λ t. Whole (frame.Pub (take (length s) (drop 4 (bytes_with s d rest))) None t) (length s + length d + 7 + length p + 2))
+          ∙ ap (λ t. Whole (frame.Pub (texts t None [] p)) (length s + length d + 7 + length p + 2)) (sym (take_at s (32 ∷ (d ++ 13 ∷ 10 ∷ rest)) (length s) refl))
+          ∙ ap (λ t. Whole (frame.Pub (texts (take (length s) (drop 4 (bytes_with s d rest))) None [] t)) (length s + length d + 7 + length p + 2))
           (sym (ap (take (length p)) behind ∙ take_at p (13 ∷ 10 ∷ more) (length p) refl));
     }
 

@@ -333,8 +333,8 @@ command_says line (Alone (frame.Unsub sid (Some most))) says =
     by_parts line Unsub _ says.1 ∙ ap (λ fs. unsubscription (counted fs)) (has_parts line Unsub _ says.1).1 ∙ ap (ended_after sid) (count_small says.0 most says.2 says.3)
 command_says line (Alone frame.Ping) says = by_parts line Ping says.0 says.1
 command_says line (Alone frame.Pong) says = by_parts line Pong says.0 says.1
-command_says line (Alone (frame.Pub subject reply payload)) says = absurd says
-command_says line (Alone (frame.Hpub subject reply head payload)) says = absurd says
+command_says line (Alone (frame.Pub t)) says = absurd says
+command_says line (Alone (frame.Hpub t)) says = absurd says
 command_says line (Alone (frame.Fault fault)) says = absurd says
 command_says line (Publish a) says = announces_says line a.subject a.reply a.head a.total says
 command_says line (Refused UnknownOperation) says = unknown line says

@@ -1,5 +1,6 @@
 -- What a stream begins with (NATS documentation, "Client Protocol").
 use Rattle.std.specs.Prelude.{ℕ, ◌+◌, ◌==◌, ◌&&◌, List, [], ◌∷◌, take, drop, Option, Some, None, if◌then◌else◌}
+use Rattle.message_text.specs.Texts.{Texts, texts}
 use Rattle.wire_read.specs.declared.fault.WireFault.{WireFault}
 use Rattle.wire_read.specs.declared.fault.WireFault.TheVariants.{ParserError, ControlLine}
 use Rattle.wire_read.specs.declared.frame.Frame.{Frame}
@@ -20,10 +21,14 @@ pub data Front : Type 0 where
   More : Front
   Wrong : WireFault → Front
 
+-- the texts of a message by the bytes behind its line, of which the first `head` are its header block
+abbrev pub block_texts : List ℕ → Option (List ℕ) → ℕ → List ℕ → Texts
+block_texts subject reply head block = texts subject reply (take head block) (drop head block)
+
 -- a message by the bytes behind its line: the first `head` of them are its header block, if it has one
 abbrev pub message : List ℕ → Option (List ℕ) → Option ℕ → List ℕ → Frame
-message subject reply None block = Pub subject reply block
-message subject reply (Some head) block = Hpub subject reply (take head block) (drop head block)
+message subject reply None block = Pub (texts subject reply [] block)
+message subject reply (Some head) block = Hpub (block_texts subject reply head block)
 
 -- how the bytes after a payload end it: CR LF does, and the first other byte is wrong
 abbrev pub end_of : List ℕ → End

@@ -78,8 +78,8 @@ Says line (Alone (frame.Unsub sid (Some n))) =
     (most : List ℕ) × Has line Unsub (sid ∷ most ∷ []) × Writes most n × (n ≤ 2 ^ 63 - 1)
 Says line (Alone frame.Ping) = (others : List (List ℕ)) × Has line Ping others
 Says line (Alone frame.Pong) = (others : List (List ℕ)) × Has line Pong others
-Says line (Alone (frame.Pub subject reply payload)) = ⊥
-Says line (Alone (frame.Hpub subject reply head payload)) = ⊥
+Says line (Alone (frame.Pub t)) = ⊥
+Says line (Alone (frame.Hpub t)) = ⊥
 Says line (Alone (frame.Fault fault)) = ⊥
 Says line (Publish a) = Announces line a.subject a.reply a.head a.total
 Says line (Refused UnknownOperation) = operation (first_field line) ≡ None
@@ -94,9 +94,10 @@ IsMessage subject reply head block text =
     × (text ≡ start ++ (block ++ 13 ∷ 10 ∷ []))
 
 -- The texts of a frame: a line that says it, and for a message its header block, its payload and CR LF behind the line. A fault has none.
+-- A PUB has no header block.
 abbrev pub IsSpelling : Frame → List ℕ → Type 0
-IsSpelling (frame.Pub subject reply payload) text = IsMessage subject reply None payload text
-IsSpelling (frame.Hpub subject reply head payload) text = IsMessage subject reply (Some (length head)) (head ++ payload) text
+IsSpelling (frame.Pub t) text = (t.head ≡ []) × IsMessage t.subject t.reply None t.payload text
+IsSpelling (frame.Hpub t) text = IsMessage t.subject t.reply (Some (length t.head)) (t.head ++ t.payload) text
 IsSpelling f text = (line : List ℕ) × IsLine line text × Says line (Alone f)
 
 -- a stream begins with a frame exactly where it begins with one of its texts

@@ -1,6 +1,7 @@
 ghost use Rattle.std.specs.Prelude.{◌≡◌, ◌<◌, ◌++◌, [], length, take, IfOk, OnOk, OnErr};
+ghost use Rattle.std.specs.Option.{unwrap_or};
 
-use bytes::Bytes;
+use lists::SharedBytes;
 use std::alloc::{AllocError, Global};
 use std::marker::Model;
 use std::mem;
@@ -9,18 +10,19 @@ use std::mem;
 #[derive(Debug, Drop)]
 pub struct Buffer {
     /// What was shared when memory ran out afterwards. Elsewhere there is nothing.
-    shared: Bytes,
+    shared: Option<SharedBytes>,
     /// The bytes behind.
     grown: Vec<u8>,
     alloc: Global,
 }
 
 impl Model for Buffer {
-    ghost use Rattle.std.specs.Prelude.{List, ℕ, ◌++◌};
+    ghost use Rattle.std.specs.Prelude.{List, ℕ, ◌++◌, []};
+    ghost use Rattle.std.specs.Option.{unwrap_or};
 
     ghost Value = { List ℕ };
 
-    ghost view = { λ b. b.shared ++ b.grown.items };
+    ghost view = { λ b. unwrap_or b.shared [] ++ b.grown.items };
 }
 
 impl Buffer {
@@ -29,7 +31,7 @@ impl Buffer {
         ensures { result ≡ [] }
     {
         Buffer {
-            shared: Bytes::new(),
+            shared: None,
             grown: Vec::new(alloc),
             alloc,
         }
@@ -42,7 +44,7 @@ impl Buffer {
         let mut grown = Vec::with_capacity(alloc, room)?;
         grown.extend_from_slice(bytes)?;
         Ok(Buffer {
-            shared: Bytes::new(),
+            shared: None,
             grown,
             alloc,
         })
@@ -53,7 +55,7 @@ impl Buffer {
         ensures value { result ≡ length self.now }
         ensures bound { result < usize.MAX }
     {
-        self.shared.len() + self.grown.len()
+        bytes_of(&self.shared).len() + self.grown.len()
     }
 
     /// Appends a piece, or leaves the buffer as it is.
@@ -65,22 +67,18 @@ impl Buffer {
     }
 
     /// The bytes with these behind them, of which only the latter are copied. The buffer stays as it is.
-    pub fn share(&mut self, more: &[u8]) -> Result<Bytes, AllocError>
+    pub fn share(&mut self, more: &[u8]) -> Result<SharedBytes, AllocError>
         ensures same { self.new ≡ self.old }
         ensures ok { IfOk result (λ b. b ≡ self.old ++ more.now) }
     {
-        if !self.shared.is_empty() {
-            return join(
-                self.alloc,
-                self.shared.as_slice(),
-                self.grown.as_slice(),
-                more,
-            );
+        let shared = bytes_of(&self.shared);
+        if !shared.is_empty() {
+            return join(self.alloc, shared, self.grown.as_slice(), more);
         }
         let len = self.grown.len();
         self.grown.extend_from_slice(more)?;
         let grown = mem::replace(&mut self.grown, Vec::new(self.alloc));
-        match Bytes::from_vec(grown) {
+        match SharedBytes::from_vec(self.alloc, grown) {
             Ok(whole) => self.keep_front(whole, len),
             Err(refused) => {
                 self.grown = refused.value;
@@ -91,33 +89,43 @@ impl Buffer {
     }
 
     /// Keeps the first bytes of what was just shared, where nothing else is kept.
-    fn keep_front(&mut self, mut whole: Bytes, len: usize) -> Result<Bytes, AllocError>
+    fn keep_front(&mut self, mut whole: SharedBytes, len: usize) -> Result<SharedBytes, AllocError>
         requires { self.old ≡ [] }
         ensures kept { self.new ≡ take len whole }
         ensures ok { IfOk result (λ b. b ≡ whole) }
     {
-        match whole.clone() {
+        match whole.again() {
             Ok(mut front) => {
                 front.truncate(len);
-                self.shared = front;
+                self.shared = Some(front);
                 Ok(whole)
             }
             Err(refused) => {
                 whole.truncate(len);
-                self.shared = whole;
+                self.shared = Some(whole);
                 Err(refused)
             }
         }
     }
 }
 
+/// The bytes that are shared, if any are.
+fn bytes_of(shared: &Option<SharedBytes>) -> &[u8]
+    ensures { result.now ≡ unwrap_or shared.now [] }
+{
+    match shared {
+        None => &[],
+        Some(bytes) => bytes.as_slice(),
+    }
+}
+
 /// The bytes of all three, in order.
-fn join(alloc: Global, first: &[u8], second: &[u8], third: &[u8]) -> Result<Bytes, AllocError>
+fn join(alloc: Global, first: &[u8], second: &[u8], third: &[u8]) -> Result<SharedBytes, AllocError>
     ensures { IfOk result (λ b. b ≡ first.now ++ second.now ++ third.now) }
 {
     let mut whole = Vec::new(alloc);
     whole.extend_from_slice(first)?;
     whole.extend_from_slice(second)?;
     whole.extend_from_slice(third)?;
-    Ok(Bytes::from_vec(whole)?)
+    Ok(SharedBytes::from_vec(alloc, whole)?)
 }

@@ -1,16 +1,16 @@
-ghost use Rattle.std.specs.Prelude.{◌≡◌, ◌≤◌, length, take, drop, IfOk};
+ghost use Rattle.std.specs.Prelude.{◌≡◌, ◌<◌, ◌≤◌, length, take, drop, IfOk};
 ghost use Rattle.control_lines.specs.Field.{counted, fields};
-ghost use Rattle.control_lines.specs.Places.{text_at, text_if_at};
+ghost use Rattle.control_lines.specs.Places.{text_at, text_if_at, IsBehindIf};
 ghost use Rattle.wire_read.specs.Size.{size, sizes};
 ghost use Rattle.wire_read.specs.Command.{command, publication, headed_publication, subscription, unsubscription, sized, headed};
-ghost use Rattle.wire_read.specs.Places.{frame_at, command_at};
+ghost use Rattle.wire_read.specs.Places.{frame_at, command_at, AreTextsInOrder};
 
 use crate::size::{count_of, size_of, sizes_of};
 use crate::{Frame, WireFault};
-use bytes::Bytes;
 use control_lines::{
     FieldsAt, Operation, Place, cut, cut_if, fields_of, find_operation, first_place, text_at, trim,
 };
+use lists::SharedBytes;
 use std::alloc::AllocError;
 
 /// What the line of a message says of it.
@@ -47,7 +47,7 @@ pub enum CommandAt {
 }
 
 /// The frame of the line of the first `len` bytes, which it shares.
-pub fn frame_of(bytes: &Bytes, len: usize, frame: FrameAt) -> Result<Frame, AllocError>
+pub fn frame_of(bytes: &SharedBytes, len: usize, frame: FrameAt) -> Result<Frame, AllocError>
     requires { len ≤ length bytes.now }
     ensures { IfOk result (λ f. f ≡ frame_at (take len bytes.now) frame) }
 {
@@ -69,7 +69,11 @@ pub fn frame_of(bytes: &Bytes, len: usize, frame: FrameAt) -> Result<Frame, Allo
 
 /// A message with a payload alone.
 fn sized(line: &[u8], subject: Place, reply: Option<Place>, field: Place) -> CommandAt
-    ensures { command_at line.now result ≡ sized (text_at line.now subject) (text_if_at line.now reply) (size (text_at line.now field)) }
+    requires subject { subject.start < subject.end }
+    requires within { subject.end ≤ length line.now }
+    requires reply { IsBehindIf subject.end line.now reply }
+    ensures says { command_at line.now result ≡ sized (text_at line.now subject) (text_if_at line.now reply) (size (text_at line.now field)) }
+    ensures order { AreTextsInOrder line.now result }
 {
     match size_of(text_at(line, field)) {
         Err(fault) => CommandAt::Refused(fault),
@@ -84,7 +88,11 @@ fn sized(line: &[u8], subject: Place, reply: Option<Place>, field: Place) -> Com
 
 /// A message with a header block.
 fn headed(line: &[u8], subject: Place, reply: Option<Place>, head: Place, total: Place) -> CommandAt
-    ensures { command_at line.now result ≡ headed (text_at line.now subject) (text_if_at line.now reply) (sizes (text_at line.now head) (text_at line.now total)) }
+    requires subject { subject.start < subject.end }
+    requires within { subject.end ≤ length line.now }
+    requires reply { IsBehindIf subject.end line.now reply }
+    ensures says { command_at line.now result ≡ headed (text_at line.now subject) (text_if_at line.now reply) (sizes (text_at line.now head) (text_at line.now total)) }
+    ensures order { AreTextsInOrder line.now result }
 {
     match sizes_of(text_at(line, head), text_at(line, total)) {
         Err(fault) => CommandAt::Refused(fault),
@@ -99,7 +107,8 @@ fn headed(line: &[u8], subject: Place, reply: Option<Place>, head: Place, total:
 
 fn publication(line: &[u8], from: usize) -> CommandAt
     requires { from ≤ length line.now }
-    ensures { command_at line.now result ≡ publication (counted (fields (drop from line.now))) }
+    ensures says { command_at line.now result ≡ publication (counted (fields (drop from line.now))) }
+    ensures order { AreTextsInOrder line.now result }
 {
     match fields_of(line, from) {
         FieldsAt::Two(subject, size) => sized(line, subject, None, size),
@@ -112,7 +121,8 @@ fn publication(line: &[u8], from: usize) -> CommandAt
 
 fn headed_publication(line: &[u8], from: usize) -> CommandAt
     requires { from ≤ length line.now }
-    ensures { command_at line.now result ≡ headed_publication (counted (fields (drop from line.now))) }
+    ensures says { command_at line.now result ≡ headed_publication (counted (fields (drop from line.now))) }
+    ensures order { AreTextsInOrder line.now result }
 {
     match fields_of(line, from) {
         FieldsAt::Three(subject, head, total) => headed(line, subject, None, head, total),
@@ -127,7 +137,8 @@ fn headed_publication(line: &[u8], from: usize) -> CommandAt
 
 fn subscription(line: &[u8], from: usize) -> CommandAt
     requires { from ≤ length line.now }
-    ensures { command_at line.now result ≡ subscription (counted (fields (drop from line.now))) }
+    ensures says { command_at line.now result ≡ subscription (counted (fields (drop from line.now))) }
+    ensures order { AreTextsInOrder line.now result }
 {
     match fields_of(line, from) {
         FieldsAt::Two(subject, sid) => CommandAt::Alone(FrameAt::Sub(subject, None, sid)),
@@ -142,7 +153,8 @@ fn subscription(line: &[u8], from: usize) -> CommandAt
 
 fn unsubscription(line: &[u8], from: usize) -> CommandAt
     requires { from ≤ length line.now }
-    ensures { command_at line.now result ≡ unsubscription (counted (fields (drop from line.now))) }
+    ensures says { command_at line.now result ≡ unsubscription (counted (fields (drop from line.now))) }
+    ensures order { AreTextsInOrder line.now result }
 {
     match fields_of(line, from) {
         FieldsAt::One(sid) => CommandAt::Alone(FrameAt::Unsub(sid, None)),
@@ -159,7 +171,8 @@ fn unsubscription(line: &[u8], from: usize) -> CommandAt
 /// What a control line says, without its end.
 #[tactic(auto, unfolding(crate::specs::Command::command))]
 pub fn read_command(line: &[u8]) -> CommandAt
-    ensures { command_at line.now result ≡ command line.now }
+    ensures says { command_at line.now result ≡ command line.now }
+    ensures order { AreTextsInOrder line.now result }
 {
     let name = first_place(line, 0);
     match find_operation(text_at(line, name)) {

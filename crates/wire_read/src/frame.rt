@@ -1,34 +1,26 @@
 use crate::WireFault;
-use bytes::Bytes;
+use lists::SharedBytes;
+use message_text::MessageText;
 
 /// What a client says at once: one protocol message, or the fault that ends the stream.
 /// Its texts are the stream's bytes, and aren't judged.
 #[derive(Debug, Drop)]
 pub enum Frame {
     /// The rest of the line after the operation and the separators that follow it. It may be empty.
-    Connect(Bytes),
+    Connect(SharedBytes),
     /// A message for a subject, with the subject for answers to it if the client named one.
-    Pub {
-        subject: Bytes,
-        reply: Option<Bytes>,
-        payload: Bytes,
-    },
+    Pub(MessageText),
     /// A message with a header block in front of its payload. The block isn't judged either.
-    Hpub {
-        subject: Bytes,
-        reply: Option<Bytes>,
-        head: Bytes,
-        payload: Bytes,
-    },
+    Hpub(MessageText),
     /// A subscription, under the client's own name for it, as a member of a queue if the client named one.
     Sub {
-        subject: Bytes,
-        queue: Option<Bytes>,
-        sid: Bytes,
+        subject: SharedBytes,
+        queue: Option<SharedBytes>,
+        sid: SharedBytes,
     },
     /// The end of a subscription, at once or after so many messages since its beginning, at most 2^63 - 1.
     Unsub {
-        sid: Bytes,
+        sid: SharedBytes,
         most: Option<u64>,
     },
     /// A question whether the server is there.

@@ -4,15 +4,16 @@ ghost use Rattle.control_lines.specs.Places.{text_at, text_if_at};
 ghost use Rattle.control_lines.specs.declared.line.Line.TheVariants as line_is;
 ghost use Rattle.wire_read.specs.Awaited.{IsFound, AwaitsBlock, front_of};
 ghost use Rattle.wire_read.specs.Command.{IsWithin};
-ghost use Rattle.wire_read.specs.Front.{after_announced, end_of, message};
-ghost use Rattle.wire_read.specs.Places.{announced_at};
+ghost use Rattle.wire_read.specs.Front.{after_announced, block_texts, end_of, message};
+ghost use Rattle.wire_read.specs.Places.{announced_at, span_behind, IsFromIf, IsInOrder};
 ghost use Rattle.wire_read.specs.declared.front.Found.TheVariants as found;
 
 use crate::awaited::Awaited;
 use crate::command::{AnnouncedAt, CommandAt, frame_of, read_command};
 use crate::{Frame, WireFault};
-use bytes::Bytes;
-use control_lines::{Line, cut, cut_if, find_line, len_without_cr};
+use control_lines::{Line, Place, find_line, len_without_cr};
+use lists::SharedBytes;
+use message_text::{MessageText, Span, TextsAt};
 use std::alloc::AllocError;
 
 /// What some bytes begin with.
@@ -47,48 +48,74 @@ fn find_end(rest: &[u8]) -> End
     }
 }
 
-/// The message that the line of the first `len` bytes announced, all of which came.
-fn message(bytes: &Bytes, len: usize, start: usize, line: AnnouncedAt) -> Result<Found, AllocError>
-    requires len { len ≤ length bytes.now }
+/// Where a text stands behind a place.
+fn span_behind(from: usize, place: Option<Place>) -> Option<Span>
+    requires { IsFromIf from place }
+    ensures { result ≡ span_behind from place }
+{
+    match place {
+        None => None,
+        Some(place) => Some(Span {
+            start: place.start - from,
+            end: place.end - from,
+        }),
+    }
+}
+
+/// The texts of the message that the line of the first `start` bytes announced, all of which came, with a header block of
+/// `head` bytes. They share the bytes.
+fn texts_of(
+    bytes: &SharedBytes,
+    start: usize,
+    line: AnnouncedAt,
+    head: usize,
+) -> Result<MessageText, AllocError>
+    requires order { IsInOrder (take start bytes.now) line }
+    requires head { head ≤ line.total }
+    requires total { start + line.total ≤ length bytes.now }
+    ensures { IfOk result (λ m. m ≡ block_texts (text_at (take start bytes.now) line.subject) (text_if_at (take start bytes.now) line.reply) head (take line.total (drop start bytes.now))) }
+{
+    let _bound = bytes.len();
+    let from = line.subject.start;
+    let text = bytes.part(from..start + line.total)?;
+    let places = TextsAt {
+        subject: line.subject.end - from,
+        reply: span_behind(from, line.reply),
+        head,
+        payload: line.total - head,
+    };
+    let message = MessageText::new(text, places)?;
+    Ok(message)
+}
+
+/// The message that the line of the first `start` bytes announced, all of which came.
+fn message(bytes: &SharedBytes, start: usize, line: AnnouncedAt) -> Result<Found, AllocError>
+    requires order { IsInOrder (take start bytes.now) line }
     requires head { IsWithin line.head line.total }
     requires total { start + line.total + 2 ≤ length bytes.now }
-    ensures { IfOk result (λ f. f ≡ found.Whole (message (text_at (take len bytes.now) line.subject) (text_if_at (take len bytes.now) line.reply) line.head (take line.total (drop start bytes.now))) (start + line.total + 2)) }
+    ensures { IfOk result (λ f. f ≡ found.Whole (message (text_at (take start bytes.now) line.subject) (text_if_at (take start bytes.now) line.reply) line.head (take line.total (drop start bytes.now))) (start + line.total + 2)) }
 {
     let _bound = bytes.len();
     let end = start + line.total;
-    let subject = cut(bytes, len, line.subject)?;
-    let reply = cut_if(bytes, len, line.reply)?;
     match line.head {
         None => {
-            let payload = bytes.slice(start..end)?;
-            let frame = Frame::Pub {
-                subject,
-                reply,
-                payload,
-            };
-            Ok(Found::Whole(frame, end + 2))
+            let message = texts_of(bytes, start, line, 0)?;
+            Ok(Found::Whole(Frame::Pub(message), end + 2))
         }
-        Some(size) => {
-            let mut payload = bytes.slice(start..end)?;
-            let head = payload.split_to(size)?;
-            let frame = Frame::Hpub {
-                subject,
-                reply,
-                head,
-                payload,
-            };
-            Ok(Found::Whole(frame, end + 2))
+        Some(head) => {
+            let message = texts_of(bytes, start, line, head)?;
+            Ok(Found::Whole(Frame::Hpub(message), end + 2))
         }
     }
 }
 
-/// The message that the line of the first `len` bytes announced, where the bytes behind it start at `start`.
-fn publish(bytes: &Bytes, len: usize, start: usize, line: AnnouncedAt) -> Result<Found, AllocError>
-    requires len { len ≤ length bytes.now }
+/// The message that the line of the first `start` bytes announced.
+fn publish(bytes: &SharedBytes, start: usize, line: AnnouncedAt) -> Result<Found, AllocError>
     requires start { start ≤ length bytes.now }
+    requires order { IsInOrder (take start bytes.now) line }
     requires head { IsWithin line.head line.total }
     requires total { line.total ≤ 1048576 }
-    ensures front { IfOk result (λ f. front_of f ≡ after_announced (announced_at (take len bytes.now) line) start (drop start bytes.now)) }
+    ensures front { IfOk result (λ f. front_of f ≡ after_announced (announced_at (take start bytes.now) line) start (drop start bytes.now)) }
     ensures awaited { IfOk result (λ f. AwaitsBlock f (start + line.total)) }
 {
     let whole = bytes.len();
@@ -99,12 +126,12 @@ fn publish(bytes: &Bytes, len: usize, start: usize, line: AnnouncedAt) -> Result
     match find_end(&bytes.as_slice()[end..]) {
         End::Open => Ok(Found::More(Awaited::Block(end))),
         End::Wrong => Ok(Found::Wrong(WireFault::ParserError)),
-        End::Whole => message(bytes, len, start, line),
+        End::Whole => message(bytes, start, line),
     }
 }
 
 /// What begins with a line that a LF at `end` follows.
-fn after_end(bytes: &Bytes, end: usize) -> Result<Found, AllocError>
+fn after_end(bytes: &SharedBytes, end: usize) -> Result<Found, AllocError>
     requires within { end < length bytes.now }
     requires line { line_of bytes.now ≡ line_is.Ended end }
     ensures { IfOk result (λ f. IsFound f bytes.now) }
@@ -113,12 +140,12 @@ fn after_end(bytes: &Bytes, end: usize) -> Result<Found, AllocError>
     match read_command(&bytes.as_slice()[..len]) {
         CommandAt::Refused(fault) => Ok(Found::Wrong(fault)),
         CommandAt::Alone(frame) => Ok(Found::Whole(frame_of(bytes, len, frame)?, end + 1)),
-        CommandAt::Publish(line) => publish(bytes, len, end + 1, line),
+        CommandAt::Publish(line) => publish(bytes, end + 1, line),
     }
 }
 
 /// What the bytes begin with.
-pub fn read_front(bytes: &Bytes) -> Result<Found, AllocError>
+pub fn read_front(bytes: &SharedBytes) -> Result<Found, AllocError>
     ensures { IfOk result (λ f. IsFound f bytes.now) }
 {
     match find_line(bytes.as_slice()) {

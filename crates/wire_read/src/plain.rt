@@ -5,7 +5,8 @@ ghost use Rattle.wire_read.specs.Plain.{is_word_byte, plain_frame, IsPlain};
 
 use crate::Frame;
 use crate::size::size_of;
-use bytes::Bytes;
+use lists::SharedBytes;
+use message_text::{MessageText, TextsAt};
 use std::alloc::AllocError;
 
 /// The most bytes that a field of such a PUB has.
@@ -95,18 +96,24 @@ pub fn find_plain(bytes: &[u8]) -> Option<PlainAt>
 
 /// Adds the frame of such a PUB, whose texts share the bytes.
 #[inline(always)]
-pub fn push_plain(frames: &mut Vec<Frame>, bytes: &Bytes, at: PlainAt) -> Result<(), AllocError>
+pub fn push_plain(
+    frames: &mut Vec<Frame>,
+    bytes: &SharedBytes,
+    at: PlainAt,
+) -> Result<(), AllocError>
     requires { IsPlain at bytes.now }
     ensures { OnOk result (frames.new.items ≡ frames.old.items ++ plain_frame at bytes.now ∷ []) }
 {
     let _bound = bytes.len();
     frames.reserve(1)?;
-    let subject = bytes.slice(4..4 + at.subject)?;
-    let payload = bytes.slice(at.start..at.start + at.total)?;
-    frames.push_reserved(Frame::Pub {
-        subject,
+    let text = bytes.part(4..at.start + at.total)?;
+    let places = TextsAt {
+        subject: at.subject,
         reply: None,
-        payload,
-    });
+        head: 0,
+        payload: at.total,
+    };
+    let message = MessageText::new(text, places)?;
+    frames.push_reserved(Frame::Pub(message));
     Ok(())
 }

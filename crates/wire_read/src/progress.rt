@@ -7,7 +7,7 @@ use crate::awaited::Awaited;
 use crate::buffer::Buffer;
 use crate::scan::{Scan, scan_frames};
 use crate::step::{Step, next_step};
-use bytes::Bytes;
+use lists::SharedBytes;
 use std::alloc::{AllocError, Global};
 
 /// What was read of a stream: its frames, the beginning of the next, and what that waits for.
@@ -28,7 +28,11 @@ fn room_for(len: usize, awaited: Awaited) -> usize {
 }
 
 /// The frames of the bytes, behind these frames, and a copy of what is left.
-pub fn read_whole(alloc: Global, frames: Vec<Frame>, bytes: Bytes) -> Result<Progress, AllocError>
+pub fn read_whole(
+    alloc: Global,
+    frames: Vec<Frame>,
+    bytes: SharedBytes,
+) -> Result<Progress, AllocError>
     ensures framing { IfOk result (λ p. framing p.frames.items p.kept p.failed ≡ behind frames.items (frames_of bytes)) }
     ensures awaited { IfOk result (λ p. IsAwaiting p.awaited p.kept) }
 {

@@ -6,20 +6,20 @@ use crate::Frame;
 use crate::awaited::Awaited;
 use crate::front::{Found, read_front};
 use crate::plain::{find_plain, push_plain};
-use bytes::Bytes;
+use lists::SharedBytes;
 use std::alloc::AllocError;
 
 /// The frames of some bytes, what is left of them, and what that waits for.
 #[derive(Drop)]
 pub struct Scan {
     pub frames: Vec<Frame>,
-    pub rest: Bytes,
+    pub rest: SharedBytes,
     pub awaited: Awaited,
     pub failed: bool,
 }
 
 /// The frames that the bytes begin with, up to less than a frame or a fault, behind these frames.
-pub fn scan_frames(mut frames: Vec<Frame>, bytes: Bytes) -> Result<Scan, AllocError>
+pub fn scan_frames(mut frames: Vec<Frame>, bytes: SharedBytes) -> Result<Scan, AllocError>
     ensures framing { IfOk result (λ s. framing s.frames.items s.rest s.failed ≡ behind frames.items (frames_of bytes)) }
     ensures awaited { IfOk result (λ s. IsAwaiting s.awaited s.rest) }
 {
@@ -41,9 +41,10 @@ pub fn scan_frames(mut frames: Vec<Frame>, bytes: Bytes) -> Result<Scan, AllocEr
                 }
                 Found::Wrong(fault) => {
                     frames.push(Frame::Fault(fault))?;
+                    left.truncate(0);
                     return Ok(Scan {
                         frames,
-                        rest: Bytes::new(),
+                        rest: left,
                         awaited: Awaited::LineEnd,
                         failed: true,
                     });

@@ -1,5 +1,5 @@
 -- A message that is published.
-use Rattle.std.proofs.Common.{◌≡◌, ◌∙◌, ◌&&◌, ◌==◌, ◌∷◌, ℕ, Bool, true, false, cond, List, [], Option, Some, Ok, map, ap, sym, refl}
+use Rattle.std.proofs.Common.{◌≡◌, ◌∙◌, ◌&&◌, ◌==◌, ◌∷◌, ℕ, Bool, true, false, cond, List, [], Option, Some, None, Ok, map, ap, sym, refl}
 use Rattle.subjects.specs.Subject.{Token}
 use Rattle.permissions.specs.declared.verdict.By.{By}
 use Rattle.permissions.specs.declared.verdict.By.TheVariants.{All as AllowsAll, Index, Grant}
@@ -17,6 +17,7 @@ use Rattle.sessions.specs.declared.session.Session.{Session}
 use Rattle.sessions.proofs.Plans.{planned-delivered}
 use Rattle.subscriptions.specs.Addressing.{addressed_to}
 use Rattle.subscriptions.specs.Limit.{unended, counted}
+use Rattle.subscriptions.specs.declared.subscription.Subscription.{Subscription}
 use Rattle.world.specs.World.{World}
 use Rattle.world.proofs.Routing.{both}
 use Rattle.queue_groups.specs.Served.{is_served}
@@ -25,7 +26,7 @@ use Rattle.world.specs.Routing.{own_view, is_admitted, admitted, deliveries}
 use Rattle.world.specs.Transition.{in_session, published}
 use Rattle.world.specs.Changes.{AreAddressed, IsDecided, answered_by, handed_over}
 use Rattle.world.specs.declared.change.Answered.{Answered}
-use Rattle.world.specs.declared.change.Change.TheVariants.{Deliver}
+use Rattle.world.specs.declared.change.Change.TheVariants.{Nothing, Deliver}
 
 -- those that are served are some of all
 addressed_again : (w : World) (z : Session) (m : Message) (word : ℕ) (all : List Addressed) → all ≡ deliveries w z (own_view z m) word → AreAddressed w.sessions all w.subscriptions
@@ -84,4 +85,20 @@ published_is w o z m word s by answered all items is same allowed told addressed
           ∙ ap (λ (ys : List Session). Ok (Published by items, record w { sessions = ys; subscriptions = unended (map (counted items) w.subscriptions) }))
           (same_handed by z.conn m w.moment all w.sessions ∙ ap (λ (a : Option Answered). handed_over w.moment a all w.sessions) (sym told)),
       (met, addressed_again w z m word all addressed),
+    )
+
+-- a message that has entered nowhere is counted nowhere
+counted_nowhere : (subs : List Subscription) → map (counted []) subs ≡ subs
+counted_nowhere [] = refl
+counted_nowhere (s ∷ subs) = ap (λ rest. s ∷ rest) (counted_nowhere subs)
+
+-- where a message is for nobody, and is no answer, nothing changes
+pub nobody_is : (w : World) (o : Option Session) (z : Session) (m : Message) (word : ℕ) (s : List Token) (by : By) (answered : Option Answered) (all : List Addressed) →
+    Some z ≡ o → s ≡ m.subject → Allowed by ≡ verdict_on w.moment z s → answered ≡ answered_by by z.conn m → answered ≡ None →
+    all ≡ deliveries w z (own_view z m) word → all ≡ [] → unended w.subscriptions ≡ w.subscriptions →
+    IsDecided w (in_session o (λ z. published w z m word (verdict_on w.moment z m.subject))) (Ok record { outcome = Published by []; change = Nothing })
+nobody_is w o z m word s by answered all is same allowed told none addressed empty going =
+    let decided = published_is w o z m word s by None [] [] is same allowed (sym none ∙ told) (sym empty ∙ addressed) refl in (
+      decided.0 ∙ ap (λ (subs : List Subscription). Ok (Published by [], record w { subscriptions = subs })) (ap unended (counted_nowhere w.subscriptions) ∙ going),
+      tt,
     )

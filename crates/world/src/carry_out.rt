@@ -75,10 +75,10 @@ fn hand_over(
     match answered {
         None => sessions.hand_over_all(all, now),
         Some(answered) => {
-            let subject = answered.message.get().subject();
-            sessions.answer(answered.conn, subject);
+            let subject = answered.message.subject();
+            sessions.answer(answered.conn, &subject);
             sessions.hand_over_all(all, now);
-            sessions.end(answered.conn, subject);
+            sessions.end(answered.conn, &subject);
         }
     }
 }

@@ -1,6 +1,6 @@
 //! What a command comes to is decided first, and then done.
 use events::{Addressed, Message, Outcome, Sid};
-use lists::{Boxed, Items, Shared};
+use lists::{Boxed, Items};
 use ready::{Ready, User};
 use sessions::Session;
 use std::collections::VecDeque;
@@ -50,7 +50,7 @@ pub(crate) struct Answered {
     /// The connection that publishes.
     pub conn: u64,
     /// What it publishes.
-    pub message: Shared<Message>,
+    pub message: Message,
 }
 
 /// What a command comes to: what is told of it, and what is to be done.

@@ -52,7 +52,7 @@ fn stand(
 }
 
 /// A publish that is to be counted: one that a grant has allowed.
-fn answered_by(by: By, conn: u64, message: &Shared<Message>) -> Result<Option<Answered>, NoMemory>
+fn answered_by(by: By, conn: u64, message: &Message) -> Result<Option<Answered>, NoMemory>
     ensures { IfOk result (λ answered. answered ≡ answered_by by conn message.now) }
 {
     match by {
@@ -65,6 +65,20 @@ fn answered_by(by: By, conn: u64, message: &Shared<Message>) -> Result<Option<An
     }
 }
 
+/// Whether a message has no delivery and is no answer.
+fn is_for_nobody(all: &[Addressed], answered: &Option<Answered>) -> bool
+    ensures { IsTrue result → (all.now ≡ []) × (answered.now ≡ None) }
+{
+    match answered {
+        Some(_) => false,
+        None => match all {
+            [] => true,
+            _ => false,
+        },
+    }
+}
+
+ghost use Rattle.std.specs.Prelude.{IsTrue, [], None};
 ghost use Rattle.world.specs.declared.change.Change.TheVariants as change;
 ghost use Rattle.world.specs.Changes.{answered_by};
 
@@ -201,7 +215,7 @@ impl World {
     fn publish(
         &mut self,
         conn: u64,
-        message: &Shared<Message>,
+        message: &Message,
         word: u64,
     ) -> Result<Decided, HubRefusal>
         ensures decided { IsDecided self.old (moved self.old (command.Pub conn message.now word)) result }
@@ -214,7 +228,7 @@ impl World {
         };
         let (by, answered, mut all) = match self.sessions.find(conn) {
             None => return Err(HubRefusal::NoSession),
-            Some(session) => match on_publish(session, message.get().subject(), self.moment) {
+            Some(session) => match on_publish(session, &message.subject(), self.moment) {
                 Verdict::Allowed(by) => (
                     by,
                     answered_by(by, session.conn, message)?,
@@ -241,7 +255,13 @@ impl World {
                 }
             },
         };
-        let items = self.plan(message.get(), &mut all)?;
+        if is_for_nobody(all.as_slice(), &answered) {
+            self.subscriptions.known();
+            self.deliveries = Some(all);
+            let nobody = Met::from_vec(Vec::new(self.alloc));
+            return Ok(unchanged(Outcome::Published(by, nobody)));
+        }
+        let items = self.plan(message, &mut all)?;
         Ok(Decided {
             outcome: Outcome::Published(by, items),
             change: Change::Deliver {
@@ -252,14 +272,17 @@ impl World {
     }
 
     /// What the deliveries of a message will meet. Beside each is put down what its session is to note.
+    #[inline(always)]
     fn plan(&mut self, message: &Message, all: &mut Vec<Addressed>) -> Result<Met, NoMemory>
         ensures items { IfOk result (λ items. (now : ℕ) → items ≡ (delivered now all.new.items self.old.sessions).1) }
         ensures noted { OnOk result (all.new.items ≡ map (with_note self.old.sessions message.now.reply) all.old.items) }
         ensures same { self.new ≡ self.old }
     {
-        let items = self
-            .sessions
-            .plan(self.keys, all.as_mut_slice(), message.reply())?;
+        let all = all.as_mut_slice();
+        let items = match message.reply() {
+            None => self.sessions.plan(self.keys, all, None)?,
+            Some(reply) => self.sessions.plan(self.keys, all, Some(&reply))?,
+        };
         Ok(items)
     }
 

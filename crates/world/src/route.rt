@@ -5,16 +5,16 @@ ghost use Rattle.world.specs.Routing.{lets_through, is_open_to, own_view, addres
 
 use crate::verdict::on_delivery;
 use events::{Addressed, Message};
-use lists::{NoMemory, Shared};
+use lists::NoMemory;
 use queue_groups::address_served;
 use sessions::{Session, Sessions};
 use std::alloc::Global;
 use std::hash::RandomState;
-use subjects::Subject;
+use subjects::{Subject, SubjectRef};
 use subscriptions::{Keeps, SharedSubscription, Subscriptions};
 
 /// Whether the permissions of a session let the subject through, to a subscription with this queue name or with none.
-fn lets_through(session: Option<&Session>, subject: &Subject, queue: &Option<Subject>) -> bool
+fn lets_through(session: Option<&Session>, subject: &SubjectRef<'_>, queue: &Option<Subject>) -> bool
     ensures { result ≡ lets_through subject.now queue.now (option_copied session.entry) }
 {
     match session {
@@ -29,7 +29,7 @@ fn lets_through(session: Option<&Session>, subject: &Subject, queue: &Option<Sub
 fn is_open_to(
     sessions: &Sessions,
     publisher: &Session,
-    subject: &Subject,
+    subject: &SubjectRef<'_>,
     conn: u64,
     queue: &Option<Subject>,
 ) -> bool
@@ -43,7 +43,7 @@ fn is_open_to(
 struct Open<'a> {
     sessions: &'a Sessions,
     publisher: &'a Session,
-    subject: &'a Subject,
+    subject: &'a SubjectRef<'a>,
 }
 
 impl Keeps for Open<'_> {
@@ -74,7 +74,7 @@ pub(crate) fn address_all(
     sessions: &Sessions,
     subscriptions: &mut Subscriptions,
     publisher: &Session,
-    message: &Shared<Message>,
+    message: &Message,
     word: u64,
     ids: &mut Vec<u64>,
     room: Vec<Addressed>,
@@ -83,12 +83,12 @@ pub(crate) fn address_all(
     ensures same { subscriptions.new ≡ subscriptions.old }
 {
     let account = publisher.user.account.as_slice();
-    let subject = message.get().subject();
-    subscriptions.remember(account, subject);
+    let subject = message.subject();
+    subscriptions.remember(account, &subject);
     let open = Open {
         sessions,
         publisher,
-        subject,
+        subject: &subject,
     };
     let mut all = room;
     address_served(

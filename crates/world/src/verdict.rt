@@ -5,7 +5,7 @@ ghost use Rattle.world.specs.Granting.{verdict_on};
 
 use permissions::{By, Compiled, Verdict};
 use sessions::Session;
-use subjects::{Pattern, Subject};
+use subjects::{Pattern, Subject, SubjectRef};
 
 /// The verdict on a subscription to a pattern, as a member of that queue group or of none.
 pub(crate) fn on_subscription(
@@ -23,7 +23,7 @@ pub(crate) fn on_subscription(
 }
 
 /// The verdict on a publish at a moment: the lists', and where they refuse, a live grant's.
-pub(crate) fn on_publish(session: &Session, subject: &Subject, now: u64) -> Verdict
+pub(crate) fn on_publish(session: &Session, subject: &SubjectRef<'_>, now: u64) -> Verdict
     ensures verdict { result ≡ verdict_on now session.now subject.now }
     ensures justified { IsJustifiedPublish subject.now session.now.user.rules.publish (publish_verdict session.now.user.rules subject.now) }
 {
@@ -36,7 +36,7 @@ pub(crate) fn on_publish(session: &Session, subject: &Subject, now: u64) -> Verd
 }
 
 /// The verdict on a message that is to be sent to a member of that queue group, or of none.
-pub(crate) fn on_delivery(rules: &Compiled, subject: &Subject, queue: &Option<Subject>) -> Verdict
+pub(crate) fn on_delivery(rules: &Compiled, subject: &SubjectRef<'_>, queue: &Option<Subject>) -> Verdict
     ensures { result ≡ delivery_verdict rules.now subject.now queue.now }
 {
     match queue {

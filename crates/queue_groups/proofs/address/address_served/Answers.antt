@@ -23,7 +23,7 @@ returns-then-branch g c =
     let m : Message = c.args.message.now in
     let subs : List Subscription = c.args.subscriptions.now in
     let xs : List Subscription = filter p (having c.args.account.now m.subject subs) in
-    let subject : c.subject.result.now ≡ m.subject = c.subject.ensures ∙ ap (λ (x : Message). x.subject) c.get.ensures in
+    let subject : c.subject.result ≡ m.subject = c.subject.ensures in
     let passing : filter p (found_by subs c.as_slice.result.now) ≡ xs =
     ap (λ (ids : List ℕ). filter p (found_by subs ids)) c.as_slice.ensures.value
     ∙ ap (filter p) (c.in_ok-having.ensures ∙ ap (λ (s : List Token). having c.args.account.now s subs) subject) in
@@ -39,7 +39,7 @@ returns g c =
     let subs : List Subscription = c.args.subscriptions.now in
     let all : List Subscription = having c.args.account.now m.subject subs in
     let xs : List Subscription = filter p all in
-    let subject : c.subject.result.now ≡ m.subject = c.subject.ensures ∙ ap (λ (x : Message). x.subject) c.get.ensures in
+    let subject : c.subject.result ≡ m.subject = c.subject.ensures in
     let passing : those c.in_ok-found.found.items ≡ xs =
     c.in_ok-found.ensures
     ∙ ap (λ (ids : List ℕ). filter p (found_by subs ids)) c.as_slice-2.ensures.value

@@ -22,12 +22,12 @@ returns-in-More-clause-framing c =
 
 pub returns-in-Wrong-clause-framing : goal.returns-in-Wrong-clause-framing
 returns-in-Wrong-clause-framing c =
-    rw c.new.ensures
+    rw c.truncate.ensures
     (scan_wrong (behind c.args.frames.items (frames_of c.args.bytes)) c.loop-at.left c.loop-at.frames.items c.push.new.self.items c.in-Wrong.fault c.loop-at.invariant
     (found_wrong c.in_ok-awaited-in-None.field-0 c.in-Wrong.fault c.loop-at.left c.in_ok-awaited-in-None.ensures c.in-Wrong.is) c.in_ok-push-in-Wrong.ensures.items)
 
 pub returns-in-Wrong-clause-awaited : goal.returns-in-Wrong-clause-awaited
-returns-in-Wrong-clause-awaited c = rw c.new.ensures nothing_awaits
+returns-in-Wrong-clause-awaited c = rw c.truncate.ensures nothing_awaits
 
 pub advance-requires-in-Whole : goal.advance-requires-in-Whole
 advance-requires-in-Whole c =

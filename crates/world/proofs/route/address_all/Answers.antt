@@ -17,7 +17,7 @@ returns-clause-all c =
     let z = c.args.publisher.now in
     let m : Message = c.args.message.now in
     c.in_ok-address_served.ensures
-    ∙ ap (λ (s : List Token). map (addressed_to m) (served c.args.word (filter (is_open zs z s) (having c.as_slice-account.result.now m.subject c.remember.new.self)))) (c.subject-subject.ensures ∙ ap (λ (x : Message). x.subject) c.get.ensures)
+    ∙ ap (λ (s : List Token). map (addressed_to m) (served c.args.word (filter (is_open zs z s) (having c.as_slice-account.result.now m.subject c.remember.new.self)))) c.subject-subject.ensures
     ∙ ap (λ (a : List ℕ). map (addressed_to m) (served c.args.word (filter (is_open zs z m.subject) (having a m.subject c.remember.new.self)))) c.as_slice-account.ensures
     ∙ ap (λ (now : List Subscription). map (addressed_to m) (served c.args.word (filter (is_open zs z m.subject) (having z.user.account m.subject now)))) c.remember.ensures
     ∙ ap (λ (xs : List Subscription). map (addressed_to m) (served c.args.word xs)) (both (is_open zs z m.subject) (has_subject z.user.account m.subject) subs)
