@@ -162,10 +162,7 @@ fn has_verdict(command: &Command, verdict: Verdict, user: &User) -> bool
         Command::Sub { subject, queue, .. } => {
             is_same(on_subscription(user, subject.get(), queue), verdict)
         }
-        Command::Pub { message, .. } => is_same(
-            user.rules.publish(&message.subject()),
-            verdict,
-        ),
+        Command::Pub { message, .. } => is_same(user.rules.publish(&message.subject()), verdict),
         Command::Connect { .. } => false,
         Command::Unsub { .. } => false,
         Command::Take { .. } => false,
@@ -180,8 +177,7 @@ fn may_answer(command: &Command, user: &User) -> bool
 {
     match command {
         Command::Pub { message, .. } => {
-            user.rules.terms().is_some()
-                && !user.rules.publish(&message.subject()).is_allowed()
+            user.rules.terms().is_some() && !user.rules.publish(&message.subject()).is_allowed()
         }
         Command::Connect { .. } => false,
         Command::Sub { .. } => false,

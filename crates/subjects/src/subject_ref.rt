@@ -1,5 +1,5 @@
-use crate::tokens::tokens_in;
 use crate::faults;
+use crate::tokens::tokens_in;
 use lists::Pieces;
 use std::marker::Model;
 

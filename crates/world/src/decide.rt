@@ -212,12 +212,7 @@ impl World {
 
     /// A message to whom it is for, where the user's permissions allow it.
     #[inline(always)]
-    fn publish(
-        &mut self,
-        conn: u64,
-        message: &Message,
-        word: u64,
-    ) -> Result<Decided, HubRefusal>
+    fn publish(&mut self, conn: u64, message: &Message, word: u64) -> Result<Decided, HubRefusal>
         ensures decided { IsDecided self.old (moved self.old (command.Pub conn message.now word)) result }
         ensures reason { IfOk result (λ d. IsReasoned self.old (command.Pub conn message.now word) d.outcome) }
         ensures same { self.new ≡ self.old }

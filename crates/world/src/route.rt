@@ -14,7 +14,11 @@ use subjects::{Subject, SubjectRef};
 use subscriptions::{Keeps, SharedSubscription, Subscriptions};
 
 /// Whether the permissions of a session let the subject through, to a subscription with this queue name or with none.
-fn lets_through(session: Option<&Session>, subject: &SubjectRef<'_>, queue: &Option<Subject>) -> bool
+fn lets_through(
+    session: Option<&Session>,
+    subject: &SubjectRef<'_>,
+    queue: &Option<Subject>,
+) -> bool
     ensures { result ≡ lets_through subject.now queue.now (option_copied session.entry) }
 {
     match session {

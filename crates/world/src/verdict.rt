@@ -36,7 +36,11 @@ pub(crate) fn on_publish(session: &Session, subject: &SubjectRef<'_>, now: u64) 
 }
 
 /// The verdict on a message that is to be sent to a member of that queue group, or of none.
-pub(crate) fn on_delivery(rules: &Compiled, subject: &SubjectRef<'_>, queue: &Option<Subject>) -> Verdict
+pub(crate) fn on_delivery(
+    rules: &Compiled,
+    subject: &SubjectRef<'_>,
+    queue: &Option<Subject>,
+) -> Verdict
     ensures { result ≡ delivery_verdict rules.now subject.now queue.now }
 {
     match queue {

@@ -9,9 +9,11 @@ invariant_of-result c = subject_from_no_fault c.args.text.now (sym c.subject_fau
 pub returns-in-Some-clause-grammar : goal.returns-in-Some-clause-grammar
 returns-in-Some-clause-grammar c = (
   λ no. cc,
-  λ inside. let none = sym (no_fault_from_subject c.args.text.now inside) ∙ (sym c.subject_fault.ensures ∙ c.in-Some.is) in cc)
+  λ inside. let none = sym (no_fault_from_subject c.args.text.now inside) ∙ (sym c.subject_fault.ensures ∙ c.in-Some.is) in cc,
+)
 
 pub returns-in-None-clause-grammar : goal.returns-in-None-clause-grammar
 returns-in-None-clause-grammar c = (
   λ _. subject_from_no_fault c.args.text.now (sym c.subject_fault.ensures ∙ c.in-None.is),
-  λ _. refl)
+  λ _. refl,
+)
