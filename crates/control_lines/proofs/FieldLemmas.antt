@@ -4,7 +4,8 @@ use Rattle.std.specs.List.{slice_split, onto_first, prefix_len, take_while}
 use Rattle.std.proofs.lemmas.List.{drop_all}
 use Rattle.std.proofs.lemmas.List.Sums.{take_while-cons, prefix_len-le-length}
 use Rattle.std.proofs.lemmas.Bool.{cond-true, ne_eqb}
-use Rattle.control_lines.specs.Field.{is_separator, has_byte, fields, trimmed, first_field, after_first_field}
+use Rattle.lists.specs.Blanks.{is_blank}
+use Rattle.control_lines.specs.Field.{has_byte, fields, trimmed, first_field, after_first_field}
 
 module _ (p : ℕ → Bool) where
   abbrev other : ℕ → Bool
@@ -45,7 +46,7 @@ module _ (p : ℕ → Bool) where
   trimmed_parts [] = refl
   trimmed_parts (x ∷ xs) = trimmed_parts_cons (p x) x xs (trimmed_parts xs) refl
 
-  -- behind the separators in front stands a byte of a field, if any
+  -- behind the blanks in front stands a byte of a field, if any
   starts_cons : (t : Bool) (x : ℕ) (xs : List ℕ) → (prefix_len other (drop (prefix_len p xs) xs) ≡ 0 → drop (prefix_len p xs) xs ≡ []) → p x ≡ t →
       prefix_len other (drop (cond t (1 + prefix_len p xs) 0) (x ∷ xs)) ≡ 0 → drop (cond t (1 + prefix_len p xs) 0) (x ∷ xs) ≡ []
   starts_cons true x xs ih is e = let next : 1 + prefix_len p xs ≡ suc (prefix_len p xs) = omega arith in rw next (ih (rw next at e))
@@ -74,16 +75,16 @@ module _ (p : ℕ → Bool) where
 -- a line without a field, and one with
 pub fields_none : (line : List ℕ) → length (first_field line) ≡ 0 → fields line ≡ []
 unfolding fields
-fields_none line e = trimmed_parts is_separator line ∙ parts_none is_separator (trimmed line) (starts is_separator line) e
+fields_none line e = trimmed_parts is_blank line ∙ parts_none is_blank (trimmed line) (starts is_blank line) e
 
 pub fields_some : (line : List ℕ) → (length (first_field line) ≡ 0 → ⊥) → fields line ≡ first_field line ∷ fields (after_first_field line)
 unfolding fields
-fields_some line some = trimmed_parts is_separator line ∙ parts_some is_separator (trimmed line) some
+fields_some line some = trimmed_parts is_blank line ∙ parts_some is_blank (trimmed line) some
 
 -- nothing stands behind no field
 pub after_none : (line : List ℕ) → length (first_field line) ≡ 0 → after_first_field line ≡ []
 after_none line e =
-    let nothing = starts is_separator line (no_prefix is_separator (trimmed line) e) in
+    let nothing = starts is_blank line (no_prefix is_blank (trimmed line) e) in
     drop_all _ (trimmed line) (omega (arith, ap length nothing))
 
 -- the fields of a line, of which the first was taken off

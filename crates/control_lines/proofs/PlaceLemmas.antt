@@ -1,13 +1,8 @@
 -- What stands at a place, where the place is kept within the line.
-use Rattle.std.proofs.Common.{◌≡◌, ℕ, ◌+◌, ◌-◌, ◌<◌, ◌≤◌, List, [], take, drop, min, refl, sym, ap, ◌∙◌, arith, ⊎_elim, length-take, length-drop}
+use Rattle.std.proofs.Common.{◌≡◌, ℕ, ◌-◌, ◌<◌, ◌≤◌, List, [], take, drop, min, refl, sym, ap, ◌∙◌, arith, ⊎_elim, length-take, length-drop}
 use Rattle.std.proofs.lemmas.Bool.{cases_lt}
-use Rattle.std.proofs.lemmas.List.{drop-take, take_all, take-take, nil_from_length}
-
--- what stands behind a place of the first so many elements
-pub drop-take_less : (xs : List ℕ) (n m : ℕ) → n ≤ m → drop n (take m xs) ≡ take (m - n) (drop n xs)
-drop-take_less xs n m h =
-    let split : m ≡ n + (m - n) = omega arith in
-    ap (λ k. drop n (take k xs)) split ∙ drop-take n (m - n) xs
+use Rattle.std.proofs.lemmas.List.{take_all, take-take, nil_from_length}
+use Rattle.lists.proofs.Parts.{drop-take_less}
 
 nothing : (n : ℕ) (xs : List ℕ) → n ≡ 0 → take n xs ≡ []
 nothing n xs e = rw e refl

@@ -1,25 +1,23 @@
 -- The fields of a control line (NATS documentation, "Client Protocol").
-use Rattle.std.specs.Prelude.{ℕ, ◌==◌, ◌||◌, Bool, not, List, [], ◌∷◌, length, drop, filter}
+use Rattle.std.specs.Prelude.{ℕ, ◌==◌, Bool, not, List, [], ◌∷◌, length, drop, filter}
 use Rattle.std.specs.List.{slice_split, prefix_len, take_while}
+use Rattle.lists.specs.Blanks.{is_blank, blanks_of}
 
--- fields are parted by spaces and tabs
-abbrev pub is_separator : ℕ → Bool
-is_separator b = b == 32 || b == 9
-
+-- fields are parted by blanks
 abbrev pub is_field_byte : ℕ → Bool
-is_field_byte b = not (is_separator b)
+is_field_byte b = not (is_blank b)
 
 -- a field has a byte
 abbrev pub has_byte : List ℕ → Bool
 has_byte field = not (length field == 0)
 
--- the fields of a line, in order: what stands between its separators
+-- the fields of a line, in order: what stands between its blanks
 unfoldable pub fields : List ℕ → List (List ℕ)
-fields line = filter has_byte (slice_split is_separator line)
+fields line = filter has_byte (slice_split is_blank line)
 
--- a line after its leading separators
+-- a line after its leading blanks
 abbrev pub trimmed : List ℕ → List ℕ
-trimmed line = drop (prefix_len is_separator line) line
+trimmed line = drop (blanks_of line) line
 
 -- the first field of a line, which has no byte where the line has no field
 abbrev pub first_field : List ℕ → List ℕ

@@ -1,10 +1,10 @@
 -- What stands at the places of a line.
 use Rattle.std.specs.Prelude.{◌≡◌, ℕ, ◌+◌, ◌-◌, ◌<◌, ◌≤◌, List, length, take, drop, Option, Some, None}
-use Rattle.std.specs.List.{prefix_len}
+use Rattle.lists.specs.Blanks.{blanks_of}
 use Rattle.control_lines.specs.declared.field.Place.{Place}
 use Rattle.control_lines.specs.declared.field.FieldsAt.{FieldsAt}
 use Rattle.control_lines.specs.declared.field.FieldsAt.TheVariants as at
-use Rattle.control_lines.specs.Field.{is_separator, Fields, One, Two, Three, Four, Other}
+use Rattle.control_lines.specs.Field.{Fields, One, Two, Three, Four, Other}
 
 -- the text at a place, if there is one
 abbrev pub text_at : List ℕ → Place → List ℕ
@@ -22,9 +22,9 @@ fields_at line (at.Three a b c) = Three (text_at line a) (text_at line b) (text_
 fields_at line (at.Four a b c d) = Four (text_at line a) (text_at line b) (text_at line c) (text_at line d)
 fields_at line at.Other = Other
 
--- a place with a byte of a line, behind the separators behind its first `from` bytes
+-- a place with a byte of a line, behind the blanks behind its first `from` bytes
 abbrev pub IsBehind : ℕ → List ℕ → Place → Type 0
-IsBehind from line p = (p.start ≡ from + prefix_len is_separator (drop from line)) × (p.start < p.end) × (p.end ≤ length line)
+IsBehind from line p = (p.start ≡ from + blanks_of (drop from line)) × (p.start < p.end) × (p.end ≤ length line)
 
 -- the same of a place that may be there
 abbrev pub IsBehindIf : ℕ → List ℕ → Option Place → Type 0

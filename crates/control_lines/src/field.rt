@@ -1,9 +1,10 @@
 ghost use Rattle.std.specs.Prelude.{◌≡◌, ◌+◌, ◌∷◌, ◌≤◌, [], length, take, drop, IfOk, IfSome, MatchOption};
 ghost use Rattle.std.specs.List.{prefix_len};
-ghost use Rattle.control_lines.specs.Field.{is_separator, is_field_byte, first_field, after_first_field, fields, counted, trimmed};
+ghost use Rattle.lists.specs.Blanks.{blanks_of};
+ghost use Rattle.control_lines.specs.Field.{is_field_byte, first_field, after_first_field, fields, counted, trimmed};
 ghost use Rattle.control_lines.specs.Places.{text_at, text_if_at, fields_at, AreInOrder, IsBehind};
 
-use lists::SharedBytes;
+use lists::{SharedBytes, count_blanks, is_blank};
 use std::alloc::AllocError;
 
 /// Where a field stands in its line.
@@ -58,45 +59,26 @@ pub fn cut_if(
     }
 }
 
-fn is_separator(byte: u8) -> bool
-    ensures { result ≡ is_separator byte }
-{
-    byte == b' ' || byte == b'\t'
-}
-
-/// How many separators stand in front.
-fn separators(text: &[u8]) -> usize
-    ensures value { result ≡ prefix_len is_separator text.now }
-    ensures bound { result ≤ length text.now }
-{
-    for (i, byte) in text.iter().enumerate() {
-        if !is_separator(*byte) {
-            return i;
-        }
-    }
-    text.len()
-}
-
 /// How many bytes of a field stand in front.
 fn field_len(text: &[u8]) -> usize
     ensures value { result ≡ prefix_len is_field_byte text.now }
     ensures bound { result ≤ length text.now }
 {
     for (i, byte) in text.iter().enumerate() {
-        if is_separator(*byte) {
+        if is_blank(*byte) {
             return i;
         }
     }
     text.len()
 }
 
-/// What stands behind the separators in front of what follows a place of a line.
+/// What stands behind the blanks in front of what follows a place of a line.
 pub fn trim(line: &[u8], from: usize) -> Place
     requires { from ≤ length line.now }
     ensures { text_at line.now result ≡ trimmed (drop from line.now) }
 {
     Place {
-        start: from + separators(&line[from..]),
+        start: from + count_blanks(&line[from..]),
         end: line.len(),
     }
 }
@@ -106,11 +88,11 @@ pub fn first_place(line: &[u8], from: usize) -> Place
     requires { from ≤ length line.now }
     ensures text { text_at line.now result ≡ first_field (drop from line.now) }
     ensures rest { drop result.end line.now ≡ after_first_field (drop from line.now) }
-    ensures behind { result.start ≡ from + prefix_len is_separator (drop from line.now) }
+    ensures behind { result.start ≡ from + blanks_of (drop from line.now) }
     ensures ordered { result.start ≤ result.end }
     ensures within { result.end ≤ length line.now }
 {
-    let start = from + separators(&line[from..]);
+    let start = from + count_blanks(&line[from..]);
     let end = start + field_len(&line[start..]);
     Place { start, end }
 }
@@ -129,7 +111,7 @@ fn next_place(line: &[u8], from: usize) -> Option<Place>
     }
 }
 
-/// The fields of what follows a place of a line, each behind the separators behind the one before.
+/// The fields of what follows a place of a line, each behind the blanks behind the one before.
 pub fn fields_of(line: &[u8], from: usize) -> FieldsAt
     requires { from ≤ length line.now }
     ensures texts { fields_at line.now result ≡ counted (fields (drop from line.now)) }

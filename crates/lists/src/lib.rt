@@ -1,7 +1,8 @@
 //! What every crate of natsd shares: lists that clauses compare, values with several owners or in blocks of their own,
-//! the pieces of a text, and want of memory.
+//! the pieces of a text and the blanks in front of it, and want of memory.
 #![tactic(auto)]
 
+mod blanks;
 mod boxed;
 mod items;
 mod no_memory;
@@ -9,6 +10,7 @@ mod pieces;
 mod shared;
 mod shared_bytes;
 
+pub use blanks::{count_blanks, is_blank};
 pub use boxed::Boxed;
 pub use items::{Copying, Items};
 pub use no_memory::NoMemory;

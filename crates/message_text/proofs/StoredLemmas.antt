@@ -3,10 +3,11 @@ use Rattle.std.proofs.Common.{◌≡◌, ℕ, ◌+◌, ◌-◌, ◌*◌, ◌/◌
 use Rattle.std.proofs.Math.Nat.{div-div-eq-div-mul}
 use Rattle.std.proofs.lemmas.Nat.{div-mul-add, mod-mul-add}
 use Rattle.std.proofs.lemmas.List.Sums.{prefix_len-le-length}
+use Rattle.lists.specs.Blanks.{is_blank, blanks_of}
 use Rattle.message_text.specs.declared.places.Span.{Span}
 use Rattle.message_text.specs.declared.places.TextsAt.{TextsAt}
 use Rattle.message_text.specs.Stored.{Stored, stored, stored_in}
-use Rattle.message_text.specs.Texts.{is_blank, blanks_of, span_len, IsSpanOf, AreWithin}
+use Rattle.message_text.specs.Texts.{span_len, IsSpanOf, AreWithin}
 
 pub all_stored : (s r f h : ℕ) → s < 8192 → r < 8192 → f < 8192 → stored_in (((h * 8192 + f) * 8192 + r) * 8192 + s) ≡ stored s r f h
 all_stored s r f h few_s few_r few_f =

@@ -1,6 +1,6 @@
 -- The texts of a published message (NATS documentation, "Client Protocol", PUB and HPUB).
-use Rattle.std.specs.Prelude.{◌≡◌, ℕ, ◌+◌, ◌-◌, ◌<◌, ◌≤◌, ◌==◌, ◌||◌, Bool, List, length, take, drop, slice_range, Option, Some, None, if◌then◌else◌}
-use Rattle.std.specs.List.{prefix_len}
+use Rattle.std.specs.Prelude.{◌≡◌, ℕ, ◌+◌, ◌-◌, ◌<◌, ◌≤◌, ◌==◌, List, length, take, drop, slice_range, Option, Some, None, if◌then◌else◌}
+use Rattle.lists.specs.Blanks.{blanks_of}
 use Rattle.message_text.specs.Stored.{Stored}
 use Rattle.message_text.specs.declared.places.Span.{Span}
 use Rattle.message_text.specs.declared.places.TextsAt.{TextsAt}
@@ -32,14 +32,6 @@ payload_of text payload = drop (length text - payload) text
 -- the texts at these places of a text
 abbrev pub texts_at : List ℕ → TextsAt → Texts
 texts_at text at = texts (take at.subject text) (span_if_at text at.reply) (head_of text at.head at.payload) (payload_of text at.payload)
-
--- the fields of a line are parted by blanks
-abbrev pub is_blank : ℕ → Bool
-is_blank b = b == 32 || b == 9
-
--- the bytes of the blanks in front of a text
-abbrev pub blanks_of : List ℕ → ℕ
-blanks_of text = prefix_len is_blank text
 
 -- how long a text at a span is, or 0 where there is none
 abbrev pub span_len : Option Span → ℕ

@@ -1,7 +1,6 @@
 //! The texts of a published message, as they stand in one block (NATS documentation, "Client Protocol", PUB and HPUB).
 #![tactic(auto)]
 
-mod blanks;
 mod message;
 mod places;
 mod sizes;

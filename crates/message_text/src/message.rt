@@ -2,10 +2,9 @@ ghost use Rattle.std.specs.Prelude.{◌≡◌, ◌+◌, ◌≤◌, length, IfOk}
 ghost use Rattle.std.specs.Option.{option_copied};
 ghost use Rattle.message_text.specs.Texts.{span_len, IsSpanOf, texts_at};
 
-use crate::blanks::blanks;
 use crate::sizes::{MAX_FRONT, MAX_HEAD, Sizes};
 use crate::{Span, TextsAt};
-use lists::SharedBytes;
+use lists::{SharedBytes, count_blanks};
 use std::alloc::AllocError;
 use std::marker::Model;
 
@@ -66,7 +65,7 @@ impl MessageText {
             None
         } else {
             let behind = &self.text.as_slice()[self.sizes.subject()..];
-            let start = blanks(behind);
+            let start = count_blanks(behind);
             Some(&behind[start..start + len])
         }
     }

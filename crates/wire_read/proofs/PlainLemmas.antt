@@ -8,12 +8,13 @@ use Rattle.std.proofs.lemmas.List.{get_or_at, take_at, drop_at, take-append-drop
 use Rattle.std.proofs.lemmas.List.Elements.{All-nil, All-cons, All-append}
 use Rattle.std.proofs.lemmas.List.Splits.{slice_split_none, slice_split_at}
 use Rattle.digits.specs.Number.{is_number}
+use Rattle.lists.specs.Blanks.{is_blank}
 use Rattle.message_text.specs.Texts.{texts}
 use Rattle.wire_read.specs.declared.fault.WireFault.TheVariants.{ParserError, Payload}
 use Rattle.wire_read.specs.declared.frame.Frame.TheVariants as frame
 use Rattle.control_lines.specs.declared.operation.Operation.TheVariants as operations
 use Rattle.control_lines.specs.Line.{is_lf, without_cr}
-use Rattle.control_lines.specs.Field.{is_separator, has_byte, fields}
+use Rattle.control_lines.specs.Field.{has_byte, fields}
 use Rattle.control_lines.specs.Operation.{operation}
 use Rattle.wire_read.specs.Size.{size}
 use Rattle.wire_read.specs.Front.{Whole, front}
@@ -35,14 +36,14 @@ words : (text : List ℕ) → All IsWord (take (prefix_len is_word_byte text) te
 words [] = All-nil IsWord
 words (x ∷ xs) = words_by (is_word_byte x) x xs refl (words xs)
 
-abbrev IsNoSeparator : ℕ → Type 0
-IsNoSeparator b = is_separator b ≡ false
+abbrev IsNoBlank : ℕ → Type 0
+IsNoBlank b = is_blank b ≡ false
 
 abbrev IsNoEnd : ℕ → Type 0
 IsNoEnd b = is_lf b ≡ false
 
-no_separator : (b : ℕ) → IsWord b → IsNoSeparator b
-no_separator b word =
+no_blank : (b : ℕ) → IsWord b → IsNoBlank b
+no_blank b word =
     let above = ltb-true 32 b word in
     rw (ne_eqb b 32 (λ e. omega arith), ne_eqb b 9 (λ e. omega arith)) refl
 
@@ -77,15 +78,15 @@ line_is s d is_s is_d few_s few_d =
     (line_with s d ++ 13 ∷ [], refl, line_bytes s d is_s is_d, ended_cr (line_with s d), omega (arith, length-append s (32 ∷ d)))
 
 -- its fields
-name_bytes : All IsNoSeparator (80 ∷ 85 ∷ 66 ∷ [])
-name_bytes = named IsNoSeparator [] refl refl refl (All-nil IsNoSeparator)
+name_bytes : All IsNoBlank (80 ∷ 85 ∷ 66 ∷ [])
+name_bytes = named IsNoBlank [] refl refl refl (All-nil IsNoBlank)
 
-split_is : (s d : List ℕ) → All IsWord s → All IsWord d → slice_split is_separator (line_with s d) ≡ (80 ∷ 85 ∷ 66 ∷ []) ∷ s ∷ d ∷ []
+split_is : (s d : List ℕ) → All IsWord s → All IsWord d → slice_split is_blank (line_with s d) ≡ (80 ∷ 85 ∷ 66 ∷ []) ∷ s ∷ d ∷ []
 split_is s d is_s is_d =
-    slice_split_at is_separator (80 ∷ 85 ∷ 66 ∷ []) 32 (s ++ 32 ∷ d) name_bytes refl
+    slice_split_at is_blank (80 ∷ 85 ∷ 66 ∷ []) 32 (s ++ 32 ∷ d) name_bytes refl
     ∙ ap (λ ps. (80 ∷ 85 ∷ 66 ∷ []) ∷ ps)
-    (slice_split_at is_separator s 32 d (λ k x h. no_separator _ (is_s k x h)) refl
-    ∙ ap (λ ps. s ∷ ps) (slice_split_none is_separator d (λ k x h. no_separator _ (is_d k x h))))
+    (slice_split_at is_blank s 32 d (λ k x h. no_blank _ (is_s k x h)) refl
+    ∙ ap (λ ps. s ∷ ps) (slice_split_none is_blank d (λ k x h. no_blank _ (is_d k x h))))
 
 fields_are : (s d : List ℕ) → All IsWord s → All IsWord d → has_byte s ≡ true → has_byte d ≡ true → fields (line_with s d) ≡ (80 ∷ 85 ∷ 66 ∷ []) ∷ s ∷ d ∷ []
 unfolding fields

@@ -3,9 +3,9 @@ use Rattle.std.proofs.lemmas.List.Sums.{prefix_len_is}
 use Rattle.control_lines.specs.Field.{is_field_byte}
 use Rattle.control_lines.proofs.field.field_len.Goals as goal
 
-pub returns-then-is_separator-clause-value : goal.returns-then-is_separator-clause-value
-returns-then-is_separator-clause-value c =
-    sym (prefix_len_is is_field_byte c.args.text.now c.loop-i.i 0 (omega arith) c.loop-i.invariant (λ _. ap not (sym c.is_separator.ensures ∙ c.if-is_separator.true)))
+pub returns-then-is_blank-clause-value : goal.returns-then-is_blank-clause-value
+returns-then-is_blank-clause-value c =
+    sym (prefix_len_is is_field_byte c.args.text.now c.loop-i.i 0 (omega arith) c.loop-i.invariant (λ _. ap not (sym c.is_blank.ensures ∙ c.if-is_blank.true)))
 
 pub returns-clause-value : goal.returns-clause-value
 returns-clause-value c =

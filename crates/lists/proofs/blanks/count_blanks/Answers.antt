@@ -1,7 +1,7 @@
 use Rattle.std.proofs.Common.{sym, ◌∙◌, arith}
 use Rattle.std.proofs.lemmas.List.Sums.{prefix_len_is}
-use Rattle.message_text.specs.Texts.{is_blank}
-use Rattle.message_text.proofs.blanks.blanks.Goals as goal
+use Rattle.lists.specs.Blanks.{is_blank}
+use Rattle.lists.proofs.blanks.count_blanks.Goals as goal
 
 pub returns-then-not-is_blank-clause-value : goal.returns-then-not-is_blank-clause-value
 returns-then-not-is_blank-clause-value c =

@@ -1,16 +1,16 @@
 ghost use Rattle.std.specs.Prelude.{◌≡◌, ◌≤◌, length};
-ghost use Rattle.std.specs.List.{prefix_len};
-ghost use Rattle.message_text.specs.Texts.{is_blank};
+ghost use Rattle.lists.specs.Blanks.{is_blank, blanks_of};
 
-fn is_blank(byte: u8) -> bool
+/// Whether a byte is a blank, a space or a tab.
+pub fn is_blank(byte: u8) -> bool
     ensures { result ≡ is_blank byte }
 {
     byte == b' ' || byte == b'\t'
 }
 
 /// How many blanks stand in front.
-pub fn blanks(text: &[u8]) -> usize
-    ensures value { result ≡ prefix_len is_blank text.now }
+pub fn count_blanks(text: &[u8]) -> usize
+    ensures value { result ≡ blanks_of text.now }
     ensures bound { result ≤ length text.now }
 {
     for (i, byte) in text.iter().enumerate() {

@@ -1,6 +1,0 @@
-use Rattle.std.proofs.Common.{◌≡◌, ℕ, ◌<◌, get_or, true}
-use Rattle.control_lines.specs.Field.{is_separator}
-use Rattle.control_lines.proofs.field.separators.Given as goal
-
-abbrev pub invariant-loop-i : goal.invariant-loop-i
-invariant-loop-i l = (k : ℕ) → k < l.i → is_separator (get_or l.text k 0) ≡ true
