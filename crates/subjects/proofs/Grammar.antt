@@ -1,15 +1,15 @@
 -- A text has no fault exactly where its tokens are a pattern, or a subject.
 use Rattle.std.proofs.Common.{◌≡◌, ◌==◌, ◌<◌, ℕ, if◌then◌else◌, ltb, leb, Bool, true, false, not, ◌&&◌, ◌||◌, cond, List, [], ◌∷◌, length, Option, Some, None, arith, refl, sym, ap, ◌∙◌}
-use Rattle.std.proofs.lemmas.Bool.{or_parts}
+use Rattle.std.proofs.lemmas.Bool.{or_parts, false≢true}
 use Rattle.std.specs.List.{list_all, list_any, onto_first}
 use Rattle.std.proofs.lemmas.Bool.Decides.{nat_tests}
 use Rattle.std.proofs.lemmas.List.Splits.{length-slice_split}
-use Rattle.subjects.specs.Subject.{Token, is_star, is_tail, is_text_byte, is_token_byte, is_token, is_wildcard, is_literal, is_concrete, is_pattern, IsPattern, IsSubject, tail_is_last, tokens_of}
-use Rattle.subjects.specs.Fault.{pattern_fault, subject_fault, or_wildcard}
+use Rattle.subjects.specs.Subject.{Token, is_star, is_tail, is_text_byte, is_token_byte, is_token, is_wildcard, is_literal, is_concrete, is_pattern, IsPattern, is_subject, IsSubject, tail_is_last, tokens_of}
+use Rattle.subjects.specs.Fault.{pattern_fault, subject_fault, subject_if, or_wildcard}
 use Rattle.subjects.specs.declared.error.SubjectError.{SubjectError}
 use Rattle.subjects.specs.declared.error.SubjectError.TheVariants.{Empty, EmptyToken, BadByte, WildcardNotLast, TooManyTokens}
 
-abbrev has_token_bytes : Token → Bool
+abbrev pub has_token_bytes : Token → Bool
 has_token_bytes t = list_all is_token_byte t
 
 abbrev pub is_empty : Token → Bool
@@ -38,7 +38,7 @@ pub bytes-tokens_of : (text : List ℕ) → list_all has_token_bytes (tokens_of 
 bytes-tokens_of [] = refl
 bytes-tokens_of (x ∷ xs) = bytes-step (x == 46) x xs refl (bytes-tokens_of xs)
 
-not_empty : (b : ℕ) (bs : List ℕ) → (length (b ∷ bs) == 0) ≡ false
+pub not_empty : (b : ℕ) (bs : List ℕ) → (length (b ∷ bs) == 0) ≡ false
 not_empty b bs = grind (arith, nat_tests)
 
 token-tests : (t : Token) → is_token t ≡ (not (is_empty t) && has_token_bytes t)
@@ -53,7 +53,7 @@ and_swap false false true b = refl
 and_swap false false false b = refl
 
 -- tokens are bytes of tokens, and none is empty
-tokens-tests : (ts : List Token) → list_all is_token ts ≡ (not (list_any is_empty ts) && list_all has_token_bytes ts)
+pub tokens-tests : (ts : List Token) → list_all is_token ts ≡ (not (list_any is_empty ts) && list_all has_token_bytes ts)
 tokens-tests [] = refl
 tokens-tests (t ∷ ts) =
     rw (token-tests t, tokens-tests ts) (and_swap (is_empty t) (list_any is_empty ts) (has_token_bytes t) (list_all has_token_bytes ts))
@@ -62,7 +62,7 @@ pattern-tests : (ts : List Token) → 0 < length ts → is_pattern ts ≡ (list_
 pattern-tests [] h = absurd (omega arith)
 pattern-tests (t ∷ ts) h = refl
 
-tokens_of-some : (text : List ℕ) → 0 < length (tokens_of text)
+pub tokens_of-some : (text : List ℕ) → 0 < length (tokens_of text)
 tokens_of-some text = omega (arith, length-slice_split (λ b. b == 46) text)
 
 abbrev pub first_fault : Bool → Bool → Bool → Bool → Bool → Option SubjectError
@@ -124,7 +124,7 @@ and_none true false true b = refl
 and_none true false false b = refl
 
 -- literals are tokens, and none is a wildcard
-literals-tests : (ts : List Token) → list_all is_literal ts ≡ (list_all is_token ts && not (list_any is_wildcard ts))
+pub literals-tests : (ts : List Token) → list_all is_literal ts ≡ (list_all is_token ts && not (list_any is_wildcard ts))
 literals-tests [] = refl
 literals-tests (t ∷ ts) =
     rw (literals-tests ts) (and_none (is_token t) (is_wildcard t) (list_all is_token ts) (list_any is_wildcard ts))
@@ -181,3 +181,13 @@ pub no_fault_from_subject : (text : List ℕ) → IsSubject (tokens_of text) →
 no_fault_from_subject text h =
     let p = pattern_from_subject (tokens_of text) (tokens_of-some text) h in
     rw (no_fault_from_pattern text p.0, p.1) refl
+
+pub taken_from_subject : (text : List ℕ) → IsSubject (tokens_of text) → subject_if text ≡ Some (tokens_of text)
+taken_from_subject text h = rw (no_fault_from_subject text h) refl
+
+refused_by : (fault : Option SubjectError) (text : List ℕ) → subject_fault text ≡ fault → is_subject (tokens_of text) ≡ false → subject_if text ≡ None
+refused_by None text e h = absurd (false≢true (sym h ∙ subject_from_no_fault text e))
+refused_by (Some fault) text e h = rw e refl
+
+pub refused_from_other : (text : List ℕ) → is_subject (tokens_of text) ≡ false → subject_if text ≡ None
+refused_from_other text h = refused_by (subject_fault text) text refl h

@@ -1,4 +1,5 @@
 pub mod Walks
+pub mod Cuts
 pub mod Grammar
 pub mod Same
 pub mod Samples

@@ -1,6 +1,7 @@
 //! Subjects, patterns with wildcards, and how they compare.
 #![tactic(auto)]
 
+mod bytewise;
 mod compare;
 mod error;
 mod faults;

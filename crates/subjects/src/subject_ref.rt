@@ -1,4 +1,4 @@
-use crate::faults;
+use crate::bytewise;
 use crate::tokens::tokens_in;
 use lists::Pieces;
 use std::marker::Model;
@@ -31,9 +31,10 @@ impl<'a> SubjectRef<'a> {
         ensures tokens { result ≡ subject_if text.now }
         ensures grammar { IsSome result ↔ IsSubject (tokens_of text.now) }
     {
-        match faults::subject_fault(text) {
-            Some(_) => None,
-            None => Some(SubjectRef { text }),
+        if bytewise::is_subject(text) {
+            Some(SubjectRef { text })
+        } else {
+            None
         }
     }
 
