@@ -2,7 +2,9 @@ ghost use Rattle.std.specs.Prelude.{◌≡◌, ◌+◌, ◌++◌, ◌<◌, ◌�
 ghost use Rattle.std.specs.Vec.{vec_len, vec_capacity};
 ghost use Rattle.wire_write.specs.Texts.{info_line, address, body, reply_room, msg_line, hmsg_line, ok_line, pong_line};
 
-use crate::append::{append, make_room, put, put_crlf, put_short, put_space};
+use crate::append::{
+    append, digit_count, make_room, put, put_crlf, put_four, put_number, put_short, put_space,
+};
 use itoa::Buffer;
 use lists::NoMemory;
 use std::mem;
@@ -25,14 +27,14 @@ fn put_address(out: &mut Vec<u8>, subject: &[u8], sid: &[u8], reply: Option<&[u8
     ensures len { vec_len out.new ≡ vec_len out.old + length (address subject.now sid.now (option_copied reply.entry)) }
     ensures capacity { vec_capacity out.old ≤ vec_capacity out.new }
 {
-    put(out, subject);
+    put_short(out, subject);
     put_space(out);
     put_short(out, sid);
     put_space(out);
     match reply {
         None => {}
         Some(reply) => {
-            put(out, reply);
+            put_short(out, reply);
             put_space(out);
         }
     }
@@ -74,24 +76,55 @@ pub fn write_msg(
     ensures err { OnErr result (out.new.items ≡ out.old.items) }
     ensures full { OnErr result (vec_capacity out.old < vec_len out.old + length (msg_line subject.now sid.now (option_copied reply.entry) payload.now)) }
 {
-    let mut digits = Buffer::new();
-    let size = digits.format(payload.len()).as_bytes();
-    make_room(
-        out,
-        subject,
-        sid,
-        payload,
-        reply_len(reply) + size.len() + 10,
-    )?;
+    let size = payload.len();
+    if size >= 1_000 {
+        return write_large(out, subject, sid, reply, payload);
+    }
+    let fields = reply_len(reply) + digit_count(size) + 10;
+    out.reserve((subject.len() + sid.len()).saturating_add(size + fields))?;
     let alloc = *out.allocator();
     let mut line = mem::replace(out, Vec::new(alloc));
-    put(&mut line, b"MSG ");
+    put_four(&mut line, b"MSG ");
+    put_address(&mut line, subject, sid, reply);
+    put_number(&mut line, size);
+    put_crlf(&mut line);
+    if size >= 64 {
+        *out = line;
+        put(out, payload);
+        put_crlf(out);
+        return Ok(());
+    }
+    put_short(&mut line, payload);
+    put_crlf(&mut line);
+    *out = line;
+    Ok(())
+}
+
+/// Appends a delivery of any size. It serves those whose size has more than three digits.
+fn write_large(
+    out: &mut Vec<u8>,
+    subject: &[u8],
+    sid: &[u8],
+    reply: Option<&[u8]>,
+    payload: &[u8],
+) -> Result<(), NoMemory>
+    ensures ok { OnOk result (out.new.items ≡ out.old.items ++ msg_line subject.now sid.now (option_copied reply.entry) payload.now) }
+    ensures err { OnErr result (out.new.items ≡ out.old.items) }
+    ensures full { OnErr result (vec_capacity out.old < vec_len out.old + length (msg_line subject.now sid.now (option_copied reply.entry) payload.now)) }
+{
+    let mut digits = Buffer::new();
+    let size = digits.format(payload.len()).as_bytes();
+    let fields = reply_len(reply) + size.len() + 10;
+    make_room(out, subject, sid, payload, fields)?;
+    let alloc = *out.allocator();
+    let mut line = mem::replace(out, Vec::new(alloc));
+    put_four(&mut line, b"MSG ");
     put_address(&mut line, subject, sid, reply);
     put_short(&mut line, size);
     put_crlf(&mut line);
-    put(&mut line, payload);
-    put_crlf(&mut line);
     *out = line;
+    put(out, payload);
+    put_crlf(out);
     Ok(())
 }
 
@@ -122,11 +155,15 @@ pub fn write_hmsg(
         payload,
         head.len().saturating_add(fields),
     )?;
-    put(out, b"HMSG ");
-    put_address(out, subject, sid, reply);
-    put(out, head_size);
-    put(out, b" ");
-    put(out, total_size);
+    let alloc = *out.allocator();
+    let mut line = mem::replace(out, Vec::new(alloc));
+    put_four(&mut line, b"HMSG");
+    put_space(&mut line);
+    put_address(&mut line, subject, sid, reply);
+    put_short(&mut line, head_size);
+    put_space(&mut line);
+    put_short(&mut line, total_size);
+    *out = line;
     put_body(out, head, payload);
     Ok(())
 }
