@@ -107,7 +107,8 @@ fn is_quiet(stage: Stage, answer: &Result<Answer, HubRefusal>) -> bool
     !is_verbose(stage) && is_published(answer)
 }
 
-/// The turn of a frame that publishes this message. Room for what is told is made before the hub is asked.
+/// The turn of a frame that publishes this message. There is room for any text about the frame.
+#[inline(always)]
 fn publish<P: Port, W: Words>(
     conn: u64,
     now: u64,
@@ -119,13 +120,11 @@ fn publish<P: Port, W: Words>(
     message: Message,
     out: &mut Vec<u8>,
 ) -> Turn
-    requires { plan_of conn stage frame.now ≡ Publishes message }
+    requires plan { plan_of conn stage frame.now ≡ Publishes message }
+    requires room { vec_len out.old + room_of frame.now ≤ vec_capacity out.old }
     ensures place { P.place port.new ≡ P.place port.old }
     ensures turn { IsTurned (λ turned. IsTurn P.steps W.draws now conn stage word frame.now port.old words.old turned port.new words.new) result out.old.items out.new.items }
 {
-    if make_room(out, frame).is_err() {
-        return Turn::Stalls(Stall::Memory, word);
-    }
     let drawn = word_of(words, word);
     let what = Command::Pub {
         conn,
@@ -139,49 +138,8 @@ fn publish<P: Port, W: Words>(
     turn_of_answer(stage, stage, frame, Some(drawn), &answer, out)
 }
 
-/// The turn of a frame by its plan. Room for what is told is made before the hub is asked, so that what it answers is
-/// told.
-fn take_planned_turn<P: Port, W: Words>(
-    alloc: Global,
-    conn: u64,
-    now: u64,
-    port: &mut P,
-    words: &mut W,
-    stage: Stage,
-    word: Option<u64>,
-    frame: &Frame,
-    out: &mut Vec<u8>,
-) -> Turn
-    ensures place { P.place port.new ≡ P.place port.old }
-    ensures turn { IsTurned (λ turned. IsTurn P.steps W.draws now conn stage word frame.now port.old words.old turned port.new words.new) result out.old.items out.new.items }
-{
-    let plan = match plan_of(alloc, conn, stage, frame) {
-        Ok(plan) => plan,
-        Err(_) => return Turn::Stalls(Stall::Memory, word),
-    };
-    if make_room(out, frame).is_err() {
-        return Turn::Stalls(Stall::Memory, word);
-    }
-    match plan {
-        Plan::Tells(reply) => tell(out, reply),
-        Plan::Asks(what, accepted) => {
-            let answer = submit(port, Event { now, what });
-            turn_of_answer(stage, accepted, frame, word, &answer, out)
-        }
-        Plan::Publishes(message) => {
-            let word = word_of(words, word);
-            let what = Command::Pub {
-                conn,
-                message,
-                word,
-            };
-            let answer = submit(port, Event { now, what });
-            turn_of_answer(stage, stage, frame, Some(word), &answer, out)
-        }
-    }
-}
-
-/// A frame's turn. Room for what is told is made before the hub is asked, so that what it answers is told.
+/// A frame's turn. A PUB is published without a plan. Room for what is told is made before the hub is asked, so that
+/// what it answers is told.
 fn take_turn<P: Port, W: Words>(
     alloc: Global,
     conn: u64,
@@ -196,12 +154,29 @@ fn take_turn<P: Port, W: Words>(
     ensures place { P.place port.new ≡ P.place port.old }
     ensures turn { IsTurned (λ turned. IsTurn P.steps W.draws now conn stage word frame.now port.old words.old turned port.new words.new) result out.old.items out.new.items }
 {
-    match message_of(stage, frame) {
-        Err(_) => Turn::Stalls(Stall::Memory, word),
-        Ok(message) => match message {
-            None => take_planned_turn(alloc, conn, now, port, words, stage, word, frame, out),
-            Some(message) => publish(conn, now, port, words, stage, word, frame, message, out),
-        },
+    if make_room(out, frame).is_err() {
+        return Turn::Stalls(Stall::Memory, word);
+    }
+    let message = match message_of(stage, frame) {
+        Ok(message) => message,
+        Err(_) => return Turn::Stalls(Stall::Memory, word),
+    };
+    if let Some(message) = message {
+        return publish(conn, now, port, words, stage, word, frame, message, out);
+    }
+    let plan = match plan_of(alloc, conn, stage, frame) {
+        Ok(plan) => plan,
+        Err(_) => return Turn::Stalls(Stall::Memory, word),
+    };
+    match plan {
+        Plan::Tells(reply) => tell(out, reply),
+        Plan::Asks(what, accepted) => {
+            let answer = submit(port, Event { now, what });
+            turn_of_answer(stage, accepted, frame, word, &answer, out)
+        }
+        Plan::Publishes(message) => publish(
+            conn, now, port, words, stage, word, frame, message, out,
+        ),
     }
 }
 

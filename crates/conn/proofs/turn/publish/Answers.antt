@@ -13,7 +13,7 @@ returns-then-is_quiet-clause-turn g c =
     let told = told_nothing c.args.stage c.args.frame.now (Some c.word_of-drawn.result) outcome (sym c.is_quiet.ensures ∙ c.if-is_quiet.true) in (
       [],
       inr (subst (λ (plan : Plan). IsPlanned g.P.Port.steps g.W.Words.draws c.args.now c.args.conn c.args.stage c.args.word c.args.frame.now c.args.port.now c.args.words.now (Goes (told_text [] c.args.stage)) c.submit-answer.new.port c.word_of-drawn.new.words plan)
-          (sym c.requires)
+          (sym c.requires.plan)
           (outcome, c.word_of-drawn.result, c.word_of-drawn.ensures, c.submit-answer.ensures.answer, sym told)),
-      c.make_room.ensures.same ∙ sym (append-nil c.args.out.now.items),
+      sym (append-nil c.args.out.now.items),
     )
