@@ -5,14 +5,7 @@ use Rattle.std.specs.List.{list_any}
 use Rattle.std.specs.Option.{option_map}
 use Rattle.std.proofs.lemmas.List.{get_or-map, length-map}
 use Rattle.std.proofs.lemmas.List.Elements.{All-head, All-tail, All-cons, All-nil}
-
-pub find-passes : {X : Type 0} (t : X → Bool) (xs : List X) (y : X) → find t xs ≡ Some y → t y ≡ true
-find-passes t [] y e = absurd (cc)
-find-passes t (x ∷ xs) y e = here (t x) refl e (find-passes t xs y)
-  where
-    here : (b : Bool) → t x ≡ b → cond b (Some x) (find t xs) ≡ Some y → (find t xs ≡ Some y → t y ≡ true) → t y ≡ true
-    here true h e' later = cc
-    here false h e' later = later e'
+pub use Rattle.receivers.proofs.Tests.{find-passes}
 
 pub find-All : {X : Type 0} (P : X → Type 0) (t : X → Bool) (xs : List X) (y : X) → All P xs → find t xs ≡ Some y → P y
 find-All P t [] y all e = absurd (cc)

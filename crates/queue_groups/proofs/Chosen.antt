@@ -31,14 +31,19 @@ filter-map p f (x ∷ xs) = elim (cases_Bool (p (f x))) [
 ]
 
 -- tests that agree wherever a third fails keep the same ones, where all fail it
-same_where : {X : Type 0} (t p q : X → Bool) (xs : List X) → list_any t xs ≡ false → ((x : X) → t x ≡ false → p x ≡ q x) → filter p xs ≡ filter q xs
+pub same_where : {X : Type 0} (t p q : X → Bool) (xs : List X) → list_any t xs ≡ false → ((x : X) → t x ≡ false → p x ≡ q x) → filter p xs ≡ filter q xs
 same_where t p q [] none same = refl
 same_where t p q (x ∷ xs) none same = elim (cases_Bool (t x)) [
   | inl y ↦ absurd (false≢true (sym none ∙ ap (λ b. b || list_any t xs) y))
   | inr e ↦ ap (λ b. cond b (x ∷ filter p xs) (filter p xs)) (same x e) ∙ ap (λ l. cond (q x) (x ∷ l) l) (same_where t p q xs (rw e at none) same)
 ]
 
--- tests that agree at each of the elements keep the same ones
+-- tests that agree keep the same ones
+pub same_tests : {X : Type 0} (p q : X → Bool) (xs : List X) → ((x : X) → p x ≡ q x) → filter p xs ≡ filter q xs
+same_tests p q [] same = refl
+same_tests p q (x ∷ xs) same = ap (λ b. cond b (x ∷ filter p xs) (filter p xs)) (same x) ∙ ap (λ ys. cond (q x) (x ∷ ys) ys) (same_tests p q xs same)
+
+-- and so do those that agree at each of the elements
 same_on : {X : Type 0} (p q : X → Bool) (xs : List X) → All (λ x. p x ≡ q x) xs → filter p xs ≡ filter q xs
 same_on p q [] same = refl
 same_on p q (x ∷ xs) same =
@@ -46,7 +51,7 @@ same_on p q (x ∷ xs) same =
     ∙ ap (λ ys. cond (q x) (x ∷ ys) ys) (same_on p q xs (All-tail (λ y. p y ≡ q y) x xs same))
 
 -- what some element passes, it passes too wherever that test leads to this one
-any-weaker : {X : Type 0} (p q : X → Bool) (xs : List X) → ((x : X) → p x ≡ true → q x ≡ true) → list_any p xs ≡ true → list_any q xs ≡ true
+pub any-weaker : {X : Type 0} (p q : X → Bool) (xs : List X) → ((x : X) → p x ≡ true → q x ≡ true) → list_any p xs ≡ true → list_any q xs ≡ true
 any-weaker p q [] leads some = absurd (false≢true some)
 any-weaker p q (x ∷ xs) leads some = elim (cases_Bool (p x)) [
   | inl y ↦ ap (λ b. b || list_any q xs) (leads x y)
@@ -72,7 +77,7 @@ any-one g k ns there alone = elim (cases_Bool (g k)) [
     ]
 
 -- who is chosen, by a number that each has
-chosen-map : {X : Type 0} (f : X → ℕ) (word : ℕ) (xs : List X) → option_map f (chosen word xs) ≡ chosen word (map f xs)
+pub chosen-map : {X Y : Type 0} (f : X → Y) (word : ℕ) (xs : List X) → option_map f (chosen word xs) ≡ chosen word (map f xs)
 chosen-map f word xs =
     sym (slice_get-map f xs (word % 2 ^ 32 % length xs)) ∙ ap (λ n. slice_get (map f xs) (word % 2 ^ 32 % n)) (sym (length-map xs f))
 
@@ -101,7 +106,7 @@ same_id xs rising s t (i, si, es) (j, tj, et) e = here (cases_eq i j)
       | inr f ↦ let over = ltb-false i j f in let h = rising j i s (omega (arith, over, apart)) si in absurd (omega (arith, h, id-s, id-t, e))
     ]
 
-abbrev id_of : Subscription → ℕ
+abbrev pub id_of : Subscription → ℕ
 id_of s = s.id
 
 abbrev has_name : List ℕ → Named → Bool
@@ -127,7 +132,7 @@ ids_of_members n (s ∷ xs) = here s.queue (ids_of_members n xs)
       | inr e ↦ rw e later
     ]
 
-abbrev is_id : ℕ → Option ℕ → Bool
+abbrev pub is_id : ℕ → Option ℕ → Bool
 is_id i None = false
 is_id i (Some k) = k == i
 
@@ -211,14 +216,15 @@ kept_are xs ms cs ids word rising are which those =
     (λ s has. kept-served xs rising ms are word cs which ids those s has s.queue refl)
     xs (All-contains_itself xs))
 
+-- a test that all pass keeps all
+pub all_pass : {X : Type 0} (xs : List X) → filter (λ x. true) xs ≡ xs
+all_pass [] = refl
+all_pass (x ∷ xs) = ap (λ l. x ∷ l) (all_pass xs)
+
 -- where nobody has a queue, all are served
 pub plain_are : (xs : List Subscription) (word : ℕ) → list_any is_queued xs ≡ false → xs ≡ served word xs
 plain_are xs word none = sym (all_pass xs) ∙ same_where is_queued (λ s. true) (is_served word xs) xs none (λ s is. by s s.queue refl is)
   where
-    all_pass : (ys : List Subscription) → filter (λ s. true) ys ≡ ys
-    all_pass [] = refl
-    all_pass (s ∷ ys) = ap (λ l. s ∷ l) (all_pass ys)
-
     by : (s : Subscription) (o : Option (List Token)) → s.queue ≡ o → is_some o ≡ false → true ≡ is_served_by word xs s s.queue
     by s None e is = sym (ap (is_served_by word xs s) e)
     by s (Some q) e is = absurd (false≢true (sym is))

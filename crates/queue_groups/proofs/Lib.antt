@@ -1,3 +1,4 @@
 pub mod Chosen
+pub mod Grouped
 pub mod Lists
 pub mod Passing

@@ -33,6 +33,11 @@ abbrev pub is_other : List Token → Option (List Token) → Bool
 is_other queue None = false
 is_other queue (Some other) = not (same_name (text_of queue) (text_of other))
 
+-- whether a subscription with this queue name, or with none, is outside a queue
+abbrev pub is_outside : List Token → Option (List Token) → Bool
+is_outside queue None = true
+is_outside queue (Some other) = not (same_name (text_of queue) (text_of other))
+
 -- a plain subscription is kept, and of the members the one of this id
 abbrev pub is_kept_alone : Option ℕ → ℕ → Option (List Token) → Bool
 is_kept_alone chosen id None = true

@@ -1,2 +1,3 @@
 pub mod Served
 pub mod Chosen
+pub mod Grouped

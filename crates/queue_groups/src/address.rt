@@ -4,7 +4,7 @@ ghost use Rattle.std.specs.List.{list_any};
 ghost use Rattle.subscriptions.specs.Addressing.{addressed_to};
 ghost use Rattle.subscriptions.specs.Index.{found_by};
 ghost use Rattle.subscriptions.specs.Subscriptions.{having};
-ghost use Rattle.queue_groups.specs.Chosen.{is_queued};
+ghost use Rattle.queue_groups.specs.Chosen.{Rising, is_queued};
 ghost use Rattle.queue_groups.specs.Served.{served};
 
 use crate::groups::keep_chosen;
@@ -12,6 +12,7 @@ use events::{Addressed, Message};
 use lists::NoMemory;
 use std::alloc::Global;
 use std::hash::RandomState;
+use subjects::SubjectRef;
 use subscriptions::{Keeps, SharedSubscription, Subscriptions, address_each, addressed_to};
 
 /// Adds the subscription of an id, where it passes a test.
@@ -49,6 +50,25 @@ fn passing<'a, K: Keeps>(
     for id in ids {
         add_passing(subscriptions, *id, test, &mut found)?;
     }
+    Ok(found)
+}
+
+/// Those of an account that have a subject and pass a test, oldest first. Their ids are found in `ids`, whose room is used
+/// again. `NoMemory` where memory could not be had.
+pub fn passing_of<'a, K: Keeps>(
+    alloc: Global,
+    subscriptions: &'a Subscriptions,
+    account: &[u8],
+    subject: &SubjectRef<'_>,
+    test: &K,
+    ids: &mut Vec<u64>,
+) -> Result<Vec<&'a SharedSubscription>, NoMemory>
+    ensures found { IfOk result (λ found. map (λ s. s.now) found.items ≡ filter (K.keeps test.now) (having account.now subject.now subscriptions.now)) }
+    ensures rising { IfOk result (λ found. Rising (map (λ s. s.now) found.items)) }
+{
+    subscriptions.known();
+    subscriptions.having(account, subject, ids)?;
+    let found = passing(alloc, subscriptions, ids.as_slice(), test)?;
     Ok(found)
 }
 

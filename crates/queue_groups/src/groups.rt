@@ -15,7 +15,7 @@ use subjects::Subject;
 use subscriptions::SharedSubscription;
 
 /// The name of the oldest member's queue group, where one of the subscriptions is a member.
-fn first_queue<'a>(all: &[&'a SharedSubscription]) -> Option<&'a Subject>
+pub(crate) fn first_queue<'a>(all: &[&'a SharedSubscription]) -> Option<&'a Subject>
     ensures { IfNone result (list_any is_queued (map (λ s. s.now) all.now) ≡ false) }
 {
     for subscription in all {

@@ -3,6 +3,8 @@
 #![tactic(auto)]
 
 mod address;
+mod grouping;
 mod groups;
 
-pub use address::address_served;
+pub use address::{address_served, passing_of};
+pub use grouping::{Grouping, grouping_of};

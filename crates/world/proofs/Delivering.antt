@@ -1,14 +1,13 @@
 -- Deliveries that are handed over and counted.
-use Rattle.std.proofs.Common.{◌≡◌, ◌∙◌, ℕ, Bool, true, false, cond, List, [], ◌∷◌, Option, map, filter, ap, sym, refl, subst}
+use Rattle.std.proofs.Common.{◌≡◌, ◌∙◌, ℕ, Bool, true, false, cond, List, [], ◌∷◌, Option, Some, None, map, filter, ap, sym, refl, subst}
 use Rattle.subjects.specs.Subject.{Token}
 use Rattle.events.specs.Messages.{Message}
 use Rattle.events.specs.declared.answer.Addressed.{Addressed}
 use Rattle.events.specs.declared.answer.Item.{Item}
 use Rattle.events.specs.declared.answer.Item.TheVariants.{Entered, Full}
-use Rattle.events.specs.declared.answer.Outcome.{Outcome}
-use Rattle.sessions.specs.Sessions.{session_of}
+use Rattle.sessions.specs.Sessions.{session_of, with_session}
 use Rattle.sessions.specs.Delivered.{delivered, after_offer, has_room}
-use Rattle.sessions.specs.Replying.{with_note}
+use Rattle.sessions.specs.Replying.{with_note, answering, ending}
 use Rattle.sessions.specs.declared.session.Session.{Session}
 use Rattle.subscriptions.specs.Addressing.{addressed_to}
 use Rattle.subscriptions.specs.Limit.{unended, counted}
@@ -16,14 +15,12 @@ use Rattle.subscriptions.specs.Turns.{Tells, TellEach, entered_ids, in_turn}
 use Rattle.subscriptions.specs.Kept.{Apart}
 use Rattle.subscriptions.specs.declared.subscription.Subscription.{Subscription}
 use Rattle.subscriptions.proofs.Apart.{counted_for}
-use Rattle.world.specs.World.{World}
-use Rattle.world.specs.Changes.{AreAddressed, done, handed_over, items_in}
+use Rattle.receivers.proofs.Stays.{AreSeated, seats_with, seats_after, seats_delivered}
+use Rattle.world.specs.Changes.{AreAddressed, handed_over}
 use Rattle.world.specs.declared.change.Answered.{Answered}
-use Rattle.world.specs.declared.change.Change.{Change}
-use Rattle.world.specs.declared.change.Change.TheVariants.{Deliver}
 
 -- what deliveries met tells of each
-pub tell_each : (now : ℕ) (all : List Addressed) (zs : List Session) → TellEach all (delivered now all zs).1
+tell_each : (now : ℕ) (all : List Addressed) (zs : List Session) → TellEach all (delivered now all zs).1
 tell_each now [] zs = tt
 tell_each now (a ∷ all) zs = (here (has_room (session_of zs a.conn)), tell_each now all (after_offer now a zs))
   where
@@ -47,7 +44,7 @@ module _ (zs : List Session) (reply : Option (List Token)) where
   told_noted (d ∷ ds) (Full conn sid ∷ items) t = (tt, told_noted ds items t.1)
 
 -- each that a message has entered for counts it
-pub counted_is : (zs : List Session) (all : List Addressed) (items : List Item) (subs : List Subscription) → Apart subs → unended subs ≡ subs →
+counted_is : (zs : List Session) (all : List Addressed) (items : List Item) (subs : List Subscription) → Apart subs → unended subs ≡ subs →
     AreAddressed zs all subs → TellEach all items → in_turn (entered_ids all items) subs ≡ unended (map (counted items) subs)
 counted_is zs all items subs apart going is tell =
     let m : Message = is.0 in
@@ -56,8 +53,19 @@ counted_is zs all items subs apart going is tell =
     ∙ ap (λ ids. in_turn ids subs) (entered_noted zs m.reply ds items)
     ∙ counted_for m is.1 ds items subs apart going refl (told_noted zs m.reply ds items (subst (λ cs. TellEach cs items) is.2 tell))
 
-pub delivered_is : (w : World) (change : Change) (o : Outcome) (all : List Addressed) (answered : Option Answered) (zs : List Session) (subs : List Subscription) →
-    change ≡ Deliver all answered → zs ≡ handed_over w.moment answered all w.sessions → subs ≡ unended (map (counted (items_in o)) w.subscriptions) →
-    record w { sessions = zs; subscriptions = subs } ≡ done w change o
-delivered_is w change o all answered zs subs is sessions subscriptions =
-    (λ i. record w { sessions = sessions i; subscriptions = subscriptions i }) ∙ sym (ap (λ c. done w c o) is)
+-- so what a message met counts it, whatever is noted beside it
+pub counted_left : (now : ℕ) (zs : List Session) (all : List Addressed) (items : List Item) (subs : List Subscription) → Apart subs → unended subs ≡ subs →
+    AreAddressed zs all subs → items ≡ (delivered now all zs).1 → in_turn (entered_ids all items) subs ≡ unended (map (counted items) subs)
+counted_left now zs all items subs apart going is met = counted_is zs all items subs apart going is (subst (TellEach all) (sym met) (tell_each now all zs))
+
+-- what is handed over leaves each session its user and its echo
+pub seated_handed : (now : ℕ) (answered : Option Answered) (all : List Addressed) (zs : List Session) → AreSeated zs (handed_over now answered all zs)
+seated_handed now None all zs = seats_delivered now all zs
+seated_handed now (Some a) all zs =
+    let counting : List Session = with_session (answering a.message.subject) a.conn zs in
+    let after : List Session = (delivered now all counting).0 in
+    seats_after zs counting (with_session (ending a.message.subject) a.conn after)
+    (seats_with (answering a.message.subject) a.conn (λ z. refl) zs)
+    (seats_after counting after (with_session (ending a.message.subject) a.conn after)
+    (seats_delivered now all counting)
+    (seats_with (ending a.message.subject) a.conn (λ z. refl) after))

@@ -2,5 +2,4 @@ pub mod Applied
 pub mod Delivering
 pub mod Publishing
 pub mod Reasons
-pub mod Routing
 pub mod Subscribing

@@ -19,7 +19,7 @@ use Rattle.subscriptions.specs.Addressing.{addressed_to}
 use Rattle.subscriptions.specs.Limit.{unended, counted}
 use Rattle.subscriptions.specs.declared.subscription.Subscription.{Subscription}
 use Rattle.world.specs.World.{World}
-use Rattle.world.proofs.Routing.{both}
+use Rattle.receivers.proofs.Tests.{both}
 use Rattle.queue_groups.specs.Served.{is_served}
 use Rattle.world.specs.Granting.{verdict_on, counted_on, ended_on}
 use Rattle.world.specs.Routing.{own_view, is_admitted, admitted, deliveries}

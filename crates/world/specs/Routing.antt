@@ -1,7 +1,5 @@
 -- Whom a message reaches (docs/GUARANTEE.md, "Delivery").
-use Rattle.std.specs.Prelude.{◌&&◌, ◌||◌, ◌==◌, ℕ, List, Bool, false, Option, Some, None, filter, map, not}
-use Rattle.subjects.specs.Subject.{Token}
-use Rattle.permissions.specs.Verdicts.{delivery_verdict, is_allowed}
+use Rattle.std.specs.Prelude.{◌&&◌, ℕ, List, Bool, filter, map}
 use Rattle.events.specs.Messages.{Message}
 use Rattle.events.specs.declared.answer.Addressed.{Addressed}
 use Rattle.events.specs.declared.answer.Item.{Item}
@@ -14,6 +12,7 @@ use Rattle.subscriptions.specs.Addressing.{addressed_to}
 use Rattle.subscriptions.specs.Limit.{unended, counted}
 use Rattle.subscriptions.specs.declared.subscription.Subscription.{Subscription}
 use Rattle.queue_groups.specs.Served.{served}
+pub use Rattle.receivers.specs.Open.{lets_through, may_hear, is_open_to, is_open}
 use Rattle.world.specs.World.{World}
 
 -- A message as an account sees it. A publish has one view, that of the publisher's own account.
@@ -23,24 +22,6 @@ pub record View : Type 0 where
 
 abbrev pub own_view : Session → Message → View
 own_view publisher m = record { account = publisher.user.account; message = m }
-
--- the permissions of a session let the subject through, to a subscription with this queue name or with none
-abbrev pub lets_through : List Token → Option (List Token) → Option Session → Bool
-lets_through s queue None = false
-lets_through s queue (Some z) = is_allowed (delivery_verdict z.user.rules s queue)
-
--- a session without echo isn't sent its own messages
-abbrev pub may_hear : Session → ℕ → Bool
-may_hear publisher conn = publisher.echo || not (conn == publisher.conn)
-
--- whether a connection may be sent a message of the publisher on the subject, for a subscription with this queue name or
--- with none
-abbrev pub is_open_to : List Session → Session → List Token → ℕ → Option (List Token) → Bool
-is_open_to zs publisher s conn queue = may_hear publisher conn && lets_through s queue (session_of zs conn)
-
--- the same of a subscription, by its connection and its queue name
-abbrev pub is_open : List Session → Session → List Token → Subscription → Bool
-is_open zs publisher s sub = is_open_to zs publisher s sub.conn sub.queue
 
 -- a subscription is admitted where it is of the account and has the subject, may hear the publisher, and its session's
 -- permissions let the message through
@@ -53,14 +34,9 @@ admitted w publisher v = filter (is_admitted w.sessions publisher v) w.subscript
 
 -- ---- deliveries
 
--- the deliveries of a view among sessions and subscriptions, oldest subscription first. Who is chosen is so before room is
--- looked at.
-abbrev pub addressed_among : List Session → List Subscription → Session → View → ℕ → List Addressed
-addressed_among zs subs publisher v word = map (addressed_to v.message) (served word (filter (is_admitted zs publisher v) subs))
-
--- the deliveries of a view in a world
+-- the deliveries of a view, oldest subscription first. Who is chosen is so before room is looked at.
 abbrev pub addressed : World → Session → View → ℕ → List Addressed
-addressed w publisher v word = addressed_among w.sessions w.subscriptions publisher v word
+addressed w publisher v word = map (addressed_to v.message) (served word (admitted w publisher v))
 
 -- each with what its session is to note
 abbrev pub deliveries : World → Session → View → ℕ → List Addressed

@@ -1,18 +1,29 @@
 //! What was decided is done.
-ghost use Rattle.std.specs.Prelude.{◌≡◌};
-ghost use Rattle.world.specs.Changes.{handed_over, items_in};
+ghost use Rattle.std.specs.Prelude.{◌≡◌, ◌≤◌, ◌⊎◌, None, map};
+ghost use Rattle.receivers.specs.Known.{Holds};
+ghost use Rattle.sessions.specs.Delivered.{delivered};
+ghost use Rattle.subscriptions.specs.Limit.{unended, counted};
+ghost use Rattle.world.specs.Changes.{AreAddressed, handed_over, items_in};
 
 use crate::change::{Answered, Change};
 use crate::reload::keep_allowed;
 use crate::world::World;
 use events::{Addressed, Item, Outcome};
 use lists::NoMemory;
+use ready::{Ready, User};
+use receivers::Known;
 use sessions::Sessions;
+use std::collections::VecDeque;
+use subscriptions::Subscriptions;
 
 impl World {
     ghost use Rattle.std.specs.Prelude.{◌≡◌, ◌<◌, ◌≤◌, ◌+◌, OnOk, OnErr, All};
     ghost use Rattle.subscriptions.specs.declared.subscription.Subscription.{Subscription};
+    ghost use Rattle.std.specs.List.{filter_map};
+    ghost use Rattle.events.specs.declared.answer.Outcome.{Outcome};
+    ghost use Rattle.sessions.specs.Renewal.{user_again_of};
     ghost use Rattle.world.specs.Changes.{done, IsFit};
+    ghost use Rattle.world.specs.declared.change.Change.TheVariants as change;
 
     /// Does what was decided of a command of which this is told. Where memory could not be had for a new session or
     /// subscription, nothing has changed.
@@ -27,17 +38,30 @@ impl World {
     {
         match change {
             Change::Nothing => Ok(()),
-            Change::Open(session) => self.sessions.push(session.into_inner()),
-            Change::Stand(asked) => self.subscriptions.add(self.number + 1, asked.into_inner()),
+            Change::Open(session) => {
+                self.known.forget();
+                self.sessions.push(session.into_inner())
+            }
+            Change::Stand(asked) => {
+                self.known.forget();
+                self.subscriptions.add(self.number + 1, asked.into_inner())
+            }
             Change::Limit { conn, sid, most } => {
+                self.known.forget();
                 self.subscriptions.limit(conn, &sid, most);
                 Ok(())
             }
             Change::Deliver { all, answered } => {
-                self.subscriptions.known();
-                self.subscriptions.count(all.as_slice(), items_in(told));
                 let mut all = all.into_vec();
-                hand_over(&mut self.sessions, &mut all, self.moment, answered);
+                deliver(
+                    &mut self.sessions,
+                    &mut self.subscriptions,
+                    &mut self.known,
+                    &mut all,
+                    self.moment,
+                    answered,
+                    items_in(told),
+                );
                 self.deliveries = Some(all);
                 Ok(())
             }
@@ -46,19 +70,73 @@ impl World {
                 Ok(())
             }
             Change::Leave { conn } => {
-                self.sessions.remove(conn);
-                self.subscriptions.remove(conn);
+                self.leave(conn);
                 Ok(())
             }
             Change::Install { ready, users } => {
-                keep_allowed(&ready, &self.sessions, &mut self.subscriptions);
-                self.sessions.renew(&ready, users, self.moment);
-                self.ready = ready;
-                self.epoch += 1;
+                self.install(ready, users);
                 Ok(())
             }
         }
     }
+
+    /// A session goes with its subscriptions.
+    fn leave(&mut self, conn: u64)
+        ensures { (told : Outcome) → self.new ≡ done self.old (change.Leave conn) told }
+    {
+        self.known.forget();
+        self.sessions.remove(conn);
+        self.subscriptions.remove(conn);
+    }
+
+    /// A policy comes into force, with the users of the sessions that stay.
+    fn install(&mut self, ready: Ready, users: VecDeque<User>)
+        requires users { users.items ≡ filter_map (user_again_of ready) self.old.sessions }
+        requires epoch { self.old.epoch < 340282366920938463463374607431768211455 }
+        ensures { (told : Outcome) → self.new ≡ done self.old (change.Install ready users) told }
+    {
+        // What was known goes with the policy under which it was so.
+        self.known = Known::new(self.alloc);
+        keep_allowed(&ready, &self.sessions, &mut self.subscriptions);
+        self.sessions.renew(&ready, users, self.moment);
+        self.ready = ready;
+        self.epoch += 1;
+    }
+}
+
+/// Nothing is known any more of whom messages are for, where fewer subscriptions are left than stood before.
+fn forget_if_fewer(known: &mut Known, standing: usize, left: usize)
+    ensures { (known.new.whom ≡ None) ⊎ ((known.new ≡ known.old) × (standing ≤ left)) }
+{
+    if left < standing {
+        known.forget();
+    }
+}
+
+/// Counts the deliveries of a message that have entered, as the items tell, and hands them over. Where a subscription has
+/// ended by it, it is found out anew whom the publisher's next message is for.
+#[inline(always)]
+fn deliver(
+    sessions: &mut Sessions,
+    subscriptions: &mut Subscriptions,
+    known: &mut Known,
+    all: &mut Vec<Addressed>,
+    now: u64,
+    answered: Option<Answered>,
+    items: &[Item],
+)
+    requires met { items.now ≡ (delivered now all.old.items sessions.old).1 }
+    requires addressed { AreAddressed sessions.old all.old.items subscriptions.old }
+    requires known { Holds sessions.old subscriptions.old known.old }
+    ensures sessions { sessions.new ≡ handed_over now answered all.old.items sessions.old }
+    ensures subscriptions { subscriptions.new ≡ unended (map (counted items.now) subscriptions.old) }
+    ensures known { Holds sessions.new subscriptions.new known.new }
+{
+    let standing = subscriptions.len();
+    subscriptions.known();
+    subscriptions.count(all.as_slice(), items);
+    hand_over(sessions, all, now, answered);
+    forget_if_fewer(known, standing, subscriptions.len());
 }
 
 /// Hands deliveries over in turn, of a message that may be an answer: that is counted before, and its grant goes after

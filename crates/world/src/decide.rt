@@ -3,7 +3,6 @@ ghost use Rattle.std.specs.Prelude.{◌≡◌, IfOk, IfErr};
 
 use crate::change::{Answered, Change, Decided};
 use crate::reload::{Prepared, prepare};
-use crate::route::address_all;
 use crate::verdict::{on_publish, on_subscription};
 use crate::world::World;
 use bytes::Bytes;
@@ -11,6 +10,7 @@ use events::{Addressed, Command, HubRefusal, Message, Met, Outcome, Sid};
 use lists::{Boxed, Copying, Items, NoMemory, Shared, SharedText};
 use permissions::{By, Verdict};
 use ready::Ready;
+use receivers::address_all;
 use sessions::Session;
 use std::alloc::Global;
 use subjects::{Pattern, Subject};
@@ -27,6 +27,22 @@ fn unchanged(outcome: Outcome) -> Decided
     Decided {
         outcome,
         change: Change::Nothing,
+    }
+}
+
+/// What the user's permissions refuse.
+fn refused(verdict: Verdict) -> Decided
+    ensures outcome { result.outcome ≡ outcome.Denied verdict }
+    ensures change { result.change ≡ change.Nothing }
+{
+    unchanged(Outcome::Denied(verdict))
+}
+
+/// Room for deliveries, which is put back once they are handed over.
+fn room_in(alloc: Global, kept: &mut Option<Vec<Addressed>>) -> Vec<Addressed> {
+    match kept.take() {
+        Some(room) => room,
+        None => Vec::new(alloc),
     }
 }
 
@@ -79,6 +95,7 @@ fn is_for_nobody(all: &[Addressed], answered: &Option<Answered>) -> bool
 }
 
 ghost use Rattle.std.specs.Prelude.{IsTrue, [], None};
+ghost use Rattle.events.specs.declared.answer.Outcome.TheVariants as outcome;
 ghost use Rattle.world.specs.declared.change.Change.TheVariants as change;
 ghost use Rattle.world.specs.Changes.{answered_by};
 
@@ -217,10 +234,7 @@ impl World {
         ensures reason { IfOk result (λ d. IsReasoned self.old (command.Pub conn message.now word) d.outcome) }
         ensures same { self.new ≡ self.old }
     {
-        let room = match self.deliveries.take() {
-            Some(room) => room,
-            None => Vec::new(self.alloc),
-        };
+        let room = room_in(self.alloc, &mut self.deliveries);
         let (by, answered, mut all) = match self.sessions.find(conn) {
             None => return Err(HubRefusal::NoSession),
             Some(session) => match on_publish(session, &message.subject(), self.moment) {
@@ -235,19 +249,14 @@ impl World {
                         session,
                         message,
                         word,
+                        &mut self.known,
                         &mut self.ids,
                         room,
                     )?,
                 ),
-                Verdict::DeniedBy(index) => {
-                    return Ok(unchanged(Outcome::Denied(Verdict::DeniedBy(index))));
-                }
-                Verdict::NoAllow => {
-                    return Ok(unchanged(Outcome::Denied(Verdict::NoAllow)));
-                }
-                Verdict::NoQueueAllow(index) => {
-                    return Ok(unchanged(Outcome::Denied(Verdict::NoQueueAllow(index))));
-                }
+                Verdict::DeniedBy(index) => return Ok(refused(Verdict::DeniedBy(index))),
+                Verdict::NoAllow => return Ok(refused(Verdict::NoAllow)),
+                Verdict::NoQueueAllow(index) => return Ok(refused(Verdict::NoQueueAllow(index))),
             },
         };
         if is_for_nobody(all.as_slice(), &answered) {

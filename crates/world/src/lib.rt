@@ -6,7 +6,6 @@ mod change;
 mod decide;
 mod plain;
 mod reload;
-mod route;
 mod standing;
 mod verdict;
 mod world;

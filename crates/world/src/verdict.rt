@@ -1,6 +1,6 @@
 //! What a user's permissions say of a subscription that may be of a queue group.
 ghost use Rattle.std.specs.Prelude.{◌≡◌};
-ghost use Rattle.permissions.specs.Verdicts.{publish_verdict, subscribe_verdict, delivery_verdict, IsJustifiedPublish, IsJustifiedSubscribe};
+ghost use Rattle.permissions.specs.Verdicts.{publish_verdict, subscribe_verdict, IsJustifiedPublish, IsJustifiedSubscribe};
 ghost use Rattle.world.specs.Granting.{verdict_on};
 
 use permissions::{By, Compiled, Verdict};
@@ -32,19 +32,5 @@ pub(crate) fn on_publish(session: &Session, subject: &SubjectRef<'_>, now: u64) 
         Verdict::Allowed(By::Grant)
     } else {
         verdict
-    }
-}
-
-/// The verdict on a message that is to be sent to a member of that queue group, or of none.
-pub(crate) fn on_delivery(
-    rules: &Compiled,
-    subject: &SubjectRef<'_>,
-    queue: &Option<Subject>,
-) -> Verdict
-    ensures { result ≡ delivery_verdict rules.now subject.now queue.now }
-{
-    match queue {
-        None => rules.admits(subject, None),
-        Some(queue) => rules.admits(subject, Some(queue)),
     }
 }

@@ -6,6 +6,7 @@ use events::{Addressed, Answer, Command, Entry, Event, HubRefusal, Outcome};
 use lists::{Copying, Items, NoMemory, Shared};
 use policy_doc::Policy;
 use ready::Ready;
+use receivers::Known;
 use sessions::Sessions;
 use std::alloc::Global;
 use std::hash::RandomState;
@@ -27,12 +28,15 @@ pub struct World {
     pub(crate) subscriptions: Subscriptions,
     // Room for the deliveries of a message, which each step takes and puts back.
     pub(crate) deliveries: Option<Vec<Addressed>>,
+    // Whom the last publisher's messages are for, if that was found.
+    pub(crate) known: Known,
     // Room for the ids that a message finds, which each step uses again.
     pub(crate) ids: Vec<u64>,
 }
 
 impl Model for World {
     ghost use Rattle.std.specs.Prelude.{◌≤◌};
+    ghost use Rattle.receivers.specs.Known.{Holds};
     ghost use Rattle.world.specs.World as worlds;
 
     ghost Value = { worlds.World };
@@ -47,7 +51,7 @@ impl Model for World {
       number = w.number;
     } };
 
-    ghost invariant = { λ w. 1 ≤ w.capacity };
+    ghost invariant = { λ w. (1 ≤ w.capacity) × Holds w.sessions w.subscriptions w.known };
 }
 
 impl World {
@@ -85,6 +89,7 @@ impl World {
             sessions: Sessions::new(alloc),
             subscriptions: Subscriptions::new(alloc, keys),
             deliveries: None,
+            known: Known::new(alloc),
             ids: Vec::new(alloc),
         })
     }

@@ -1,14 +1,22 @@
--- the deliveries for those of the admitted that are served
-use Rattle.std.proofs.Common.{◌∙◌, ℕ, List, map, filter, ap}
-use Rattle.subjects.specs.Subject.{Token}
+-- the deliveries are those that are known, or those for whom it was found to be for
+use Rattle.std.proofs.Common.{◌≡◌, ◌∙◌, ℕ, List, map, filter, ap}
+use Rattle.subjects.specs.Subject.{Token, tokens_of}
+use Rattle.subjects.proofs.Text.{again}
 use Rattle.events.specs.Messages.{Message}
 use Rattle.subscriptions.specs.Subscriptions.{has_subject, having}
 use Rattle.subscriptions.specs.Addressing.{addressed_to}
 use Rattle.subscriptions.specs.declared.subscription.Subscription.{Subscription}
 use Rattle.queue_groups.specs.Served.{served}
-use Rattle.world.specs.Routing.{is_open}
-use Rattle.world.proofs.Routing.{both}
-use Rattle.world.proofs.route.address_all.Goals as goal
+use Rattle.receivers.specs.Open.{is_open}
+use Rattle.receivers.proofs.Tests.{both}
+use Rattle.receivers.proofs.Told.{told_are}
+use Rattle.receivers.proofs.address.address_all.Goals as goal
+
+pub returns-then-branch-clause-all : goal.returns-then-branch-clause-all
+returns-then-branch-clause-all c =
+    told_are c.args.known.now _ _ c.args.message.now c.args.word _ c.args.sessions.now c.args.subscriptions.now c.args.publisher.now
+    (c.in_ok-address.ensures c.if-branch.true) c.requires.holds c.requires.publisher
+    (ap tokens_of c.bytes.ensures ∙ again c.subject-subject.result c.tokens.ensures.grammar ∙ c.subject-subject.ensures)
 
 pub returns-clause-all : goal.returns-clause-all
 returns-clause-all c =
