@@ -91,11 +91,12 @@ impl Known {
         }
     }
 
-    /// Nothing is known any more.
+    /// Nothing is known any more. The next message is the first of its publisher and subject again.
     pub fn forget(&mut self)
         ensures { self.new.whom ≡ None }
     {
         self.whom = None;
+        self.subject.clear();
     }
 
     /// Whether it is of this publisher and the text of this subject.
