@@ -32,6 +32,7 @@ use Rattle.hub.specs.contracts.hub.Hub as hub
 use Rattle.ready.proofs.ready.Ready.TheSendSync as ready
 use Rattle.sessions.proofs.sessions.Sessions.TheSendSync as sessions
 use Rattle.events.proofs.answer.Addressed.TheSendSync as addressed
+use Rattle.receivers.proofs.known.Known.TheSendSync as known
 use Rattle.events.proofs.answer.Entry.TheSendSync as entry
 use Rattle.lists.proofs.shared.Shared.TheSendSync as shared
 use Rattle.world.proofs.plain.PlainWorld.TheSendSync as plain
@@ -84,7 +85,7 @@ subs_out_send t = search (sendable, t) depth 6
 
 world_send : IsSend subs.the_row → IsSend world_in.the_row
 world_send t = recorded_send _ _ _ (world_in.the_type).to_one (struct_send (shape world_in.the_type)
-    (global.the_field_send, (state.the_field_send, (ready.the_send, (search sendable, (search sendable, (search sendable, (search sendable, (sessions.the_send, (t, (search (sendable, crosses, addressed.the_send) depth 12, (search (sendable, crosses) depth 12, tt))))))))))))
+    (global.the_field_send, (state.the_field_send, (ready.the_send, (search sendable, (search sendable, (search sendable, (search sendable, (sessions.the_send, (t, (search (sendable, crosses, addressed.the_send) depth 12, (known.the_field_send, (search (sendable, crosses) depth 12, tt)))))))))))))
 
 world_out_send : IsSend world_in.the_row → IsSend world.the_row
 world_out_send t = search (sendable, t) depth 6
