@@ -8,6 +8,7 @@ ghost use Rattle.events.specs.declared.event.Command.TheVariants.{Connect, Sub, 
 use bytes::Bytes;
 use events::{Command, Delivery, Entry, Event, Item, Message, Met, Outcome, Removed};
 use lists::{Items, Pieces, Shared, SharedText};
+use outbox::Batch;
 use permissions::{By, Verdict};
 use policy_doc::{
     AccountDoc, Direction, NamedAccount, PermDoc, PermEntry, PolicyDoc, Terms, UserDoc,
@@ -52,6 +53,12 @@ impl<T: Alike> Alike for Shared<T> {
 
 impl<T: Alike> Alike for Items<T> {
     fn is_like(&self, other: &Items<T>) -> bool {
+        are_alike(self.as_slice(), other.as_slice())
+    }
+}
+
+impl<T: Alike> Alike for Batch<T> {
+    fn is_like(&self, other: &Batch<T>) -> bool {
         are_alike(self.as_slice(), other.as_slice())
     }
 }
@@ -285,7 +292,7 @@ fn is_published(outcome: &Outcome, rule: By, met: &Met) -> bool
 }
 
 /// Whether these deliveries left an outbox, and whether it had lost one.
-fn is_taken(outcome: &Outcome, left: &Items<Delivery>, lost: bool) -> bool
+fn is_taken(outcome: &Outcome, left: &Batch<Delivery>, lost: bool) -> bool
     ensures { Decides result (outcome.now ≡ Taken left.now lost) }
 {
     match outcome {

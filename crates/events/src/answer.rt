@@ -3,6 +3,7 @@ ghost use Rattle.std.specs.Prelude.{◌≡◌, IfOk};
 use crate::event::{Event, Sid};
 use crate::message::Message;
 use lists::{Boxed, Copying, Items, NoMemory, Shared};
+use outbox::Batch;
 use permissions::{By, Verdict};
 use reply_grants::Note;
 use std::alloc::Global;
@@ -136,7 +137,7 @@ pub enum Outcome {
     /// The message is accepted by this rule, and met these subscriptions, oldest first.
     Published(By, Met),
     /// These deliveries left the outbox, and whether a full outbox has lost one since the Connect or last Take.
-    Taken(Items<Delivery>, bool),
+    Taken(Batch<Delivery>, bool),
     /// The subscription of that id, if one stood, has ended or has its limit.
     Unsubscribed,
     /// The session is gone.

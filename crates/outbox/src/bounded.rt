@@ -1,5 +1,7 @@
-ghost use Rattle.std.specs.Prelude.{◌≡◌, ◌≤◌, length, take, drop, IfOk, OnOk, OnErr};
+ghost use Rattle.std.specs.Prelude.{◌≡◌, ◌≤◌, ◌<◌, ◌++◌, length, take, drop, OnOk};
+ghost use Rattle.outbox.specs.Bounded.{batched};
 
+use crate::batch::Batch;
 use circular_buffer::HeapCircularBuffer;
 use lists::{Copying, NoMemory};
 use std::alloc::Global;
@@ -8,22 +10,44 @@ use std::marker::Model;
 /// What waits for one session, oldest first. A clause sees the list and how long it may be.
 #[derive(Debug, Drop)]
 pub struct Outbox<T> {
+    /// The oldest, once they were asked for together. They wait until they are let go.
+    batch: Option<Batch<T>>,
     ring: HeapCircularBuffer<T>,
 }
 
 impl<T> Model for Outbox<T> {
-    ghost use Rattle.std.specs.Prelude.{◌≤◌, length};
-    ghost use Rattle.outbox.specs.Bounded.{Bounded};
+    ghost use Rattle.std.specs.Prelude.{◌≤◌, ◌++◌, length};
+    ghost use Rattle.outbox.specs.Bounded.{Bounded, batched};
 
     ghost Value = { Bounded T };
 
-    ghost view = { λ o. record { capacity = o.ring.capacity; waiting = o.ring.items } };
+    ghost view = { λ o. record { capacity = o.ring.capacity; waiting = batched o.batch ++ o.ring.items } };
 
-    ghost invariant = { λ o. length o.ring.items ≤ o.ring.capacity };
+    ghost invariant = { λ o. length (batched o.batch ++ o.ring.items) ≤ o.ring.capacity };
+}
+
+/// What waits of a batch.
+fn in_batch<T>(batch: &Option<Batch<T>>) -> &[T]
+    ensures { result.now ≡ batched batch.now }
+{
+    match batch {
+        None => &[],
+        Some(batch) => batch.as_slice(),
+    }
+}
+
+/// Leaves the oldest of a batch out, fewer than it has.
+fn leave_out<T>(batch: &mut Option<Batch<T>>, count: usize)
+    requires { count < length (batched batch.old) }
+    ensures { batched batch.new ≡ drop count (batched batch.old) }
+{
+    if let Some(batch) = batch {
+        batch.leave_out(count);
+    }
 }
 
 impl<T> Outbox<T> {
-    ghost use Rattle.std.specs.Prelude.{◌≡◌, ◌≤◌, ◌<◌, ◌-◌, ◌++◌, ◌∷◌, [], length, take, drop, IfOk, IfErr, OnOk, OnErr, nat_le};
+    ghost use Rattle.std.specs.Prelude.{◌≡◌, ◌≤◌, ◌<◌, ◌-◌, ◌++◌, ◌∷◌, [], length, IfOk, IfErr, OnOk, nat_le};
 
     /// An empty outbox for `capacity` elements, one at least. All its memory is taken here; `NoMemory` where it
     /// could not be had.
@@ -32,41 +56,100 @@ impl<T> Outbox<T> {
         ensures capacity { IfOk result (λ o. o.capacity ≡ capacity) }
         ensures empty { IfOk result (λ o. o.waiting ≡ []) }
     {
-        Ok(Outbox {
-            ring: HeapCircularBuffer::with_capacity(alloc, capacity)?,
-        })
+        let ring = HeapCircularBuffer::with_capacity(alloc, capacity)?;
+        Ok(Outbox { batch: None, ring })
     }
 
     /// How much waits.
+    #[tactic(auto, using(crate::proofs::Batches::of_both))]
     pub fn len(&self) -> usize
         ensures value { result ≡ length self.now.waiting }
         ensures bound { result ≤ self.now.capacity }
     {
-        self.ring.len()
+        in_batch(&self.batch).len() + self.ring.len()
     }
 
     /// Whether there is no room left.
     pub fn is_full(&self) -> bool
         ensures { result ≡ nat_le self.now.capacity (length self.now.waiting) }
     {
-        self.ring.capacity() <= self.ring.len()
+        self.ring.capacity() <= self.len()
     }
 
     /// How much more may wait.
     pub fn room(&self) -> usize
         ensures { result ≡ self.now.capacity - length self.now.waiting }
     {
-        self.ring.capacity() - self.ring.len()
+        self.ring.capacity() - self.len()
     }
 
     /// Adds an element at the end, or hands it back where the outbox is full. It takes no memory.
+
     pub fn offer(&mut self, value: T) -> Result<(), T>
         ensures ok { OnOk result ((length self.old.waiting < self.old.capacity)
             × (self.new ≡ record self.old { waiting = self.old.waiting ++ value ∷ [] })) }
         ensures full { IfErr result (λ back. (self.old.capacity ≤ length self.old.waiting)
             × (back ≡ value) × (self.new ≡ self.old)) }
     {
+        if self.is_full() {
+            return Err(value);
+        }
         self.ring.try_push_back(value)
+    }
+}
+
+impl<T: Drop> Outbox<T> {
+    ghost use Rattle.std.specs.Prelude.{◌≡◌, drop};
+
+    /// Lets the next elements go, `most` at most, oldest first. It takes no memory.
+
+    #[tactic(auto, using(crate::proofs::Batches::drop_of_batch, crate::proofs::Batches::drop_of_ring))]
+    pub fn discard(&mut self, most: usize)
+        ensures { self.new ≡ record self.old { waiting = drop most self.old.waiting } }
+    {
+        let together = in_batch(&self.batch).len();
+        if most < together {
+            leave_out(&mut self.batch, most);
+            return;
+        }
+        self.batch = None;
+        drop_front(&mut self.ring, most - together);
+    }
+}
+
+impl<T: Copying + Drop> Outbox<T> {
+    ghost use Rattle.std.specs.Prelude.{◌≡◌, take, drop, IfOk, OnErr};
+
+    /// Copies of the next elements, `most` at most, oldest first. The elements stay. `NoMemory` where memory
+    /// could not be had.
+    #[tactic(auto, using(crate::proofs::Batches::first_of_both))]
+    pub fn front(&self, most: usize) -> Result<Vec<T>, NoMemory>
+        ensures { IfOk result (λ front. front.items ≡ take most self.now.waiting) }
+    {
+        let alloc = *self.ring.allocator();
+        let mut copies = Vec::with_capacity(alloc, most.min(self.len()))?;
+        let together = in_batch(&self.batch);
+        let first = most.min(together.len());
+        copy_slice(alloc, &together[..first], &mut copies)?;
+        copy_front(&self.ring, (most - first).min(self.ring.len()), &mut copies)?;
+        Ok(copies)
+    }
+
+    /// The next elements, `most` at most, oldest first, to be owned by others too. They stay, and none is copied where
+    /// they are asked for before others are let go. `NoMemory` where memory could not be had.
+    #[tactic(auto, using(crate::proofs::Batches::whole_batch, crate::proofs::Batches::moved))]
+    pub fn share(&mut self, most: usize) -> Result<Batch<T>, NoMemory>
+        ensures front { IfOk result (λ front. front ≡ take most self.old.waiting) }
+        ensures same { self.new ≡ self.old }
+    {
+        if self.batch.is_none() {
+            let count = most.min(self.ring.len());
+            self.batch = Some(Batch::from_front(&mut self.ring, count)?);
+        }
+        match &self.batch {
+            Some(batch) if batch.len() == most.min(self.len()) => batch.again(),
+            _ => Batch::from_vec(*self.ring.allocator(), self.front(most)?),
+        }
     }
 
     /// Takes the next elements out, `most` at most, oldest first. `NoMemory` takes nothing out.
@@ -75,69 +158,50 @@ impl<T> Outbox<T> {
             × (self.new ≡ record self.old { waiting = drop most self.old.waiting })) }
         ensures err { OnErr result (self.new ≡ self.old) }
     {
-        let count = most.min(self.ring.len());
-        let taken = take_front(&mut self.ring, count)?;
+        let taken = self.front(most)?;
+        self.discard(most);
         Ok(taken)
     }
 }
 
-impl<T: Drop> Outbox<T> {
-    ghost use Rattle.std.specs.Prelude.{◌≡◌, drop};
-
-    /// Lets the next elements go, `most` at most, oldest first. It takes no memory.
-    pub fn discard(&mut self, most: usize)
-        ensures { self.new ≡ record self.old { waiting = drop most self.old.waiting } }
-    {
-        let kept = self.ring.len().saturating_sub(most);
-        self.ring.truncate_front(kept);
-    }
+/// Lets the first elements of a ring go, `most` at most.
+fn drop_front<T: Drop>(ring: &mut HeapCircularBuffer<T>, most: usize)
+    ensures items { ring.new.items ≡ drop most ring.old.items }
+    ensures capacity { ring.new.capacity ≡ ring.old.capacity }
+{
+    let kept = ring.len().saturating_sub(most);
+    ring.truncate_front(kept);
 }
 
-impl<T: Copying + Drop> Outbox<T> {
-    ghost use Rattle.std.specs.Prelude.{◌≡◌, take, IfOk};
-
-    /// Copies of the next elements, `most` at most, oldest first. The elements stay. `NoMemory` where memory
-    /// could not be had.
-    pub fn front(&self, most: usize) -> Result<Vec<T>, NoMemory>
-        ensures { IfOk result (λ front. front.items ≡ take most self.now.waiting) }
-    {
-        copy_front(&self.ring, most.min(self.ring.len()))
+/// Adds copies of a slice's elements.
+fn copy_slice<T: Copying + Drop>(
+    alloc: Global,
+    items: &[T],
+    copies: &mut Vec<T>,
+) -> Result<(), NoMemory>
+    ensures { OnOk result (copies.new.items ≡ copies.old.items ++ items.now) }
+{
+    for item in items {
+        copies.push(item.copy(alloc)?)?;
     }
+    Ok(())
 }
 
-/// Copies of the first so many elements.
-#[tactic(auto, using(crate::proofs::Fronts::take_next, crate::proofs::Fronts::is_there))]
+/// Adds copies of the first so many elements.
+#[tactic(auto, using(crate::proofs::Fronts::next_behind, crate::proofs::Fronts::is_there))]
 fn copy_front<T: Copying + Drop>(
     ring: &HeapCircularBuffer<T>,
     count: usize,
-) -> Result<Vec<T>, NoMemory>
+    copies: &mut Vec<T>,
+) -> Result<(), NoMemory>
     requires { count ≤ length ring.now.items }
-    ensures { IfOk result (λ copies. copies.items ≡ take count ring.now.items) }
+    ensures { OnOk result (copies.new.items ≡ copies.old.items ++ take count ring.now.items) }
 {
     let alloc = *ring.allocator();
-    let mut copies = Vec::with_capacity(alloc, count)?;
     'copying: for place in 0..count {
         if let Some(item) = ring.get(place) {
             copies.push(item.copy(alloc)?)?;
         }
     }
-    Ok(copies)
-}
-
-/// The first so many elements, moved out of the ring.
-#[tactic(auto, using(crate::proofs::Fronts::take_first_left, crate::proofs::Fronts::drop_first_left, crate::proofs::Fronts::is_left))]
-fn take_front<T>(ring: &mut HeapCircularBuffer<T>, count: usize) -> Result<Vec<T>, NoMemory>
-    requires { count ≤ length ring.old.items }
-    ensures taken { IfOk result (λ taken. taken.items ≡ take count ring.old.items) }
-    ensures rest { OnOk result (ring.new.items ≡ drop count ring.old.items) }
-    ensures room { ring.new.capacity ≡ ring.old.capacity }
-    ensures err { OnErr result (ring.new ≡ ring.old) }
-{
-    let mut taken = Vec::with_capacity(*ring.allocator(), count)?;
-    'moving: for _ in 0..count {
-        if let Some(next) = ring.pop_front() {
-            taken.push_reserved(next);
-        }
-    }
-    Ok(taken)
+    Ok(())
 }

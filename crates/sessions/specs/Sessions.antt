@@ -1,5 +1,6 @@
 -- The sessions as a list, in order of connecting (docs/GUARANTEE.md, "The world").
-use Rattle.std.specs.Prelude.{◌≡◌, ◌≢◌, ◌==◌, ◌<◌, ◌∷◌, ℕ, List, [], Bool, false, Option, Some, None, length, slice_index_or, slice_set, if◌then◌else◌, find, drop}
+use Rattle.std.specs.Prelude.{◌≡◌, ◌≢◌, ◌==◌, ◌<◌, ◌∷◌, ℕ, List, [], Bool, false, Option, Some, None, length, slice_index_or, slice_set, if◌then◌else◌, find, drop, take}
+use Rattle.events.specs.declared.answer.Delivery.{Delivery}
 use Rattle.ready.specs.declared.ready.User.{User}
 use Rattle.sessions.specs.declared.session.Session.{Session}
 
@@ -15,6 +16,11 @@ with_session f conn (z ∷ zs) = if z.conn == conn then f z ∷ zs else z ∷ wi
 -- a session with nothing in its outbox
 abbrev pub new_session : ℕ → User → Bool → ℕ → Session
 new_session conn u echo capacity = record { conn = conn; user = u; echo = echo; missed = false; outbox = record { capacity = capacity; waiting = [] }; replies = None }
+
+-- the oldest deliveries of a session, so many at most
+abbrev pub front_of : ℕ → Option Session → List Delivery
+front_of most None = []
+front_of most (Some z) = take most z.outbox.waiting
 
 -- a session after a Take: its oldest deliveries have left, and what was missed has been told
 abbrev pub drained : ℕ → Session → Session

@@ -1,6 +1,6 @@
 use events::Delivery;
 use lists::{Boxed, Copying, NoMemory};
-use outbox::Outbox;
+use outbox::{Batch, Outbox};
 use ready::User;
 use reply_grants::{Note, Replies};
 use std::alloc::Global;
@@ -24,7 +24,7 @@ pub struct Session {
 }
 
 impl Session {
-    ghost use Rattle.std.specs.Prelude.{◌≡◌, ◌≤◌, IfOk};
+    ghost use Rattle.std.specs.Prelude.{◌≡◌, ◌≤◌, IfOk, take};
     ghost use Rattle.sessions.specs.Sessions.{new_session, drained};
     ghost use Rattle.sessions.specs.Delivered.{offered};
     ghost use Rattle.sessions.specs.Replying.{is_granted, answering, ending};
@@ -80,6 +80,16 @@ impl Session {
         ensures { self.new ≡ ending subject.now self.old }
     {
         self.replies.end(subject, self.user.rules.terms());
+    }
+
+    /// The oldest deliveries, `most` at most, to be owned by others too. They stay. `NoMemory` where memory could not be
+    /// had.
+    pub(crate) fn share(&mut self, most: usize) -> Result<Batch<Delivery>, NoMemory>
+        ensures front { IfOk result (λ front. front ≡ take most self.old.outbox.waiting) }
+        ensures same { self.new ≡ self.old }
+    {
+        let front = self.outbox.share(most)?;
+        Ok(front)
     }
 
     /// Lets the oldest deliveries go, `most` at most, and forgets that one was missed.

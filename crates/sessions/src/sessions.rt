@@ -1,7 +1,8 @@
 use crate::connections::Connections;
 use crate::plan::{place_in, plan_all, plan_one};
 use crate::{Session, renewal};
-use events::{Addressed, Met};
+use events::{Addressed, Delivery, Met};
+use outbox::Batch;
 use indexmap::IndexSet;
 use lists::NoMemory;
 use ready::{Ready, User};
@@ -38,7 +39,7 @@ impl Sessions {
     ghost use Rattle.std.specs.Prelude.{◌≡◌, ◌==◌, ◌++◌, ◌∷◌, [], ℕ, None, Some, AllPairs, IfOk, OnOk, OnErr, MatchOption, length, filter, map, not, is_some};
     ghost use Rattle.std.specs.List.{filter_map};
     ghost use Rattle.std.specs.Option.{option_copied};
-    ghost use Rattle.sessions.specs.Sessions.{session_of, with_session, drained, IsApart, IsNowhere, IsPlace};
+    ghost use Rattle.sessions.specs.Sessions.{session_of, with_session, drained, front_of, IsApart, IsNowhere, IsPlace};
     ghost use Rattle.sessions.specs.Delivered.{delivered, after_offer};
     ghost use Rattle.sessions.specs.Replying.{with_note, answering, ending};
     ghost use Rattle.sessions.specs.Renewal.{user_again_of, closed_conns, remaining};
@@ -197,6 +198,18 @@ impl Sessions {
         match self.place_of(conn) {
             None => {}
             Some(place) => self.list[place].end(subject),
+        }
+    }
+
+    /// The oldest deliveries of a connection's outbox, `most` at most, to be owned by others too. They stay there. Without
+    /// a session there are none. `NoMemory` where memory could not be had.
+    pub fn share(&mut self, conn: u64, most: usize) -> Result<Batch<Delivery>, NoMemory>
+        ensures front { IfOk result (λ front. front ≡ front_of most (session_of self.old conn)) }
+        ensures same { self.new ≡ self.old }
+    {
+        match self.place_of(conn) {
+            None => Batch::from_vec(self.alloc, Vec::new(self.alloc)),
+            Some(place) => self.list[place].share(most),
         }
     }
 

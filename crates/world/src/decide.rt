@@ -291,21 +291,20 @@ impl World {
     }
 
     /// The oldest deliveries of a session's outbox.
-    fn take(&self, conn: u64, most: usize) -> Result<Decided, HubRefusal>
-        ensures decided { IsDecided self.now (moved self.now (command.Take conn most)) result }
-        ensures reason { IfOk result (λ d. IsReasoned self.now (command.Take conn most) d.outcome) }
+    fn take(&mut self, conn: u64, most: usize) -> Result<Decided, HubRefusal>
+        ensures decided { IsDecided self.old (moved self.old (command.Take conn most)) result }
+        ensures reason { IfOk result (λ d. IsReasoned self.old (command.Take conn most) d.outcome) }
+        ensures same { self.new ≡ self.old }
     {
-        match self.sessions.find(conn) {
-            None => Err(HubRefusal::NoSession),
-            Some(session) => {
-                let front = session.outbox.front(most)?;
-                let missed = session.missed;
-                Ok(Decided {
-                    outcome: Outcome::Taken(Items::from_vec(front), missed),
-                    change: Change::Drain { conn, most },
-                })
-            }
-        }
+        let missed = match self.sessions.find(conn) {
+            None => return Err(HubRefusal::NoSession),
+            Some(session) => session.missed,
+        };
+        let front = self.sessions.share(conn, most)?;
+        Ok(Decided {
+            outcome: Outcome::Taken(front, missed),
+            change: Change::Drain { conn, most },
+        })
     }
 
     /// The end of a session.
