@@ -15,6 +15,10 @@ abbrev pub reply_room : Option (List ℕ) → ℕ
 reply_room None = 0
 reply_room (Some reply) = length reply + 1
 
+-- a payload behind its size in bytes
+abbrev pub sized : List ℕ → List ℕ
+sized payload = decimal (length payload) ++ codes "\r\n" ++ payload ++ codes "\r\n"
+
 -- a message, with the size of its payload in bytes
 abbrev pub msg_line : List ℕ → List ℕ → Option (List ℕ) → List ℕ → List ℕ
 msg_line subject sid reply payload =

@@ -4,6 +4,7 @@
 mod append;
 mod error;
 mod message;
+mod number;
 
 pub use error::{ServerError, write_err};
 pub use message::{write_hmsg, write_info, write_msg, write_ok, write_pong};

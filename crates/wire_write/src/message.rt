@@ -1,10 +1,9 @@
 ghost use Rattle.std.specs.Prelude.{◌≡◌, ◌+◌, ◌++◌, ◌<◌, ◌≤◌, length, OnOk, OnErr, option_copied};
 ghost use Rattle.std.specs.Vec.{vec_len, vec_capacity};
-ghost use Rattle.wire_write.specs.Texts.{info_line, address, body, reply_room, msg_line, hmsg_line, ok_line, pong_line};
+ghost use Rattle.wire_write.specs.Texts.{info_line, address, body, reply_room, sized, msg_line, hmsg_line, ok_line, pong_line};
 
-use crate::append::{
-    append, digit_count, make_room, put, put_crlf, put_four, put_number, put_short, put_space,
-};
+use crate::append::{append, make_room, put, put_array, put_crlf, put_short, put_space};
+use crate::number::{digit_count, put_number, put_small};
 use itoa::Buffer;
 use lists::NoMemory;
 use std::mem;
@@ -63,6 +62,96 @@ fn reply_len(reply: Option<&[u8]>) -> usize
     }
 }
 
+/// How many bytes a reply subject takes, with or without the space behind it.
+#[inline(always)]
+fn text_len(reply: Option<&[u8]>) -> usize
+    ensures { reply_room (option_copied reply.entry) ≤ result + 1 }
+{
+    match reply {
+        None => 0,
+        Some(reply) => reply.len(),
+    }
+}
+
+/// Makes room for a delivery, or leaves the buffer as it is. Mostly there is more than enough, and then the digits of
+/// the size aren't counted.
+#[inline(always)]
+#[tactic(auto, using(crate::proofs::Lines::msg_length, crate::proofs::Digits::few))]
+fn make_room_for_msg(
+    out: &mut Vec<u8>,
+    subject: &[u8],
+    sid: &[u8],
+    reply: Option<&[u8]>,
+    payload: &[u8],
+) -> Result<(), NoMemory>
+    ensures items { out.new.items ≡ out.old.items }
+    ensures len { vec_len out.new ≡ vec_len out.old }
+    ensures room { OnOk result (vec_len out.new + length (msg_line subject.now sid.now (option_copied reply.entry) payload.now) ≤ vec_capacity out.new) }
+    ensures full { OnErr result (vec_capacity out.old < vec_len out.old + length (msg_line subject.now sid.now (option_copied reply.entry) payload.now)) }
+{
+    let front = (subject.len() + sid.len()).saturating_add(text_len(reply));
+    if front.saturating_add(payload.len() + 31) <= out.capacity() - out.len() {
+        return Ok(());
+    }
+    let fields = reply_len(reply) + digit_count(payload.len()) + 10;
+    make_room(out, subject, sid, payload, fields)?;
+    Ok(())
+}
+
+/// Appends the size of a payload, and the payload, for which there is room.
+#[inline(never)]
+fn put_sized(out: &mut Vec<u8>, payload: &[u8])
+    requires { vec_len out.old + length (sized payload.now) ≤ vec_capacity out.old }
+    ensures items { out.new.items ≡ out.old.items ++ sized payload.now }
+{
+    put_number(out, payload.len());
+    put_crlf(out);
+    put(out, payload);
+    put_crlf(out);
+}
+
+/// Appends a delivery for which there is room. The buffer is a local meanwhile. What stands in its place is empty, and
+/// isn't let go.
+#[inline(always)]
+fn put_msg(out: &mut Vec<u8>, subject: &[u8], sid: &[u8], reply: Option<&[u8]>, payload: &[u8])
+    requires { vec_len out.old + length (msg_line subject.now sid.now (option_copied reply) payload.now) ≤ vec_capacity out.old }
+    ensures { out.new.items ≡ out.old.items ++ msg_line subject.now sid.now (option_copied reply.entry) payload.now }
+{
+    let size = payload.len();
+    let alloc = *out.allocator();
+    let mut line = mem::replace(out, Vec::new(alloc));
+    put_array(&mut line, *b"MSG ");
+    put_address(&mut line, subject, sid, reply);
+    if size >= 64 {
+        *out = line;
+        put_sized(out, payload);
+        return;
+    }
+    put_small(&mut line, size);
+    put_crlf(&mut line);
+    put_short(&mut line, payload);
+    put_crlf(&mut line);
+    mem::forget(mem::replace(out, line));
+}
+
+/// Appends a delivery, or leaves the buffer as it is.
+#[inline(always)]
+fn write_addressed(
+    out: &mut Vec<u8>,
+    subject: &[u8],
+    sid: &[u8],
+    reply: Option<&[u8]>,
+    payload: &[u8],
+) -> Result<(), NoMemory>
+    ensures ok { OnOk result (out.new.items ≡ out.old.items ++ msg_line subject.now sid.now (option_copied reply.entry) payload.now) }
+    ensures err { OnErr result (out.new.items ≡ out.old.items) }
+    ensures full { OnErr result (vec_capacity out.old < vec_len out.old + length (msg_line subject.now sid.now (option_copied reply.entry) payload.now)) }
+{
+    make_room_for_msg(out, subject, sid, reply, payload)?;
+    put_msg(out, subject, sid, reply, payload);
+    Ok(())
+}
+
 /// Appends a delivery: the MSG line with the payload's size in bytes, then the payload.
 /// `NoMemory` comes only where the buffer has no room for it and can't grow, and leaves it as it was.
 pub fn write_msg(
@@ -76,56 +165,11 @@ pub fn write_msg(
     ensures err { OnErr result (out.new.items ≡ out.old.items) }
     ensures full { OnErr result (vec_capacity out.old < vec_len out.old + length (msg_line subject.now sid.now (option_copied reply.entry) payload.now)) }
 {
-    let size = payload.len();
-    if size >= 1_000 {
-        return write_large(out, subject, sid, reply, payload);
+    // Most have no reply subject. An arm each, so that these don't look for one again at every step.
+    match reply {
+        None => write_addressed(out, subject, sid, None, payload),
+        Some(reply) => write_addressed(out, subject, sid, Some(reply), payload),
     }
-    let fields = reply_len(reply) + digit_count(size) + 10;
-    out.reserve((subject.len() + sid.len()).saturating_add(size + fields))?;
-    let alloc = *out.allocator();
-    let mut line = mem::replace(out, Vec::new(alloc));
-    put_four(&mut line, b"MSG ");
-    put_address(&mut line, subject, sid, reply);
-    put_number(&mut line, size);
-    put_crlf(&mut line);
-    if size >= 64 {
-        *out = line;
-        put(out, payload);
-        put_crlf(out);
-        return Ok(());
-    }
-    put_short(&mut line, payload);
-    put_crlf(&mut line);
-    *out = line;
-    Ok(())
-}
-
-/// Appends a delivery of any size. It serves those whose size has more than three digits.
-fn write_large(
-    out: &mut Vec<u8>,
-    subject: &[u8],
-    sid: &[u8],
-    reply: Option<&[u8]>,
-    payload: &[u8],
-) -> Result<(), NoMemory>
-    ensures ok { OnOk result (out.new.items ≡ out.old.items ++ msg_line subject.now sid.now (option_copied reply.entry) payload.now) }
-    ensures err { OnErr result (out.new.items ≡ out.old.items) }
-    ensures full { OnErr result (vec_capacity out.old < vec_len out.old + length (msg_line subject.now sid.now (option_copied reply.entry) payload.now)) }
-{
-    let mut digits = Buffer::new();
-    let size = digits.format(payload.len()).as_bytes();
-    let fields = reply_len(reply) + size.len() + 10;
-    make_room(out, subject, sid, payload, fields)?;
-    let alloc = *out.allocator();
-    let mut line = mem::replace(out, Vec::new(alloc));
-    put_four(&mut line, b"MSG ");
-    put_address(&mut line, subject, sid, reply);
-    put_short(&mut line, size);
-    put_crlf(&mut line);
-    *out = line;
-    put(out, payload);
-    put_crlf(out);
-    Ok(())
 }
 
 /// Appends a delivery with a header block: the HMSG line with the size in bytes of the block, and that of
@@ -157,8 +201,7 @@ pub fn write_hmsg(
     )?;
     let alloc = *out.allocator();
     let mut line = mem::replace(out, Vec::new(alloc));
-    put_four(&mut line, b"HMSG");
-    put_space(&mut line);
+    put_array(&mut line, *b"HMSG ");
     put_address(&mut line, subject, sid, reply);
     put_short(&mut line, head_size);
     put_space(&mut line);
