@@ -1,6 +1,6 @@
 // The text of a delivery.
 ghost use Rattle.std.specs.Prelude.{◌≡◌, ◌++◌, OnOk, OnErr, option_copied};
-ghost use Rattle.pending.specs.Texts.{delivery_text, reply_subject_text};
+ghost use Rattle.pending.specs.Texts.{delivery_text, payload_text, whole_text, reply_subject_text};
 
 use events::{Delivery, Message};
 use lists::NoMemory;
@@ -21,14 +21,41 @@ pub fn write_delivery(out: &mut Vec<u8>, headers: bool, delivery: &Delivery) -> 
     ensures ok { OnOk result (out.new.items ≡ out.old.items ++ delivery_text headers delivery.now) }
     ensures err { OnErr result (out.new.items ≡ out.old.items) }
 {
+    let head = delivery.message.head();
+    if headers && !head.is_empty() {
+        write_with_head(out, delivery)?;
+    } else {
+        write_without_head(out, delivery)?;
+    }
+    Ok(())
+}
+
+/// The text of a delivery, its payload alone.
+#[inline(always)]
+fn write_without_head(out: &mut Vec<u8>, delivery: &Delivery) -> Result<(), NoMemory>
+    ensures ok { OnOk result (out.new.items ≡ out.old.items ++ payload_text delivery.now) }
+    ensures err { OnErr result (out.new.items ≡ out.old.items) }
+{
+    let message = &delivery.message;
+    let subject = message.subject();
+    let sid = delivery.sid.as_slice();
+    let payload = message.payload();
+    let reply_subject = reply_subject_text(message);
+    write_msg(out, subject.bytes(), sid, reply_subject, payload)
+}
+
+/// The text of a delivery with its header block. It is apart from the others, which are most, so that these don't have
+/// to make place for it.
+#[inline(never)]
+fn write_with_head(out: &mut Vec<u8>, delivery: &Delivery) -> Result<(), NoMemory>
+    ensures ok { OnOk result (out.new.items ≡ out.old.items ++ whole_text delivery.now) }
+    ensures err { OnErr result (out.new.items ≡ out.old.items) }
+{
     let message = &delivery.message;
     let subject = message.subject();
     let sid = delivery.sid.as_slice();
     let reply_subject = reply_subject_text(message);
     let head = message.head();
     let payload = message.payload();
-    if headers && !head.is_empty() {
-        return write_hmsg(out, subject.bytes(), sid, reply_subject, head, payload);
-    }
-    write_msg(out, subject.bytes(), sid, reply_subject, payload)
+    write_hmsg(out, subject.bytes(), sid, reply_subject, head, payload)
 }

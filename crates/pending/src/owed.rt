@@ -76,9 +76,8 @@ impl Owed {
     pub fn drop_first(&mut self)
         ensures { self.new ≡ record self.old { deliveries = drop 1 self.old.deliveries } }
     {
-        if self.written < deliveries_of(&self.answer).len() {
-            self.written += 1;
-        }
+        let _bound = deliveries_of(&self.answer).len();
+        self.written = self.written.saturating_add(1);
     }
 }
 
