@@ -3,7 +3,9 @@ use Rattle.std.proofs.Common.{◌≡◌, ◌==◌, ℕ, ◌+◌, ◌<◌, ◌≤
 use Rattle.std.proofs.lemmas.List.{length-map}
 use Rattle.std.proofs.lemmas.List.Quantifiers.{position-Some}
 use Rattle.std.proofs.lemmas.List.Sums.{fails_before_first, position_or_len_is}
-use Rattle.std.proofs.lemmas.Option.{slice_get_within, unwrap_or-slice_get}
+use Rattle.std.proofs.lemmas.Option.{slice_get_within, unwrap_or-slice_get, slice_get-map}
+use Rattle.std.specs.Option.{option_map}
+use Rattle.sessions.specs.Renewal.{connection_of}
 use Rattle.std.proofs.lemmas.Bool.{ne_eqb}
 use Rattle.std.proofs.lemmas.Bool.Decides.{nat_tests}
 use Rattle.std.specs.List.{position_or_len}
@@ -107,3 +109,10 @@ place_where ks conn i apart stands =
 
     is_within : (n m : ℕ) → n < m → cond (nat_lt n m) (Some n) None ≡ Some n
     is_within n m h = grind (arith, nat_tests)
+
+-- so where a session of the connection stands is the connection's place
+pub place_hinted : (ks : List ℕ) (conn i : ℕ) (zs : List Session) (z : Session) → AllPairs (λ (x y : ℕ). x ≢ y) ks → ks ≡ map connection_of zs → slice_get zs i ≡ Some z → z.conn ≡ conn → Some i ≡ position (is_of conn) zs
+place_hinted ks conn i zs z apart same stands is =
+    place_where ks conn i apart (ap (λ (ys : List ℕ). slice_get ys i) same ∙ slice_get-map connection_of zs i ∙ ap (option_map connection_of) stands ∙ ap Some is)
+    ∙ ap (λ (ys : List ℕ). position (λ k. conn == k) ys) same
+    ∙ position_by_key conn zs

@@ -1,5 +1,5 @@
 -- What is planned is what will be met.
-use Rattle.std.proofs.Common.{◌≡◌, ◌∙◌, ◌==◌, ◌⊎◌, inl, inr, ℕ, ◌-◌, ◌<◌, ◌≤◌, suc, zero, Bool, true, false, cond, List, [], ◌∷◌, ◌++◌, length, get_or, map, set, position, Option, Some, None, ap, sym, refl, arith, nat_lt}
+use Rattle.std.proofs.Common.{◌≡◌, ◌∙◌, ◌==◌, ◌⊎◌, inl, inr, ℕ, ◌-◌, ◌<◌, ◌≤◌, suc, zero, Bool, true, false, cond, List, [], ◌∷◌, ◌++◌, length, get_or, map, set, position, Option, Some, None, ap, sym, subst, refl, arith, nat_lt, is_some, true≢false}
 use Rattle.std.specs.Option.{option_map}
 use Rattle.subjects.specs.Subject.{Token}
 use Rattle.std.proofs.lemmas.List.{length-append, append_assoc}
@@ -14,9 +14,9 @@ use Rattle.events.specs.declared.answer.Addressed.{Addressed}
 use Rattle.events.specs.declared.answer.Delivery.{Delivery}
 use Rattle.events.specs.declared.answer.Item.{Item}
 use Rattle.events.specs.declared.answer.Item.TheVariants.{Entered, Full}
-use Rattle.sessions.specs.Planned.{room_at, rooms_of, with_room, planned}
+use Rattle.sessions.specs.Planned.{room_at, rooms_of, with_room, planned, entered, AreRoomy}
 use Rattle.sessions.proofs.Changes.{offered-conn, session_of-changed, session_of-other}
-use Rattle.sessions.proofs.Places.{is_of, IsNowhere-from}
+use Rattle.sessions.proofs.Places.{is_of, IsNowhere-from, IsPlace-from}
 
 -- ---- rooms beside the sessions
 
@@ -166,3 +166,39 @@ pub planned-more : (items : List Item) (a : Addressed) (rest : List Addressed) (
 planned-more items a rest zs rooms after e =
     ap (λ r. (items ++ cond (nat_lt 0 (room_at zs rooms a.conn)) (Entered a.conn a.delivery.sid) (Full a.conn a.delivery.sid) ∷ []) ++ planned rest r) (λ i other. e other i)
     ∙ append_assoc items _ _
+
+-- ---- where all have room
+
+-- the room that is left after so many others, by the place of the connection
+pub roomy_here : (before conn room i : ℕ) (zs : List Session) (z : Session) → position (is_of conn) zs ≡ Some i → z ≡ get_or zs i z → room ≡ room_in (Some z) → nat_lt before room ≡ true → before < rooms_of zs conn
+roomy_here before conn room i zs z place stands is more =
+    let at = IsPlace-from conn zs i place in
+    let same : room ≡ rooms_of zs conn = is ∙ ap (λ (y : Session). room_in (Some y)) stands ∙ sym (ap room_in (at.here z)) in
+    subst (λ n. before < n) same (ltb-true before room more)
+
+pub none_from : {X : Type 0} (o : Option X) → is_some o ≡ false → o ≡ None
+none_from None e = refl
+none_from (Some x) e = absurd (true≢false e)
+
+-- all enter
+roomy-planned : (all : List Addressed) (rooms : ℕ → ℕ) → ((k : ℕ) (d : Addressed) → k < length all → k < rooms (get_or all k d).conn) → map entered all ≡ planned all rooms
+roomy-planned [] rooms roomy = refl
+roomy-planned (a ∷ rest) rooms roomy =
+    ap (λ more. entered a ∷ more) (roomy-planned rest (with_room a.conn (rooms a.conn - 1) rooms) (λ k d h. here k (get_or rest k d).conn (roomy (suc k) d (omega arith)) (cases_eq (get_or rest k d).conn a.conn)))
+    ∙ sym (ap (λ b. cond b (entered a) (Full a.conn a.delivery.sid) ∷ planned rest (with_room a.conn (rooms a.conn - 1) rooms)) (lt-ltb 0 (rooms a.conn) (roomy 0 a (omega arith))))
+  where
+    here : (k c : ℕ) → suc k < rooms c → (c ≡ a.conn) ⊎ (c ≡ a.conn → ⊥) → k < cond (c == a.conn) (rooms a.conn - 1) (rooms c)
+    here k c more (inl e) =
+        let same : rooms c ≡ rooms a.conn = ap rooms e in
+        subst (λ n. k < n) (sym (ap (λ b. cond b (rooms a.conn - 1) (rooms c)) (eq-eqb c a.conn e))) (omega (arith, same, more))
+    here k c more (inr ne) = subst (λ n. k < n) (sym (ap (λ b. cond b (rooms a.conn - 1) (rooms c)) (ne_eqb c a.conn ne))) (omega (arith, more))
+
+pub roomy-delivered : (now : ℕ) (all : List Addressed) (zs : List Session) → AreRoomy all (rooms_of zs) → map entered all ≡ (delivered now all zs).1
+roomy-delivered now all zs roomy = roomy-planned all (rooms_of zs) (λ k d h. (roomy k d h).1) ∙ planned-delivered now all zs
+
+-- and nothing is to be noted without a reply
+pub roomy-noted : (all : List Addressed) (zs : List Session) → ((k : ℕ) (d : Addressed) → k < length all → (get_or all k d).noted ≡ None) → all ≡ map (with_note zs None) all
+roomy-noted [] zs none = refl
+roomy-noted (a ∷ rest) zs none =
+    ap (λ (n : Option Note). record a { noted = n } ∷ rest) (none 0 a (omega arith))
+    ∙ ap (λ more. with_note zs None a ∷ more) (roomy-noted rest zs (λ k d h. none (suc k) d (omega arith)))

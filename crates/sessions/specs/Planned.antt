@@ -1,5 +1,5 @@
 -- What deliveries will meet, told before any is handed over: each counts against the room of its connection.
-use Rattle.std.specs.Prelude.{◌==◌, ◌-◌, ◌∷◌, ℕ, List, [], if◌then◌else◌, nat_lt}
+use Rattle.std.specs.Prelude.{◌≡◌, ◌==◌, ◌-◌, ◌<◌, ◌∷◌, ℕ, List, [], None, if◌then◌else◌, nat_lt, length, slice_index_or}
 use Rattle.events.specs.declared.answer.Item.{Item}
 use Rattle.events.specs.declared.answer.Item.TheVariants.{Entered, Full}
 use Rattle.sessions.specs.Sessions.{session_of}
@@ -26,3 +26,15 @@ abbrev pub planned : List Addressed → (ℕ → ℕ) → List Item
 planned [] rooms = []
 planned (a ∷ rest) rooms =
     (if nat_lt 0 (rooms a.conn) then Entered a.conn a.delivery.sid else Full a.conn a.delivery.sid) ∷ planned rest (with_room a.conn (rooms a.conn - 1) rooms)
+
+-- what a delivery that enters meets
+abbrev pub entered : Addressed → Item
+entered a = Entered a.conn a.delivery.sid
+
+-- nothing is put down beside a delivery, and there is room for it after so many others of its connection
+abbrev pub IsRoomy : ℕ → Addressed → (ℕ → ℕ) → Type 0
+IsRoomy before a rooms = (a.noted ≡ None) × (before < rooms a.conn)
+
+-- so it is with each, even where all those before it are of its connection
+abbrev pub AreRoomy : List Addressed → (ℕ → ℕ) → Type 0
+AreRoomy all rooms = (k : ℕ) (d : Addressed) → k < length all → IsRoomy k (slice_index_or all k d) rooms

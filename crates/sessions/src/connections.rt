@@ -37,24 +37,21 @@ impl Connections {
         let _keys = self.conns.as_slice();
     }
 
-    /// The place of a connection.
+    /// Where a connection may be. It is only a guess.
     #[inline(always)]
+    pub fn hint(&self, conn: u64) -> usize {
+        match self.hints.get((conn % HINTS as u64) as usize) {
+            None => 0,
+            Some(place) => *place,
+        }
+    }
+
+    /// The place of a connection, by its hash. Apart, so that what looks at the hint first stays small.
+    #[cold]
+    #[inline(never)]
     pub fn find(&self, conn: u64) -> Option<usize>
         ensures { result ≡ position (λ k. conn == k) self.now }
     {
-        self.known();
-        let hint = match self.hints.get((conn % HINTS as u64) as usize) {
-            None => 0,
-            Some(place) => *place,
-        };
-        match self.conns.get_index(hint) {
-            None => {}
-            Some(found) => {
-                if *found == conn {
-                    return Some(hint);
-                }
-            }
-        }
         let place = self.conns.get_index_of(&conn);
         place
     }

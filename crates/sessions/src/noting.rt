@@ -47,21 +47,20 @@ fn note_of(
     Ok(note)
 }
 
-/// What is to be noted where a message enters for a session: its reply, if it has one and the user may answer.
-#[inline(always)]
+/// What is to be noted where a message with this reply enters for a session: the reply, if the user may answer.
 pub(crate) fn note_for(
     alloc: Global,
     keys: RandomState,
-    reply: Option<&SubjectRef<'_>>,
+    reply: &SubjectRef<'_>,
     session: Option<&Session>,
 ) -> Result<Option<Boxed<Note>>, NoMemory>
-    ensures { IfOk result (λ noted. noted ≡ note_for (option_copied reply.entry) (option_copied session.entry)) }
+    ensures { IfOk result (λ noted. noted ≡ note_for (Some reply.now) (option_copied session.entry)) }
 {
-    match (reply, session) {
-        (Some(reply), Some(session)) => match session.user.rules.terms() {
+    match session {
+        None => Ok(None),
+        Some(session) => match session.user.rules.terms() {
             None => Ok(None),
             Some(_) => Ok(Some(note_of(alloc, keys, reply, &session.replies)?)),
         },
-        _ => Ok(None),
     }
 }

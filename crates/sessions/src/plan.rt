@@ -1,9 +1,9 @@
 //! What deliveries will meet, and what is to be noted with them, before one is handed over.
-ghost use Rattle.std.specs.Prelude.{◌≡◌, ℕ, ◌<◌, ◌≤◌, ◌-◌, ◌==◌, ◌∷◌, [], IfOk, OnOk, IfSome, length, map, position, nat_lt, slice_index_or, if◌then◌else◌};
+ghost use Rattle.std.specs.Prelude.{◌≡◌, ℕ, ◌<◌, ◌≤◌, ◌-◌, ◌==◌, ◌∷◌, [], IfOk, OnOk, IsTrue, length, map, position, nat_lt, slice_index_or, if◌then◌else◌};
 ghost use Rattle.std.specs.Option.{option_copied};
 ghost use Rattle.sessions.specs.Sessions.{session_of};
 ghost use Rattle.sessions.specs.Delivered.{has_room, room_in, delivered};
-ghost use Rattle.sessions.specs.Planned.{room_at, rooms_of, with_room, planned};
+ghost use Rattle.sessions.specs.Planned.{room_at, rooms_of, with_room, planned, entered, IsRoomy, AreRoomy};
 ghost use Rattle.sessions.specs.Renewal.{connection_of};
 ghost use Rattle.sessions.specs.Replying.{note_for, with_note};
 
@@ -16,11 +16,22 @@ use std::alloc::Global;
 use std::hash::RandomState;
 use subjects::SubjectRef;
 
-/// The place of the session of a connection.
+/// The place of the session of a connection: mostly that of the hint.
+#[inline(always)]
 pub(crate) fn place_in(conns: &Connections, list: &[Session], conn: u64) -> Option<usize>
     requires { conns.now ≡ map connection_of list.now }
     ensures { result ≡ position (λ (z : Session). z.conn == conn) list.now }
 {
+    conns.known();
+    let hint = conns.hint(conn);
+    match list.get(hint) {
+        None => {}
+        Some(session) => {
+            if session.conn == conn {
+                return Some(hint);
+            }
+        }
+    }
     let place = conns.find(conn);
     place
 }
@@ -36,6 +47,30 @@ fn has_room(session: Option<&Session>) -> bool
     }
 }
 
+/// Puts down beside a delivery what its session is to note.
+#[inline(always)]
+fn put_note(
+    alloc: Global,
+    keys: RandomState,
+    reply: Option<&SubjectRef<'_>>,
+    session: Option<&Session>,
+    next: &mut Addressed,
+) -> Result<(), NoMemory>
+    ensures { OnOk result (next.new ≡ record next.old { noted = note_for (option_copied reply.entry) (option_copied session.entry) }) }
+{
+    match reply {
+        None => {
+            next.noted = None;
+            Ok(())
+        }
+        Some(reply) => {
+            let noted = note_for(alloc, keys, reply, session)?;
+            next.noted = noted;
+            Ok(())
+        }
+    }
+}
+
 /// What a single delivery meets at the session that it is for. Beside it is put down what that is to note.
 pub(crate) fn plan_one(
     alloc: Global,
@@ -47,8 +82,7 @@ pub(crate) fn plan_one(
     ensures item { IfOk result (λ item. item ≡ (if has_room (option_copied session.entry) then Item.Entered next.new.conn next.new.delivery.sid else Item.Full next.new.conn next.new.delivery.sid)) }
     ensures noted { OnOk result (next.new ≡ record next.old { noted = note_for (option_copied reply.entry) (option_copied session.entry) }) }
 {
-    let noted = note_for(alloc, keys, reply, session)?;
-    next.noted = noted;
+    put_note(alloc, keys, reply, session, next)?;
     let has_room = has_room(session);
     let item = item(next, has_room)?;
     Ok(item)
@@ -113,8 +147,7 @@ fn note_rooms(
 {
     for next in all.iter_mut() {
         let session = note_room(conns, list, rooms, next.conn);
-        let noted = note_for(alloc, keys, reply, session)?;
-        next.noted = noted;
+        put_note(alloc, keys, reply, session, next)?;
     }
     Ok(())
 }
@@ -152,9 +185,49 @@ fn plan_each(
     Ok(items)
 }
 
-/// What each delivery of a message with this reply will meet, where they are handed over in turn. Beside each is put
+/// Whether nothing is put down beside a delivery, and its session has room for it after so many others.
+#[inline(always)]
+fn has_room_after(conns: &Connections, list: &[Session], next: &Addressed, before: usize) -> bool
+    requires { conns.now ≡ map connection_of list.now }
+    ensures { IsTrue result → IsRoomy before next.now (rooms_of list.now) }
+{
+    if next.noted.is_some() {
+        return false;
+    }
+    match place_in(conns, list, next.conn) {
+        None => false,
+        Some(place) => before < list[place].outbox.room(),
+    }
+}
+
+/// Whether nothing is put down beside any delivery, and each has room even where all those before it are for the same
+/// session.
+fn have_room(conns: &Connections, list: &[Session], all: &[Addressed]) -> bool
+    requires { conns.now ≡ map connection_of list.now }
+    ensures { IsTrue result → AreRoomy all.now (rooms_of list.now) }
+{
+    for (before, next) in all.iter().enumerate() {
+        if !has_room_after(conns, list, next, before) {
+            return false;
+        }
+    }
+    true
+}
+
+/// What deliveries meet that all enter.
+fn enter_all(alloc: Global, all: &[Addressed]) -> Result<Vec<Item>, NoMemory>
+    ensures { IfOk result (λ items. items.items ≡ map entered all.now) }
+{
+    let mut items = Vec::with_capacity(alloc, all.len())?;
+    for next in all {
+        items.push_reserved(item(next, true)?);
+    }
+    Ok(items)
+}
+
+/// What each delivery of a message with this reply will meet, told by the room that is left for each. Beside each is put
 /// down what its session is to note.
-pub(crate) fn plan_all(
+fn plan_by_rooms(
     alloc: Global,
     keys: RandomState,
     conns: &Connections,
@@ -171,4 +244,36 @@ pub(crate) fn plan_all(
     note_rooms(alloc, keys, conns, list, rooms, all, reply)?;
     let items = plan_each(alloc, conns, list, rooms, all)?;
     Ok(items)
+}
+
+/// What each delivery of a message with this reply will meet, where they are handed over in turn. Beside each is put
+/// down what its session is to note. Where all have room and there is no reply, no room has to be counted.
+pub(crate) fn plan_all(
+    alloc: Global,
+    keys: RandomState,
+    conns: &Connections,
+    list: &[Session],
+    rooms: &mut [usize],
+    all: &mut [Addressed],
+    reply: Option<&SubjectRef<'_>>,
+) -> Result<Vec<Item>, NoMemory>
+    requires keys { conns.now ≡ map connection_of list.now }
+    requires within { length list.now ≤ length rooms.old }
+    ensures items { IfOk result (λ items. (now : ℕ) → items.items ≡ (delivered now all.new list.now).1) }
+    ensures noted { OnOk result (all.new ≡ map (with_note list.now (option_copied reply.entry)) all.old) }
+{
+    match reply {
+        None => {
+            if have_room(conns, list, all) {
+                let items = enter_all(alloc, all)?;
+                return Ok(items);
+            }
+            let items = plan_by_rooms(alloc, keys, conns, list, rooms, all, None)?;
+            Ok(items)
+        }
+        Some(reply) => {
+            let items = plan_by_rooms(alloc, keys, conns, list, rooms, all, Some(reply))?;
+            Ok(items)
+        }
+    }
 }

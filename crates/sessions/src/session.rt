@@ -52,11 +52,12 @@ impl Session {
     }
 
     /// Offers a delivery to the outbox at a moment: it waits there, and what is to be noted is, or it is missed.
+    #[inline(always)]
     pub(crate) fn offer(&mut self, delivery: Delivery, noted: Option<Boxed<Note>>, now: u64)
         ensures { self.new ≡ offered delivery noted now self.old }
     {
         match self.outbox.offer(delivery) {
-            Ok(()) => note(&mut self.replies, noted, now),
+            Ok(()) => note_if(&mut self.replies, noted, now),
             Err(_) => self.missed = true,
         }
     }
@@ -103,13 +104,24 @@ impl Session {
 
 ghost use Rattle.std.specs.Prelude.{◌≡◌};
 ghost use Rattle.sessions.specs.Delivered.{noting};
+ghost use Rattle.reply_grants.specs.Replies.{noted};
 
 /// Notes what is to be noted, if anything is.
-fn note(replies: &mut Replies, noted: Option<Boxed<Note>>, now: u64)
-    ensures { replies.new ≡ noting noted now replies.old }
+#[inline(always)]
+fn note_if(replies: &mut Replies, what: Option<Boxed<Note>>, now: u64)
+    ensures { replies.new ≡ noting what now replies.old }
 {
-    match noted {
+    match what {
         None => {}
-        Some(note) => replies.note(note.into_inner(), now),
+        Some(what) => note(replies, what, now),
     }
+}
+
+/// Notes what is to be noted. Apart, so that an offer with nothing to note stays small.
+#[cold]
+#[inline(never)]
+fn note(replies: &mut Replies, what: Boxed<Note>, now: u64)
+    ensures { replies.new ≡ noted what now replies.old }
+{
+    replies.note(what.into_inner(), now);
 }

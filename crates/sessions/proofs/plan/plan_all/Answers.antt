@@ -1,16 +1,17 @@
--- what is planned by the rooms that are noted is what the deliveries meet
-use Rattle.std.proofs.Common.{◌≡◌, ◌∙◌, List, sym, subst}
+-- where all have room, each enters, and without a reply nothing is to be noted
+use Rattle.std.proofs.Common.{◌∙◌, List, Option, map, ap, sym}
 use Rattle.std.specs.Option.{option_copied}
-use Rattle.events.specs.declared.answer.Addressed.{Addressed}
-use Rattle.sessions.specs.Delivered.{delivered}
-use Rattle.sessions.specs.Planned.{room_at, planned}
-use Rattle.sessions.proofs.Plans.{plan_noted}
+use Rattle.subjects.specs.Subject.{Token}
+use Rattle.sessions.specs.Replying.{with_note}
+use Rattle.sessions.proofs.Plans.{roomy-delivered, roomy-noted}
 use Rattle.sessions.proofs.plan.plan_all.Goals as goal
 
-pub returns-clause-items : goal.returns-clause-items
-returns-clause-items c now =
-    let zs = c.args.list.now in
-    let rooms = c.note_rooms.new.rooms in
-    c.in_ok-items.ensures
-    ∙ subst (λ (all : List Addressed). planned all (room_at zs rooms) ≡ (delivered now all zs).1) (sym c.in_ok-note_rooms.ensures.noted)
-    (plan_noted now (option_copied c.args.reply) c.args.all.now zs rooms c.in_ok-note_rooms.ensures.rooms)
+pub returns-then-have_room-clause-items : goal.returns-then-have_room-clause-items
+returns-then-have_room-clause-items c now =
+    c.in_ok-items-in-None.ensures
+    ∙ roomy-delivered now c.args.all.now c.args.list.now (c.have_room.ensures c.if-have_room.true)
+
+pub returns-then-have_room-clause-noted : goal.returns-then-have_room-clause-noted
+returns-then-have_room-clause-noted c =
+    roomy-noted c.args.all.now c.args.list.now (λ k d h. (c.have_room.ensures c.if-have_room.true k d h).0)
+    ∙ ap (λ (o : Option (List Token)). map (with_note c.args.list.now o) c.args.all.now) (ap option_copied (sym c.in-None.is))
