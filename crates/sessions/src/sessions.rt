@@ -172,11 +172,25 @@ impl Sessions {
     }
 
     /// Hands deliveries over in turn. It takes no memory, and the vector keeps its room.
-    #[inline(always)]
     pub fn hand_over_all(&mut self, all: &mut Vec<Addressed>, now: u64)
         ensures { self.new ≡ (delivered now all.old.items self.old).0 }
     {
-        for next in all.drain(..) {
+        if all.len() == 1 {
+            match all.pop() {
+                None => {}
+                Some(next) => self.hand_over(next, now),
+            }
+        } else {
+            self.hand_over_each(all, now);
+        }
+    }
+
+    /// Hands deliveries over, each where it stands: a `drain` would turn them round before.
+    #[inline(always)]
+    fn hand_over_each(&mut self, all: &mut Vec<Addressed>, now: u64)
+        ensures { self.new ≡ (delivered now all.old.items self.old).0 }
+    {
+        for next in all.extract_if(.., |_| true) {
             self.hand_over(next, now);
         }
     }
