@@ -72,6 +72,7 @@ fn put_note(
 }
 
 /// What a single delivery meets at the session that it is for. Beside it is put down what that is to note.
+#[inline(always)]
 pub(crate) fn plan_one(
     alloc: Global,
     keys: RandomState,
@@ -248,6 +249,7 @@ fn plan_by_rooms(
 
 /// What each delivery of a message with this reply will meet, where they are handed over in turn. Beside each is put
 /// down what its session is to note. Where all have room and there is no reply, no room has to be counted.
+#[inline(never)]
 pub(crate) fn plan_all(
     alloc: Global,
     keys: RandomState,

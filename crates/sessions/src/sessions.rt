@@ -132,6 +132,7 @@ impl Sessions {
     /// What each delivery of a message with this reply will meet, where they are handed over in turn. Beside each is put
     /// down what its session is to note where it enters, and the memory that this will take is had here. `NoMemory` where
     /// memory could not be had: then it is put down of some.
+    #[inline(always)]
     pub fn plan(
         &mut self,
         keys: RandomState,
