@@ -136,9 +136,6 @@ one_sid_without k s subs old new less conn sid = elim (cases_Bool (k s)) [
     less_again true false x = refl
     less_again false f x = refl
 
-pub one_gone : (old new : Sids) (s : Subscription) → IsWithout old s new → IsWithoutAll old (s ∷ []) new
-one_gone old new s less conn sid = less conn sid ∙ rw (or-false (is_under conn sid s)) refl
-
 -- ---- a change of one, by its id
 
 same_ids : (f : Subscription → Subscription) (subs : List Subscription) (conn : ℕ) (sid : List ℕ) → Leaves f → id_of (map f subs) conn sid ≡ id_of subs conn sid

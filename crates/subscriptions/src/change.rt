@@ -4,11 +4,12 @@ ghost use Rattle.std.specs.Map.{lookup, set_value, remove_entry};
 ghost use Rattle.subscriptions.specs.Limit.{has_ended};
 ghost use Rattle.subscriptions.specs.Changes.{bumped, capped, is_id};
 ghost use Rattle.subscription_ids.specs.Trees.{IsSame};
-ghost use Rattle.subscriptions.specs.Index.{IsWithout};
+ghost use Rattle.subscriptions.specs.BySid.{IsWithoutAll};
+ghost use Rattle.subscriptions.specs.Index.{IsWithout, if_any};
 
-use crate::{SharedSubscription, trees};
+use crate::{SharedSubscription, sids, trees};
 use std::collections::BTreeMap;
-use subscription_ids::Trees;
+use subscription_ids::{Sids, Trees};
 
 /// One message more for the subscription of that id, if it stands. Whether it has ended by it.
 pub(crate) fn bump_at(by_id: &mut BTreeMap<u64, SharedSubscription>, id: u64) -> bool
@@ -60,5 +61,24 @@ pub(crate) fn take_out(
             trees::remove(trees, &gone);
             Some(gone)
         }
+    }
+}
+
+/// Takes the subscription of that id, which has ended, out of all that finds it. What counts a message doesn't make room
+/// for it: hardly any subscription ends.
+#[inline(never)]
+pub(crate) fn end_at(
+    by_id: &mut BTreeMap<u64, SharedSubscription>,
+    trees: &mut Trees,
+    sids: &mut Sids,
+    id: u64,
+)
+    ensures entries { by_id.new.entries ≡ remove_entry (is_id id) by_id.old.entries }
+    ensures trees { MatchOption (lookup (is_id id) by_id.old.entries) (IsSame trees.old trees.new) (λ sub. IsWithout trees.old sub trees.new) }
+    ensures sids { IsWithoutAll sids.old (if_any (lookup (is_id id) by_id.old.entries)) sids.new }
+{
+    match take_out(by_id, trees, id) {
+        None => {}
+        Some(gone) => sids::remove(sids, &gone),
     }
 }

@@ -45,6 +45,8 @@ impl Model for Subscriptions {
     ghost invariant = { λ subs. AreSidsOf subs.table subs.sids };
 }
 
+// What changes which of them stand is never drawn into the world's step: there its large locals would be cleared for each
+// message.
 impl Subscriptions {
     ghost use Rattle.std.specs.Prelude.{◌≡◌, ◌==◌, ◌<◌, ◌++◌, ◌∷◌, [], IfOk, OnOk, OnErr, All, AllPairs, false, length, map, filter, not, find};
     ghost use Rattle.std.specs.Option.{option_copied};
@@ -144,6 +146,7 @@ impl Subscriptions {
 
     /// Adds a subscription, the youngest of all, which with a queue name is a member of that queue group. On `NoMemory`
     /// nothing has changed.
+    #[inline(never)]
     pub fn add(&mut self, id: u64, asked: Asked) -> Result<(), NoMemory>
         requires above { All (λ (s : Subscription). s.id < id) self.old }
         requires free { stands self.old asked.conn asked.sid ≡ false }
@@ -181,6 +184,7 @@ impl Subscriptions {
 
     /// Ends the connection's subscription of that sid: at once, or once it has received `most` messages since its
     /// SUB. Where none stands nothing changes.
+    #[inline(never)]
     pub fn limit(&mut self, conn: u64, sid: &Sid, most: Option<u64>)
         ensures { self.new ≡ unended (map (limited conn sid.now most) self.old) }
     {
@@ -203,10 +207,7 @@ impl Subscriptions {
         ensures { self.new ≡ unended (map (only (capped most) id) self.old) }
     {
         self.table.known();
-        match self.table.limit(id, most) {
-            None => {}
-            Some(gone) => sids::remove(&mut self.sids, &gone),
-        }
+        self.table.limit(id, most, &mut self.sids);
     }
 
     /// One message more for the subscription of that id, which ends where that was the last that it was to receive.
@@ -214,10 +215,7 @@ impl Subscriptions {
         ensures { self.new ≡ unended (map (only bumped id) self.old) }
     {
         self.table.known();
-        match self.table.count(id) {
-            None => {}
-            Some(gone) => sids::remove(&mut self.sids, &gone),
-        }
+        self.table.count(id, &mut self.sids);
     }
 
     /// One message more where it has entered.
@@ -253,6 +251,7 @@ impl Subscriptions {
     }
 
     /// Removes those of a connection. No other is touched.
+    #[inline(never)]
     pub fn remove(&mut self, conn: u64)
         ensures { self.new ≡ filter (λ (s : Subscription). not (s.conn == conn)) self.old }
     {

@@ -1,7 +1,7 @@
 //! The standing subscriptions by their ids, and the trees that find them by subject.
 ghost use Rattle.std.specs.Prelude.{◌≡◌, ◌==◌};
 
-use crate::change::{bump_at, cap_at, take_out};
+use crate::change::{bump_at, cap_at, end_at, take_out};
 use crate::{Keeps, SharedSubscription, trees};
 use lists::NoMemory;
 use std::alloc::Global;
@@ -10,7 +10,7 @@ use std::collections::btree_map::Values;
 use std::hash::RandomState;
 use std::marker::Model;
 use subjects::SubjectRef;
-use subscription_ids::{Own, Trees};
+use subscription_ids::{Own, Sids, Trees};
 
 /// The standing subscriptions, seen as a list, oldest first. The trees are the list's index: they find those that have a
 /// subject.
@@ -49,7 +49,8 @@ impl Table {
     ghost use Rattle.subscriptions.specs.Kept.{Apart};
     ghost use Rattle.subscriptions.specs.Changes.{only, bumped, capped};
     ghost use Rattle.subscriptions.specs.Turns.{is_one_of};
-    ghost use Rattle.subscriptions.specs.Index.{found_by, if_any};
+    ghost use Rattle.subscriptions.specs.BySid.{IsWithoutAll};
+    ghost use Rattle.subscriptions.specs.Index.{found_by};
 
     /// No subscriptions.
     #[tactic(auto, unfolding(crate::specs::Kept::IsKept, crate::specs::Kept::Apart))]
@@ -141,28 +142,24 @@ impl Table {
         }
     }
 
-    /// A limit for the subscription of that id, which ends where it has reached it. Answers the one that has ended.
-    pub fn limit(&mut self, id: u64, most: Option<u64>) -> Option<SharedSubscription>
+    /// A limit for the subscription of that id, which ends where it has reached it: then its sid goes too.
+    pub fn limit(&mut self, id: u64, most: Option<u64>, sids: &mut Sids)
         ensures after { self.new ≡ unended (map (only (capped most) id) self.old) }
-        ensures ended { if_any result ≡ filter has_ended (map (only (capped most) id) self.old) }
+        ensures sids { IsWithoutAll sids.old (filter has_ended (map (only (capped most) id) self.old)) sids.new }
     {
         if cap_at(&mut self.by_id, id, most) {
-            take_out(&mut self.by_id, &mut self.trees, id)
-        } else {
-            None
+            end_at(&mut self.by_id, &mut self.trees, sids, id);
         }
     }
 
-    /// One message more for the subscription of that id, which ends where that was the last that it was to receive.
-    /// Answers the one that has ended.
-    pub fn count(&mut self, id: u64) -> Option<SharedSubscription>
+    /// One message more for the subscription of that id, which ends where that was the last that it was to receive: then
+    /// its sid goes too.
+    pub fn count(&mut self, id: u64, sids: &mut Sids)
         ensures after { self.new ≡ unended (map (only bumped id) self.old) }
-        ensures ended { if_any result ≡ filter has_ended (map (only bumped id) self.old) }
+        ensures sids { IsWithoutAll sids.old (filter has_ended (map (only bumped id) self.old)) sids.new }
     {
         if bump_at(&mut self.by_id, id) {
-            take_out(&mut self.by_id, &mut self.trees, id)
-        } else {
-            None
+            end_at(&mut self.by_id, &mut self.trees, sids, id);
         }
     }
 

@@ -1,10 +1,11 @@
 -- a change of the entry of that id, which goes where it has ended
-use Rattle.std.proofs.Common.{◌∙◌, ap, sym, subst, List, map, filter}
+use Rattle.std.proofs.Common.{◌∙◌, ap, sym, refl, subst, List, map, filter}
 use Rattle.std.specs.Map.{values_of}
 use Rattle.subscriptions.specs.Limit.{has_ended, unended}
 use Rattle.subscriptions.specs.declared.subscription.Subscription.{Subscription}
 use Rattle.subscriptions.specs.Changes.{only, bumped}
-use Rattle.subscriptions.specs.Index.{AreIndexesOf, if_any}
+use Rattle.subscriptions.specs.BySid.{IsWithoutAll}
+use Rattle.subscriptions.specs.Index.{AreIndexesOf}
 use Rattle.subscriptions.specs.Kept.{IsKept, Apart}
 use Rattle.subscriptions.proofs.Entries.{Entries}
 use Rattle.subscriptions.proofs.Ends.{ended_at, on_at, kept_on, kept_over, one_ends, none_ends}
@@ -15,11 +16,11 @@ use Rattle.subscriptions.proofs.table.Table.count.Goals as goal
 pub invariant_of-self : goal.invariant_of-self
 invariant_of-self c =
     let es = c.self.inside.by_id.entries in
-    let now = ap (λ (xs : Entries). values_of xs) c.take_out.ensures.entries ∙ ended_at bumped c.args.id es c.bump_at.new.by_id.entries c.self.invariant.0 c.bump_at.result c.bump_at.ensures c.if-bump_at.true in (
-      subst IsKept (sym c.take_out.ensures.entries) (kept_over bumped c.args.id es c.bump_at.new.by_id.entries c.self.invariant.0 c.bump_at.result c.bump_at.ensures c.if-bump_at.true),
+    let now = ap (λ (xs : Entries). values_of xs) c.end_at.ensures.entries ∙ ended_at bumped c.args.id es c.bump_at.new.by_id.entries c.self.invariant.0 c.bump_at.result c.bump_at.ensures c.if-bump_at.true in (
+      subst IsKept (sym c.end_at.ensures.entries) (kept_over bumped c.args.id es c.bump_at.new.by_id.entries c.self.invariant.0 c.bump_at.result c.bump_at.ensures c.if-bump_at.true),
       subst Apart (sym now) (apart_changed bumped c.args.id (values_of es) bumped-leaves c.self.invariant.1),
-      subst (λ (xs : Entries). AreIndexesOf (values_of xs) c.take_out.new.trees) (sym c.take_out.ensures.entries)
-          (indexes_over bumped bumped-is_of c.args.id es c.bump_at.new.by_id.entries c.self.invariant.0 c.bump_at.result c.self.inside.trees c.self.invariant.2 c.take_out.new.trees c.bump_at.ensures c.if-bump_at.true c.take_out.ensures.trees),
+      subst (λ (xs : Entries). AreIndexesOf (values_of xs) c.end_at.new.trees) (sym c.end_at.ensures.entries)
+          (indexes_over bumped bumped-is_of c.args.id es c.bump_at.new.by_id.entries c.self.invariant.0 c.bump_at.result c.self.inside.trees c.self.invariant.2 c.end_at.new.trees c.bump_at.ensures c.if-bump_at.true c.end_at.ensures.trees),
     )
 
 pub invariant_of-self-else-bump_at : goal.invariant_of-self-else-bump_at
@@ -33,7 +34,7 @@ invariant_of-self-else-bump_at c =
 
 pub returns-then-bump_at-clause-after : goal.returns-then-bump_at-clause-after
 returns-then-bump_at-clause-after c =
-    ap (λ (xs : Entries). values_of xs) c.take_out.ensures.entries
+    ap (λ (xs : Entries). values_of xs) c.end_at.ensures.entries
     ∙ ended_at bumped c.args.id c.self.inside.by_id.entries c.bump_at.new.by_id.entries c.self.invariant.0 c.bump_at.result c.bump_at.ensures c.if-bump_at.true
     ∙ ap (λ (ss : List Subscription). unended (map (only bumped c.args.id) ss)) c.self.view_is
 
@@ -42,13 +43,16 @@ returns-else-bump_at-clause-after c =
     on_at bumped c.args.id c.self.inside.by_id.entries c.bump_at.new.by_id.entries c.self.invariant.0 c.bump_at.result c.bump_at.ensures c.if-bump_at.false
     ∙ ap (λ (ss : List Subscription). unended (map (only bumped c.args.id) ss)) c.self.view_is
 
-pub returns-then-bump_at-clause-ended : goal.returns-then-bump_at-clause-ended
-returns-then-bump_at-clause-ended c =
-    ap if_any c.take_out.ensures.gone
-    ∙ one_ends bumped c.args.id c.self.inside.by_id.entries c.bump_at.new.by_id.entries c.self.invariant.0 c.bump_at.result c.bump_at.ensures c.if-bump_at.true
-    ∙ ap (λ (ss : List Subscription). filter has_ended (map (only bumped c.args.id) ss)) c.self.view_is
+pub returns-then-bump_at-clause-sids : goal.returns-then-bump_at-clause-sids
+returns-then-bump_at-clause-sids c =
+    subst (λ (gone : List Subscription). IsWithoutAll c.args.sids.now gone c.end_at.new.sids)
+    (one_ends bumped c.args.id c.self.inside.by_id.entries c.bump_at.new.by_id.entries c.self.invariant.0 c.bump_at.result c.bump_at.ensures c.if-bump_at.true
+    ∙ ap (λ (ss : List Subscription). filter has_ended (map (only bumped c.args.id) ss)) c.self.view_is)
+    c.end_at.ensures.sids
 
-pub returns-else-bump_at-clause-ended : goal.returns-else-bump_at-clause-ended
-returns-else-bump_at-clause-ended c =
-    none_ends bumped c.args.id c.self.inside.by_id.entries c.bump_at.new.by_id.entries c.self.invariant.0 c.bump_at.result c.bump_at.ensures c.if-bump_at.false
-    ∙ ap (λ (ss : List Subscription). filter has_ended (map (only bumped c.args.id) ss)) c.self.view_is
+pub returns-else-bump_at-clause-sids : goal.returns-else-bump_at-clause-sids
+returns-else-bump_at-clause-sids c =
+    subst (λ (gone : List Subscription). IsWithoutAll c.args.sids.now gone c.args.sids.now)
+    (none_ends bumped c.args.id c.self.inside.by_id.entries c.bump_at.new.by_id.entries c.self.invariant.0 c.bump_at.result c.bump_at.ensures c.if-bump_at.false
+    ∙ ap (λ (ss : List Subscription). filter has_ended (map (only bumped c.args.id) ss)) c.self.view_is)
+    (λ conn sid. refl)
