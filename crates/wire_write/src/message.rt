@@ -90,7 +90,9 @@ fn make_room_for_msg(
     ensures full { OnErr result (vec_capacity out.old < vec_len out.old + length (msg_line subject.now sid.now (option_copied reply.entry) payload.now)) }
 {
     let front = (subject.len() + sid.len()).saturating_add(text_len(reply));
-    if front.saturating_add(payload.len() + 31) <= out.capacity() - out.len() {
+    let spare = out.capacity() - out.len();
+    let least = payload.len() + 31;
+    if spare >= least && spare - least >= front {
         return Ok(());
     }
     let fields = reply_len(reply) + digit_count(payload.len()) + 10;

@@ -51,13 +51,19 @@ pub(crate) fn put_number(out: &mut Vec<u8>, number: usize)
     put_short(out, digits.format(number).as_bytes());
 }
 
-/// How many digits a number has.
+/// How many digits a number has. The short ones are told by themselves.
 #[inline(never)]
-#[tactic(auto, using(crate::proofs::Digits::few))]
+#[tactic(auto, using(crate::proofs::Digits::one, crate::proofs::Digits::two, crate::proofs::Digits::few))]
 pub(crate) fn digit_count(number: usize) -> usize
     ensures count { result ≡ length (decimal number) }
     ensures few { result ≤ 20 }
 {
+    if number < 10 {
+        return 1;
+    }
+    if number < 100 {
+        return 2;
+    }
     let mut digits = Buffer::new();
     digits.format(number).len()
 }
