@@ -47,7 +47,6 @@ impl Connections {
     }
 
     /// The place of a connection, by its hash. Apart, so that what looks at the hint first stays small.
-    #[cold]
     #[inline(never)]
     pub fn find(&self, conn: u64) -> Option<usize>
         ensures { result ≡ position (λ k. conn == k) self.now }

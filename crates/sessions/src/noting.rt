@@ -48,6 +48,7 @@ fn note_of(
 }
 
 /// What is to be noted where a message with this reply enters for a session: the reply, if the user may answer.
+#[inline(always)]
 pub(crate) fn note_for(
     alloc: Global,
     keys: RandomState,

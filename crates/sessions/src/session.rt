@@ -118,7 +118,6 @@ fn note_if(replies: &mut Replies, what: Option<Boxed<Note>>, now: u64)
 }
 
 /// Notes what is to be noted. Apart, so that an offer with nothing to note stays small.
-#[cold]
 #[inline(never)]
 fn note(replies: &mut Replies, what: Boxed<Note>, now: u64)
     ensures { replies.new ≡ noted what now replies.old }
