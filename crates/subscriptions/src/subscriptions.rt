@@ -263,6 +263,7 @@ impl Subscriptions {
     }
 
     /// Removes those that don't pass a test.
+    #[inline(never)]
     pub fn keep<K: Keeps>(&mut self, test: &K)
         ensures { self.new ≡ filter (K.keeps test.now) self.old }
     {
