@@ -39,7 +39,7 @@ use Rattle.sessions.proofs.Ascending.{among-ascending}
 use Rattle.sessions.proofs.Changes.{only, apart-map, with_session-map}
 use Rattle.subscriptions.specs.Subscriptions.{stands, has_all, subscription_of, of_connection}
 use Rattle.subscriptions.specs.Addressing.{delivery_to}
-use Rattle.subscriptions.specs.declared.subscription.Subscription.{Subscription}
+use Rattle.subscription_rows.specs.declared.subscription.Subscription.{Subscription}
 use Rattle.queue_groups.specs.Served.{served}
 use Rattle.world.specs.World.{World, opening_world, advanced}
 use Rattle.world.specs.Changes.{items_in}

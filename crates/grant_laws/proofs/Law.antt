@@ -35,7 +35,7 @@ use Rattle.sessions.proofs.Plans.{planned-delivered}
 use Rattle.subscriptions.specs.Subscriptions.{has_subject, stands, has_all, subscription_of, of_connection}
 use Rattle.subscriptions.specs.Addressing.{addressed_to, delivery_to}
 use Rattle.subscriptions.specs.Limit.{unended, counted, limited}
-use Rattle.subscriptions.specs.declared.subscription.Subscription.{Subscription}
+use Rattle.subscription_rows.specs.declared.subscription.Subscription.{Subscription}
 use Rattle.queue_groups.specs.Served.{served}
 use Rattle.world.specs.World.{World, advanced}
 use Rattle.world.specs.Granting.{or_granted, verdict_on, counted_on, ended_on}

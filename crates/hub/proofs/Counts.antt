@@ -35,7 +35,7 @@ use Rattle.sessions.specs.declared.session.Session.{Session}
 use Rattle.subscriptions.specs.Addressing.{addressed_to}
 use Rattle.subscriptions.specs.Subscriptions.{is_under, stands, has_all, subscription_of}
 use Rattle.subscriptions.specs.Limit.{is_entry_for, has_entered, has_ended, counted, limit_of, limited}
-use Rattle.subscriptions.specs.declared.subscription.Subscription.{Subscription}
+use Rattle.subscription_rows.specs.declared.subscription.Subscription.{Subscription}
 use Rattle.world.specs.World.{World, opening_world, advanced}
 use Rattle.queue_groups.specs.Served.{is_served, served}
 use Rattle.world.specs.Granting.{verdict_on, counted_on}

@@ -23,7 +23,7 @@ use Rattle.sessions.specs.Delivered.{noting, offered, after_offer, item_of, deli
 use Rattle.sessions.specs.Replying.{terms_of, note_of, note_for, with_note, answering, ending}
 use Rattle.sessions.specs.declared.session.Session.{Session}
 use Rattle.subscriptions.specs.Subscriptions.{of_connection}
-use Rattle.subscriptions.specs.declared.subscription.Subscription.{Subscription}
+use Rattle.subscription_rows.specs.declared.subscription.Subscription.{Subscription}
 use Rattle.subscriptions.specs.Addressing.{delivery_to, addressed_to}
 use Rattle.sessions.proofs.Changes.{only, with_session-map, session_of-changed, session_of-other, offered-conn}
 use Rattle.world.specs.Granting.{counted_on, ended_on}

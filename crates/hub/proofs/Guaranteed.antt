@@ -34,7 +34,7 @@ use Rattle.sessions.specs.Replying.{terms_of, is_granted, with_note}
 use Rattle.sessions.specs.declared.session.Session.{Session}
 use Rattle.subscriptions.specs.Subscriptions.{is_under, stands, has_all, subscription_of, of_connection}
 use Rattle.subscriptions.specs.Limit.{has_entered, unended, counted, limit_of, limited}
-use Rattle.subscriptions.specs.declared.subscription.Subscription.{Subscription}
+use Rattle.subscription_rows.specs.declared.subscription.Subscription.{Subscription}
 use Rattle.world.specs.World.{World, advanced}
 use Rattle.world.specs.Granting.{or_granted, verdict_on, counted_on, ended_on}
 use Rattle.queue_groups.specs.Served.{served}

@@ -22,7 +22,7 @@ use Rattle.ready.specs.declared.ready.User.{User}
 use Rattle.sessions.specs.Sessions.{session_of}
 use Rattle.sessions.specs.Renewal.{user_again_of, stays, goes, with_user, renewed, remaining, connection_of, closed_conns}
 use Rattle.sessions.specs.declared.session.Session.{Session}
-use Rattle.subscriptions.specs.declared.subscription.Subscription.{Subscription}
+use Rattle.subscription_rows.specs.declared.subscription.Subscription.{Subscription}
 use Rattle.world.specs.World.{World}
 use Rattle.world.specs.Reload.{user_after, verdict_for, may_stand, stands_on, removal, removal_after, IsReasonedVerdict, IsReasonedReload}
 use Rattle.hub.specs.Sound.{IsSound, has_same_sid, user_behind, account_of, may_subscribe, HasAllowance}

@@ -19,7 +19,7 @@ use Rattle.sessions.specs.Sessions.{session_of, new_session}
 use Rattle.sessions.specs.declared.session.Session.{Session}
 use Rattle.subscriptions.specs.Subscriptions.{subscription_of, stands, of_connection, has_all}
 use Rattle.subscriptions.specs.Limit.{is_reached, has_ended, unended}
-use Rattle.subscriptions.specs.declared.subscription.Subscription.{Subscription}
+use Rattle.subscription_rows.specs.declared.subscription.Subscription.{Subscription}
 use Rattle.world.specs.World.{World}
 use Rattle.hub.specs.Kept.{IsKeptTable}
 use Rattle.hub.specs.Sound.{IsSound, has_same_sid, user_behind, user_at, account_of, may_subscribe, HasAllowance, is_below, is_to_receive}

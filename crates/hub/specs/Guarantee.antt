@@ -28,7 +28,7 @@ use Rattle.sessions.specs.Sessions.{session_of, new_session, drained}
 use Rattle.sessions.specs.declared.session.Session.{Session}
 use Rattle.subscriptions.specs.Subscriptions.{stands, of_connection, has_all, subscription_of}
 use Rattle.subscriptions.specs.Limit.{counted, limited}
-use Rattle.subscriptions.specs.declared.subscription.Subscription.{Subscription}
+use Rattle.subscription_rows.specs.declared.subscription.Subscription.{Subscription}
 use Rattle.queue_choice.specs.Choices.{chosen}
 use Rattle.world.specs.World.{World}
 use Rattle.queue_groups.specs.Served.{is_member, members}

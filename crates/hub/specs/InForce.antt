@@ -12,7 +12,7 @@ use Rattle.events.specs.declared.answer.Removed.{Removed}
 use Rattle.sessions.specs.Sessions.{session_of}
 use Rattle.sessions.specs.Renewal.{with_user}
 use Rattle.sessions.specs.declared.session.Session.{Session}
-use Rattle.subscriptions.specs.declared.subscription.Subscription.{Subscription}
+use Rattle.subscription_rows.specs.declared.subscription.Subscription.{Subscription}
 use Rattle.world.specs.World.{World}
 use Rattle.world.specs.Reload.{removed_by}
 use Rattle.hub.specs.Sound.{user_at, may_subscribe}

@@ -13,7 +13,7 @@ pub struct PlainSubscription {
 }
 
 impl Model for PlainSubscription {
-    ghost use Rattle.subscriptions.specs.declared.subscription.Subscription as subscriptions;
+    ghost use Rattle.subscription_rows.specs.declared.subscription.Subscription as subscriptions;
 
     ghost Value = { subscriptions.Subscription };
 

@@ -13,7 +13,7 @@ use Rattle.queue_choice.specs.declared.choice.Member.{Member}
 use Rattle.queue_choice.specs.Choices.{name_of, names_of, same_name, group, chosen}
 use Rattle.queue_choice.proofs.Names.{same-is, same-itself, any-names}
 use Rattle.queue_choice.proofs.Law.{picked}
-use Rattle.subscriptions.specs.declared.subscription.Subscription.{Subscription}
+use Rattle.subscription_rows.specs.declared.subscription.Subscription.{Subscription}
 use Rattle.queue_groups.specs.Served.{is_named, is_member, members, is_the, is_served_by, is_served, served}
 use Rattle.queue_groups.specs.Chosen.{Rising, Named, named_by, named, named_member, is_queued, is_other, is_kept_alone, is_kept_by, is_kept, is_choice}
 

@@ -8,7 +8,7 @@ use Rattle.std.proofs.lemmas.List.Elements.{All-head, All-tail}
 use Rattle.std.proofs.lemmas.Option.{none-some, slice_get_cases}
 use Rattle.subjects.specs.Subject.{Token, text_of}
 use Rattle.queue_choice.specs.Choices.{chosen}
-use Rattle.subscriptions.specs.declared.subscription.Subscription.{Subscription}
+use Rattle.subscription_rows.specs.declared.subscription.Subscription.{Subscription}
 use Rattle.queue_groups.specs.Served.{served}
 use Rattle.queue_groups.specs.Chosen.{Rising, is_queued, is_other, is_outside, is_kept_alone}
 use Rattle.queue_groups.specs.Grouped.{if_any}

@@ -1,7 +1,7 @@
 -- Steps over the subscriptions of some ids.
 use Rattle.std.proofs.Common.{◌≡◌, ◌∙◌, ℕ, Bool, List, [], ◌∷◌, ◌++◌, filter, ap}
 use Rattle.std.proofs.lemmas.List.Elements.{filter-append}
-use Rattle.subscriptions.specs.declared.subscription.Subscription.{Subscription}
+use Rattle.subscription_rows.specs.declared.subscription.Subscription.{Subscription}
 use Rattle.subscriptions.specs.Index.{found_by}
 use Rattle.subscriptions.proofs.Indexed.{found_first}
 

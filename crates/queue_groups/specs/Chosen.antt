@@ -5,7 +5,7 @@ use Rattle.std.specs.Option.{option_map}
 use Rattle.subjects.specs.Subject.{Token, text_of}
 use Rattle.queue_choice.specs.Choices.{name_of, same_name}
 use Rattle.queue_choice.specs.declared.choice.Member.{Member}
-use Rattle.subscriptions.specs.declared.subscription.Subscription.{Subscription}
+use Rattle.subscription_rows.specs.declared.subscription.Subscription.{Subscription}
 
 -- the ids rise
 abbrev pub Rising : List Subscription → Type 0

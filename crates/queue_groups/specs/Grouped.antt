@@ -1,7 +1,7 @@
 -- How the subscriptions that may be sent a message are grouped, as far as it tells whom the message is for.
 use Rattle.std.specs.Prelude.{◌≡◌, ℕ, List, [], ◌∷◌, Option, Some, None}
 use Rattle.queue_choice.specs.Choices.{chosen}
-use Rattle.subscriptions.specs.declared.subscription.Subscription.{Subscription}
+use Rattle.subscription_rows.specs.declared.subscription.Subscription.{Subscription}
 use Rattle.queue_groups.specs.Served.{served}
 use Rattle.queue_groups.specs.declared.grouping.Grouping.{Grouping}
 use Rattle.queue_groups.specs.declared.grouping.Grouping.TheVariants.{Plain, OneGroup, Various}

@@ -3,7 +3,7 @@
 use Rattle.std.specs.Prelude.{◌==◌, ℕ, List, Bool, true, false, Option, Some, None, filter}
 use Rattle.subjects.specs.Subject.{Token, text_of}
 use Rattle.queue_choice.specs.Choices.{same_name, chosen}
-use Rattle.subscriptions.specs.declared.subscription.Subscription.{Subscription}
+use Rattle.subscription_rows.specs.declared.subscription.Subscription.{Subscription}
 
 -- whether a subscription is of the queue group of that name, whatever its pattern
 abbrev pub is_named : List ℕ → Option (List Token) → Bool

@@ -18,7 +18,7 @@ use Rattle.sessions.specs.Delivered.{delivered, offered, after_offer, has_room}
 use Rattle.sessions.specs.declared.session.Session.{Session}
 use Rattle.subscriptions.specs.Subscriptions.{has_subject}
 use Rattle.subscriptions.specs.Limit.{unended, counted, has_entered, has_ended}
-use Rattle.subscriptions.specs.declared.subscription.Subscription.{Subscription}
+use Rattle.subscription_rows.specs.declared.subscription.Subscription.{Subscription}
 use Rattle.receivers.specs.Open.{lets_through, may_hear, is_open, open_among}
 use Rattle.receivers.specs.Receivers.{receiver_of}
 use Rattle.receivers.specs.Known.{picked, IsKnown, IsWhom, IsWhomFor, Holds}

@@ -7,7 +7,7 @@ use Rattle.queue_groups.specs.Served.{served}
 use Rattle.sessions.specs.Sessions.{session_of}
 use Rattle.sessions.specs.declared.session.Session.{Session}
 use Rattle.subscriptions.specs.Addressing.{addressed_to}
-use Rattle.subscriptions.specs.declared.subscription.Subscription.{Subscription}
+use Rattle.subscription_rows.specs.declared.subscription.Subscription.{Subscription}
 use Rattle.receivers.specs.Open.{open_among}
 use Rattle.receivers.specs.Receivers.{receiver_of, addressed_at, addressed_among}
 use Rattle.receivers.specs.Known.{picked, IsWhom, IsWhomFor, Holds, Tells}

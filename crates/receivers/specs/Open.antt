@@ -5,7 +5,7 @@ use Rattle.permissions.specs.Verdicts.{delivery_verdict, is_allowed}
 use Rattle.sessions.specs.Sessions.{session_of}
 use Rattle.sessions.specs.declared.session.Session.{Session}
 use Rattle.subscriptions.specs.Subscriptions.{has_subject}
-use Rattle.subscriptions.specs.declared.subscription.Subscription.{Subscription}
+use Rattle.subscription_rows.specs.declared.subscription.Subscription.{Subscription}
 
 -- the permissions of a session let the subject through, to a subscription with this queue name or with none
 abbrev pub lets_through : List Token → Option (List Token) → Option Session → Bool

@@ -19,11 +19,8 @@ use Rattle.std.proofs.random_state.RandomState.TheSendSync as state
 use Rattle.std.proofs.option.Option.TheSendSync as option
 use Rattle.std.proofs.boxed.Box.TheSendSync as boxed
 use Rattle.std.proofs.collections.HashMap.TheSendSync as hash_map
-use Rattle.std.proofs.collections.BTreeMap.TheSendSync as tree_map
 use Rattle.std.proofs.vec.Vec.TheSendSync as vec
-use denote.Builtin.{u64}
 use Rattle.subscriptions.specs.contracts.table.Table.TheInside as table_in
-use Rattle.subscriptions.specs.contracts.shared.SharedSubscription as sub_row
 use Rattle.subscriptions.specs.contracts.subscriptions.Subscriptions.TheInside as subs_in
 use Rattle.world.specs.contracts.world.World.TheInside as world_in
 use Rattle.world.specs.contracts.world.World as world
@@ -43,17 +40,15 @@ use Rattle.std.proofs.sync.ledger.Book.TheSendSync as book
 use Rattle.std.proofs.sync.Mutex.TheSendSync as mutex
 use Rattle.shared_hub.specs.declared.desk.Run.{Ghosts as Runs}
 use Rattle.std.specs.declared.sync.ledger.Ledger.{Ghosts as Ledgers}
-use Rattle.std.specs.contracts.prelude.U64PartialEq.TheImpl as eq
-use Rattle.std.specs.contracts.prelude.U64PartialOrd.TheImpl as ord
 use Rattle.std.specs.contracts.sync.ledger.Share as share_row
 use Rattle.std.proofs.sync.ledger.Share.TheSendSync as share
 use Rattle.shared_hub.specs.contracts.shared.Rest as rest_row
 use Rattle.subscription_ids.specs.contracts.trees.Trees as trees
 use Rattle.subscriptions.specs.contracts.table.Table as table
 use Rattle.subscriptions.specs.contracts.subscriptions.Subscriptions as subs
-use Rattle.subscriptions.proofs.shared.SharedSubscription.TheSendSync as sub
 use Rattle.subscription_ids.proofs.sids.Sids.TheSendSync as sids
 use Rattle.subscription_ids.proofs.memos.Memos.TheSendSync as memos
+use Rattle.subscription_rows.proofs.rows.Rows.TheSendSync as rows
 
 node_send : IsSend (node.the_field).row
 node_send = send-Node (search (sendable, crosses) depth 12) (λ h s. option.the_send _ (boxed.the_send _ _ _ s global.the_send frees)) (λ h s. hash_map.the_send _ _ _ _ hasher.the_row _ _ _ _ _ (vec.the_send _ _ _ (search sendable) global.the_send frees) (boxed.the_send _ _ _ s global.the_send frees) state.the_send global.the_send frees)
@@ -72,7 +67,7 @@ trees_send = struct_send (shape trees.the_type) (global.the_field_send, (state.t
 
 tables_send : IsSend (trees.the_field).row → IsSend table_in.the_row
 tables_send t = recorded_send _ _ _ (table_in.the_type).to_one (struct_send (shape table_in.the_type)
-    (global.the_field_send, (tree_map.the_send u64 sub_row.the_row heap_row.the_row _ eq.ghosts ord.ghosts ghosts (search sendable) sub.the_send global.the_send frees, (t, tt))))
+    (global.the_field_send, (rows.the_send, (t, tt))))
 
 table_send : IsSend table_in.the_row → IsSend table.the_row
 table_send t = search (sendable, t) depth 6

@@ -14,7 +14,7 @@ use Rattle.std.proofs.lemmas.Cmp.{nat_list_eq_equiv}
 use Rattle.std.proofs.lemmas.List.{length-map}
 use Rattle.std.proofs.lemmas.List.Sorted.{length_permutation, list_any-IsPermutation}
 use Rattle.std.proofs.lemmas.Map.Entries.{length-values_of}
-use Rattle.subscriptions.specs.declared.subscription.Subscription.{Subscription}
+use Rattle.subscription_rows.specs.declared.subscription.Subscription.{Subscription}
 use Rattle.subscription_ids.specs.declared.sids.Sids.{Sids}
 use Rattle.subscription_ids.specs.Sids.{Own, same_sid, own_of, id_in, id_under}
 use Rattle.subscriptions.specs.BySid.{id_of, IsWith, IsWithout, IsWithoutAll, AreSidsOf}

@@ -2,15 +2,12 @@
 use Rattle.std.proofs.Common.{◌≡◌, ◌∙◌, ℕ, Bool, true, false, true≢false, List, [], Option, Some, None, map, filter, ap, sym, refl, subst, MatchOption, cond, nat_lt, ◌+◌}
 use Rattle.std.specs.Map.{lookup, set_value, remove_entry, values_of}
 use Rattle.subscriptions.specs.Limit.{has_ended, unended}
-use Rattle.subscriptions.specs.declared.subscription.Subscription.{Subscription}
+use Rattle.subscription_rows.specs.declared.subscription.Subscription.{Subscription}
 use Rattle.subscriptions.specs.Changes.{only, is_id, bumped}
 use Rattle.subscriptions.specs.Kept.{IsKept}
 use Rattle.subscriptions.specs.Index.{if_any}
+use Rattle.subscription_rows.proofs.Places.{Changes}
 use Rattle.subscriptions.proofs.Entries.{Entries, lookup_set, over, ended_of, absent, goes_on, ends, kept-set, kept-ended}
-
--- what the change left of the entries, and whether the one that it changed has ended
-abbrev pub Changes : (Subscription → Subscription) → ℕ → Entries → Entries → Bool → Type 0
-Changes f id es new ended = MatchOption (lookup (is_id id) es) ((new ≡ es) × (ended ≡ false)) (λ s. (new ≡ set_value (is_id id) es (f s)) × (ended ≡ has_ended (f s)))
 
 module _ (f : Subscription → Subscription) (id : ℕ) (es new : Entries) (kept : IsKept es) (ended : Bool) where
   pub on_at : Changes f id es new ended → ended ≡ false → values_of new ≡ unended (map (only f id) (values_of es))

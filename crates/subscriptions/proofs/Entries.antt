@@ -2,24 +2,18 @@
 use Rattle.std.proofs.Common.{◌≡◌, ◌∙◌, ◌==◌, ◌<◌, ℕ, Bool, true, false, cond, not, List, [], ◌∷◌, ◌++◌, map, filter, Option, Some, None, inl, inr, ap, sym, refl, subst, arith}
 use Rattle.std.specs.Prelude.{find, All}
 use Rattle.std.specs.Map.{lookup, set_value, remove_entry, values_of}
-use Rattle.std.specs.BTreeMap.{insert_entry}
-use Rattle.std.specs.Ordering.{nat_cmp, match_ordering}
-use Rattle.std.specs.declared.cmp.Ordering.{Ordering}
-use Rattle.std.specs.declared.cmp.Ordering.TheVariants.{Greater}
 use Rattle.std.proofs.lemmas.Bool.{cases_Bool, eqb-true, eq-eqb, ne_eqb}
 use Rattle.std.proofs.lemmas.Bool.Decides.{nat_tests}
-use Rattle.std.proofs.lemmas.List.Elements.{All-head, All-tail}
+use Rattle.std.proofs.lemmas.List.Elements.{All-head, All-tail, All-nil, All-cons}
 use Rattle.subscriptions.specs.Limit.{has_ended, unended}
-use Rattle.subscriptions.specs.declared.subscription.Subscription.{Subscription}
+use Rattle.subscription_rows.specs.declared.subscription.Subscription.{Subscription}
 use Rattle.subscriptions.specs.Changes.{only, is_id}
 use Rattle.subscriptions.specs.Index.{if_any}
 use Rattle.subscriptions.specs.Kept.{IsAbove, IsKept}
+use Rattle.subscription_rows.proofs.Places.{test_is}
 
 abbrev pub Entries : Type 0
 Entries = List (ℕ × Subscription)
-
-pub test_is : (id k : ℕ) → is_id id k ≡ (k == id)
-test_is id k = grind (arith, nat_tests)
 
 -- nothing above an id is of it, and nothing has ended
 untouched : (f : Subscription → Subscription) (id : ℕ) (es : Entries) → IsKept es → IsAbove id es → unended (map (only f id) (values_of es)) ≡ values_of es
@@ -149,17 +143,14 @@ kept-ended id (e ∷ es) w kept = here (is_id id e.0) refl (kept-ended id es w k
 
 -- ---- one more, above all
 
-cmp_above : (id n : ℕ) → n < id → nat_cmp id n ≡ Greater
-cmp_above id n h = grind (arith, nat_tests)
-
-pub added : (id : ℕ) (es : Entries) (s : Subscription) → IsKept es → All (λ (x : Subscription). x.id < id) (values_of es) → insert_entry nat_cmp es id s ≡ es ++ (id, s) ∷ []
+-- what is above the ids is above the keys
+pub keys_below : (n : ℕ) (es : Entries) → IsKept es → All (λ (x : Subscription). x.id < n) (values_of es) → All (λ (e : ℕ × Subscription). e.0 < n) es
 unfolding IsKept
-added id [] s kept below = refl
-added id (e ∷ es) s kept below =
-    let h : e.1.id < id = All-head (λ (x : Subscription). x.id < id) e.1 (values_of es) below in
-    let k = kept.0 in
-    ap (λ (o : Ordering). match_ordering o ((id, s) ∷ e ∷ es) ((e.0, s) ∷ es) (e ∷ insert_entry nat_cmp es id s)) (cmp_above id e.0 (omega arith))
-    ∙ ap (λ (more : Entries). e ∷ more) (added id es s kept.3 (All-tail (λ (x : Subscription). x.id < id) e.1 (values_of es) below))
+keys_below n [] kept below = All-nil (λ (e : ℕ × Subscription). e.0 < n)
+keys_below n (e ∷ es) kept below =
+    All-cons (λ (x : ℕ × Subscription). x.0 < n) e es
+    (subst (λ k. k < n) kept.0 (All-head (λ (x : Subscription). x.id < n) e.1 (values_of es) below))
+    (keys_below n es kept.3 (All-tail (λ (x : Subscription). x.id < n) e.1 (values_of es) below))
 
 pub kept-added : (id : ℕ) (es : Entries) (s : Subscription) → IsKept es → All (λ (x : Subscription). x.id < id) (values_of es) → s.id ≡ id → has_ended s ≡ false → IsKept (es ++ (id, s) ∷ [])
 unfolding IsKept IsAbove

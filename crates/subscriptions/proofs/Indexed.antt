@@ -14,7 +14,7 @@ use Rattle.std.proofs.lemmas.List.Elements.{recursion_from_All}
 use Rattle.subjects.specs.Subject.{Token, same_token, in_set}
 use Rattle.sublist.specs.Tree.{same_path}
 use Rattle.sublist.specs.Pairs as pairs
-use Rattle.subscriptions.specs.declared.subscription.Subscription.{Subscription}
+use Rattle.subscription_rows.specs.declared.subscription.Subscription.{Subscription}
 use Rattle.subscription_ids.specs.declared.trees.Trees.{Trees}
 use Rattle.subscription_ids.specs.Trees.{holds, IsSame, IsIndexOf}
 use Rattle.subscriptions.specs.Changes.{is_id, bumped, capped}
@@ -23,8 +23,8 @@ use Rattle.subscriptions.specs.Kept.{IsAbove, IsKept, NoneLike, Apart}
 use Rattle.subscriptions.specs.Limit.{has_ended}
 use Rattle.subscriptions.specs.Subscriptions.{having}
 use Rattle.subscriptions.proofs.Apart.{none_kept}
-use Rattle.subscriptions.proofs.Ends.{Changes}
-use Rattle.subscriptions.proofs.Entries.{Entries, test_is, lookup_set}
+use Rattle.subscription_rows.proofs.Places.{Changes, test_is}
+use Rattle.subscriptions.proofs.Entries.{Entries, lookup_set}
 
 no_id : (s : Subscription) (a : List ℕ) (p : List Token) (i : ℕ) → (s.id == i) ≡ false → is_of s a p i ≡ false
 no_id s a p i n = rw n (and-false (same_token s.account a))

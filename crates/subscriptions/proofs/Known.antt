@@ -6,7 +6,7 @@ use Rattle.std.proofs.lemmas.List.Kept.{AllPairs-cons}
 use Rattle.subscriptions.specs.Limit.{has_ended}
 use Rattle.subscriptions.specs.Subscriptions.{has_same_sid}
 use Rattle.subscriptions.specs.Kept.{IsKept, NoneLike, Apart}
-use Rattle.subscriptions.specs.declared.subscription.Subscription.{Subscription}
+use Rattle.subscription_rows.specs.declared.subscription.Subscription.{Subscription}
 
 below_all : (s : Subscription) (subs : List Subscription) → NoneLike s subs → All (λ (t : Subscription). s.id < t.id) subs
 below_all s [] none = All-nil (λ (t : Subscription). s.id < t.id)

@@ -3,7 +3,7 @@ use Rattle.std.specs.Prelude.{None}
 use Rattle.events.specs.Messages.{Message}
 use Rattle.events.specs.declared.answer.Delivery.{Delivery}
 use Rattle.events.specs.declared.answer.Addressed.{Addressed}
-use Rattle.subscriptions.specs.declared.subscription.Subscription.{Subscription}
+use Rattle.subscription_rows.specs.declared.subscription.Subscription.{Subscription}
 
 -- what a subscriber is sent, and where it goes
 abbrev pub delivery_to : Message → Subscription → Delivery

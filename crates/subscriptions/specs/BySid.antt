@@ -3,7 +3,7 @@ use Rattle.std.specs.Prelude.{◌≡◌, ℕ, List, Option, None, cond, find}
 use Rattle.std.specs.Option.{option_map}
 use Rattle.subscription_ids.specs.Sids as sids
 use Rattle.subscription_ids.specs.declared.sids.Sids.{Sids}
-use Rattle.subscriptions.specs.declared.subscription.Subscription.{Subscription}
+use Rattle.subscription_rows.specs.declared.subscription.Subscription.{Subscription}
 use Rattle.subscriptions.specs.Subscriptions.{is_under, stands}
 
 -- the id of the connection's subscription of that sid

@@ -6,7 +6,7 @@ use Rattle.subjects.specs.Subject.{Token, same_token}
 use Rattle.sublist.specs.Tree.{same_path}
 use Rattle.subscription_ids.specs.Trees as trees
 use Rattle.subscription_ids.specs.declared.trees.Trees.{Trees}
-use Rattle.subscriptions.specs.declared.subscription.Subscription.{Subscription}
+use Rattle.subscription_rows.specs.declared.subscription.Subscription.{Subscription}
 
 -- whether the subscription has this account, pattern and id
 abbrev pub is_of : Subscription → List ℕ → List Token → ℕ → Bool

@@ -2,7 +2,7 @@
 use Rattle.std.specs.Prelude.{◌≡◌, ◌<◌, ℕ, List, [], ◌∷◌, false}
 use Rattle.subscriptions.specs.Limit.{has_ended}
 use Rattle.subscriptions.specs.Subscriptions.{is_under}
-use Rattle.subscriptions.specs.declared.subscription.Subscription.{Subscription}
+use Rattle.subscription_rows.specs.declared.subscription.Subscription.{Subscription}
 
 -- every key is above a number
 unfoldable pub IsAbove : ℕ → List (ℕ × Subscription) → Type 0

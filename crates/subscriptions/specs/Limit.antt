@@ -1,20 +1,12 @@
 -- What subscriptions have received, and the limits that their clients have set (docs/GUARANTEE.md, "Limits of
 -- subscriptions"; NATS documentation, "Client Protocol", UNSUB).
-use Rattle.std.specs.Prelude.{◌+◌, ◌&&◌, ℕ, List, Bool, false, Option, Some, None, if◌then◌else◌, filter, not, nat_lt, nat_le}
+use Rattle.std.specs.Prelude.{◌+◌, ◌&&◌, ℕ, List, Bool, false, Option, Some, if◌then◌else◌, filter, not, nat_lt}
 use Rattle.std.specs.List.{list_any}
-use Rattle.subscriptions.specs.declared.subscription.Subscription.{Subscription}
+use Rattle.subscription_rows.specs.declared.subscription.Subscription.{Subscription}
 use Rattle.subscriptions.specs.Subscriptions.{is_under}
 use Rattle.events.specs.declared.answer.Item.{Item}
 use Rattle.events.specs.declared.answer.Item.TheVariants.{Entered, Full}
-
--- whether a limit, where there is one, is reached
-abbrev pub is_reached : Option ℕ → ℕ → Bool
-is_reached None received = false
-is_reached (Some most) received = nat_le most received
-
--- a subscription has ended when it has received as many messages as it is to receive
-abbrev pub has_ended : Subscription → Bool
-has_ended sub = is_reached sub.most sub.received
+pub use Rattle.subscription_rows.specs.Limit.{is_reached, has_ended, limit_of}
 
 -- those that have not ended
 abbrev pub unended : List Subscription → List Subscription
@@ -32,11 +24,6 @@ has_entered items sub = list_any (is_entry_for sub) items
 abbrev pub counted : List Item → Subscription → Subscription
 counted items sub =
     if has_entered items sub && nat_lt sub.received 18446744073709551615 then record sub { received = sub.received + 1 } else sub
-
--- an end without a number is one at once, as after none
-abbrev pub limit_of : Option ℕ → ℕ
-limit_of None = 0
-limit_of (Some most) = most
 
 -- the connection's subscription of that id takes a limit, in place of an earlier one
 abbrev pub limited : ℕ → List ℕ → Option ℕ → Subscription → Subscription

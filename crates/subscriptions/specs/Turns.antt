@@ -5,7 +5,7 @@ use Rattle.events.specs.declared.answer.Item.{Item}
 use Rattle.events.specs.declared.answer.Item.TheVariants.{Entered, Full}
 use Rattle.subscriptions.specs.Limit.{unended}
 use Rattle.subscriptions.specs.Changes.{only, bumped}
-use Rattle.subscriptions.specs.declared.subscription.Subscription.{Subscription}
+use Rattle.subscription_rows.specs.declared.subscription.Subscription.{Subscription}
 use Rattle.events.specs.declared.answer.Addressed.{Addressed}
 
 -- one message more for each of these ids in turn

@@ -2,15 +2,14 @@
 #![tactic(auto)]
 
 mod address;
+mod asked;
 mod change;
-mod shared;
 mod sids;
-mod subscription;
 mod subscriptions;
 mod table;
 mod trees;
 
 pub use address::{address_each, addressed_to};
-pub use shared::SharedSubscription;
-pub use subscription::{Asked, Subscription};
-pub use subscriptions::{Keeps, Subscriptions};
+pub use asked::Asked;
+pub use subscription_rows::{Keeps, RowValues, SharedSubscription, Subscription};
+pub use subscriptions::Subscriptions;

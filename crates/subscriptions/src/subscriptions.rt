@@ -1,12 +1,11 @@
 ghost use Rattle.std.specs.Prelude.{◌≡◌, ◌==◌, Bool};
-ghost use Rattle.subscriptions.specs.declared.subscription.Subscription.{Subscription};
+ghost use Rattle.subscription_rows.specs.declared.subscription.Subscription.{Subscription};
 
 use crate::table::Table;
-use crate::{Asked, SharedSubscription, Subscription, sids};
+use crate::{Asked, Keeps, RowValues, SharedSubscription, Subscription, sids};
 use events::{Addressed, Item, Sid};
 use lists::NoMemory;
 use std::alloc::Global;
-use std::collections::btree_map::Values;
 use std::hash::RandomState;
 use std::marker::Model;
 use subjects::SubjectRef;
@@ -14,16 +13,6 @@ use subscription_ids::Sids;
 
 /// How many subscriptions of a connection may stand.
 const SUBSCRIPTIONS: usize = 4096;
-
-/// A test of which subscriptions stay.
-pub trait Keeps {
-    /// The test, as a clause says it.
-    ghost keeps: { Self → Subscription → Bool };
-
-    /// Whether a subscription stays.
-    fn keeps(&self, subscription: &SharedSubscription) -> bool
-        ensures { result ≡ keeps self.now subscription.now };
-}
 
 /// The standing subscriptions. A clause sees them as a list, oldest first. The sids find those of a connection.
 #[derive(Drop)]
@@ -35,7 +24,7 @@ pub struct Subscriptions {
 
 impl Model for Subscriptions {
     ghost use Rattle.std.specs.Prelude.{List};
-    ghost use Rattle.subscriptions.specs.declared.subscription.Subscription.{Subscription};
+    ghost use Rattle.subscription_rows.specs.declared.subscription.Subscription.{Subscription};
     ghost use Rattle.subscriptions.specs.BySid.{AreSidsOf};
 
     ghost Value = { List Subscription };
@@ -50,7 +39,6 @@ impl Model for Subscriptions {
 impl Subscriptions {
     ghost use Rattle.std.specs.Prelude.{◌≡◌, ◌==◌, ◌<◌, ◌++◌, ◌∷◌, [], IfOk, OnOk, OnErr, All, AllPairs, false, length, map, filter, not, find};
     ghost use Rattle.std.specs.Option.{option_copied};
-    ghost use Rattle.std.specs.Map.Iter.{ShowsInOrder, deref};
     ghost use Rattle.subscriptions.specs.Subscriptions.{has_same_sid, stands, has_all, subscription_of, having};
     ghost use Rattle.subscriptions.specs.Addressing.{addressed_to};
     ghost use Rattle.events.specs.Messages.{Message};
@@ -92,9 +80,8 @@ impl Subscriptions {
     }
 
     /// Them all, oldest first.
-    pub fn values(&self) -> Values<'_, u64, SharedSubscription>
-        ensures all { result ≡ self.now }
-        ensures runs { ShowsInOrder (deref {X = Subscription}) }
+    pub fn values(&self) -> RowValues<'_>
+        ensures { result ≡ self.now }
     {
         self.table.values()
     }

@@ -1,48 +1,46 @@
 //! The standing subscriptions by their ids, and the trees that find them by subject.
 ghost use Rattle.std.specs.Prelude.{◌≡◌, ◌==◌};
 
-use crate::change::{bump_at, cap_at, end_at, take_out};
-use crate::{Keeps, SharedSubscription, trees};
+use crate::change::{end_at, take_out};
+use crate::{Keeps, RowValues, SharedSubscription, trees};
 use lists::NoMemory;
 use std::alloc::Global;
-use std::collections::BTreeMap;
-use std::collections::btree_map::Values;
 use std::hash::RandomState;
 use std::marker::Model;
 use subjects::SubjectRef;
 use subscription_ids::{Own, Sids, Trees};
+use subscription_rows::Rows;
 
 /// The standing subscriptions, seen as a list, oldest first. The trees are the list's index: they find those that have a
 /// subject.
 #[derive(Drop)]
 pub(crate) struct Table {
     alloc: Global,
-    by_id: BTreeMap<u64, SharedSubscription>,
+    by_id: Rows,
     trees: Trees,
 }
 
 impl Model for Table {
     ghost use Rattle.std.specs.Prelude.{List};
     ghost use Rattle.std.specs.Map.{values_of};
-    ghost use Rattle.subscriptions.specs.declared.subscription.Subscription.{Subscription};
+    ghost use Rattle.subscription_rows.specs.declared.subscription.Subscription.{Subscription};
     ghost use Rattle.subscriptions.specs.Index.{AreIndexesOf};
     ghost use Rattle.subscriptions.specs.Kept.{IsKept, Apart};
 
     ghost Value = { List Subscription };
 
-    ghost view = { λ subs. values_of subs.by_id.entries };
+    ghost view = { λ subs. values_of subs.by_id };
 
-    ghost invariant = { λ subs. IsKept subs.by_id.entries
-        × Apart (values_of subs.by_id.entries)
-        × AreIndexesOf (values_of subs.by_id.entries) subs.trees };
+    ghost invariant = { λ subs. IsKept subs.by_id
+        × Apart (values_of subs.by_id)
+        × AreIndexesOf (values_of subs.by_id) subs.trees };
 }
 
 impl Table {
     ghost use Rattle.std.specs.Prelude.{◌≡◌, ◌==◌, ◌<◌, ◌++◌, ◌∷◌, [], IfOk, OnOk, OnErr, IfErr, All, AllPairs, false, length, map, filter, not, find};
     ghost use Rattle.std.specs.Option.{option_copied};
-    ghost use Rattle.std.specs.Map.Iter.{ShowsInOrder, deref};
     ghost use Rattle.std.specs.HashMap.{values, IsUnique};
-    ghost use Rattle.subscriptions.specs.declared.subscription.Subscription.{Subscription};
+    ghost use Rattle.subscription_rows.specs.declared.subscription.Subscription.{Subscription};
     ghost use Rattle.subscriptions.specs.Subscriptions.{has_same_sid, stands, having};
     ghost use Rattle.subscription_ids.specs.Sids.{same_sid};
     ghost use Rattle.subscriptions.specs.Limit.{has_ended, unended};
@@ -59,7 +57,7 @@ impl Table {
     {
         Table {
             alloc,
-            by_id: BTreeMap::new(alloc),
+            by_id: Rows::new(alloc),
             trees: Trees::new(alloc, keys),
         }
     }
@@ -83,9 +81,8 @@ impl Table {
     }
 
     /// Them all, oldest first.
-    pub fn values(&self) -> Values<'_, u64, SharedSubscription>
-        ensures all { result ≡ self.now }
-        ensures runs { ShowsInOrder (deref {X = Subscription}) }
+    pub fn values(&self) -> RowValues<'_>
+        ensures { result ≡ self.now }
     {
         self.by_id.values()
     }
@@ -94,7 +91,7 @@ impl Table {
     pub fn get(&self, id: u64) -> Option<&SharedSubscription>
         ensures { option_copied result ≡ find (λ (s : Subscription). s.id == id) self.now }
     {
-        let found = self.by_id.get(&id);
+        let found = self.by_id.get(id);
         found
     }
 
@@ -133,8 +130,7 @@ impl Table {
             Err(_) => Err(subscription),
             Ok(()) => match self.by_id.insert(subscription.id(), subscription) {
                 Ok(_) => Ok(()),
-                Err(refused) => {
-                    let back = refused.value.1;
+                Err(back) => {
                     trees::remove(&mut self.trees, &back);
                     Err(back)
                 }
@@ -147,7 +143,7 @@ impl Table {
         ensures after { self.new ≡ unended (map (only (capped most) id) self.old) }
         ensures sids { IsWithoutAll sids.old (filter has_ended (map (only (capped most) id) self.old)) sids.new }
     {
-        if cap_at(&mut self.by_id, id, most) {
+        if self.by_id.cap(id, most) {
             end_at(&mut self.by_id, &mut self.trees, sids, id);
         }
     }
@@ -158,7 +154,7 @@ impl Table {
         ensures after { self.new ≡ unended (map (only bumped id) self.old) }
         ensures sids { IsWithoutAll sids.old (filter has_ended (map (only bumped id) self.old)) sids.new }
     {
-        if bump_at(&mut self.by_id, id) {
+        if self.by_id.bump(id) {
             end_at(&mut self.by_id, &mut self.trees, sids, id);
         }
     }
@@ -186,7 +182,6 @@ impl Table {
         ensures { self.new ≡ filter (K.keeps test.now) self.old }
     {
         trees::forget_failing(&mut self.trees, &self.by_id, test);
-        self.by_id
-            .retain(|_, subscription| test.keeps(subscription));
+        self.by_id.keep(test);
     }
 }

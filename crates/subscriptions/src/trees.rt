@@ -6,8 +6,8 @@ ghost use Rattle.subscriptions.specs.Index.{IsWith, IsWithout, IsWithoutAll};
 
 use crate::{Keeps, SharedSubscription};
 use lists::NoMemory;
-use std::collections::BTreeMap;
 use subscription_ids::Trees;
+use subscription_rows::Rows;
 
 /// Adds a subscription. After `NoMemory` the trees hold what they held.
 pub(crate) fn insert(trees: &mut Trees, subscription: &SharedSubscription) -> Result<(), NoMemory>
@@ -37,12 +37,8 @@ fn forget_if_failing<K: Keeps>(trees: &mut Trees, subscription: &SharedSubscript
 }
 
 /// Takes those out that don't pass a test.
-pub(crate) fn forget_failing<K: Keeps>(
-    trees: &mut Trees,
-    by_id: &BTreeMap<u64, SharedSubscription>,
-    test: &K,
-)
-    ensures { IsWithoutAll trees.old (filter (λ s. not (K.keeps test.now s)) (values_of by_id.now.entries)) trees.new }
+pub(crate) fn forget_failing<K: Keeps>(trees: &mut Trees, by_id: &Rows, test: &K)
+    ensures { IsWithoutAll trees.old (filter (λ s. not (K.keeps test.now s)) (values_of by_id.now)) trees.new }
 {
     for subscription in by_id.values() {
         forget_if_failing(trees, subscription, test);

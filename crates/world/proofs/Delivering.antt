@@ -13,7 +13,7 @@ use Rattle.subscriptions.specs.Addressing.{addressed_to}
 use Rattle.subscriptions.specs.Limit.{unended, counted}
 use Rattle.subscriptions.specs.Turns.{Tells, TellEach, entered_ids, in_turn}
 use Rattle.subscriptions.specs.Kept.{Apart}
-use Rattle.subscriptions.specs.declared.subscription.Subscription.{Subscription}
+use Rattle.subscription_rows.specs.declared.subscription.Subscription.{Subscription}
 use Rattle.subscriptions.proofs.Apart.{counted_for}
 use Rattle.receivers.proofs.Stays.{AreSeated, seats_with, seats_after, seats_delivered}
 use Rattle.world.specs.Changes.{AreAddressed, handed_over}

@@ -11,7 +11,7 @@ use Rattle.events.specs.declared.answer.Outcome.TheVariants.{Subscribed, SameSid
 use Rattle.events.specs.declared.refusal.HubRefusal.{HubRefusal}
 use Rattle.sessions.specs.declared.session.Session.{Session}
 use Rattle.subscriptions.specs.Subscriptions.{stands, has_all, subscription_of}
-use Rattle.subscriptions.specs.declared.subscription.Subscription.{Subscription}
+use Rattle.subscription_rows.specs.declared.subscription.Subscription.{Subscription}
 use Rattle.world.specs.World.{World}
 use Rattle.world.specs.Reload.{verdict_for}
 use Rattle.world.specs.Transition.{in_session, subscribed}

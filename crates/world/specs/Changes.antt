@@ -17,7 +17,7 @@ use Rattle.events.specs.declared.answer.Addressed.{Addressed}
 use Rattle.subscriptions.specs.Subscriptions.{stands, subscription_of}
 use Rattle.subscriptions.specs.Limit.{unended, counted, limited}
 use Rattle.subscriptions.specs.Addressing.{addressed_to}
-use Rattle.subscriptions.specs.declared.subscription.Subscription.{Subscription}
+use Rattle.subscription_rows.specs.declared.subscription.Subscription.{Subscription}
 use Rattle.world.specs.World.{World}
 use Rattle.world.specs.Reload.{stands_on}
 use Rattle.world.specs.Transition.{IsRefusal}

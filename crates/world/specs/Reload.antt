@@ -13,7 +13,7 @@ use Rattle.events.specs.declared.answer.Outcome.TheVariants.{Reloaded}
 use Rattle.sessions.specs.Sessions.{session_of}
 use Rattle.sessions.specs.Renewal.{user_again_of, remaining, closed_conns}
 use Rattle.sessions.specs.declared.session.Session.{Session}
-use Rattle.subscriptions.specs.declared.subscription.Subscription.{Subscription}
+use Rattle.subscription_rows.specs.declared.subscription.Subscription.{Subscription}
 use Rattle.world.specs.World.{World}
 
 -- whom a session that stays acts for

@@ -10,7 +10,7 @@ use Rattle.sessions.specs.declared.session.Session.{Session}
 use Rattle.subscriptions.specs.Subscriptions.{has_subject}
 use Rattle.subscriptions.specs.Addressing.{addressed_to}
 use Rattle.subscriptions.specs.Limit.{unended, counted}
-use Rattle.subscriptions.specs.declared.subscription.Subscription.{Subscription}
+use Rattle.subscription_rows.specs.declared.subscription.Subscription.{Subscription}
 use Rattle.queue_groups.specs.Served.{served}
 pub use Rattle.receivers.specs.Open.{lets_through, may_hear, is_open_to, is_open}
 use Rattle.world.specs.World.{World}

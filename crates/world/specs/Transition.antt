@@ -19,7 +19,7 @@ use Rattle.sessions.specs.Sessions.{session_of, with_session, new_session, drain
 use Rattle.sessions.specs.declared.session.Session.{Session}
 use Rattle.subscriptions.specs.Subscriptions.{stands, has_all, subscription_of}
 use Rattle.subscriptions.specs.Limit.{unended, limited}
-use Rattle.subscriptions.specs.declared.subscription.Subscription.{Subscription}
+use Rattle.subscription_rows.specs.declared.subscription.Subscription.{Subscription}
 use Rattle.world.specs.World.{World, advanced}
 use Rattle.world.specs.Granting.{verdict_on, counted_on, ended_on}
 use Rattle.world.specs.Routing.{own_view, routed}

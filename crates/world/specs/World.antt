@@ -2,7 +2,7 @@
 use Rattle.std.specs.Prelude.{ℕ, List, [], max}
 use Rattle.policy_doc.specs.declared.document.PolicyDoc.{PolicyDoc}
 use Rattle.sessions.specs.declared.session.Session.{Session}
-use Rattle.subscriptions.specs.declared.subscription.Subscription.{Subscription}
+use Rattle.subscription_rows.specs.declared.subscription.Subscription.{Subscription}
 
 pub record World : Type 0 where
   -- how many deliveries may wait for a session

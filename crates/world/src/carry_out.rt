@@ -18,7 +18,7 @@ use subscriptions::Subscriptions;
 
 impl World {
     ghost use Rattle.std.specs.Prelude.{◌≡◌, ◌<◌, ◌≤◌, ◌+◌, OnOk, OnErr, All};
-    ghost use Rattle.subscriptions.specs.declared.subscription.Subscription.{Subscription};
+    ghost use Rattle.subscription_rows.specs.declared.subscription.Subscription.{Subscription};
     ghost use Rattle.std.specs.List.{filter_map};
     ghost use Rattle.events.specs.declared.answer.Outcome.{Outcome};
     ghost use Rattle.sessions.specs.Renewal.{user_again_of};

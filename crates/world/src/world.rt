@@ -59,7 +59,7 @@ impl World {
     ghost use Rattle.events.specs.declared.answer.Outcome.{Outcome};
     ghost use Rattle.sessions.specs.Sessions.{session_of};
     ghost use Rattle.sessions.specs.declared.session.Session.{Session};
-    ghost use Rattle.subscriptions.specs.declared.subscription.Subscription.{Subscription};
+    ghost use Rattle.subscription_rows.specs.declared.subscription.Subscription.{Subscription};
     ghost use Rattle.world.specs.World as worlds;
     ghost use Rattle.world.specs.World.{opening_world, advanced};
     ghost use Rattle.world.specs.Transition.{IsApplied, IsReasoned, IsRefusal, IsMoved, transition, moved, refusal_in, in_session, in_new_session};

@@ -8,7 +8,7 @@ use Rattle.subjects.specs.Subject.{Token}
 use Rattle.subscriptions.specs.Addressing.{addressed_to}
 use Rattle.subscriptions.specs.Index.{found_by}
 use Rattle.subscriptions.specs.Subscriptions.{has_subject, having}
-use Rattle.subscriptions.specs.declared.subscription.Subscription.{Subscription}
+use Rattle.subscription_rows.specs.declared.subscription.Subscription.{Subscription}
 use Rattle.queue_groups.specs.Chosen.{Rising, is_queued}
 use Rattle.queue_groups.specs.Served.{served}
 use Rattle.queue_groups.proofs.Chosen.{plain_are}

@@ -3,7 +3,7 @@ use Rattle.std.proofs.Common.{◌≡◌, ◌∙◌, ◌<◌, Bool, List, filter,
 use Rattle.std.proofs.lemmas.List.Kept.{AllPairs-filter}
 use Rattle.subscriptions.specs.Index.{found_by}
 use Rattle.subscriptions.specs.Subscriptions.{has_subject, having}
-use Rattle.subscriptions.specs.declared.subscription.Subscription.{Subscription}
+use Rattle.subscription_rows.specs.declared.subscription.Subscription.{Subscription}
 use Rattle.queue_groups.specs.Chosen.{Rising}
 use Rattle.queue_groups.proofs.address.passing_of.Goals as goal
 

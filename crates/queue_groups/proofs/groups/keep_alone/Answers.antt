@@ -1,7 +1,7 @@
 -- what is retained is what is kept
 use Rattle.std.proofs.Common.{◌∙◌, ap, sym, map, rules}
 use Rattle.std.proofs.lemmas.Fn.{filter_same}
-use Rattle.subscriptions.specs.declared.subscription.Subscription.{Subscription}
+use Rattle.subscription_rows.specs.declared.subscription.Subscription.{Subscription}
 use Rattle.queue_groups.specs.Chosen.{is_kept_alone}
 use Rattle.queue_groups.proofs.Chosen.{filter-map}
 use Rattle.queue_groups.proofs.groups.keep_alone.Goals as goal

@@ -3,7 +3,7 @@ use Rattle.std.proofs.Common.{◌∙◌, List, map, filter, ap, sym, Bor}
 use Rattle.std.specs.List.{list_any}
 use Rattle.std.specs.Option.{option_map}
 use Rattle.queue_choice.specs.Choices.{chosen}
-use Rattle.subscriptions.specs.declared.subscription.Subscription.{Subscription}
+use Rattle.subscription_rows.specs.declared.subscription.Subscription.{Subscription}
 use Rattle.queue_groups.specs.Chosen.{is_queued, is_other, is_kept_alone}
 use Rattle.queue_groups.proofs.Chosen.{plain_are, alone_are}
 use Rattle.queue_groups.proofs.groups.keep_chosen.Goals as goal

@@ -5,7 +5,7 @@ use Rattle.subjects.proofs.Text.{again}
 use Rattle.events.specs.Messages.{Message}
 use Rattle.subscriptions.specs.Subscriptions.{has_subject, having}
 use Rattle.subscriptions.specs.Addressing.{addressed_to}
-use Rattle.subscriptions.specs.declared.subscription.Subscription.{Subscription}
+use Rattle.subscription_rows.specs.declared.subscription.Subscription.{Subscription}
 use Rattle.queue_groups.specs.Served.{served}
 use Rattle.receivers.specs.Open.{is_open}
 use Rattle.receivers.proofs.Tests.{both}

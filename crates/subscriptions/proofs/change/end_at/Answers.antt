@@ -1,7 +1,7 @@
 use Rattle.std.proofs.Common.{◌∙◌, Option, sym, refl, subst}
 use Rattle.subscriptions.specs.BySid.{IsWithoutAll}
 use Rattle.subscriptions.specs.Index.{if_any}
-use Rattle.subscriptions.specs.declared.subscription.Subscription.{Subscription}
+use Rattle.subscription_rows.specs.declared.subscription.Subscription.{Subscription}
 use Rattle.subscriptions.proofs.change.end_at.Goals as goal
 
 pub returns-in-None-clause-sids : goal.returns-in-None-clause-sids

@@ -9,4 +9,4 @@ use Rattle.subscriptions.proofs.trees.forget_failing.Given as goal
 abbrev pub invariant-loop-subscription : goal.invariant-loop-subscription
 invariant-loop-subscription g l = (account : List ℕ) (p : List Token) (id : ℕ)
     → (holds l.trees account p id && not (listed (filter (λ s. not (g.K.Keeps.keeps l.test s)) l.subscription-iterator) account p id))
-    ≡ (holds l.initial.trees account p id && not (listed (filter (λ s. not (g.K.Keeps.keeps l.test s)) (values_of l.by_id.entries)) account p id))
+    ≡ (holds l.initial.trees account p id && not (listed (filter (λ s. not (g.K.Keeps.keeps l.test s)) (values_of l.by_id)) account p id))

@@ -4,7 +4,7 @@ use Rattle.events.specs.declared.answer.Addressed.{Addressed}
 use Rattle.sessions.specs.declared.session.Session.{Session}
 use Rattle.subscriptions.specs.Limit.{unended, counted}
 use Rattle.subscriptions.specs.Turns.{entered_ids, in_turn}
-use Rattle.subscriptions.specs.declared.subscription.Subscription.{Subscription}
+use Rattle.subscription_rows.specs.declared.subscription.Subscription.{Subscription}
 use Rattle.receivers.specs.Known.{IsWhomFor, Holds}
 use Rattle.receivers.specs.declared.known.Known.{Known}
 use Rattle.receivers.specs.declared.known.Whom.{Whom}

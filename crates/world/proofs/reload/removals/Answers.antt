@@ -4,7 +4,7 @@ use Rattle.std.specs.List.{filter_map}
 use Rattle.std.proofs.lemmas.List.{append_assoc}
 use Rattle.std.proofs.lemmas.List.Elements.{All-cons}
 use Rattle.events.specs.declared.answer.Removed.{Removed}
-use Rattle.subscriptions.specs.declared.subscription.Subscription.{Subscription}
+use Rattle.subscription_rows.specs.declared.subscription.Subscription.{Subscription}
 use Rattle.world.specs.Reload.{removal_after, IsReasonedVerdict}
 use Rattle.queue_groups.proofs.Lists.{filter_map_first}
 use Rattle.world.proofs.reload.removals.Goals as goal

@@ -1,7 +1,7 @@
 use Rattle.std.proofs.Common.{◌≡◌, ◌∙◌, ◌++◌, ◌∷◌, [], sym, ap, subst, List, false}
 use Rattle.subscriptions.specs.BySid.{IsWith, IsWithout, AreSidsOf}
 use Rattle.subscriptions.specs.Subscriptions.{subscription_of, stands}
-use Rattle.subscriptions.specs.declared.subscription.Subscription.{Subscription}
+use Rattle.subscription_rows.specs.declared.subscription.Subscription.{Subscription}
 use Rattle.subscriptions.proofs.BySid.{sids_added, sids_undone}
 use Rattle.subscriptions.proofs.subscriptions.Subscriptions.add.Goals as goal
 

@@ -2,7 +2,7 @@ use Rattle.std.proofs.Common.{List, filter, map, sym, refl, subst}
 use Rattle.subscriptions.specs.BySid.{AreSidsOf}
 use Rattle.subscriptions.specs.Limit.{has_ended}
 use Rattle.subscriptions.specs.Changes.{only, bumped}
-use Rattle.subscriptions.specs.declared.subscription.Subscription.{Subscription}
+use Rattle.subscription_rows.specs.declared.subscription.Subscription.{Subscription}
 use Rattle.subscriptions.proofs.Apart.{bumped-leaves}
 use Rattle.subscriptions.proofs.BySid.{sids_ended}
 use Rattle.subscriptions.proofs.subscriptions.Subscriptions.count_one.Goals as goal

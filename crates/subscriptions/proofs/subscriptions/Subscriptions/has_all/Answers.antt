@@ -1,7 +1,7 @@
 use Rattle.std.proofs.Common.{◌∙◌, ap, List}
 use Rattle.std.specs.Prelude.{nat_le}
 use Rattle.subscriptions.specs.Subscriptions.{has_all}
-use Rattle.subscriptions.specs.declared.subscription.Subscription.{Subscription}
+use Rattle.subscription_rows.specs.declared.subscription.Subscription.{Subscription}
 use Rattle.subscriptions.proofs.BySid.{counted_sids}
 use Rattle.subscriptions.proofs.subscriptions.Subscriptions.has_all.Goals as goal
 

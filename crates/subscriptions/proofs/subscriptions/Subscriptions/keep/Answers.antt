@@ -1,6 +1,6 @@
 use Rattle.std.proofs.Common.{Bool, List, not, sym, refl, subst}
 use Rattle.subscriptions.specs.BySid.{AreSidsOf}
-use Rattle.subscriptions.specs.declared.subscription.Subscription.{Subscription}
+use Rattle.subscription_rows.specs.declared.subscription.Subscription.{Subscription}
 use Rattle.subscriptions.proofs.BySid.{sids_kept}
 use Rattle.subscriptions.proofs.subscriptions.Subscriptions.keep.Goals as goal
 

@@ -2,7 +2,7 @@
 use Rattle.std.proofs.Common.{◌==◌, ◌∙◌, List, filter, not, sym, ap, subst}
 use Rattle.subscription_ids.specs.Sids.{id_in}
 use Rattle.subscriptions.specs.BySid.{AreSidsOf}
-use Rattle.subscriptions.specs.declared.subscription.Subscription.{Subscription}
+use Rattle.subscription_rows.specs.declared.subscription.Subscription.{Subscription}
 use Rattle.subscriptions.proofs.BySid.{none_gone, own_gone, sids_closed}
 use Rattle.subscriptions.proofs.subscriptions.Subscriptions.remove.Goals as goal
 

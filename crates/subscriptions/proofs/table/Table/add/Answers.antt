@@ -1,25 +1,30 @@
 use Rattle.std.proofs.Common.{◌≡◌, ◌∙◌, ◌<◌, ◌++◌, ◌∷◌, [], ap, sym, refl, subst, ℕ, List, false}
 use Rattle.std.specs.Prelude.{All}
-use Rattle.std.specs.BTreeMap.{insert_entry}
 use Rattle.std.specs.Map.{values_of}
-use Rattle.std.specs.Ordering.{nat_cmp}
 use Rattle.std.proofs.lemmas.List.{map-append}
 use Rattle.subscriptions.specs.Subscriptions.{stands}
-use Rattle.subscriptions.specs.declared.subscription.Subscription.{Subscription}
+use Rattle.subscription_rows.specs.declared.subscription.Subscription.{Subscription}
 use Rattle.subscriptions.specs.Index.{IsWithout, AreIndexesOf}
 use Rattle.subscriptions.specs.Kept.{IsKept, Apart}
 use Rattle.subscriptions.proofs.Apart.{apart_added}
-use Rattle.subscriptions.proofs.Entries.{Entries, added, kept-added}
+use Rattle.subscriptions.proofs.Entries.{Entries, keys_below, kept-added}
 use Rattle.subscriptions.proofs.Indexed.{indexes_added, indexes_undone}
 use Rattle.subscriptions.proofs.table.Table.add.Goals as goal
 
+pub insert-requires-in-Ok : goal.insert-requires-in-Ok
+insert-requires-in-Ok c =
+    let es = c.self.inside.by_id in
+    let s = c.args.subscription in
+    let below : All (λ (x : Subscription). x.id < s.id) (values_of es) = subst (λ (xs : List Subscription). All (λ (x : Subscription). x.id < s.id) xs) (sym c.self.view_is) c.requires.above in
+    record { above = subst (λ (n : ℕ). All (λ (e : ℕ × Subscription). e.0 < n) es) (sym c.id.ensures) (keys_below s.id es c.self.invariant.0 below) }
+
 pub invariant_of-self-in-Ok-insert : goal.invariant_of-self-in-Ok-insert
 invariant_of-self-in-Ok-insert c =
-    let es = c.self.inside.by_id.entries in
+    let es = c.self.inside.by_id in
     let s = c.args.subscription in
     let below : All (λ (x : Subscription). x.id < s.id) (values_of es) = subst (λ (xs : List Subscription). All (λ (x : Subscription). x.id < s.id) xs) (sym c.self.view_is) c.requires.above in
     let free : stands (values_of es) s.conn s.sid ≡ false = ap (λ (xs : List Subscription). stands xs s.conn s.sid) c.self.view_is ∙ c.requires.free in
-    let now = c.in-Ok-insert.ensures.entries ∙ ap (λ (n : ℕ). insert_entry nat_cmp es n s) c.id.ensures ∙ added s.id es s c.self.invariant.0 below in
+    let now = c.in-Ok-insert.ensures.ok ∙ ap (λ (n : ℕ). es ++ (n, s) ∷ []) c.id.ensures in
     let all = ap (λ (xs : Entries). values_of xs) now ∙ map-append _ es ((s.id, s) ∷ []) in (
       subst IsKept (sym now) (kept-added s.id es s c.self.invariant.0 below refl c.requires.going),
       subst Apart (sym all) (apart_added (values_of es) s c.self.invariant.1 below free),
@@ -28,21 +33,20 @@ invariant_of-self-in-Ok-insert c =
 
 pub returns-in-Ok-insert-clause-ok : goal.returns-in-Ok-insert-clause-ok
 returns-in-Ok-insert-clause-ok c =
-    let es = c.self.inside.by_id.entries in
+    let es = c.self.inside.by_id in
     let s = c.args.subscription in
-    let below : All (λ (x : Subscription). x.id < s.id) (values_of es) = subst (λ (xs : List Subscription). All (λ (x : Subscription). x.id < s.id) xs) (sym c.self.view_is) c.requires.above in
-    ap (λ (xs : Entries). values_of xs) (c.in-Ok-insert.ensures.entries ∙ ap (λ (n : ℕ). insert_entry nat_cmp es n s) c.id.ensures ∙ added s.id es s c.self.invariant.0 below)
+    ap (λ (xs : Entries). values_of xs) (c.in-Ok-insert.ensures.ok ∙ ap (λ (n : ℕ). es ++ (n, s) ∷ []) c.id.ensures)
     ∙ map-append _ es ((s.id, s) ∷ [])
     ∙ ap (λ (xs : List Subscription). xs ++ s ∷ []) c.self.view_is
 
--- the map has refused it, so it is taken out of the trees again
+-- the rows have refused it, so it is taken out of the trees again
 pub invariant_of-self-in-Err-insert : goal.invariant_of-self-in-Err-insert
 invariant_of-self-in-Err-insert c =
-    let es = c.self.inside.by_id.entries in
+    let es = c.self.inside.by_id in
     let s = c.args.subscription in
     let below : All (λ (x : Subscription). x.id < s.id) (values_of es) = subst (λ (xs : List Subscription). All (λ (x : Subscription). x.id < s.id) xs) (sym c.self.view_is) c.requires.above in
     let same = c.in-Err-insert.ensures.err in
-    let back : c.in-Err-insert.refused.value.1 ≡ s = ap (λ e. e.1) c.in-Err-insert.ensures.value_returned in
+    let back : c.in-Err-insert.back ≡ s = c.in-Err-insert.ensures.back in
     let less : IsWithout c.insert.new.trees s c.remove.new.trees = rw back at c.remove.ensures in (
       subst IsKept (sym same) c.self.invariant.0,
       subst (λ (xs : Entries). Apart (values_of xs)) (sym same) c.self.invariant.1,

@@ -2,7 +2,7 @@
 use Rattle.std.proofs.Common.{◌∙◌, ap, sym, refl, subst, List, map, filter}
 use Rattle.std.specs.Map.{values_of}
 use Rattle.subscriptions.specs.Limit.{has_ended, unended}
-use Rattle.subscriptions.specs.declared.subscription.Subscription.{Subscription}
+use Rattle.subscription_rows.specs.declared.subscription.Subscription.{Subscription}
 use Rattle.subscriptions.specs.Changes.{only, bumped}
 use Rattle.subscriptions.specs.BySid.{IsWithoutAll}
 use Rattle.subscriptions.specs.Index.{AreIndexesOf}
@@ -15,44 +15,44 @@ use Rattle.subscriptions.proofs.table.Table.count.Goals as goal
 
 pub invariant_of-self : goal.invariant_of-self
 invariant_of-self c =
-    let es = c.self.inside.by_id.entries in
-    let now = ap (λ (xs : Entries). values_of xs) c.end_at.ensures.entries ∙ ended_at bumped c.args.id es c.bump_at.new.by_id.entries c.self.invariant.0 c.bump_at.result c.bump_at.ensures c.if-bump_at.true in (
-      subst IsKept (sym c.end_at.ensures.entries) (kept_over bumped c.args.id es c.bump_at.new.by_id.entries c.self.invariant.0 c.bump_at.result c.bump_at.ensures c.if-bump_at.true),
+    let es = c.self.inside.by_id in
+    let now = ap (λ (xs : Entries). values_of xs) c.end_at.ensures.entries ∙ ended_at bumped c.args.id es c.bump.new.self c.self.invariant.0 c.bump.result c.bump.ensures c.if-bump.true in (
+      subst IsKept (sym c.end_at.ensures.entries) (kept_over bumped c.args.id es c.bump.new.self c.self.invariant.0 c.bump.result c.bump.ensures c.if-bump.true),
       subst Apart (sym now) (apart_changed bumped c.args.id (values_of es) bumped-leaves c.self.invariant.1),
       subst (λ (xs : Entries). AreIndexesOf (values_of xs) c.end_at.new.trees) (sym c.end_at.ensures.entries)
-          (indexes_over bumped bumped-is_of c.args.id es c.bump_at.new.by_id.entries c.self.invariant.0 c.bump_at.result c.self.inside.trees c.self.invariant.2 c.end_at.new.trees c.bump_at.ensures c.if-bump_at.true c.end_at.ensures.trees),
+          (indexes_over bumped bumped-is_of c.args.id es c.bump.new.self c.self.invariant.0 c.bump.result c.self.inside.trees c.self.invariant.2 c.end_at.new.trees c.bump.ensures c.if-bump.true c.end_at.ensures.trees),
     )
 
-pub invariant_of-self-else-bump_at : goal.invariant_of-self-else-bump_at
-invariant_of-self-else-bump_at c =
-    let es = c.self.inside.by_id.entries in
-    let now = on_at bumped c.args.id es c.bump_at.new.by_id.entries c.self.invariant.0 c.bump_at.result c.bump_at.ensures c.if-bump_at.false in (
-      kept_on bumped c.args.id es c.bump_at.new.by_id.entries c.self.invariant.0 c.bump_at.result (bumped-leaves).id c.bump_at.ensures c.if-bump_at.false,
+pub invariant_of-self-else-bump : goal.invariant_of-self-else-bump
+invariant_of-self-else-bump c =
+    let es = c.self.inside.by_id in
+    let now = on_at bumped c.args.id es c.bump.new.self c.self.invariant.0 c.bump.result c.bump.ensures c.if-bump.false in (
+      kept_on bumped c.args.id es c.bump.new.self c.self.invariant.0 c.bump.result (bumped-leaves).id c.bump.ensures c.if-bump.false,
       subst Apart (sym now) (apart_changed bumped c.args.id (values_of es) bumped-leaves c.self.invariant.1),
-      indexes_on bumped bumped-is_of c.args.id es c.bump_at.new.by_id.entries c.self.invariant.0 c.bump_at.result c.self.inside.trees c.self.invariant.2 c.bump_at.ensures c.if-bump_at.false,
+      indexes_on bumped bumped-is_of c.args.id es c.bump.new.self c.self.invariant.0 c.bump.result c.self.inside.trees c.self.invariant.2 c.bump.ensures c.if-bump.false,
     )
 
-pub returns-then-bump_at-clause-after : goal.returns-then-bump_at-clause-after
-returns-then-bump_at-clause-after c =
+pub returns-then-bump-clause-after : goal.returns-then-bump-clause-after
+returns-then-bump-clause-after c =
     ap (λ (xs : Entries). values_of xs) c.end_at.ensures.entries
-    ∙ ended_at bumped c.args.id c.self.inside.by_id.entries c.bump_at.new.by_id.entries c.self.invariant.0 c.bump_at.result c.bump_at.ensures c.if-bump_at.true
+    ∙ ended_at bumped c.args.id c.self.inside.by_id c.bump.new.self c.self.invariant.0 c.bump.result c.bump.ensures c.if-bump.true
     ∙ ap (λ (ss : List Subscription). unended (map (only bumped c.args.id) ss)) c.self.view_is
 
-pub returns-else-bump_at-clause-after : goal.returns-else-bump_at-clause-after
-returns-else-bump_at-clause-after c =
-    on_at bumped c.args.id c.self.inside.by_id.entries c.bump_at.new.by_id.entries c.self.invariant.0 c.bump_at.result c.bump_at.ensures c.if-bump_at.false
+pub returns-else-bump-clause-after : goal.returns-else-bump-clause-after
+returns-else-bump-clause-after c =
+    on_at bumped c.args.id c.self.inside.by_id c.bump.new.self c.self.invariant.0 c.bump.result c.bump.ensures c.if-bump.false
     ∙ ap (λ (ss : List Subscription). unended (map (only bumped c.args.id) ss)) c.self.view_is
 
-pub returns-then-bump_at-clause-sids : goal.returns-then-bump_at-clause-sids
-returns-then-bump_at-clause-sids c =
+pub returns-then-bump-clause-sids : goal.returns-then-bump-clause-sids
+returns-then-bump-clause-sids c =
     subst (λ (gone : List Subscription). IsWithoutAll c.args.sids.now gone c.end_at.new.sids)
-    (one_ends bumped c.args.id c.self.inside.by_id.entries c.bump_at.new.by_id.entries c.self.invariant.0 c.bump_at.result c.bump_at.ensures c.if-bump_at.true
+    (one_ends bumped c.args.id c.self.inside.by_id c.bump.new.self c.self.invariant.0 c.bump.result c.bump.ensures c.if-bump.true
     ∙ ap (λ (ss : List Subscription). filter has_ended (map (only bumped c.args.id) ss)) c.self.view_is)
     c.end_at.ensures.sids
 
-pub returns-else-bump_at-clause-sids : goal.returns-else-bump_at-clause-sids
-returns-else-bump_at-clause-sids c =
+pub returns-else-bump-clause-sids : goal.returns-else-bump-clause-sids
+returns-else-bump-clause-sids c =
     subst (λ (gone : List Subscription). IsWithoutAll c.args.sids.now gone c.args.sids.now)
-    (none_ends bumped c.args.id c.self.inside.by_id.entries c.bump_at.new.by_id.entries c.self.invariant.0 c.bump_at.result c.bump_at.ensures c.if-bump_at.false
+    (none_ends bumped c.args.id c.self.inside.by_id c.bump.new.self c.self.invariant.0 c.bump.result c.bump.ensures c.if-bump.false
     ∙ ap (λ (ss : List Subscription). filter has_ended (map (only bumped c.args.id) ss)) c.self.view_is)
     (λ conn sid. refl)

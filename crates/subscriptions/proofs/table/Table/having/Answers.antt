@@ -3,13 +3,13 @@ use Rattle.std.proofs.Common.{◌≡◌, ◌∙◌, ap, sym, List}
 use Rattle.std.specs.Map.{values_of}
 use Rattle.subscriptions.specs.Index.{found_by}
 use Rattle.subscriptions.specs.Subscriptions.{has_subject, having}
-use Rattle.subscriptions.specs.declared.subscription.Subscription.{Subscription}
+use Rattle.subscription_rows.specs.declared.subscription.Subscription.{Subscription}
 use Rattle.subscriptions.proofs.Indexed.{pairs_of, pairs_matching, account_index, found_by_ids}
 use Rattle.subscriptions.proofs.table.Table.having.Goals as goal
 
 pub returns : goal.returns
 returns c =
-    let subs = values_of c.self.inside.by_id.entries in
+    let subs = values_of c.self.inside.by_id in
     let account = c.args.account.now in
     let subject = c.args.subject.now in
     let ids = c.in_ok-matching.ensures (pairs_of account subs) (account_index account subs c.self.inside.trees c.self.invariant.1 c.self.invariant.2) ∙ pairs_matching account subject subs in

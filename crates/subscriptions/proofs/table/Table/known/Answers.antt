@@ -1,7 +1,7 @@
 use Rattle.std.proofs.Common.{◌≡◌, subst, List, false, All}
 use Rattle.subscriptions.specs.Limit.{unended, has_ended}
 use Rattle.subscriptions.specs.Kept.{Apart}
-use Rattle.subscriptions.specs.declared.subscription.Subscription.{Subscription}
+use Rattle.subscription_rows.specs.declared.subscription.Subscription.{Subscription}
 use Rattle.subscriptions.proofs.Entries.{going}
 use Rattle.subscriptions.proofs.Known.{ids_rise, sids_differ, none_ended}
 use Rattle.subscriptions.proofs.table.Table.known.Goals as goal
@@ -13,10 +13,10 @@ pub returns-clause-sids : goal.returns-clause-sids
 returns-clause-sids c = sids_differ c.args.self.now (subst Apart c.self.view_is c.self.invariant.1)
 
 pub returns-clause-limits : goal.returns-clause-limits
-returns-clause-limits c = subst (λ (subs : List Subscription). All (λ (s : Subscription). has_ended s ≡ false) subs) c.self.view_is (none_ended c.self.inside.by_id.entries c.self.invariant.0)
+returns-clause-limits c = subst (λ (subs : List Subscription). All (λ (s : Subscription). has_ended s ≡ false) subs) c.self.view_is (none_ended c.self.inside.by_id c.self.invariant.0)
 
 pub returns-clause-going : goal.returns-clause-going
-returns-clause-going c = subst (λ (subs : List Subscription). unended subs ≡ subs) c.self.view_is (going c.self.inside.by_id.entries c.self.invariant.0)
+returns-clause-going c = subst (λ (subs : List Subscription). unended subs ≡ subs) c.self.view_is (going c.self.inside.by_id c.self.invariant.0)
 
 pub returns-clause-apart : goal.returns-clause-apart
 returns-clause-apart c = subst Apart c.self.view_is c.self.invariant.1

@@ -1,6 +1,6 @@
 use Rattle.std.proofs.Common.{◌∙◌, ◌==◌, not, filter, List, ap, sym, subst}
 use Rattle.std.specs.Map.{values_of}
-use Rattle.subscriptions.specs.declared.subscription.Subscription.{Subscription}
+use Rattle.subscription_rows.specs.declared.subscription.Subscription.{Subscription}
 use Rattle.subscriptions.specs.Index.{AreIndexesOf}
 use Rattle.subscriptions.specs.Kept.{IsKept, Apart}
 use Rattle.subscriptions.proofs.Apart.{apart_kept}
@@ -10,7 +10,7 @@ use Rattle.subscriptions.proofs.table.Table.take.Goals as goal
 
 pub invariant_of-self : goal.invariant_of-self
 invariant_of-self c =
-    let es = c.self.inside.by_id.entries in
+    let es = c.self.inside.by_id in
     let now = c.take_out-gone.ensures.entries ∙ removed-filter c.args.id es c.self.invariant.0 in
     let left = ap (λ (xs : Entries). values_of xs) now ∙ values-filter (λ s. not (s.id == c.args.id)) es in (
       subst IsKept (sym now) (kept-filter (λ e. not (e.1.id == c.args.id)) es c.self.invariant.0),
@@ -20,7 +20,7 @@ invariant_of-self c =
 
 pub returns : goal.returns
 returns c =
-    let es = c.self.inside.by_id.entries in
+    let es = c.self.inside.by_id in
     ap (λ (xs : Entries). values_of xs) (c.take_out-gone.ensures.entries ∙ removed-filter c.args.id es c.self.invariant.0)
     ∙ values-filter (λ s. not (s.id == c.args.id)) es
     ∙ ap (λ (ss : List Subscription). filter (λ (s : Subscription). not (s.id == c.args.id)) ss) c.self.view_is

@@ -14,7 +14,7 @@ use Rattle.world.specs.Routing.{own_view, deliveries}
 use Rattle.world.specs.Transition.{in_session, published}
 use Rattle.world.specs.Changes.{IsDecided}
 use Rattle.subscriptions.specs.Limit.{unended}
-use Rattle.subscriptions.specs.declared.subscription.Subscription.{Subscription}
+use Rattle.subscription_rows.specs.declared.subscription.Subscription.{Subscription}
 use Rattle.world.specs.declared.change.Change.{Change}
 use Rattle.world.specs.declared.change.Change.TheVariants.{Nothing, Deliver}
 use Rattle.receivers.proofs.Tests.{find-passes}

@@ -19,7 +19,7 @@ pub struct SharedSubscription {
 }
 
 impl Model for SharedSubscription {
-    ghost use Rattle.subscriptions.specs.declared.subscription.Subscription.{Subscription};
+    ghost use Rattle.subscription_rows.specs.declared.subscription.Subscription.{Subscription};
 
     ghost Value = { Subscription };
 
@@ -27,14 +27,11 @@ impl Model for SharedSubscription {
 }
 
 impl SharedSubscription {
-    ghost use Rattle.subscriptions.specs.Limit.{has_ended};
-    ghost use Rattle.subscriptions.specs.Changes.{bumped, capped};
+    ghost use Rattle.subscription_rows.specs.Limit.{has_ended};
+    ghost use Rattle.subscription_rows.specs.Changes.{bumped, capped};
 
     /// The first owner of a subscription. `NoMemory` where memory could not be had.
-    pub(crate) fn of(
-        alloc: Global,
-        subscription: Subscription,
-    ) -> Result<SharedSubscription, NoMemory>
+    pub fn of(alloc: Global, subscription: Subscription) -> Result<SharedSubscription, NoMemory>
         ensures { IfOk result (λ shared. shared ≡ subscription) }
     {
         Ok(SharedSubscription {
