@@ -1,15 +1,14 @@
 -- The connections beside their sessions, through a change of both.
-use Rattle.std.proofs.Common.{get_or, set, zero, suc, length, ◌≡◌, ◌∙◌, ◌==◌, ◌<◌, ◌≤◌, ℕ, Bool, true, false, cond, List, [], ◌∷◌, map, filter, take, Some, None, ap, refl, sym, subst, arith, ◌||◌}
+use Rattle.std.proofs.Common.{get_or, set, zero, suc, length, ◌≡◌, ◌∙◌, ◌==◌, ◌<◌, ◌≤◌, ℕ, Bool, true, false, cond, List, [], ◌∷◌, map, filter, Some, None, ap, refl, sym, subst, arith, ◌||◌}
 use Rattle.std.specs.Prelude.{AllPairs, nat_eq, ◌≢◌}
 use Rattle.std.specs.List.{list_any, IsDistinct}
-use Rattle.std.proofs.lemmas.List.{length-map, length-set, length-take-le, get_or-map, get_or-take, get_or_default}
-use Rattle.std.proofs.lemmas.Bool.{ne_eqb}
+use Rattle.std.proofs.lemmas.List.{length-map, length-set, get_or-map}
 use Rattle.std.proofs.lemmas.Bool.Decides.{Decides-eqb}
 use Rattle.std.proofs.lemmas.Map.Made.{AllPairs-from_IsDistinct}
 use Rattle.sessions.specs.Sessions.{session_of, with_session, IsApart, IsPlace}
 use Rattle.sessions.specs.Renewal.{connection_of}
 use Rattle.sessions.specs.declared.session.Session.{Session}
-use Rattle.sessions.proofs.Places.{eqb_comm, is_of, session_of-none}
+use Rattle.sessions.proofs.Places.{eqb_comm}
 
 pub filter_keys : (p : ℕ → Bool) (zs : List Session) → filter p (map connection_of zs) ≡ map connection_of (filter (λ (z : Session). p z.conn) zs)
 filter_keys p [] = refl
@@ -44,16 +43,6 @@ apart_by_keys ks zs apart same i j d h l e =
     let all : AllPairs (λ (x y : ℕ). x ≢ y) (map connection_of zs) = subst (AllPairs (λ (x y : ℕ). x ≢ y)) same (AllPairs-from_IsDistinct Decides-eqb ks apart) in
     let lj : j < length (map connection_of zs) = omega (arith, length-map zs connection_of) in
     all i j d.conn h lj (get_or-map connection_of zs i d d.conn (omega arith) ∙ e ∙ sym (get_or-map connection_of zs j d d.conn l))
-
--- the connection of a session is none of those before it
-pub new_key : (zs : List Session) (i : ℕ) (z : Session) → AllPairs IsApart zs → i < length zs → z ≡ get_or zs i z → list_any (λ k. z.conn == k) (map connection_of (take i zs)) ≡ false
-new_key zs i z apart h is = no_key z.conn (take i zs) (session_of-none z.conn (take i zs) other)
-  where
-    other : (k : ℕ) (d : Session) → k < length (take i zs) → is_of z.conn (get_or (take i zs) k d) ≡ false
-    other k d l =
-        let before : k < i = omega (arith, length-take-le i zs (omega arith)) in
-        ap (is_of z.conn) (get_or-take i zs k d before)
-        ∙ ne_eqb _ _ (λ e. apart k i d before h (e ∙ ap connection_of (is ∙ get_or_default zs i z d h)))
 
 -- ---- one session changed at its place
 

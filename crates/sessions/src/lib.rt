@@ -1,7 +1,6 @@
 //! The sessions in order of connecting, each found by its connection at once, and the deliveries that wait for them.
 #![tactic(auto)]
 
-mod connections;
 mod noting;
 mod plan;
 mod renewal;

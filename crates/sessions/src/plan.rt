@@ -8,8 +8,8 @@ ghost use Rattle.sessions.specs.Renewal.{connection_of};
 ghost use Rattle.sessions.specs.Replying.{note_for, with_note};
 
 use crate::Session;
-use crate::connections::Connections;
 use crate::noting::note_for;
+use connection_order::Connections;
 use events::{Addressed, Item};
 use lists::NoMemory;
 use std::alloc::Global;
@@ -227,7 +227,8 @@ fn enter_all(alloc: Global, all: &[Addressed]) -> Result<Vec<Item>, NoMemory>
 }
 
 /// What each delivery of a message with this reply will meet, told by the room that is left for each. Beside each is put
-/// down what its session is to note.
+/// down what its session is to note. Apart, so that a plan where all have room stays small.
+#[inline(never)]
 fn plan_by_rooms(
     alloc: Global,
     keys: RandomState,
@@ -265,16 +266,12 @@ pub(crate) fn plan_all(
     ensures noted { OnOk result (all.new ≡ map (with_note list.now (option_copied reply.entry)) all.old) }
 {
     match reply {
-        None => {
-            if have_room(conns, list, all) {
-                let items = enter_all(alloc, all)?;
-                return Ok(items);
-            }
-            let items = plan_by_rooms(alloc, keys, conns, list, rooms, all, None)?;
+        None if have_room(conns, list, all) => {
+            let items = enter_all(alloc, all)?;
             Ok(items)
         }
-        Some(reply) => {
-            let items = plan_by_rooms(alloc, keys, conns, list, rooms, all, Some(reply))?;
+        _ => {
+            let items = plan_by_rooms(alloc, keys, conns, list, rooms, all, reply)?;
             Ok(items)
         }
     }

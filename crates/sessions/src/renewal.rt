@@ -1,12 +1,9 @@
 //! What becomes of the sessions when another policy comes into force: who stays, who goes, and for whom each acts.
-ghost use Rattle.std.specs.Prelude.{◌≡◌, ◌<◌, ◌≤◌, ◌+◌, ◌∷◌, ◌++◌, [], AllPairs, IfOk, OnOk, filter, length, map, nat_eq};
+ghost use Rattle.std.specs.Prelude.{◌≡◌, ◌∷◌, ◌++◌, [], IfOk, OnOk, filter, map};
 ghost use Rattle.std.specs.List.{filter_map};
-ghost use Rattle.indexmap.specs.IndexSet.{insert_key, spare};
-ghost use Rattle.sessions.specs.Sessions.{IsApart};
-ghost use Rattle.sessions.specs.Renewal.{user_again_of, stays, goes, connection_of, closed_conns, ascending, with_user, with_users};
+ghost use Rattle.sessions.specs.Renewal.{user_again_of, stays, goes, connection_of, closed_conns, with_user, with_users};
 
 use crate::Session;
-use indexmap::IndexSet;
 use lists::{Copying, NoMemory};
 use ready::{Ready, User};
 use std::alloc::Global;
@@ -80,14 +77,8 @@ pub(crate) fn closed(alloc: Global, ready: &Ready, list: &[Session]) -> Result<V
     ensures { IfOk result (λ gone. gone.items ≡ closed_conns ready.now list.now) }
 {
     let mut gone = closed_in_turn(alloc, ready, list)?;
-    sort_numbers(&mut gone);
+    gone.sort_unstable();
     Ok(gone)
-}
-
-fn sort_numbers(numbers: &mut Vec<u64>)
-    ensures { numbers.new.items ≡ ascending numbers.old.items }
-{
-    numbers.sort_unstable();
 }
 
 /// Removes the sessions that go, with their outboxes.
@@ -127,28 +118,4 @@ pub(crate) fn renew_list(ready: &Ready, list: &mut Vec<Session>, users: VecDeque
 {
     keep_staying(ready, list);
     give_users(list, users, now);
-}
-
-/// Notes one connection, for which there is room.
-fn note_conn(conns: &mut IndexSet<u64>, conn: u64)
-    requires { 0 < spare conns.old }
-    ensures keys { conns.new.keys ≡ insert_key nat_eq conns.old.keys conn }
-    ensures room { spare conns.old ≤ spare conns.new + 1 }
-{
-    match conns.insert(conn) {
-        Ok(_) => {}
-        Err(_) => {}
-    }
-}
-
-/// Notes the connections of these sessions in place of those that were noted, which were no fewer.
-pub(crate) fn note_conns(conns: &mut IndexSet<u64>, list: &[Session])
-    requires room { length list.now ≤ length conns.old.keys }
-    requires apart { AllPairs IsApart list.now }
-    ensures { conns.new.keys ≡ map connection_of list.now }
-{
-    conns.clear();
-    for session in list {
-        note_conn(conns, session.conn);
-    }
 }

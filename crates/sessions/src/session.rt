@@ -1,3 +1,4 @@
+use connection_order::Connected;
 use events::Delivery;
 use lists::{Boxed, Copying, NoMemory};
 use outbox::{Batch, Outbox};
@@ -99,6 +100,16 @@ impl Session {
     {
         self.missed = false;
         self.outbox.discard(most);
+    }
+}
+
+impl Connected for Session {
+    ghost use Rattle.sessions.specs.Renewal.{connection_of};
+
+    ghost connection = { connection_of };
+
+    fn conn(&self) -> u64 {
+        self.conn
     }
 }
 

@@ -1,8 +1,7 @@
-use crate::connections::Connections;
 use crate::plan::{place_in, plan_all, plan_one};
 use crate::{Session, renewal};
+use connection_order::Connections;
 use events::{Addressed, Delivery, Met};
-use indexmap::IndexSet;
 use lists::NoMemory;
 use outbox::Batch;
 use ready::{Ready, User};
@@ -50,10 +49,7 @@ impl Sessions {
     {
         Sessions {
             alloc,
-            conns: Connections {
-                conns: IndexSet::new(alloc),
-                hints: Vec::new(alloc),
-            },
+            conns: Connections::new(alloc),
             list: Vec::new(alloc),
             rooms: Vec::new(alloc),
         }

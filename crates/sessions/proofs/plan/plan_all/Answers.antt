@@ -6,12 +6,12 @@ use Rattle.sessions.specs.Replying.{with_note}
 use Rattle.sessions.proofs.Plans.{roomy-delivered, roomy-noted}
 use Rattle.sessions.proofs.plan.plan_all.Goals as goal
 
-pub returns-then-have_room-clause-items : goal.returns-then-have_room-clause-items
-returns-then-have_room-clause-items c now =
+pub returns-in_ok-items-in-None-clause-items : goal.returns-in_ok-items-in-None-clause-items
+returns-in_ok-items-in-None-clause-items c now =
     c.in_ok-items-in-None.ensures
     ∙ roomy-delivered now c.args.all.now c.args.list.now (c.have_room.ensures c.if-have_room.true)
 
-pub returns-then-have_room-clause-noted : goal.returns-then-have_room-clause-noted
-returns-then-have_room-clause-noted c =
+pub returns-in_ok-items-in-None-clause-noted : goal.returns-in_ok-items-in-None-clause-noted
+returns-in_ok-items-in-None-clause-noted c =
     roomy-noted c.args.all.now c.args.list.now (λ k d h. (c.have_room.ensures c.if-have_room.true k d h).0)
     ∙ ap (λ (o : Option (List Token)). map (with_note c.args.list.now o) c.args.all.now) (ap option_copied (sym c.in-None.is))

@@ -1,24 +1,23 @@
-//! Connections in an order of their own, each found by its number at once.
-ghost use Rattle.std.specs.Prelude.{◌≡◌, ◌==◌, ◌≤◌, ◌++◌, ◌∷◌, [], false, OnOk, OnErr, AllPairs, filter, map, position, length, not, nat_eq};
+ghost use Rattle.std.specs.Prelude.{◌≡◌, ◌≢◌, ◌==◌, ◌≤◌, ◌++◌, ◌∷◌, [], false, OnOk, OnErr, AllPairs, filter, map, position, length, not, nat_eq};
 ghost use Rattle.std.specs.List.{list_any, IsDistinct};
-ghost use Rattle.sessions.specs.Renewal.{connection_of};
-ghost use Rattle.sessions.specs.Sessions.{IsApart};
 
-use crate::{Session, renewal};
+use crate::Connected;
+use crate::connected::note_conns;
 use indexmap::IndexSet;
 use lists::NoMemory;
+use std::alloc::Global;
 use std::marker::Model;
 
 /// How many hints there are. Two connections whose numbers differ by a multiple of it share one, and one of them is found
 /// by its hash.
 const HINTS: usize = 4_096;
 
-/// Connections in order, each once.
+/// Connections in order, each once. A clause sees them as a list.
 #[derive(Drop)]
-pub(crate) struct Connections {
-    pub conns: IndexSet<u64>,
+pub struct Connections {
+    conns: IndexSet<u64>,
     /// Where a connection was put down last, by its number modulo `HINTS`: mostly the place of each, found without a hash.
-    pub hints: Vec<usize>,
+    hints: Vec<usize>,
 }
 
 impl Model for Connections {
@@ -30,6 +29,16 @@ impl Model for Connections {
 }
 
 impl Connections {
+    /// No connection.
+    pub fn new(alloc: Global) -> Connections
+        ensures { result ≡ [] }
+    {
+        Connections {
+            conns: IndexSet::new(alloc),
+            hints: Vec::new(alloc),
+        }
+    }
+
     /// What always holds: no connection stands twice. It does nothing when it runs.
     pub fn known(&self)
         ensures { IsDistinct nat_eq self.now }
@@ -75,13 +84,13 @@ impl Connections {
         note_hints(&mut self.hints, self.conns.as_slice());
     }
 
-    /// Notes the connections of these sessions in place of those that were noted, which were no fewer.
-    pub fn note_all(&mut self, list: &[Session])
+    /// Notes the connections of this list in place of those that were noted. Those were no fewer, so their room suffices.
+    pub fn note_all<T: Connected>(&mut self, list: &[T])
         requires room { length list.now ≤ length self.old }
-        requires apart { AllPairs IsApart list.now }
-        ensures { self.new ≡ map connection_of list.now }
+        requires apart { AllPairs (λ y z. T.connection y ≢ T.connection z) list.now }
+        ensures { self.new ≡ map T.connection list.now }
     {
-        renewal::note_conns(&mut self.conns, list);
+        note_conns(&mut self.conns, list);
         note_hints(&mut self.hints, self.conns.as_slice());
     }
 }

@@ -1,7 +1,7 @@
 -- a connection that isn't there is put behind the others
 use Rattle.std.proofs.Common.{◌∙◌, ◌==◌, ◌++◌, ◌∷◌, [], ap, cond, ℕ, Bool, List}
 use Rattle.std.specs.List.{list_any}
-use Rattle.sessions.proofs.connections.Connections.push.Goals as goal
+use Rattle.connection_order.proofs.connections.Connections.push.Goals as goal
 
 pub returns-clause-ok : goal.returns-clause-ok
 returns-clause-ok c =
