@@ -6,7 +6,7 @@ use crate::output::Stall;
 use crate::submit::submit;
 use events::{Answer, Command, Event, HubRefusal, Port};
 use lists::NoMemory;
-use pending::{Owed, write_delivery};
+use pending::{Owed, make_room, write_delivery};
 use protocol::{Stage, Text, put_text, write_text};
 use std::alloc::Global;
 use wire_write::ServerError;
@@ -99,6 +99,7 @@ ghost use Rattle.conn.specs.Turns.{outcome_of};
 
 /// What a Take's answer comes to. There is room for the text of a session that is gone.
 fn drained_by_answer(
+    alloc: Global,
     answer: Result<Answer, HubRefusal>,
     stage: Stage,
     mut bytes: Vec<u8>,
@@ -112,6 +113,7 @@ fn drained_by_answer(
         Ok(answer) => match Owed::of(answer) {
             Some(taken) => {
                 *owed = taken;
+                make_room(alloc, &mut bytes, owed);
                 let written = write_owed(&mut bytes, stage.takes_headers(), owed);
                 drained_after(bytes, stage, written)
             }
@@ -131,6 +133,7 @@ fn drained_by_answer(
 
 /// One Take, and the texts of what it gives. Room for the text of a session that is gone is made before.
 fn drain_by_take<P: Port>(
+    alloc: Global,
     conn: u64,
     now: u64,
     most: usize,
@@ -153,7 +156,7 @@ fn drain_by_take<P: Port>(
             what: Command::Take { conn, most },
         },
     );
-    drained_by_answer(answer, stage, bytes, owed)
+    drained_by_answer(alloc, answer, stage, bytes, owed)
 }
 
 ghost use Rattle.conn.specs.Drains.{Drains};
@@ -173,7 +176,7 @@ pub fn drain<P: Port>(
 {
     let mut bytes = Vec::new(alloc);
     match write_owed(&mut bytes, stage.takes_headers(), owed) {
-        Written::All => drain_by_take(conn, now, most, port, stage, bytes, owed),
+        Written::All => drain_by_take(alloc, conn, now, most, port, stage, bytes, owed),
         Written::Closes => drained_after(bytes, stage, Written::Closes),
         Written::Short => drained_after(bytes, stage, Written::Short),
     }

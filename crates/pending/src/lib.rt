@@ -7,4 +7,4 @@ mod owed;
 
 pub use delivery::write_delivery;
 pub use frames::Frames;
-pub use owed::Owed;
+pub use owed::{Owed, make_room};

@@ -3,6 +3,7 @@ ghost use Rattle.std.specs.Prelude.{◌≡◌};
 ghost use Rattle.pending.specs.Owing.{deliveries_of, missed_in};
 
 use events::{Answer, Delivery, Outcome};
+use std::alloc::Global;
 use std::marker::Model;
 
 /// What a Take gave and is not written yet, and whether it told that a delivery was missed. The deliveries stay in
@@ -60,6 +61,13 @@ impl Owed {
         self.missed
     }
 
+    /// How many deliveries are not written yet. It serves to make room, so no clause speaks of it.
+    fn count(&self) -> usize {
+        deliveries_of(&self.answer)
+            .len()
+            .saturating_sub(self.written)
+    }
+
     /// The delivery that is written next.
     #[tactic(auto, using(crate::proofs::Lists::first_left, crate::proofs::Lists::none_left))]
     pub fn first(&self) -> Option<&Delivery>
@@ -78,6 +86,39 @@ impl Owed {
     {
         let _bound = deliveries_of(&self.answer).len();
         self.written = self.written.saturating_add(1);
+    }
+}
+
+/// How many bytes of a delivery's text stand beside its payload, mostly at most.
+const LINE: usize = 64;
+
+/// How much room is made at once, at most.
+const ROOM: usize = 65_536;
+
+/// Makes room for what is still to be written, guessed by the delivery that is next, so that the buffer grows once. Where
+/// nothing is written yet it is a buffer of its own: what grows from a small one stays in the part of the heap that that
+/// one came from, which may be another thread's, and is locked then. Where room can't be had nothing changes.
+pub fn make_room(alloc: Global, out: &mut Vec<u8>, owed: &Owed)
+    ensures { out.new.items ≡ out.old.items }
+{
+    if let Some(delivery) = owed.first() {
+        let each = delivery.message.payload().len().saturating_add(LINE);
+        let room = owed.count().saturating_mul(each).min(ROOM);
+        grow(alloc, out, room);
+    }
+}
+
+/// Makes room for so many bytes.
+fn grow(alloc: Global, out: &mut Vec<u8>, room: usize)
+    ensures { out.new.items ≡ out.old.items }
+{
+    if out.is_empty() {
+        match Vec::with_capacity(alloc, room) {
+            Ok(larger) => *out = larger,
+            Err(_) => {}
+        }
+    } else {
+        let _had = out.reserve(room);
     }
 }
 

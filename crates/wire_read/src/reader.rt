@@ -1,3 +1,5 @@
+ghost use Rattle.std.specs.Prelude.{◌≡◌, []};
+
 use crate::awaited::Awaited;
 use crate::buffer::Buffer;
 use crate::progress::{Progress, read_on, read_whole};
@@ -62,7 +64,8 @@ impl FrameReader {
             Step::Takes(len) => {
                 let (part, behind) = piece.split_at(len);
                 let whole = self.kept.share(part)?;
-                let first = read_whole(self.alloc, Vec::new(self.alloc), whole)?;
+                let frames = frames_for(self.alloc, len);
+                let first = read_whole(self.alloc, frames, whole)?;
                 let Progress {
                     frames,
                     kept,
@@ -75,5 +78,20 @@ impl FrameReader {
                 Ok(Items::from_vec(frames))
             }
         }
+    }
+}
+
+/// How many bytes a short frame has, a PUB with a few bytes of payload.
+const SHORT: usize = 24;
+
+/// No frames, with room for as many as so many bytes may have, so that the vector doesn't grow: what grows from a small
+/// block stays in the part of the heap that the block came from, which may be another thread's, and is locked then. Where
+/// the room can't be had there is none.
+fn frames_for(alloc: Global, len: usize) -> Vec<Frame>
+    ensures { result.items ≡ [] }
+{
+    match Vec::with_capacity(alloc, len / SHORT) {
+        Ok(frames) => frames,
+        Err(_) => Vec::new(alloc),
     }
 }

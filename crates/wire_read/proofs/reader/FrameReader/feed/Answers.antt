@@ -25,7 +25,7 @@ returns-in_ok-frames-in-Takes c =
           ∙ part_followed (framing first.frames.items first.kept first.failed) [] c.self.inside.kept c.split_at.result.0.now c.split_at.result.1.now c.args.piece.now c.self.inside.failed
           c.if-self.false cut
           (c.in_ok-first-in-Takes.ensures.framing
-          ∙ ap (λ fs. behind fs (frames_of c.in_ok-whole-in-Takes.whole)) c.new-in-Takes.ensures.items
+          ∙ ap (λ fs. behind fs (frames_of c.in_ok-whole-in-Takes.whole)) c.frames_for-frames.ensures
           ∙ ap (λ w. behind [] (frames_of w)) c.in_ok-whole-in-Takes.ensures.ok)
           ∙ ap (λ t. followed (framing [] c.self.inside.kept t) c.args.piece.now) c.if-self.false
           ∙ ap (λ (r : Reader). frames_of (r.rest ++ c.args.piece.now)) c.self.view_is,
