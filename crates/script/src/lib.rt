@@ -8,4 +8,4 @@ mod policies;
 mod server;
 
 pub use fault::PlayFault;
-pub use player::play;
+pub use player::play_lines;

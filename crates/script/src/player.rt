@@ -1,19 +1,19 @@
-// `natsd play`: a script over one hub (docs/SCRIPT.md).
-ghost use Rattle.std.specs.Prelude.{◌≡◌, ◌≤◌, List, IfOk, OnOk, nat_lt, length, ◌||◌, OnErr, ◌≢◌, false, IfSome};
+// A script over one hub (docs/SCRIPT.md).
+ghost use Rattle.std.specs.Prelude.{◌≡◌, ◌≤◌, List, IfOk, OnOk, nat_lt, length, ◌||◌, OnErr, ◌≢◌, false};
 ghost use Rattle.std.specs.List.{position_or_len};
-ghost use Rattle.std.specs.Io.KnownBytes.{Appends, IsAtEnd};
+ghost use Rattle.std.specs.Io.KnownBytes.{Appends};
 ghost use Rattle.script.specs.declared.client.Client.{Client};
 ghost use Rattle.script_text.specs.declared.lines.Part.{Part};
 ghost use Rattle.script.specs.Play.{drained, done_in, is_open, with_client, caps_effect, line_effect, still_open, line_and_drains, IsEffect, output_of};
 ghost use Rattle.script.specs.Server.{Serving};
 ghost use Rattle.devices.specs.Device.{AppendsFront};
-ghost use Rattle.script.specs.Fault.{is_read_failed, is_write_failed, IsShort, IsTooLong};
+ghost use Rattle.script.specs.Fault.{is_read_failed, is_write_failed};
 
 use crate::client::Client;
 use crate::fault::PlayFault;
 use crate::policies::{on_policy, on_reload};
 use crate::server::Server;
-use devices::{Sink, Source, read_within, write_all};
+use devices::{Sink, write_all};
 use hub::Caps;
 use lists::{NoMemory, Pieces};
 use policy_doc::Policy;
@@ -214,8 +214,12 @@ fn on_line_and_drain(
     Ok(stops)
 }
 
-/// Plays the lines of a script.
-fn play_lines<W: Sink>(
+/// Plays the lines of a script, and writes what they print to the sink, line by line (docs/SCRIPT.md). Answers the status,
+/// 0 or 1. What clients choose is hashed under the keys.
+///
+/// `WriteFailed` comes where the sink failed in this call, and `NoMemory` where memory could not be had; no other fault
+/// does. What was written then is a front of what the script prints.
+pub fn play_lines<W: Sink>(
     alloc: Global,
     keys: RandomState,
     script: &[u8],
@@ -259,44 +263,4 @@ fn play_lines<W: Sink>(
         }
     }
     Ok(0)
-}
-
-/// The most bytes that a script may have.
-const MOST_BYTES: usize = 16_777_216;
-
-/// The most reads that may bring a script, the one that finds its end included.
-const MOST_READS: usize = 1_000_000;
-
-/// Plays a script: reads the source to its end, and writes what the script prints to the sink, line by line
-/// (docs/SCRIPT.md). Answers the status, 0 or 1. What clients choose is hashed under the keys.
-///
-/// `ReadFailed` and `WriteFailed` come where the device failed in this call, which the clauses tell of a device
-/// that had not failed before; `ScriptTooLong` where the script has more than 16,777,216 bytes, or 1,000,000 reads
-/// have given bytes and not found its end; `NoMemory` where memory could not be had. What was written then is a
-/// front of what the script prints.
-pub fn play<R: Source, W: Sink>(
-    alloc: Global,
-    keys: RandomState,
-    source: &mut R,
-    sink: &mut W,
-) -> Result<u8, PlayFault>
-    // The source's bytes are the script, where it tells them.
-    ensures meaning { IfOk result (λ status. IfSome (R.remaining source.old) (λ script.
-        Appends (W.contents sink.old) (W.contents sink.new) (output_of script).text
-        × (status ≡ (output_of script).status))) }
-    ensures prefix { OnErr result (IfSome (R.remaining source.old) (λ script.
-        AppendsFront (W.contents sink.old) (W.contents sink.new) (output_of script).text)) }
-    ensures read_failed { R.failed source.new ≡ (R.failed source.old || is_read_failed result) }
-    ensures write_failed { W.failed sink.new ≡ (W.failed sink.old || is_write_failed result) }
-    ensures end { OnOk result (IsAtEnd (R.remaining source.new)) }
-    ensures short { OnOk result (IsShort (R.remaining source.old) (R.reads source.old) (R.reads source.new)) }
-    ensures too_long { result ≡ Err PlayFault.ScriptTooLong → IsTooLong (R.remaining source.old) (R.reads source.old) (R.reads source.new) }
-{
-    match read_within(alloc, source, MOST_BYTES, MOST_READS)? {
-        Some(script) => {
-            let status = play_lines(alloc, keys, script.as_slice(), sink)?;
-            Ok(status)
-        }
-        None => Err(PlayFault::ScriptTooLong),
-    }
 }

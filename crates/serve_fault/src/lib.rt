@@ -1,6 +1,8 @@
-//! Why a server stops.
+//! Why a server stops, and the line that tells it.
 #![tactic(auto)]
 
+mod end;
 mod fault;
 
+pub use end::Fault;
 pub use fault::{ServeFault, least};

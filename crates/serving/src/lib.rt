@@ -1,7 +1,6 @@
 //! A server from its first policy to its end: what it begins with is made, it serves, and what comes to pass is printed.
 #![tactic(auto)]
 
-mod fault;
 mod opening;
 mod server;
 mod settings;

@@ -2,7 +2,6 @@
 ghost use Rattle.std.specs.Prelude.{◌≡◌, IfOk};
 ghost use Rattle.serving.specs.Serve.{AreServable};
 
-use crate::fault::Fault;
 use crate::settings::Settings;
 use devices::{Sink, write_all};
 use doors::Limits;
@@ -11,6 +10,7 @@ use mio::net::TcpListener;
 use policy_source::{Next, Policies};
 use ready::Ready;
 use reload::prepare;
+use serve_fault::Fault;
 use std::alloc::Global;
 use std::hash::RandomState;
 use std::net::{Net, SocketAddr};

@@ -2,7 +2,6 @@
 ghost use Rattle.std.specs.Prelude.{◌≡◌, ◌≤◌, ◌+◌, ⊤};
 ghost use Rattle.serving.specs.Serve.{AreServable};
 
-use crate::fault::Fault;
 use crate::opening::{first_policy, listen, open_hub, tell_listening};
 use crate::settings::Settings;
 use conn::Words;
@@ -15,6 +14,7 @@ use policy_source::Policies;
 use rand::make_rng;
 use rand::rngs::SmallRng;
 use rand_core::Rng;
+use serve_fault::Fault;
 use server_loop::{Post, serve};
 use shared_hub::{Blank, Run, Seat, Shared};
 use std::alloc::{AllocGlobal, Global};

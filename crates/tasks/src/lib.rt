@@ -3,6 +3,8 @@
 
 mod check;
 mod fault;
+mod playing;
 mod status;
 
+pub use playing::play;
 pub use status::{Ran, Start, StartFault, run};

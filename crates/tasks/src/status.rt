@@ -8,9 +8,10 @@ ghost use Rattle.command_line.specs.Options.{AreServable};
 ghost use Rattle.tasks.specs.Run.{reads, writes, IsMistake, IsRun, IsTaskRun, IsWordsRun};
 
 use crate::check::check;
+use crate::playing::play;
 use command_line::{Asked, ServeOptions, Task, WordsFault, read_words};
 use devices::{Sink, Source, write_all};
-use script::{PlayFault, play};
+use script::PlayFault;
 use std::alloc::Global;
 use std::convert::AsStr;
 use std::hash::RandomState;

@@ -1,14 +1,14 @@
 ghost use Rattle.std.specs.Prelude.{◌≡◌, ◌++◌, codes};
 ghost use Rattle.serve_fault.specs.Faults.{fault_text};
-ghost use Rattle.serving.specs.Serve.{line_of};
+ghost use Rattle.serve_fault.specs.Ends.{line_of};
 
+use crate::ServeFault;
 use lists::NoMemory;
-use serve_fault::ServeFault;
 use std::alloc::AllocError;
 
 /// Why clients are served no further.
 #[derive(Drop)]
-pub(crate) enum Fault {
+pub enum Fault {
     /// The file of the policy can't be read.
     ReadFailed,
     /// A frame of the policies is wrong, or can't be read.
@@ -29,7 +29,7 @@ pub(crate) enum Fault {
 
 impl Fault {
     /// The line that tells it, with its LF.
-    pub(crate) fn line(&self) -> &[u8]
+    pub fn line(&self) -> &[u8]
         ensures { result.now ≡ line_of self.now }
     {
         match self {
