@@ -117,7 +117,9 @@ impl<'a, L: Run, R: Wait + Clock, G: Gate + Drop, W: Words + Drop> Worker<'a, L,
         let Some(door) = doors.get(self.index) else {
             return;
         };
-        let is_idle = self.ready.is_empty() && self.dirty.is_empty();
+        // (what has stalled is tried again after a sleep)
+        let may_sleep = self.looks == 0 || !self.stalled.is_empty();
+        let is_idle = may_sleep && self.ready.is_empty() && self.dirty.is_empty();
         let room = mem::replace(&mut self.room, Vec::new(self.alloc));
         let intake = door.take_in(self.rt, self.left.as_slice(), is_idle, room);
         self.left.clear();

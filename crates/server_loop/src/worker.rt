@@ -27,6 +27,10 @@ const EVENTS: usize = 1024;
 /// How many pieces are read of all connections before each that is to be written to is drained.
 const TURNS: usize = 16;
 
+/// How many rounds without work a worker looks for some before it sleeps, some hundred microseconds: to wake it takes longer
+/// than most work takes to come.
+const LOOKS: u32 = 100;
+
 /// How long the end of a server may take, in milliseconds.
 const GRACE: u64 = 2000;
 
@@ -80,6 +84,8 @@ pub struct Worker<'a, L: Run, R: Wait, G: Gate + Drop, W: Words + Drop> {
     pub now: u64,
     /// Whether others know that it sleeps, and will wake it.
     pub sleeps: bool,
+    /// How many more rounds it looks for work before it sleeps.
+    pub looks: u32,
 }
 
 /// What pieces are read into. `None` without memory.
@@ -133,6 +139,7 @@ impl<'a, L: Run, R: Wait + Clock, G: Gate + Drop, W: Words + Drop> Worker<'a, L,
             buf,
             now: 0,
             sleeps: false,
+            looks: 0,
         })
     }
 
@@ -176,6 +183,7 @@ impl<'a, L: Run, R: Wait + Clock, G: Gate + Drop, W: Words + Drop> Worker<'a, L,
     /// One round: what was left here, what the sockets tell, and some turns. As long as others have something to read only
     /// connections are drained for which much waits. Answers whether the system could tell of sockets.
     fn round(&mut self, events: &mut Events) -> bool {
+        self.looks = self.looks.saturating_sub(1);
         self.take_in();
         self.drain_dirty(true);
         if !self.wait(events) {
@@ -247,6 +255,7 @@ impl<'a, L: Run, R: Wait + Clock, G: Gate + Drop, W: Words + Drop> Worker<'a, L,
 
     /// Puts a connection among those with work, where it may be read.
     pub fn make_ready(&mut self, key: usize) {
+        self.looks = LOOKS;
         if let Some(standing) = self.clients.get_mut(key) {
             if !standing.is_ready && standing.may_read() {
                 standing.is_ready = self.ready.push_back(key).is_ok();
@@ -256,6 +265,7 @@ impl<'a, L: Run, R: Wait + Clock, G: Gate + Drop, W: Words + Drop> Worker<'a, L,
 
     /// Puts a connection among those to be written to.
     pub fn make_dirty(&mut self, key: usize) {
+        self.looks = LOOKS;
         if let Some(standing) = self.clients.get_mut(key) {
             if !standing.is_dirty {
                 standing.is_dirty = self.dirty.push_back(key).is_ok();
