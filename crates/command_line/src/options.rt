@@ -74,44 +74,40 @@ fn number_option<'a>(
 pub fn serve_command<'a>(alloc: Global) -> Result<Command<'a>, AllocError>
     ensures { IfOk result (IsLocalApp serve_app) }
 {
-    let policy = text_option(
-        alloc,
-        "policy",
-        "FILE",
-        "The policy, read again when it changes; without it, policies come as frames on standard input",
-    );
-    let listen = listen_option(alloc);
-    let workers = number_option(
-        alloc,
-        "workers",
-        "How many threads serve clients, 1 to 64",
-        1,
-        MOST_WORKERS,
-        "2",
-    );
-    let outbox = number_option(
-        alloc,
-        "outbox",
-        "How many deliveries may wait for a client, 1 to 65536",
-        1,
-        MOST_OUTBOX,
-        "1024",
-    );
-    let history = number_option(
-        alloc,
-        "history",
-        "How many entries the history holds, at least 2",
-        LEAST_HISTORY,
-        u64::MAX,
-        "1000000",
-    );
+    // Each option is made where it is added, so that no other has to be dropped where memory lacks.
     Command::new(alloc, "serve")
         .about("Serves clients over sockets, by a policy that may change while it runs")
-        .arg(policy)?
-        .arg(listen)?
-        .arg(workers)?
-        .arg(outbox)?
-        .arg(history)
+        .arg(text_option(
+            alloc,
+            "policy",
+            "FILE",
+            "The policy, read again when it changes; without it, policies come as frames on standard input",
+        ))?
+        .arg(listen_option(alloc))?
+        .arg(number_option(
+            alloc,
+            "workers",
+            "How many threads serve clients, 1 to 64",
+            1,
+            MOST_WORKERS,
+            "2",
+        ))?
+        .arg(number_option(
+            alloc,
+            "outbox",
+            "How many deliveries may wait for a client, 1 to 65536",
+            1,
+            MOST_OUTBOX,
+            "1024",
+        ))?
+        .arg(number_option(
+            alloc,
+            "history",
+            "How many entries the history holds, at least 2",
+            LEAST_HISTORY,
+            u64::MAX,
+            "1000000",
+        ))
 }
 
 /// The text that was given for an option, or its default.

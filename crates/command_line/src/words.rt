@@ -57,19 +57,17 @@ ghost use Rattle.command_line.specs.Words.{natsd_app};
 fn natsd_command<'a>(alloc: Global) -> Result<Command<'a>, AllocError>
     ensures { IfOk result (λ command. app_of command ≡ natsd_app) }
 {
-    let play = Command::new(alloc, "play").about(
-        "Plays a script of clients against one server: reads it on standard input, prints what each client is sent",
-    );
-    let check = Command::new(alloc, "check").about(
-        "Checks a policy: reads it on standard input, prints how much it has or its first fault",
-    );
     Command::new(alloc, "natsd")
         .about("The routing core of a multi-tenant NATS server")
         .version("0.1.0")
         .disable_help_subcommand(true)
         .subcommand_required(true)
-        .subcommand(play)?
-        .subcommand(check)?
+        .subcommand(Command::new(alloc, "play").about(
+            "Plays a script of clients against one server: reads it on standard input, prints what each client is sent",
+        ))?
+        .subcommand(Command::new(alloc, "check").about(
+            "Checks a policy: reads it on standard input, prints how much it has or its first fault",
+        ))?
         .subcommand(serve_command(alloc)?)
 }
 

@@ -9,8 +9,8 @@ use Rattle.command_line.proofs.options.serve_command.Goals as goal
 pub returns : goal.returns
 returns c =
     let bare : IsLocalApp (new_app (codes "serve")) c.about.result = (search rules, search rules) in
-    let first = with_option _ _ _ _ _ bare c.in_ok-arg.ensures c.text_option-policy.ensures.rule c.text_option-policy.ensures.local in
-    let next = with_option _ _ _ _ _ first c.in_ok-arg-2.ensures c.listen_option-listen.ensures.rule c.listen_option-listen.ensures.local in
-    let third = with_option _ _ _ _ _ next c.in_ok-arg-3.ensures c.number_option-workers.ensures.rule c.number_option-workers.ensures.local in
-    let fourth = with_option _ _ _ _ _ third c.in_ok-arg-4.ensures c.number_option-outbox.ensures.rule c.number_option-outbox.ensures.local in
-    IfOk-weaker c.arg-5.result _ _ (λ command more. with_option _ _ _ _ _ fourth more c.number_option-history.ensures.rule c.number_option-history.ensures.local) c.arg-5.ensures
+    let first = with_option _ _ _ _ _ bare c.in_ok-arg.ensures c.text_option.ensures.rule c.text_option.ensures.local in
+    let next = with_option _ _ _ _ _ first c.in_ok-arg-2.ensures c.listen_option.ensures.rule c.listen_option.ensures.local in
+    let third = with_option _ _ _ _ _ next c.in_ok-arg-3.ensures c.number_option.ensures.rule c.number_option.ensures.local in
+    let fourth = with_option _ _ _ _ _ third c.in_ok-arg-4.ensures c.number_option-2.ensures.rule c.number_option-2.ensures.local in
+    IfOk-weaker c.arg-5.result _ _ (λ command more. with_option _ _ _ _ _ fourth more c.number_option-3.ensures.rule c.number_option-3.ensures.local) c.arg-5.ensures

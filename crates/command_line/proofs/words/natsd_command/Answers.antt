@@ -8,8 +8,8 @@ use Rattle.command_line.proofs.words.natsd_command.Goals as goal
 pub returns : goal.returns
 returns c =
     let bare : app_of c.subcommand_required.result ≡ bare_app = search rules in
-    let play : shape_of c.about-play.result ≡ play_app.top = search rules in
-    let check : shape_of c.about-check.result ≡ check_app.top = search rules in
+    let play : shape_of c.about-2.result ≡ play_app.top = search rules in
+    let check : shape_of c.about-3.result ≡ check_app.top = search rules in
     let serve = c.in_ok-serve_command.ensures in
     let one = c.in_ok-subcommand.ensures.shape (search rules) ∙ ap₂ with_subcommand bare play in
     let two = c.in_ok-subcommand-2.ensures.shape (search rules) ∙ ap₂ with_subcommand one check in
