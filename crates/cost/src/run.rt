@@ -6,8 +6,9 @@ use session::Conn;
 use std::alloc::Global;
 use std::hash::RandomState;
 
-/// How many messages a piece of the publisher's stream has. A Take has room for them all.
-const PIECE: u64 = 50;
+/// How many messages a piece of the publisher's stream has: those of 4,096 bytes, as a server reads them. A Take has room for
+/// them all.
+const PIECE: u64 = 136;
 
 /// How many subscriptions one connection makes.
 const MOST: u64 = 4_000;
@@ -99,7 +100,7 @@ fn drain_all(server: &mut Server, receivers: &mut [Conn]) -> Result<(), CostFaul
     Ok(())
 }
 
-/// How many bytes the clients are sent where so many messages are published, in pieces of 50, of which the last is
+/// How many bytes the clients are sent where so many messages are published, in pieces, of which the last is
 /// whole too.
 pub fn publish_in(
     alloc: Global,

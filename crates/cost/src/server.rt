@@ -6,8 +6,8 @@ use session::{Conn, Direct, Output, Words};
 use std::alloc::Global;
 use std::hash::RandomState;
 
-/// How many deliveries a Take asks for.
-const TAKE: usize = 64;
+/// How many deliveries a Take asks for, as a server's do.
+const TAKE: usize = 256;
 
 const CONNECT: &[u8] = b"CONNECT {\"user\":\"demo\",\"pass\":\"demo\",\"verbose\":false}\r\n";
 
