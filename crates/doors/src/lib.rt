@@ -7,4 +7,4 @@ mod notices;
 
 pub use door::{Arrival, Door, Intake, Left, Waiter};
 pub use house::{Flags, House, Limits, millis, open_door};
-pub use notices::{Notices, gave_less, owner_of};
+pub use notices::{Notices, owner_of};

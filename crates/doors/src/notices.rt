@@ -2,9 +2,9 @@ ghost use Rattle.std.specs.Prelude.{◌≡◌};
 ghost use Rattle.doors.specs.Owners.{owner};
 
 use crate::door::Door;
-use events::{Command, Item, Met, Outcome};
+use events::{Answer, Command, Item, Met, Outcome};
 use pacing::Named;
-use shared_hub::Receipt;
+use shared_hub::Notes;
 use std::alloc::Global;
 use std::sync::Wait;
 
@@ -19,6 +19,8 @@ pub struct Notices {
     own: Option<usize>,
     /// How many deliveries have entered for one connection of another worker at most, since the names were cleared.
     pub most: usize,
+    /// How many deliveries the latest Take gave, since this was cleared.
+    pub given: Option<usize>,
 }
 
 /// Which worker has a connection: sockets are handed round in turn.
@@ -60,17 +62,6 @@ fn size_of(command: &Command) -> usize {
     }
 }
 
-/// Whether this is the receipt of a Take that gave less than it asked for.
-pub fn gave_less(receipts: &[Receipt], most: usize) -> bool {
-    match receipts {
-        [receipt] => match &receipt.parts().0.get().outcome {
-            Outcome::Taken(all, _) => all.len() < most,
-            _ => false,
-        },
-        _ => false,
-    }
-}
-
 impl Notices {
     /// No names, for so many workers, gathered by one of them or by none. Without memory there are no notices.
     pub fn new(alloc: Global, workers: usize, own: Option<usize>) -> Option<Notices> {
@@ -84,28 +75,8 @@ impl Notices {
             by_worker,
             own,
             most: 0,
+            given: None,
         })
-    }
-
-    /// Notes whom receipts name.
-    pub fn note_all(&mut self, receipts: &[Receipt]) {
-        for receipt in receipts {
-            self.note(receipt);
-        }
-    }
-
-    /// Notes whom a receipt names.
-    fn note(&mut self, receipt: &Receipt) {
-        let (answer, command, _) = receipt.parts();
-        match &answer.get().outcome {
-            Outcome::Published(_, met) => self.note_met(met, size_of(command)),
-            Outcome::Reloaded { gone, .. } => {
-                for conn in gone.as_slice() {
-                    self.name(*conn, 0, 0, true);
-                }
-            }
-            _ => {}
-        }
     }
 
     fn note_met(&mut self, met: &Met, bytes: usize) {
@@ -162,6 +133,24 @@ impl Notices {
     pub fn leave_all<R: Wait>(&mut self, rt: &R, doors: &[Door], now: u64) {
         for worker in 0..doors.len() {
             let _ = self.leave(rt, doors, worker, worker, None, now);
+        }
+    }
+}
+
+impl Notes for Notices {
+    /// Notes whom an answer names.
+    #[inline(always)]
+    fn note(&mut self, answer: &Answer) {
+        let entry = answer.get();
+        match &entry.outcome {
+            Outcome::Published(_, met) => self.note_met(met, size_of(&entry.event.what)),
+            Outcome::Taken(all, _) => self.given = Some(all.len()),
+            Outcome::Reloaded { gone, .. } => {
+                for conn in gone.as_slice() {
+                    self.name(*conn, 0, 0, true);
+                }
+            }
+            _ => {}
         }
     }
 }

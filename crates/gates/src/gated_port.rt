@@ -2,15 +2,15 @@ ghost use Rattle.std.specs.Prelude.{◌≡◌};
 
 use crate::gate::{Gate, Point};
 use events::{Answer, Event, HubRefusal, Port};
-use shared_hub::{Receipt, Run, Seat, SharedPort};
+use shared_hub::{Notes, Run, Seat, SeatPort};
 use std::sync::Wait;
 
 /// A thread's port to the hub, with a gate before and behind each event. It hands the hub's history out where that is due:
 /// at each answer whose number is a multiple of half of what the history holds at most, and where the history is full.
 /// What was handed out is dropped, outside the lock.
 #[derive(Drop)]
-pub struct GatedPort<'a, L: Run, R: Wait, G: Gate + Drop> {
-    port: SharedPort<'a, L, R>,
+pub struct GatedPort<'a, L: Run, R: Wait, G: Gate + Drop, N: Notes + Drop> {
+    port: SeatPort<'a, L, R, N>,
     gate: G,
     is_spent: bool,
     half: u64,
@@ -18,9 +18,13 @@ pub struct GatedPort<'a, L: Run, R: Wait, G: Gate + Drop> {
     due: u64,
 }
 
-impl<'a, L: Run, R: Wait, G: Gate + Drop> GatedPort<'a, L, R, G> {
+impl<'a, L: Run, R: Wait, G: Gate + Drop, N: Notes + Drop> GatedPort<'a, L, R, G, N> {
     /// A port behind a gate, to a hub whose history holds at most so many entries.
-    pub fn new(port: SharedPort<'a, L, R>, gate: G, history: usize) -> GatedPort<'a, L, R, G> {
+    pub fn new(
+        port: SeatPort<'a, L, R, N>,
+        gate: G,
+        history: usize,
+    ) -> GatedPort<'a, L, R, G, N> {
         GatedPort {
             port,
             gate,
@@ -35,17 +39,15 @@ impl<'a, L: Run, R: Wait, G: Gate + Drop> GatedPort<'a, L, R, G> {
         self.is_spent
     }
 
-    /// All receipts that are kept.
-    pub fn take_receipts(&mut self) -> Vec<Receipt> {
-        self.port.take_receipts()
+    /// Who takes note of the answers.
+    pub fn notes(&mut self) -> &mut N {
+        self.port.notes()
     }
 
-    /// The seat. What receipts are kept is dropped.
+    /// The seat.
     pub fn into_seat(self) -> Seat<L> {
         let GatedPort { port, .. } = self;
-        let (seat, receipts) = port.into_parts();
-        drop(receipts);
-        seat
+        port.into_seat()
     }
 
     /// Passes a point. The port behind the gate stays as it is.
@@ -58,22 +60,20 @@ impl<'a, L: Run, R: Wait, G: Gate + Drop> GatedPort<'a, L, R, G> {
     }
 }
 
-impl<L: Run, R: Wait, G: Gate + Drop> GatedPort<'_, L, R, G> {
+impl<L: Run, R: Wait, G: Gate + Drop, N: Notes + Drop> GatedPort<'_, L, R, G, N> {
     ghost use Rattle.std.specs.Prelude.{IfErr};
-    ghost use Rattle.shared_hub.specs.Entering.{kept, IsKept};
+    ghost use Rattle.shared_hub.specs.Entering.{IsAnswered};
 
     /// Hands the history out. Without memory nothing changes, and the next that meets a full history tries it again.
     fn rotate(&mut self)
-        ensures seat { self.new.port.seat ≡ self.old.port.seat }
-        ensures receipts { self.new.port.receipts.items ≡ self.old.port.receipts.items }
+        ensures { self.new.port.seat ≡ self.old.port.seat }
     {
         drop(self.port.rotate());
     }
 
     /// Hands the history out if that is due at a number, and notes at which number it is next.
     fn rotate_at(&mut self, number: u64)
-        ensures seat { self.new.port.seat ≡ self.old.port.seat }
-        ensures receipts { self.new.port.receipts.items ≡ self.old.port.receipts.items }
+        ensures { self.new.port.seat ≡ self.old.port.seat }
     {
         let past = number.checked_rem(self.half);
         if past == Some(0) {
@@ -86,7 +86,7 @@ impl<L: Run, R: Wait, G: Gate + Drop> GatedPort<'_, L, R, G> {
     /// Enters an event, once more where the history was full.
     #[inline(always)]
     pub fn enter(&mut self, event: Event) -> Result<Answer, (Event, HubRefusal)>
-        ensures step { IsKept L.opening (kept self.old.port.seat.count self.old.port.receipts.items) event result (kept self.new.port.seat.count self.new.port.receipts.items) }
+        ensures step { IsAnswered L.opening self.old.port.seat.count event result self.new.port.seat.count }
         ensures err { IfErr result (λ refused. refused.0 ≡ event) }
     {
         match self.port.submit(event) {
@@ -107,12 +107,12 @@ impl<L: Run, R: Wait, G: Gate + Drop> GatedPort<'_, L, R, G> {
     }
 }
 
-impl<L: Run, R: Wait, G: Gate + Drop> Port for GatedPort<'_, L, R, G> {
-    ghost use Rattle.shared_hub.specs.Entering.{kept, IsKept};
+impl<L: Run, R: Wait, G: Gate + Drop, N: Notes + Drop> Port for GatedPort<'_, L, R, G, N> {
+    ghost use Rattle.shared_hub.specs.Entering.{IsAnswered};
 
     ghost place = { λ port. 0 };
 
-    ghost steps = { λ old event result new. IsKept L.opening (kept old.port.seat.count old.port.receipts.items) event result (kept new.port.seat.count new.port.receipts.items) };
+    ghost steps = { λ old event result new. IsAnswered L.opening old.port.seat.count event result new.port.seat.count };
 
     #[inline(always)]
     fn submit(&mut self, event: Event) -> Result<Answer, (Event, HubRefusal)> {

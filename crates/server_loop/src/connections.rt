@@ -176,8 +176,6 @@ impl<'a, L: Run, R: Wait + Clock, G: Gate + Drop, W: Words + Drop> Worker<'a, L,
             drop(self.poll.registry().deregister(&mut standing.socket));
         }
         let stall = standing.client.end(&mut self.port, self.now);
-        // (a Close names nobody)
-        drop(self.port.take_receipts());
         if stall.is_some() {
             drop(self.stalled.push_back(key));
             return;

@@ -1,7 +1,7 @@
 use crate::worker::{Held, Worker};
 use client_io::{NonBlocking, Turn};
 use conn::Words;
-use doors::{Intake, Left, gave_less};
+use doors::{Intake, Left};
 use gates::Gate;
 use pacing::{Named, PATIENCE, batch, many};
 use shared_hub::Run;
@@ -44,10 +44,9 @@ impl<'a, L: Run, R: Wait + Clock, G: Gate + Drop, W: Words + Drop> Worker<'a, L,
     /// Names the receivers of a piece. One's own are named at once, and those of other workers too at a publisher's first
     /// piece, or where answers wait. Else they wait for more of that publisher, so that others are woken less often.
     pub fn tell(&mut self, goes_on: bool, has_answers: bool) {
-        self.notices.note_all(self.port.take_receipts().as_slice());
         self.leave_names(self.index);
         let batch = batch(self.house.limits.outbox, self.house.doors.len());
-        if has_answers || !goes_on || self.notices.most >= batch {
+        if has_answers || !goes_on || self.port.notes().most >= batch {
             self.tell_others();
         }
     }
@@ -66,10 +65,8 @@ impl<'a, L: Run, R: Wait + Clock, G: Gate + Drop, W: Words + Drop> Worker<'a, L,
     /// Leaves the names of a worker's connections at its door. The publisher is held where one of them lags.
     fn leave_names(&mut self, worker: usize) {
         let (doors, index, publisher) = (self.house.doors, self.index, self.publisher);
-        if self
-            .notices
-            .leave(self.rt, doors, worker, index, publisher, self.now)
-        {
+        let notices = self.port.notes();
+        if notices.leave(self.rt, doors, worker, index, publisher, self.now) {
             if let Some(conn) = publisher {
                 self.hold(conn);
             }
@@ -267,6 +264,7 @@ impl<'a, L: Run, R: Wait + Clock, G: Gate + Drop, W: Words + Drop> Worker<'a, L,
         };
         let most = standing.due.next_take();
         let mut writer = NonBlocking::new(&standing.socket);
+        self.port.notes().given = None;
         let turn = standing
             .client
             .drain(&mut self.port, &mut writer, most, self.now);
@@ -279,7 +277,7 @@ impl<'a, L: Run, R: Wait + Clock, G: Gate + Drop, W: Words + Drop> Worker<'a, L,
             let conn = standing.client.conn().number();
             let count = standing.due.awaited.count.min(most);
             standing.due = standing.due.taken(most);
-            if gave_less(self.port.take_receipts().as_slice(), most) {
+            if matches!(self.port.notes().given, Some(given) if given < most) {
                 standing.due = standing.due.emptied();
             }
             drop(self.left.push(Left { conn, count }));

@@ -18,7 +18,7 @@ pub struct Reloads<'a, L: Run, R: Wait, G: Gate + Drop> {
     pub rt: &'a R,
     pub alloc: Global,
     pub house: &'a House<'a>,
-    pub port: GatedPort<'a, L, R, G>,
+    pub port: GatedPort<'a, L, R, G, Notices>,
 }
 
 fn say<S: Sink>(sink: &mut S, line: &[u8]) {
@@ -93,10 +93,8 @@ impl<L: Run, R: Wait + Clock, G: Gate + Drop> Reloads<'_, L, R, G> {
             Ok(()) => say(sink, line.as_slice()),
             Err(_) => say(sink, b"no memory\n"),
         }
-        let Some(mut notices) = Notices::new(self.alloc, self.house.doors.len(), None) else {
-            return;
-        };
-        notices.note_all(self.port.take_receipts().as_slice());
-        notices.leave_all(self.rt, self.house.doors, now);
+        self.port
+            .notes()
+            .leave_all(self.rt, self.house.doors, now);
     }
 }

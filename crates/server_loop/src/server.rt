@@ -2,12 +2,12 @@ use crate::reloads::Reloads;
 use crate::worker::{Start, WAKER, Worker};
 use conn::Words;
 use devices::Sink;
-use doors::{Door, Flags, House, Limits, millis, open_door};
+use doors::{Door, Flags, House, Limits, Notices, millis, open_door};
 use gates::{Gate, GatedPort};
 use mio::net::TcpListener;
 use policy_source::Policies;
 use serve_fault::{ServeFault, least};
-use shared_hub::{Run, Seat, Shared, SharedPort};
+use shared_hub::{Run, Seat, SeatPort, Shared};
 use std::alloc::Global;
 use std::collections::VecDeque;
 use std::net::Net;
@@ -90,7 +90,11 @@ impl<'a, 'b, L: Run, R: Wait + Clock, G: Gate + Drop, W: Words + Drop, P: Polici
             policies,
             sink,
         } = office;
-        let port = SharedPort::new(self.rt, self.alloc, self.shared, seat);
+        let Some(notices) = Notices::new(self.alloc, self.house.doors.len(), None) else {
+            self.house.stop();
+            return Some(ServeFault::NoMemory);
+        };
+        let port = SeatPort::new(self.rt, self.shared, seat, notices);
         let mut reloads = Reloads {
             rt: self.rt,
             alloc: self.alloc,

@@ -8,7 +8,7 @@ use mio::net::TcpListener;
 use mio::{Events, Interest, Poll, Token};
 use pacing::{Named, PIECE};
 use serve_fault::ServeFault;
-use shared_hub::{Run, Shared, SharedPort};
+use shared_hub::{Run, SeatPort, Shared};
 use slab::Slab;
 use std::alloc::Global;
 use std::collections::{HashMap, VecDeque};
@@ -62,7 +62,7 @@ pub struct Worker<'a, L: Run, R: Wait, G: Gate + Drop, W: Words + Drop> {
     pub next_conn: u64,
     /// From when on connections are to be accepted.
     pub accept_at: Option<u64>,
-    pub port: GatedPort<'a, L, R, G>,
+    pub port: GatedPort<'a, L, R, G, Notices>,
     pub words: W,
     pub clients: Slab<Standing>,
     pub keys: HashMap<u64, usize, RandomState>,
@@ -74,7 +74,6 @@ pub struct Worker<'a, L: Run, R: Wait, G: Gate + Drop, W: Words + Drop> {
     pub held: VecDeque<Held>,
     /// What has left outboxes since the door was told.
     pub left: Vec<Left>,
-    pub notices: Notices,
     /// The publisher of the latest piece of a round, and whether others know that receivers are still to be named.
     pub publisher: Option<u64>,
     pub tells: bool,
@@ -113,7 +112,7 @@ impl<'a, L: Run, R: Wait + Clock, G: Gate + Drop, W: Words + Drop> Worker<'a, L,
         } = start;
         let Post { seat, gate, words } = post;
         let notices = Notices::new(alloc, house.doors.len(), Some(index))?;
-        let port = SharedPort::new(rt, alloc, shared, seat);
+        let port = SeatPort::new(rt, shared, seat, notices);
         Some(Worker {
             rt,
             alloc,
@@ -132,7 +131,6 @@ impl<'a, L: Run, R: Wait + Clock, G: Gate + Drop, W: Words + Drop> Worker<'a, L,
             stalled: VecDeque::new(alloc),
             held: VecDeque::new(alloc),
             left: Vec::new(alloc),
-            notices,
             publisher: None,
             tells: false,
             room: Vec::new(alloc),

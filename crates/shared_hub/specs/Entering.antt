@@ -20,6 +20,12 @@ IsEntered s e (Err refused) after =
 abbrev pub IsCounted : ℕ → Event → ℕ → Entry → ℕ → Type 0
 IsCounted opening e before a after = (a.event ≡ e) × (after ≡ before + 1) × (opening + after ≤ a.number)
 
+-- An event that a seat has submitted without asking for a receipt: with an answer it is counted; a refusal hands it back,
+-- and the seat is as before.
+abbrev pub IsAnswered : ℕ → ℕ → Event → Result Entry (Event × HubRefusal) → ℕ → Type 0
+IsAnswered opening before e (Ok a) after = IsCounted opening e before a after
+IsAnswered opening before e (Err refused) after = (refused.0 ≡ e) × (after ≡ before)
+
 -- An event that a seat has submitted: with a receipt it is counted; a refusal hands it back, and the seat is as before.
 abbrev pub IsSubmitted : ℕ → ℕ → Event → Result Receipt (Event × HubRefusal) → ℕ → Type 0
 IsSubmitted opening before e (Ok r) after = IsCounted opening e before r.entry after

@@ -3,7 +3,7 @@ ghost use Rattle.std.specs.Prelude.{◌≡◌, ◌+◌, ◌≤◌, ℕ};
 
 use crate::Receipt;
 use crate::audit::Audit;
-use hub::{Command, Event, Hub, HubRefusal, Ready, Segment};
+use hub::{Answer, Command, Event, Hub, HubRefusal, Ready, Segment};
 use lists::{Copying, Items, NoMemory};
 use std::alloc::Global;
 use std::collections::VecDeque;
@@ -65,10 +65,10 @@ pub struct Desk<L: Run> {
 
 impl<L: Run> Desk<L> {
     ghost use Rattle.std.specs.Prelude.{◌≡◌, ◌+◌, ◌≤◌, ◌++◌, ◌∷◌, [], IfOk, OnOk, OnErr, MatchResult, map, vec_len, vec_capacity};
-    ghost use Rattle.hub.specs.History.{IsLegalRun};
+    ghost use Rattle.hub.specs.History.{IsLegalRun, IsStep};
     ghost use Rattle.hub.specs.Segments.{held, rotated};
     ghost use Rattle.hub.specs.Sound.{IsSound};
-    ghost use Rattle.hub.specs.Guarantee.{IsRouted};
+    ghost use Rattle.hub.specs.Guarantee.{IsRouted, KeepsGuarantee};
     ghost use Rattle.shared_hub.specs.Entering.{IsEntered};
 
     /// The desk of a hub, with a share of every part, which counts nothing yet.
@@ -191,12 +191,30 @@ impl<L: Run> Desk<L> {
             Ok(ready) => ready,
             Err(_) => return Err((event, HubRefusal::NoMemory)),
         };
+        match self.answer_as(seat, event) {
+            Ok(answer) => Ok(Receipt::of(answer, ready)),
+            Err(refused) => Err(refused),
+        }
+    }
+
+    /// `enter_as` without a receipt: one step of the hub, which is counted. A refusal is the step's.
+    #[inline(always)]
+    pub(crate) fn answer_as(
+        &mut self,
+        seat: &mut Seat<L>,
+        event: Event,
+    ) -> Result<Answer, (Event, HubRefusal)>
+        ensures step { IsStep self.old.hub event result self.new.hub }
+        ensures guarantee { KeepsGuarantee self.old.hub event result self.new.hub }
+        ensures count { MatchResult result (λ _. seat.new.count ≡ seat.old.count + 1) (λ _. seat.new.count ≡ seat.old.count) }
+        ensures number { IfOk result (λ answer. L.opening + seat.new.count ≤ answer.number) }
+    {
         let answer = match self.hub.step(event) {
             Ok(answer) => answer,
             Err(refused) => return Err(refused),
         };
         count(&mut self.book, seat, answer.get().number);
-        Ok(Receipt::of(answer, ready))
+        Ok(answer)
     }
 }
 

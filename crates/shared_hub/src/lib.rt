@@ -6,6 +6,7 @@ mod audit;
 mod desk;
 mod port;
 mod receipt;
+mod seat_port;
 mod shared;
 mod unlocked;
 
@@ -13,6 +14,7 @@ pub use audit::{Audit, AuditFault};
 pub use desk::{Desk, Run, Seat};
 pub use port::SharedPort;
 pub use receipt::Receipt;
+pub use seat_port::{Notes, SeatPort};
 pub use shared::Shared;
 pub use std::sync::ledger::Blank;
 pub use unlocked::{Parts, Unlocked};

@@ -4,7 +4,7 @@ ghost use Rattle.std.specs.Prelude.{◌≡◌, ◌<◌, ◌≤◌, ℕ};
 use crate::audit::{Audit, AuditFault};
 use crate::unlocked::{Parts, Unlocked};
 use crate::{Desk, Receipt, Run, Seat};
-use hub::{Event, Hub, HubRefusal, Segment};
+use hub::{Answer, Event, Hub, HubRefusal, Segment};
 use lists::NoMemory;
 use std::alloc::Global;
 use std::sync::ledger::{Blank, Share};
@@ -31,7 +31,7 @@ pub(crate) struct Rest<L: Run> {
 
 impl<L: Run> Shared<L> {
     ghost use Rattle.std.specs.Prelude.{◌≡◌, ◌+◌, ◌<◌, ◌≤◌, IfOk, IfErr, All, vec_len, map};
-    ghost use Rattle.shared_hub.specs.Entering.{IsSubmitted};
+    ghost use Rattle.shared_hub.specs.Entering.{IsSubmitted, IsAnswered};
     ghost use Rattle.shared_hub.specs.Audits.{IsWhole, IsDue};
 
     /// A hub under its lock, with so many seats, none of which has entered anything. The blank ledger has a part for each,
@@ -133,6 +133,19 @@ impl<L: Run> Shared<L> {
         ensures { IsSubmitted L.opening seat.old.count event result seat.new.count }
     {
         self.desk.lock(rt).enter_as(seat, event)
+    }
+
+    /// `submit_as` without a receipt, so that no owner of the policy is counted while the lock is held.
+    #[inline(always)]
+    pub(crate) fn answer_as<R: Wait>(
+        &self,
+        rt: &R,
+        seat: &mut Seat<L>,
+        event: Event,
+    ) -> Result<Answer, (Event, HubRefusal)>
+        ensures { IsAnswered L.opening seat.old.count event result seat.new.count }
+    {
+        self.desk.lock(rt).answer_as(seat, event)
     }
 }
 

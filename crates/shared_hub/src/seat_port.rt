@@ -1,0 +1,76 @@
+ghost use Rattle.std.specs.Prelude.{◌≡◌};
+
+use crate::{Run, Seat, Shared};
+use hub::{Answer, Event, HubRefusal, Port, Segment};
+use lists::NoMemory;
+use std::sync::Wait;
+
+/// Who takes note of answers.
+pub trait Notes {
+    /// Takes note of an answer, before whoever asked has it.
+    fn note(&mut self, answer: &Answer);
+}
+
+/// A port of one seat to a hub that threads share, which keeps no receipts: note is taken of each answer, outside the lock.
+/// It is for a server, which runs for good and asks for no audit.
+#[derive(Drop)]
+pub struct SeatPort<'a, L: Run, R: Wait, N: Notes + Drop> {
+    rt: &'a R,
+    shared: &'a Shared<L>,
+    seat: Seat<L>,
+    notes: N,
+}
+
+impl<'a, L: Run, R: Wait, N: Notes + Drop> SeatPort<'a, L, R, N> {
+    /// A port of a seat.
+    pub fn new(rt: &'a R, shared: &'a Shared<L>, seat: Seat<L>, notes: N) -> SeatPort<'a, L, R, N>
+        ensures { result.seat.count ≡ seat.count }
+    {
+        SeatPort {
+            rt,
+            shared,
+            seat,
+            notes,
+        }
+    }
+
+    /// Who takes note of the answers.
+    pub fn notes(&mut self) -> &mut N {
+        &mut self.notes
+    }
+
+    /// Hands out the entries that the hub holds, as `Shared::rotate` does. The seat is as before.
+    pub fn rotate(&mut self) -> Result<Segment, NoMemory>
+        ensures { self.new.seat ≡ self.old.seat }
+    {
+        let result = self.shared.rotate_held(self.rt);
+        result
+    }
+
+    /// The seat.
+    pub fn into_seat(self) -> Seat<L>
+        ensures { result.count ≡ self.entry.seat.count }
+    {
+        let SeatPort { seat, .. } = self;
+        seat
+    }
+}
+
+impl<L: Run, R: Wait, N: Notes + Drop> Port for SeatPort<'_, L, R, N> {
+    ghost use Rattle.shared_hub.specs.Entering.{IsAnswered};
+
+    ghost place = { λ port. 0 };
+
+    ghost steps = { λ old event result new. IsAnswered L.opening old.seat.count event result new.seat.count };
+
+    #[inline(always)]
+    fn submit(&mut self, event: Event) -> Result<Answer, (Event, HubRefusal)> {
+        match self.shared.answer_as(self.rt, &mut self.seat, event) {
+            Ok(answer) => {
+                self.notes.note(&answer);
+                Ok(answer)
+            }
+            Err(refused) => Err(refused),
+        }
+    }
+}
