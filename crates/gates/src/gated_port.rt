@@ -3,11 +3,13 @@ ghost use Rattle.std.specs.Prelude.{◌≡◌};
 use crate::gate::{Gate, Point};
 use events::{Answer, Event, HubRefusal, Port};
 use shared_hub::{Notes, Run, Seat, SeatPort};
+use std::alloc::Global;
 use std::sync::Wait;
 
 /// A thread's port to the hub, with a gate before and behind each event. It hands the hub's history out where that is due:
 /// at each answer whose number is a multiple of half of what the history holds at most, and where the history is full.
-/// What was handed out is dropped, outside the lock.
+/// What was handed out is dropped outside the lock, an entry for each that is entered: so the new one has the block of the
+/// old one, which the heap keeps at hand.
 #[derive(Drop)]
 pub struct GatedPort<'a, L: Run, R: Wait, G: Gate + Drop, N: Notes + Drop> {
     port: SeatPort<'a, L, R, N>,
@@ -16,11 +18,14 @@ pub struct GatedPort<'a, L: Run, R: Wait, G: Gate + Drop, N: Notes + Drop> {
     half: u64,
     /// No number below this one is due, since the latest that was looked at.
     due: u64,
+    /// What was handed out and is still to be dropped.
+    spent: Vec<Answer>,
 }
 
 impl<'a, L: Run, R: Wait, G: Gate + Drop, N: Notes + Drop> GatedPort<'a, L, R, G, N> {
     /// A port behind a gate, to a hub whose history holds at most so many entries.
     pub fn new(
+        alloc: Global,
         port: SeatPort<'a, L, R, N>,
         gate: G,
         history: usize,
@@ -31,6 +36,7 @@ impl<'a, L: Run, R: Wait, G: Gate + Drop, N: Notes + Drop> GatedPort<'a, L, R, G
             is_spent: false,
             half: (history / 2) as u64,
             due: 0,
+            spent: Vec::new(alloc),
         }
     }
 
@@ -64,11 +70,14 @@ impl<L: Run, R: Wait, G: Gate + Drop, N: Notes + Drop> GatedPort<'_, L, R, G, N>
     ghost use Rattle.std.specs.Prelude.{IfErr};
     ghost use Rattle.shared_hub.specs.Entering.{IsAnswered};
 
-    /// Hands the history out. Without memory nothing changes, and the next that meets a full history tries it again.
+    /// Hands the history out, and drops what is left of what was handed out before. Without memory nothing changes, and the
+    /// next that meets a full history tries it again.
     fn rotate(&mut self)
         ensures { self.new.port.seat ≡ self.old.port.seat }
     {
-        drop(self.port.rotate());
+        if let Ok(segment) = self.port.rotate() {
+            self.spent = segment.into_entries();
+        }
     }
 
     /// Hands the history out if that is due at a number, and notes at which number it is next.
@@ -89,6 +98,7 @@ impl<L: Run, R: Wait, G: Gate + Drop, N: Notes + Drop> GatedPort<'_, L, R, G, N>
         ensures step { IsAnswered L.opening self.old.port.seat.count event result self.new.port.seat.count }
         ensures err { IfErr result (λ refused. refused.0 ≡ event) }
     {
+        drop(self.spent.pop());
         match self.port.submit(event) {
             Ok(answer) => {
                 let number = answer.get().number;

@@ -71,6 +71,14 @@ impl Segment {
         self.entries.as_slice()
     }
 
+    /// The entries, oldest first, for who wants no more of the part.
+    pub fn into_entries(self) -> Vec<Answer>
+        ensures { result.items ≡ self.entries }
+    {
+        let Segment { entries, .. } = self;
+        entries
+    }
+
     /// The world before the first entry.
     pub fn opening(&self) -> &PlainWorld
         ensures { result.now ≡ self.now.opening }

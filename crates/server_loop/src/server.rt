@@ -99,7 +99,7 @@ impl<'a, 'b, L: Run, R: Wait + Clock, G: Gate + Drop, W: Words + Drop, P: Polici
             rt: self.rt,
             alloc: self.alloc,
             house: self.house,
-            port: GatedPort::new(port, gate, self.house.limits.history),
+            port: GatedPort::new(self.alloc, port, gate, self.house.limits.history),
         };
         let fault = reloads.run(policies, sink);
         self.house.stop();
