@@ -56,6 +56,16 @@ impl<'a, L: Run, R: Wait, G: Gate + Drop, N: Notes + Drop> GatedPort<'a, L, R, G
         port.into_seat()
     }
 
+    /// Drops so many of the entries that were handed out, or all. Answers whether some are left. Who rests does so, since
+    /// without events none would go.
+    pub fn shed(&mut self, most: usize) -> bool
+        ensures { self.new.port ≡ self.old.port }
+    {
+        let left = self.spent.len().saturating_sub(most);
+        self.spent.truncate(left);
+        left > 0
+    }
+
     /// Passes a point. The port behind the gate stays as it is.
     pub fn pass(&mut self, point: Point)
         ensures { self.new.port ≡ self.old.port }

@@ -66,10 +66,10 @@ impl<'a, L: Run, R: Wait + Clock, G: Gate + Drop, W: Words + Drop> Worker<'a, L,
     fn leave_names(&mut self, worker: usize) {
         let (doors, index, publisher) = (self.house.doors, self.index, self.publisher);
         let notices = self.port.notes();
-        if notices.leave(self.rt, doors, worker, index, publisher, self.now) {
-            if let Some(conn) = publisher {
-                self.hold(conn);
-            }
+        let waits = notices.leave(self.rt, doors, worker, index, publisher, self.now);
+        match publisher {
+            Some(conn) if waits => self.hold(conn),
+            _ => {}
         }
     }
 

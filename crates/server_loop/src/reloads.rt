@@ -84,6 +84,7 @@ impl<L: Run, R: Wait + Clock, G: Gate + Drop> Reloads<'_, L, R, G> {
             Err((_, HubRefusal::HistoryFull)) => say(sink, b"history full\n"),
             Err((_, _)) => say(sink, b"no memory\n"),
         }
+        self.port.shed(usize::MAX);
     }
 
     /// Prints the lines of a reload, and tells the owners of the connections that it names.
@@ -93,8 +94,6 @@ impl<L: Run, R: Wait + Clock, G: Gate + Drop> Reloads<'_, L, R, G> {
             Ok(()) => say(sink, line.as_slice()),
             Err(_) => say(sink, b"no memory\n"),
         }
-        self.port
-            .notes()
-            .leave_all(self.rt, self.house.doors, now);
+        self.port.notes().leave_all(self.rt, self.house.doors, now);
     }
 }

@@ -31,6 +31,9 @@ const TURNS: usize = 16;
 /// than most work takes to come.
 const LOOKS: u32 = 100;
 
+/// How many old entries of the history a worker that would sleep drops before it looks for work again.
+const SHED: usize = 1024;
+
 /// How long the end of a server may take, in milliseconds.
 const GRACE: u64 = 2000;
 
@@ -87,13 +90,6 @@ pub struct Worker<'a, L: Run, R: Wait, G: Gate + Drop, W: Words + Drop> {
     pub looks: u32,
 }
 
-/// What pieces are read into. `None` without memory.
-fn buffer(alloc: Global) -> Option<Vec<u8>> {
-    let mut buf = Vec::new(alloc);
-    buf.resize(PIECE, 0).ok()?;
-    Some(buf)
-}
-
 impl<'a, L: Run, R: Wait + Clock, G: Gate + Drop, W: Words + Drop> Worker<'a, L, R, G, W> {
     /// A worker with no connection. `None` without memory.
     pub fn new(
@@ -103,7 +99,8 @@ impl<'a, L: Run, R: Wait + Clock, G: Gate + Drop, W: Words + Drop> Worker<'a, L,
         house: &'a House<'a>,
         start: Start<L, G, W>,
     ) -> Option<Worker<'a, L, R, G, W>> {
-        let buf = buffer(alloc)?;
+        let mut buf = Vec::new(alloc);
+        buf.resize(PIECE, 0).ok()?;
         let Start {
             index,
             post,
@@ -166,16 +163,12 @@ impl<'a, L: Run, R: Wait + Clock, G: Gate + Drop, W: Words + Drop> Worker<'a, L,
 
     /// Watches the socket that listens, if it has it, and answers whether it can.
     fn listens(&mut self) -> bool {
-        match &mut self.listener {
-            None => true,
-            Some(listener) => {
-                let readable = Interest::READABLE;
-                self.poll
-                    .registry()
-                    .register(listener, LISTENER, readable)
-                    .is_ok()
-            }
-        }
+        let Some(listener) = &mut self.listener else {
+            return true;
+        };
+        let registry = self.poll.registry();
+        let watched = registry.register(listener, LISTENER, Interest::READABLE);
+        watched.is_ok()
     }
 
     /// One round: what was left here, what the sockets tell, and some turns. As long as others have something to read only
@@ -220,7 +213,10 @@ impl<'a, L: Run, R: Wait + Clock, G: Gate + Drop, W: Words + Drop> Worker<'a, L,
 
     /// Waits for sockets, and notes what they tell. Answers whether the system could tell.
     fn wait(&mut self, events: &mut Events) -> bool {
-        let patience = self.patience();
+        let mut patience = self.patience();
+        if patience > Duration::ZERO && self.port.shed(SHED) {
+            patience = Duration::ZERO;
+        }
         let told = self.poll.poll(events, Some(patience)).is_ok();
         self.now = self.house.now(self.rt);
         for event in events.iter() {
