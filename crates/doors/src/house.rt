@@ -24,8 +24,11 @@ pub struct Flags {
     stops: AtomicU64,
     /// How many workers read no more.
     rested: AtomicU64,
-    /// Until when pieces are small, since a receiver lags.
-    small_until: AtomicU64,
+    /// Until when a receiver counts as one that lags.
+    lags_until: AtomicU64,
+    /// The client that was read last, and until when more than one counts as being read.
+    latest: AtomicU64,
+    several_until: AtomicU64,
     /// How many workers may have entered deliveries for others' connections that they haven't named yet.
     telling: AtomicU64,
 }
@@ -54,7 +57,9 @@ impl Flags {
         Flags {
             stops: AtomicU64::new(0),
             rested: AtomicU64::new(0),
-            small_until: AtomicU64::new(0),
+            lags_until: AtomicU64::new(0),
+            latest: AtomicU64::new(0),
+            several_until: AtomicU64::new(0),
             telling: AtomicU64::new(0),
         }
     }
@@ -113,14 +118,24 @@ impl<'a> House<'a> {
         self.flags.telling.load(Ordering::SeqCst)
     }
 
-    /// Has pieces be small until a moment, since a receiver lags.
-    pub fn read_less(&self, until: u64) {
-        self.flags.small_until.store(until, Ordering::SeqCst);
+    /// Notes that a receiver lags, which counts until a moment.
+    pub fn note_lag(&self, until: u64) {
+        self.flags.lags_until.store(until, Ordering::SeqCst);
     }
 
-    /// Whether pieces are small at a moment.
+    /// Notes which client is read next. Where it was another one before, several are read, which counts until a moment.
+    pub fn note_read(&self, conn: u64, until: u64) {
+        if self.flags.latest.load(Ordering::SeqCst) != conn {
+            self.flags.latest.store(conn, Ordering::SeqCst);
+            self.flags.several_until.store(until, Ordering::SeqCst);
+        }
+    }
+
+    /// Whether pieces are small at a moment: a receiver lags, and several clients are read. One alone is held before its
+    /// pieces fill an outbox; of several each may fill a part of it before it is held.
     pub fn reads_less(&self, now: u64) -> bool {
-        now < self.flags.small_until.load(Ordering::SeqCst)
+        now < self.flags.lags_until.load(Ordering::SeqCst)
+            && now < self.flags.several_until.load(Ordering::SeqCst)
     }
 }
 

@@ -1,3 +1,4 @@
+use crate::drains::SMALL_TIME;
 use crate::standing::Standing;
 use crate::worker::Worker;
 use client_io::{Client, NonBlocking, Turn};
@@ -90,7 +91,6 @@ impl<'a, L: Run, R: Wait + Clock, G: Gate + Drop, W: Words + Drop> Worker<'a, L,
 
     /// One turn of a connection that has something to read.
     pub fn serve_one(&mut self, key: usize) {
-        let most = piece_length(self.house.limits.outbox, self.house.reads_less(self.now));
         let Some(standing) = self.clients.get_mut(key) else {
             return;
         };
@@ -99,6 +99,9 @@ impl<'a, L: Run, R: Wait + Clock, G: Gate + Drop, W: Words + Drop> Worker<'a, L,
         if !standing.may_read() {
             return;
         }
+        let soon = self.now.saturating_add(SMALL_TIME);
+        self.house.note_read(conn, soon);
+        let most = piece_length(self.house.limits.outbox, self.house.reads_less(self.now));
         let goes_on = self.begin_piece(conn);
         let (Some(standing), Some(buf)) = (
             self.clients.get_mut(key),

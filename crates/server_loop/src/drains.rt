@@ -12,8 +12,8 @@ use std::time::Clock;
 /// How many Takes a connection has before others are looked at.
 const TAKES: usize = 16;
 
-/// How long pieces stay small once a receiver lags, in milliseconds.
-const SMALL_TIME: u64 = 100;
+/// How long pieces stay small once a receiver lags and several clients are read, in milliseconds.
+pub const SMALL_TIME: u64 = 100;
 
 /// What became of a drain.
 enum Drained {
@@ -76,7 +76,7 @@ impl<'a, L: Run, R: Wait + Clock, G: Gate + Drop, W: Words + Drop> Worker<'a, L,
     /// Reads a publisher no further for now.
     fn hold(&mut self, conn: u64) {
         let soon = self.now.saturating_add(SMALL_TIME);
-        self.house.read_less(soon);
+        self.house.note_lag(soon);
         let until = self.now.saturating_add(PATIENCE);
         let key = self.place_of(conn);
         if let Some(standing) = self.clients.get_mut(key) {
