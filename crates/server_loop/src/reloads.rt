@@ -57,6 +57,7 @@ impl<L: Run, R: Wait + Clock, G: Gate + Drop> Reloads<'_, L, R, G> {
             Ok(ready) => {
                 self.port.pass(Point::Prepared);
                 self.submit(ready, sink);
+                let _ = self.port.shed(usize::MAX);
                 self.port.is_spent()
             }
             Err(fault) => {
@@ -84,7 +85,6 @@ impl<L: Run, R: Wait + Clock, G: Gate + Drop> Reloads<'_, L, R, G> {
             Err((_, HubRefusal::HistoryFull)) => say(sink, b"history full\n"),
             Err((_, _)) => say(sink, b"no memory\n"),
         }
-        self.port.shed(usize::MAX);
     }
 
     /// Prints the lines of a reload, and tells the owners of the connections that it names.
