@@ -1,15 +1,30 @@
 ghost use Rattle.std.specs.Prelude.{◌≡◌};
 
 use crate::gate::{Gate, Point};
-use events::{Answer, Event, HubRefusal, Port};
+use events::{Answer, Event, HubRefusal, Outcome, Port};
 use shared_hub::{Notes, Run, Seat, SeatPort};
 use std::alloc::Global;
 use std::sync::Wait;
 
+/// How many old entries are dropped together: as many blocks of a size as malloc keeps at hand for a thread.
+const TOGETHER: usize = 7;
+
+/// Reads of each entry where it says what it owns. Their memory was last used long ago: read so, all of it is fetched side by
+/// side, where drops would wait for one after the other.
+fn read_each(entries: &[Answer]) -> u64 {
+    let mut read = 0;
+    for entry in entries {
+        let entry = entry.get();
+        read ^= entry.number ^ entry.event.now;
+        read ^= u64::from(matches!(entry.outcome, Outcome::Closed));
+    }
+    read
+}
+
 /// A thread's port to the hub, with a gate before and behind each event. It hands the hub's history out where that is due:
 /// at each answer whose number is a multiple of half of what the history holds at most, and where the history is full.
-/// What was handed out is dropped outside the lock, an entry for each that is entered: so the new one has the block of the
-/// old one, which the heap keeps at hand.
+/// What was handed out is dropped outside the lock, as many entries as are entered: so new ones have the blocks of old ones,
+/// which malloc keeps at hand.
 #[derive(Drop)]
 pub struct GatedPort<'a, L: Run, R: Wait, G: Gate + Drop, N: Notes + Drop> {
     port: SeatPort<'a, L, R, N>,
@@ -20,6 +35,10 @@ pub struct GatedPort<'a, L: Run, R: Wait, G: Gate + Drop, N: Notes + Drop> {
     due: u64,
     /// What was handed out and is still to be dropped.
     spent: Vec<Answer>,
+    /// How many of the blocks that were dropped last no new entry has yet.
+    at_hand: usize,
+    /// What was read of those, so that the reads are made.
+    read: u64,
 }
 
 impl<'a, L: Run, R: Wait, G: Gate + Drop, N: Notes + Drop> GatedPort<'a, L, R, G, N> {
@@ -37,6 +56,8 @@ impl<'a, L: Run, R: Wait, G: Gate + Drop, N: Notes + Drop> GatedPort<'a, L, R, G
             half: (history / 2) as u64,
             due: 0,
             spent: Vec::new(alloc),
+            at_hand: 0,
+            read: 0,
         }
     }
 
@@ -102,13 +123,28 @@ impl<L: Run, R: Wait, G: Gate + Drop, N: Notes + Drop> GatedPort<'_, L, R, G, N>
         self.due = multiple.saturating_add(self.half);
     }
 
+    /// Drops some of what was handed out, where new entries have had the blocks of those before.
+    #[inline(always)]
+    fn drop_some(&mut self)
+        ensures { self.new.port ≡ self.old.port }
+    {
+        if self.at_hand > 0 {
+            self.at_hand -= 1;
+            return;
+        }
+        let left = self.spent.len().saturating_sub(TOGETHER);
+        self.read = read_each(&self.spent.as_slice()[left..]);
+        self.spent.truncate(left);
+        self.at_hand = TOGETHER - 1;
+    }
+
     /// Enters an event, once more where the history was full.
     #[inline(always)]
     pub fn enter(&mut self, event: Event) -> Result<Answer, (Event, HubRefusal)>
         ensures step { IsAnswered L.opening self.old.port.seat.count event result self.new.port.seat.count }
         ensures err { IfErr result (λ refused. refused.0 ≡ event) }
     {
-        drop(self.spent.pop());
+        self.drop_some();
         match self.port.submit(event) {
             Ok(answer) => {
                 let number = answer.get().number;
