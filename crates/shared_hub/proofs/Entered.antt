@@ -11,7 +11,7 @@ use Rattle.hub.specs.History.{State, IsLegalRun}
 use Rattle.hub.specs.Segments.{Part, held}
 use Rattle.hub.proofs.Parts.{run-number}
 use Rattle.segments.specs.Joins.{parts_of, has_number, due, IsRight, AreOneHistory}
-use Rattle.shared_hub.specs.Receipts.{Receipt}
+use Rattle.receipts.specs.Receipts.{Receipt}
 use Rattle.shared_hub.specs.declared.audit.AuditFault.{AuditFault}
 use Rattle.shared_hub.specs.declared.audit.AuditFault.TheVariants.{SeatMissing, SegmentGap, ReceiptMismatch, NoMemory}
 use Rattle.shared_hub.specs.Audits.{entry_after, AreGenuine, IsJoined, AreEntered, IsWhole, IsFault, IsDue, IsLookUp}

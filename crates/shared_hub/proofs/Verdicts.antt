@@ -30,7 +30,7 @@ use Rattle.hub.specs.History.{State}
 use Rattle.hub.specs.InForce.{policy_after}
 use Rattle.hub.specs.Replies.{terms_in, grants_at, has_grant}
 use Rattle.hub.specs.Guarantee.{IsAllowance, IsRouted, IsEffect, HasReason, accepts, allows}
-use Rattle.shared_hub.specs.Receipts.{same_by, same_verdict, has_verdict, may_answer, may_have, some_allows, is_of_policy}
+use Rattle.receipts.specs.Receipts.{same_by, same_verdict, has_verdict, may_answer, may_have, some_allows, is_of_policy}
 
 -- a verdict is the same as itself
 same_by-refl : (b : By) → same_by b b ≡ true

@@ -6,7 +6,7 @@ use Rattle.world.specs.World.{World}
 use Rattle.hub.specs.History.{State, IsOpening, IsLegalRun}
 use Rattle.hub.specs.Segments.{Part}
 use Rattle.segments.specs.Joins.{parts_of, has_number, IsLeastFault}
-use Rattle.shared_hub.specs.Receipts.{Receipt}
+use Rattle.receipts.specs.Receipts.{Receipt}
 use Rattle.shared_hub.specs.declared.audit.AuditFault.{AuditFault}
 use Rattle.shared_hub.specs.declared.audit.AuditFault.TheVariants.{SeatMissing, SegmentGap, ReceiptMismatch, NoMemory}
 

@@ -6,7 +6,7 @@ use Rattle.events.specs.declared.refusal.HubRefusal.{HubRefusal}
 use Rattle.events.specs.declared.refusal.HubRefusal.TheVariants.{NoMemory}
 use Rattle.world.specs.Transition.{IsRefusal}
 use Rattle.hub.specs.History.{State, stepped}
-use Rattle.shared_hub.specs.Receipts.{Receipt}
+use Rattle.receipts.specs.Receipts.{Receipt}
 
 -- One step of the hub, whose receipt has the entry and the policy in force after it; or a refusal that changes nothing
 -- and hands the event back. It is the step's, or want of memory for the receipt.

@@ -1,3 +1,2 @@
-pub mod Receipts
 pub mod Entering
 pub mod Audits

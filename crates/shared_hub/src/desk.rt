@@ -191,15 +191,16 @@ impl<L: Run> Desk<L> {
             Ok(ready) => ready,
             Err(_) => return Err((event, HubRefusal::NoMemory)),
         };
-        match self.answer_as(seat, event) {
+        match self.answer(seat, event) {
             Ok(answer) => Ok(Receipt::of(answer, ready)),
             Err(refused) => Err(refused),
         }
     }
 
-    /// `enter_as` without a receipt: one step of the hub, which is counted. A refusal is the step's.
+    /// Answers an event: `enter` without a receipt, for a seat that is lent. It is one step of the hub, with the routing
+    /// guarantee, and the seat has one more. A refusal is the step's, and changes neither desk nor seat.
     #[inline(always)]
-    pub(crate) fn answer_as(
+    pub fn answer(
         &mut self,
         seat: &mut Seat<L>,
         event: Event,

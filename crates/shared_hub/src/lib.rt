@@ -5,7 +5,6 @@
 mod audit;
 mod desk;
 mod port;
-mod receipt;
 mod seat_port;
 mod shared;
 mod unlocked;
@@ -13,7 +12,7 @@ mod unlocked;
 pub use audit::{Audit, AuditFault};
 pub use desk::{Desk, Run, Seat};
 pub use port::SharedPort;
-pub use receipt::Receipt;
+pub use receipts::Receipt;
 pub use seat_port::{Notes, SeatPort};
 pub use shared::Shared;
 pub use std::sync::ledger::Blank;

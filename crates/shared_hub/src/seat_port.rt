@@ -12,7 +12,7 @@ pub trait Notes {
 }
 
 /// A port of one seat to a hub that threads share, which keeps no receipts: note is taken of each answer, outside the lock.
-/// It is for a server, which runs for good and asks for no audit.
+/// What is done under the lock is `Desk::answer`. It is for a server, which runs for good and asks for no audit.
 #[derive(Drop)]
 pub struct SeatPort<'a, L: Run, R: Wait, N: Notes + Drop> {
     rt: &'a R,
@@ -45,14 +45,6 @@ impl<'a, L: Run, R: Wait, N: Notes + Drop> SeatPort<'a, L, R, N> {
     {
         let result = self.shared.rotate_held(self.rt);
         result
-    }
-
-    /// The seat.
-    pub fn into_seat(self) -> Seat<L>
-        ensures { result.count ≡ self.entry.seat.count }
-    {
-        let SeatPort { seat, .. } = self;
-        seat
     }
 }
 

@@ -145,7 +145,7 @@ impl<L: Run> Shared<L> {
     ) -> Result<Answer, (Event, HubRefusal)>
         ensures { IsAnswered L.opening seat.old.count event result seat.new.count }
     {
-        self.desk.lock(rt).answer_as(seat, event)
+        self.desk.lock(rt).answer(seat, event)
     }
 }
 

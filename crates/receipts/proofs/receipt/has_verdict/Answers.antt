@@ -4,8 +4,8 @@ use Rattle.subjects.specs.Subject.{Token}
 use Rattle.permissions.specs.Verdicts.{subscribe_verdict}
 use Rattle.permissions.specs.declared.verdict.Verdict.{Verdict}
 use Rattle.events.specs.declared.event.Command.{Command}
-use Rattle.shared_hub.specs.Receipts.{same_verdict, has_verdict}
-use Rattle.shared_hub.proofs.receipt.has_verdict.Goals as goal
+use Rattle.receipts.specs.Receipts.{same_verdict, has_verdict}
+use Rattle.receipts.proofs.receipt.has_verdict.Goals as goal
 
 pub returns-in-Sub : goal.returns-in-Sub
 returns-in-Sub c =

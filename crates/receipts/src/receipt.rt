@@ -2,10 +2,11 @@ ghost use Rattle.std.specs.Prelude.{◌≡◌};
 ghost use Rattle.std.specs.List.{list_any};
 ghost use Rattle.permissions.specs.Verdicts.{subscribe_verdict};
 ghost use Rattle.ready.specs.Users.{users_of};
-ghost use Rattle.shared_hub.specs.Receipts.{has_verdict, may_answer, may_have, same_verdict, some_allows, is_of_policy as of_policy};
+ghost use Rattle.receipts.specs.Receipts.{has_verdict, may_answer, may_have, same_verdict, some_allows, is_of_policy as of_policy};
 
-use hub::{Answer, Command, Entry, Outcome, Ready, User};
+use events::{Answer, Command, Entry, Outcome};
 use permissions::{By, Verdict};
+use ready::{Ready, User};
 use std::marker::Model;
 use subjects::{Pattern, Subject};
 
@@ -20,8 +21,8 @@ pub struct Receipt {
 
 impl Model for Receipt {
     ghost use Rattle.std.specs.Prelude.{◌≡◌, true};
-    ghost use Rattle.shared_hub.specs.Receipts;
-    ghost use Rattle.shared_hub.specs.Receipts.{receipt, is_of_policy};
+    ghost use Rattle.receipts.specs.Receipts;
+    ghost use Rattle.receipts.specs.Receipts.{receipt, is_of_policy};
 
     ghost Value = { Receipts.Receipt };
 
@@ -32,7 +33,7 @@ impl Model for Receipt {
 
 impl Receipt {
     ghost use Rattle.std.specs.Prelude.{◌≡◌, true, false, MatchOption};
-    ghost use Rattle.shared_hub.specs.Receipts.{receipt, is_of_policy};
+    ghost use Rattle.receipts.specs.Receipts.{receipt, is_of_policy};
 
     /// The receipt of an answer under a policy. There is one exactly where the policy has a user with the verdict that
     /// the answer tells, if it tells one.
@@ -47,7 +48,7 @@ impl Receipt {
     }
 
     /// The receipt of an answer that the policy is known to have given.
-    pub(crate) fn of(answer: Answer, ready: Ready) -> Receipt
+    pub fn of(answer: Answer, ready: Ready) -> Receipt
         requires { is_of_policy ready answer.event.what answer.outcome ≡ true }
         ensures { result ≡ receipt answer ready }
     {

@@ -3,8 +3,8 @@ use Rattle.std.proofs.Common.{◌∙◌, List, ap, sym}
 use Rattle.subjects.specs.Subject.{Token}
 use Rattle.permissions.specs.Verdicts.{subscribe_verdict, is_allowed}
 use Rattle.events.specs.declared.event.Command.{Command}
-use Rattle.shared_hub.specs.Receipts.{may_have}
-use Rattle.shared_hub.proofs.receipt.may_have.Goals as goal
+use Rattle.receipts.specs.Receipts.{may_have}
+use Rattle.receipts.proofs.receipt.may_have.Goals as goal
 
 pub returns-in-Sub : goal.returns-in-Sub
 returns-in-Sub c =
