@@ -2,7 +2,7 @@ ghost use Rattle.std.specs.Prelude.{◌≡◌};
 
 use crate::gate::{Gate, Point};
 use events::{Answer, Event, HubRefusal, Outcome, Port};
-use shared_hub::{Notes, Run, Seat, SeatPort};
+use shared_hub::{Notes, Run, SeatPort};
 use std::alloc::Global;
 use std::sync::Wait;
 
@@ -71,12 +71,6 @@ impl<'a, L: Run, R: Wait, G: Gate + Drop, N: Notes + Drop> GatedPort<'a, L, R, G
         self.port.notes()
     }
 
-    /// The seat.
-    pub fn into_seat(self) -> Seat<L> {
-        let GatedPort { port, .. } = self;
-        port.into_seat()
-    }
-
     /// Drops so many of the entries that were handed out, or all. Answers whether some are left. Who rests does so, since
     /// without events none would go.
     pub fn shed(&mut self, most: usize) -> bool
@@ -111,13 +105,16 @@ impl<L: Run, R: Wait, G: Gate + Drop, N: Notes + Drop> GatedPort<'_, L, R, G, N>
         }
     }
 
-    /// Hands the history out if that is due at a number, and notes at which number it is next.
+    /// Hands the history out if that is due at a number, and notes at which number it is next. What is left of a part that
+    /// was handed out before is dropped, so that no port keeps one longer than that.
     fn rotate_at(&mut self, number: u64)
         ensures { self.new.port.seat ≡ self.old.port.seat }
     {
         let past = number.checked_rem(self.half);
         if past == Some(0) {
             self.rotate();
+        } else {
+            self.spent.clear();
         }
         let multiple = number.saturating_sub(past.unwrap_or(0));
         self.due = multiple.saturating_add(self.half);
