@@ -228,9 +228,7 @@ impl<'a, L: Run, R: Wait + Clock, G: Gate + Drop, W: Words + Drop> Worker<'a, L,
     fn note_event(&mut self, event: &Event) {
         let token = event.token();
         if token == LISTENER {
-            if self.accept_at.is_none() {
-                self.accept_at = Some(self.now);
-            }
+            self.accept_at = self.accept_at.or(Some(self.now));
         } else if token != WAKER {
             self.note_socket(token.0, event.is_readable(), event.is_writable());
         }
@@ -306,11 +304,6 @@ impl<'a, L: Run, R: Wait + Clock, G: Gate + Drop, W: Words + Drop> Worker<'a, L,
 
     /// Whether something waits for a client.
     fn owes(&self) -> bool {
-        for (_, standing) in self.clients.iter() {
-            if standing.client.waits() || standing.is_dirty {
-                return true;
-            }
-        }
-        false
+        self.clients.iter().any(|(_, standing)| standing.client.waits() || standing.is_dirty)
     }
 }
