@@ -15,8 +15,8 @@ use Rattle.clap.specs.declared.error.kind.ErrorKind.TheVariants.{DisplayHelp, Di
 use Rattle.clap.specs.declared.parser.matches.ArgMatches.{ArgMatches}
 use Rattle.clap.proofs.OnLiterals.{clap_on_literals}
 use Rattle.command_line.specs.declared.options.ServeOptions.{ServeOptions}
-use Rattle.command_line.specs.declared.words.Asked.{Asked}
-use Rattle.command_line.specs.declared.words.Asked.TheVariants as asked
+use Rattle.command_line.specs.declared.words.Invocation.{Invocation}
+use Rattle.command_line.specs.declared.words.Invocation.TheVariants as invocation
 use Rattle.command_line.specs.declared.words.Task.TheVariants.{Play, Check, Help, Version}
 use Rattle.command_line.specs.declared.words.WordsFault.{WordsFault}
 use Rattle.command_line.specs.declared.words.WordsFault.TheVariants.{WrongLine, NoMemory}
@@ -27,7 +27,7 @@ use Rattle.clap.specs.Words.{IsUnsignedIn}
 use Rattle.clap.specs.declared.builder.value_parser.Reading.TheVariants.{AsWritten}
 use Rattle.clap.specs.declared.parser.matches.ValueSource.TheVariants.{DefaultValue}
 use Rattle.command_line.specs.Options.{AreDefaults, IsOptions, IsNumberIn, default_listen, most_history}
-use Rattle.command_line.specs.Words.{natsd_app, kinds_of, found_in, is_mistake, IsAskedBy, IsReading, IsRefusal, IsServeOrMemory, IsTaskOrMemory, IsUnknown, IsWrongOrMemory}
+use Rattle.command_line.specs.Words.{natsd_app, kinds_of, found_in, is_mistake, IsInvokedBy, IsReading, IsRefusal, IsServeOrMemory, IsTaskOrMemory, IsUnknown, IsWrongOrMemory}
 
 simple_and_free : is_simple_and_free natsd_app ≡ true
 unfolding clap_on_literals
@@ -146,30 +146,30 @@ some_same : (x y : Text) → Some x ≡ Some y → x ≡ y
 some_same x y e = cc
 
 -- what is asked for, by what was found
-asked_is : (found : Option (Text × List Row)) (kinds : Kinds) (a : Asked) → kinds ≡ [] → IsOneOf (codes "play") (codes "check") (codes "serve") found → IsAskedBy found a → IsReading kinds found (Ok a)
-asked_is None kinds a none (inl e) h = absurd (cc)
-asked_is None kinds a none (inr (inl e)) h = absurd (cc)
-asked_is None kinds a none (inr (inr e)) h = absurd (cc)
-asked_is (Some found) kinds a none (inl e) h =
-    let P : Text → Type 0 = λ n. IsAskedBy (Some (n, found.1)) a → IsReading kinds (Some (n, found.1)) (Ok a) in
-    subst P (sym (some_same found.0 (codes "play") e)) (λ h. subst (λ (x : Asked). IsReading kinds (Some (codes "play", found.1)) (Ok x)) (sym h) (none, refl)) h
-asked_is (Some found) kinds a none (inr (inl e)) h =
-    let P : Text → Type 0 = λ n. IsAskedBy (Some (n, found.1)) a → IsReading kinds (Some (n, found.1)) (Ok a) in
-    subst P (sym (some_same found.0 (codes "check") e)) (λ h. subst (λ (x : Asked). IsReading kinds (Some (codes "check", found.1)) (Ok x)) (sym h) (none, refl)) h
-asked_is (Some found) kinds (asked.Serve options) none (inr (inr e)) h =
-    let P : Text → Type 0 = λ n. IsAskedBy (Some (n, found.1)) (asked.Serve options) → IsReading kinds (Some (n, found.1)) (Ok (asked.Serve options)) in
+invocation_is : (found : Option (Text × List Row)) (kinds : Kinds) (a : Invocation) → kinds ≡ [] → IsOneOf (codes "play") (codes "check") (codes "serve") found → IsInvokedBy found a → IsReading kinds found (Ok a)
+invocation_is None kinds a none (inl e) h = absurd (cc)
+invocation_is None kinds a none (inr (inl e)) h = absurd (cc)
+invocation_is None kinds a none (inr (inr e)) h = absurd (cc)
+invocation_is (Some found) kinds a none (inl e) h =
+    let P : Text → Type 0 = λ n. IsInvokedBy (Some (n, found.1)) a → IsReading kinds (Some (n, found.1)) (Ok a) in
+    subst P (sym (some_same found.0 (codes "play") e)) (λ h. subst (λ (x : Invocation). IsReading kinds (Some (codes "play", found.1)) (Ok x)) (sym h) (none, refl)) h
+invocation_is (Some found) kinds a none (inr (inl e)) h =
+    let P : Text → Type 0 = λ n. IsInvokedBy (Some (n, found.1)) a → IsReading kinds (Some (n, found.1)) (Ok a) in
+    subst P (sym (some_same found.0 (codes "check") e)) (λ h. subst (λ (x : Invocation). IsReading kinds (Some (codes "check", found.1)) (Ok x)) (sym h) (none, refl)) h
+invocation_is (Some found) kinds (invocation.Serve options) none (inr (inr e)) h =
+    let P : Text → Type 0 = λ n. IsInvokedBy (Some (n, found.1)) (invocation.Serve options) → IsReading kinds (Some (n, found.1)) (Ok (invocation.Serve options)) in
     subst P (sym (some_same found.0 (codes "serve") e)) (λ h. (none, (found.1, refl, h))) h
-asked_is (Some found) kinds (asked.Task task) none (inr (inr e)) h =
-    let P : Text → Type 0 = λ n. IsAskedBy (Some (n, found.1)) (asked.Task task) → IsReading kinds (Some (n, found.1)) (Ok (asked.Task task)) in
+invocation_is (Some found) kinds (invocation.Task task) none (inr (inr e)) h =
+    let P : Text → Type 0 = λ n. IsInvokedBy (Some (n, found.1)) (invocation.Task task) → IsReading kinds (Some (n, found.1)) (Ok (invocation.Task task)) in
     subst P (sym (some_same found.0 (codes "serve") e)) (λ h. absurd h) h
 
 -- where the command is natsd's, and clap gives matches
-pub right : (a : App) (words : List Text) (m : ArgMatches) (got : Asked) → a ≡ natsd_app → (is_simple_and_free a ≡ true → fault_of a words ≡ []) → HasMatchesOf a words m →
-    IsAskedBy (subcommand_rows_of m) got → IsReading (kinds_of words) (found_in words) (Ok got)
+pub right : (a : App) (words : List Text) (m : ArgMatches) (got : Invocation) → a ≡ natsd_app → (is_simple_and_free a ≡ true → fault_of a words ≡ []) → HasMatchesOf a words m →
+    IsInvokedBy (subcommand_rows_of m) got → IsReading (kinds_of words) (found_in words) (Ok got)
 right a words m got e h found t =
     let none : kinds_of words ≡ [] = sym (ap (λ (x : App). fault_of x words) e) ∙ h (ap is_simple_and_free e ∙ simple_and_free) in
     let rows : subcommand_rows_of m ≡ subcommand_of natsd_app words = (found (ap is_simple e ∙ simple)).1 ∙ ap (λ (x : App). subcommand_of x words) e in
-    asked_is (found_in words) (kinds_of words) got none (named words none) (subst (λ (f : Option (Text × List Row)). IsAskedBy f got) rows t)
+    invocation_is (found_in words) (kinds_of words) got none (named words none) (subst (λ (f : Option (Text × List Row)). IsInvokedBy f got) rows t)
 
 among : (k asked : ErrorKind) (kinds : Kinds) → (OutOfMemory ≡ asked → ⊥) → (k ≡ OutOfMemory) ⊎ IsAmong k kinds → IsAmong asked (k ∷ []) → IsAmong asked kinds
 among k asked kinds other (inl e) (inl same) = absurd (other (sym (same ∙ e)))
@@ -179,17 +179,17 @@ among k asked kinds other h (inr bad) = absurd bad
 no_mistake : (asked : ErrorKind) → is_mistake asked ≡ true → OutOfMemory ≡ asked → ⊥
 no_mistake asked mistake e = let bad : is_mistake OutOfMemory ≡ true = ap is_mistake e ∙ mistake in absurd (cc)
 
-by_kind : (k : ErrorKind) (kinds : Kinds) (found : Option (Text × List Row)) (r : Result Asked WordsFault) → (k ≡ OutOfMemory) ⊎ IsAmong k kinds → IsRefusal (k ∷ []) r → IsReading kinds found r
-by_kind k kinds found (Ok (asked.Serve options)) h p = absurd p
-by_kind k kinds found (Ok (asked.Task Play)) h p = absurd p
-by_kind k kinds found (Ok (asked.Task Check)) h p = absurd p
-by_kind k kinds found (Ok (asked.Task (Help text))) h p = among k DisplayHelp kinds (λ e. absurd (cc)) h p
-by_kind k kinds found (Ok (asked.Task (Version text))) h p = among k DisplayVersion kinds (λ e. absurd (cc)) h p
+by_kind : (k : ErrorKind) (kinds : Kinds) (found : Option (Text × List Row)) (r : Result Invocation WordsFault) → (k ≡ OutOfMemory) ⊎ IsAmong k kinds → IsRefusal (k ∷ []) r → IsReading kinds found r
+by_kind k kinds found (Ok (invocation.Serve options)) h p = absurd p
+by_kind k kinds found (Ok (invocation.Task Play)) h p = absurd p
+by_kind k kinds found (Ok (invocation.Task Check)) h p = absurd p
+by_kind k kinds found (Ok (invocation.Task (Help text))) h p = among k DisplayHelp kinds (λ e. absurd (cc)) h p
+by_kind k kinds found (Ok (invocation.Task (Version text))) h p = among k DisplayVersion kinds (λ e. absurd (cc)) h p
 by_kind k kinds found (Err (WrongLine text)) h p = (p.0, among k p.0 kinds (no_mistake p.0 p.2) h p.1, p.2)
 by_kind k kinds found (Err NoMemory) h p = tt
 
 -- and where it gives none
-pub wrong : (a : App) (words : List Text) (error : Error) (r : Result Asked WordsFault) → a ≡ natsd_app → (is_simple_and_free a ≡ true → HasKind (fault_of a words) error) →
+pub wrong : (a : App) (words : List Text) (error : Error) (r : Result Invocation WordsFault) → a ≡ natsd_app → (is_simple_and_free a ≡ true → HasKind (fault_of a words) error) →
     IsRefusal (kind_of error ∷ []) r → IsReading (kinds_of words) (found_in words) r
 wrong a words error r e h p =
     by_kind (kind_of error) (kinds_of words) (found_in words) r (subst (λ (x : App). HasKind (fault_of x words) error) e (h (ap is_simple_and_free e ∙ simple_and_free))) p
@@ -203,21 +203,21 @@ names_serve (Some name) = bytes_eq name (codes "serve")
 differ : (x y : Option Text) → names_serve x ≡ true → names_serve y ≡ false → x ≡ y → ⊥
 differ x y a b e = true≢false (sym a ∙ (ap names_serve e ∙ b))
 
-play_if : (rows : List Row) (r : Result Asked WordsFault) → IsReading [] (Some (codes "play", rows)) r → IsTaskOrMemory Play r
-play_if rows (Ok (asked.Serve options)) h = absurd (differ _ _ refl refl (sym (ap name_of h.1.1)))
-play_if rows (Ok (asked.Task Play)) h = refl
-play_if rows (Ok (asked.Task Check)) h = absurd (cc)
-play_if rows (Ok (asked.Task (Help text))) h = absurd h
-play_if rows (Ok (asked.Task (Version text))) h = absurd h
+play_if : (rows : List Row) (r : Result Invocation WordsFault) → IsReading [] (Some (codes "play", rows)) r → IsTaskOrMemory Play r
+play_if rows (Ok (invocation.Serve options)) h = absurd (differ _ _ refl refl (sym (ap name_of h.1.1)))
+play_if rows (Ok (invocation.Task Play)) h = refl
+play_if rows (Ok (invocation.Task Check)) h = absurd (cc)
+play_if rows (Ok (invocation.Task (Help text))) h = absurd h
+play_if rows (Ok (invocation.Task (Version text))) h = absurd h
 play_if rows (Err (WrongLine text)) h = absurd h.1
 play_if rows (Err NoMemory) h = tt
 
-check_if : (rows : List Row) (r : Result Asked WordsFault) → IsReading [] (Some (codes "check", rows)) r → IsTaskOrMemory Check r
-check_if rows (Ok (asked.Serve options)) h = absurd (differ _ _ refl refl (sym (ap name_of h.1.1)))
-check_if rows (Ok (asked.Task Play)) h = absurd (cc)
-check_if rows (Ok (asked.Task Check)) h = refl
-check_if rows (Ok (asked.Task (Help text))) h = absurd h
-check_if rows (Ok (asked.Task (Version text))) h = absurd h
+check_if : (rows : List Row) (r : Result Invocation WordsFault) → IsReading [] (Some (codes "check", rows)) r → IsTaskOrMemory Check r
+check_if rows (Ok (invocation.Serve options)) h = absurd (differ _ _ refl refl (sym (ap name_of h.1.1)))
+check_if rows (Ok (invocation.Task Play)) h = absurd (cc)
+check_if rows (Ok (invocation.Task Check)) h = refl
+check_if rows (Ok (invocation.Task (Help text))) h = absurd h
+check_if rows (Ok (invocation.Task (Version text))) h = absurd h
 check_if rows (Err (WrongLine text)) h = absurd h.1
 check_if rows (Err NoMemory) h = tt
 
@@ -234,17 +234,17 @@ defaults o h = record {
   history = number_is 2 most_history o.history 1000000 (codes "1000000") h.history million refl;
 }
 
-serve_if : (r : Result Asked WordsFault) → IsReading [] (Some (codes "serve", default_rows)) r → IsServeOrMemory AreDefaults r
-serve_if (Ok (asked.Serve options)) h = defaults options (subst (λ (rows : List Row). IsOptions rows options) (same_rows _ _ h.1.1) h.1.2)
-serve_if (Ok (asked.Task Play)) h = absurd (differ _ _ refl refl h.1)
-serve_if (Ok (asked.Task Check)) h = absurd (differ _ _ refl refl h.1)
-serve_if (Ok (asked.Task (Help text))) h = absurd h
-serve_if (Ok (asked.Task (Version text))) h = absurd h
+serve_if : (r : Result Invocation WordsFault) → IsReading [] (Some (codes "serve", default_rows)) r → IsServeOrMemory AreDefaults r
+serve_if (Ok (invocation.Serve options)) h = defaults options (subst (λ (rows : List Row). IsOptions rows options) (same_rows _ _ h.1.1) h.1.2)
+serve_if (Ok (invocation.Task Play)) h = absurd (differ _ _ refl refl h.1)
+serve_if (Ok (invocation.Task Check)) h = absurd (differ _ _ refl refl h.1)
+serve_if (Ok (invocation.Task (Help text))) h = absurd h
+serve_if (Ok (invocation.Task (Version text))) h = absurd h
 serve_if (Err (WrongLine text)) h = absurd h.1
 serve_if (Err NoMemory) h = tt
 
 -- what is read of words, by what clap says of them
-read_as : (words same : List Text) (kinds : Kinds) (found : Option (Text × List Row)) (r : Result Asked WordsFault) → words ≡ same → kinds_of same ≡ kinds → found_in same ≡ found →
+read_as : (words same : List Text) (kinds : Kinds) (found : Option (Text × List Row)) (r : Result Invocation WordsFault) → words ≡ same → kinds_of same ≡ kinds → found_in same ≡ found →
     IsReading (kinds_of words) (found_in words) r → IsReading kinds found r
 read_as words same kinds found r e k n p =
     let P : List Text → Type 0 = λ ws. IsReading (kinds_of ws) (found_in ws) r in
@@ -254,15 +254,15 @@ read_as words same kinds found r e k n p =
     subst R n (subst Q k there)
 
 -- the words of `natsd play`
-pub play_is_right : (words : List Text) (name : Text) (r : Result Asked WordsFault) → words ≡ name ∷ codes "play" ∷ [] → IsReading (kinds_of words) (found_in words) r → IsTaskOrMemory Play r
+pub play_is_right : (words : List Text) (name : Text) (r : Result Invocation WordsFault) → words ≡ name ∷ codes "play" ∷ [] → IsReading (kinds_of words) (found_in words) r → IsTaskOrMemory Play r
 play_is_right words name r e p = play_if [] r (read_as words _ _ _ r e (plays name).0 (plays name).1 p)
 
 -- the words of `natsd check`
-pub check_is_right : (words : List Text) (name : Text) (r : Result Asked WordsFault) → words ≡ name ∷ codes "check" ∷ [] → IsReading (kinds_of words) (found_in words) r → IsTaskOrMemory Check r
+pub check_is_right : (words : List Text) (name : Text) (r : Result Invocation WordsFault) → words ≡ name ∷ codes "check" ∷ [] → IsReading (kinds_of words) (found_in words) r → IsTaskOrMemory Check r
 check_is_right words name r e p = check_if [] r (read_as words _ _ _ r e (checks name).0 (checks name).1 p)
 
 -- the words of `natsd serve`
-pub serve_is_right : (words : List Text) (name : Text) (r : Result Asked WordsFault) → words ≡ name ∷ codes "serve" ∷ [] → IsReading (kinds_of words) (found_in words) r → IsServeOrMemory AreDefaults r
+pub serve_is_right : (words : List Text) (name : Text) (r : Result Invocation WordsFault) → words ≡ name ∷ codes "serve" ∷ [] → IsReading (kinds_of words) (found_in words) r → IsServeOrMemory AreDefaults r
 serve_is_right words name r e p = serve_if r (read_as words _ _ _ r e (serves name).0 (serves name).1 p)
 
 -- ---- words that name no task
@@ -292,13 +292,13 @@ unfolding clap_on_literals
 nothing name = refl
 
 -- a request is none of these mistakes
-wrong_if : (kinds : Kinds) (found : Option (Text × List Row)) (r : Result Asked WordsFault) → (kinds ≡ [] → ⊥) → (IsAmong DisplayHelp kinds → ⊥) → (IsAmong DisplayVersion kinds → ⊥) →
+wrong_if : (kinds : Kinds) (found : Option (Text × List Row)) (r : Result Invocation WordsFault) → (kinds ≡ [] → ⊥) → (IsAmong DisplayHelp kinds → ⊥) → (IsAmong DisplayVersion kinds → ⊥) →
     IsReading kinds found r → IsWrongOrMemory r
-wrong_if kinds found (Ok (asked.Serve options)) some help version h = absurd (some h.0)
-wrong_if kinds found (Ok (asked.Task Play)) some help version h = absurd (some h.0)
-wrong_if kinds found (Ok (asked.Task Check)) some help version h = absurd (some h.0)
-wrong_if kinds found (Ok (asked.Task (Help text))) some help version h = absurd (help h)
-wrong_if kinds found (Ok (asked.Task (Version text))) some help version h = absurd (version h)
+wrong_if kinds found (Ok (invocation.Serve options)) some help version h = absurd (some h.0)
+wrong_if kinds found (Ok (invocation.Task Play)) some help version h = absurd (some h.0)
+wrong_if kinds found (Ok (invocation.Task Check)) some help version h = absurd (some h.0)
+wrong_if kinds found (Ok (invocation.Task (Help text))) some help version h = absurd (help h)
+wrong_if kinds found (Ok (invocation.Task (Version text))) some help version h = absurd (version h)
 wrong_if kinds found (Err (WrongLine text)) some help version h = tt
 wrong_if kinds found (Err NoMemory) some help version h = tt
 
@@ -312,11 +312,11 @@ is_missing asked request (inl e) = let bad : is_mistake MissingSubcommand ≡ fa
 is_missing asked request (inr bad) = absurd bad
 
 -- the words of `natsd WORD`, where WORD is no task
-pub unknown_is_wrong : (words : List Text) (name word : Text) (r : Result Asked WordsFault) → words ≡ name ∷ word ∷ [] → IsUnknown word → IsReading (kinds_of words) (found_in words) r → IsWrongOrMemory r
+pub unknown_is_wrong : (words : List Text) (name word : Text) (r : Result Invocation WordsFault) → words ≡ name ∷ word ∷ [] → IsUnknown word → IsReading (kinds_of words) (found_in words) r → IsWrongOrMemory r
 unknown_is_wrong words name word r e unknown p =
     wrong_if stray _ r (λ none. absurd (cc)) (is_stray DisplayHelp refl) (is_stray DisplayVersion refl) (read_as words _ _ _ r e (others name word unknown) refl p)
 
 -- the words of `natsd` alone
-pub none_is_wrong : (words : List Text) (name : Text) (r : Result Asked WordsFault) → words ≡ name ∷ [] → IsReading (kinds_of words) (found_in words) r → IsWrongOrMemory r
+pub none_is_wrong : (words : List Text) (name : Text) (r : Result Invocation WordsFault) → words ≡ name ∷ [] → IsReading (kinds_of words) (found_in words) r → IsWrongOrMemory r
 none_is_wrong words name r e p =
     wrong_if (MissingSubcommand ∷ []) (found_in (name ∷ [])) r (λ none. absurd (cc)) (is_missing DisplayHelp refl) (is_missing DisplayVersion refl) (read_as words _ _ _ r e (nothing name) refl p)

@@ -7,8 +7,8 @@ use Rattle.clap.specs.declared.error.kind.ErrorKind.{ErrorKind}
 use Rattle.clap.specs.declared.error.kind.ErrorKind.TheVariants.{DisplayHelp, DisplayVersion, OutOfMemory}
 use Rattle.command_line.specs.Options.{serve_app, IsOptions}
 use Rattle.command_line.specs.declared.options.ServeOptions.{ServeOptions}
-use Rattle.command_line.specs.declared.words.Asked.{Asked}
-use Rattle.command_line.specs.declared.words.Asked.TheVariants as asked
+use Rattle.command_line.specs.declared.words.Invocation.{Invocation}
+use Rattle.command_line.specs.declared.words.Invocation.TheVariants as invocation
 use Rattle.command_line.specs.declared.words.Task.{Task}
 use Rattle.command_line.specs.declared.words.Task.TheVariants.{Play, Check, Help, Version}
 use Rattle.command_line.specs.declared.words.WordsFault.{WordsFault}
@@ -50,25 +50,25 @@ abbrev pub task_named : Text → Task
 task_named name = if bytes_eq name (codes "check") then Check else Play
 
 -- what a subcommand asks for
-abbrev pub IsAskedIf : Bool → Text → List Row → Asked → Type 0
-IsAskedIf true name rows (asked.Serve options) = IsOptions rows options
-IsAskedIf true name rows (asked.Task task) = ⊥
-IsAskedIf false name rows a = a ≡ asked.Task (task_named name)
+abbrev pub IsInvokedIf : Bool → Text → List Row → Invocation → Type 0
+IsInvokedIf true name rows (invocation.Serve options) = IsOptions rows options
+IsInvokedIf true name rows (invocation.Task task) = ⊥
+IsInvokedIf false name rows a = a ≡ invocation.Task (task_named name)
 
-abbrev pub IsAskedAs : Text → List Row → Asked → Type 0
-IsAskedAs name rows a = IsAskedIf (bytes_eq name (codes "serve")) name rows a
+abbrev pub IsInvokedAs : Text → List Row → Invocation → Type 0
+IsInvokedAs name rows a = IsInvokedIf (bytes_eq name (codes "serve")) name rows a
 
-abbrev pub IsAskedBy : Option (Text × List Row) → Asked → Type 0
-IsAskedBy None a = a ≡ asked.Task Play
-IsAskedBy (Some found) a = IsAskedAs found.0 found.1 a
+abbrev pub IsInvokedBy : Option (Text × List Row) → Invocation → Type 0
+IsInvokedBy None a = a ≡ invocation.Task Play
+IsInvokedBy (Some found) a = IsInvokedAs found.0 found.1 a
 
 -- what is made of a line that names no task: what was asked for, or that it is wrong
-abbrev pub IsRefusal : Kinds → Result Asked WordsFault → Type 0
-IsRefusal kinds (Ok (asked.Serve options)) = ⊥
-IsRefusal kinds (Ok (asked.Task Play)) = ⊥
-IsRefusal kinds (Ok (asked.Task Check)) = ⊥
-IsRefusal kinds (Ok (asked.Task (Help text))) = IsAmong DisplayHelp kinds
-IsRefusal kinds (Ok (asked.Task (Version text))) = IsAmong DisplayVersion kinds
+abbrev pub IsRefusal : Kinds → Result Invocation WordsFault → Type 0
+IsRefusal kinds (Ok (invocation.Serve options)) = ⊥
+IsRefusal kinds (Ok (invocation.Task Play)) = ⊥
+IsRefusal kinds (Ok (invocation.Task Check)) = ⊥
+IsRefusal kinds (Ok (invocation.Task (Help text))) = IsAmong DisplayHelp kinds
+IsRefusal kinds (Ok (invocation.Task (Version text))) = IsAmong DisplayVersion kinds
 IsRefusal kinds (Err (WrongLine text)) = HasMistake kinds
 IsRefusal kinds (Err NoMemory) = ⊤
 
@@ -81,29 +81,29 @@ abbrev pub IsServe : Option (Text × List Row) → ServeOptions → Type 0
 IsServe found options = (rows : List Row) × (found ≡ Some (codes "serve", rows)) × IsOptions rows options
 
 -- what is made of a line: what is named, where nothing is wrong, or a refusal
-abbrev pub IsReading : Kinds → Option (Text × List Row) → Result Asked WordsFault → Type 0
-IsReading kinds found (Ok (asked.Serve options)) = (kinds ≡ []) × IsServe found options
-IsReading kinds found (Ok (asked.Task Play)) = (kinds ≡ []) × IsNamed (codes "play") found
-IsReading kinds found (Ok (asked.Task Check)) = (kinds ≡ []) × IsNamed (codes "check") found
-IsReading kinds found (Ok (asked.Task (Help text))) = IsRefusal kinds (Ok (asked.Task (Help text)))
-IsReading kinds found (Ok (asked.Task (Version text))) = IsRefusal kinds (Ok (asked.Task (Version text)))
+abbrev pub IsReading : Kinds → Option (Text × List Row) → Result Invocation WordsFault → Type 0
+IsReading kinds found (Ok (invocation.Serve options)) = (kinds ≡ []) × IsServe found options
+IsReading kinds found (Ok (invocation.Task Play)) = (kinds ≡ []) × IsNamed (codes "play") found
+IsReading kinds found (Ok (invocation.Task Check)) = (kinds ≡ []) × IsNamed (codes "check") found
+IsReading kinds found (Ok (invocation.Task (Help text))) = IsRefusal kinds (Ok (invocation.Task (Help text)))
+IsReading kinds found (Ok (invocation.Task (Version text))) = IsRefusal kinds (Ok (invocation.Task (Version text)))
 IsReading kinds found (Err fault) = IsRefusal kinds (Err fault)
 
 -- the task, or want of memory
-abbrev pub IsTaskOrMemory : Task → Result Asked WordsFault → Type 0
-IsTaskOrMemory task (Ok a) = a ≡ asked.Task task
+abbrev pub IsTaskOrMemory : Task → Result Invocation WordsFault → Type 0
+IsTaskOrMemory task (Ok a) = a ≡ invocation.Task task
 IsTaskOrMemory task (Err (WrongLine text)) = ⊥
 IsTaskOrMemory task (Err NoMemory) = ⊤
 
 -- to serve, with options of which this holds, or want of memory
-abbrev pub IsServeOrMemory : (ServeOptions → Type 0) → Result Asked WordsFault → Type 0
-IsServeOrMemory P (Ok (asked.Serve options)) = P options
-IsServeOrMemory P (Ok (asked.Task task)) = ⊥
+abbrev pub IsServeOrMemory : (ServeOptions → Type 0) → Result Invocation WordsFault → Type 0
+IsServeOrMemory P (Ok (invocation.Serve options)) = P options
+IsServeOrMemory P (Ok (invocation.Task task)) = ⊥
 IsServeOrMemory P (Err (WrongLine text)) = ⊥
 IsServeOrMemory P (Err NoMemory) = ⊤
 
 -- the line is wrong, or want of memory
-abbrev pub IsWrongOrMemory : Result Asked WordsFault → Type 0
+abbrev pub IsWrongOrMemory : Result Invocation WordsFault → Type 0
 IsWrongOrMemory (Ok a) = ⊥
 IsWrongOrMemory (Err (WrongLine text)) = ⊤
 IsWrongOrMemory (Err NoMemory) = ⊤

@@ -5,4 +5,4 @@ mod options;
 mod words;
 
 pub use options::ServeOptions;
-pub use words::{Asked, Task, WordsFault, read_words};
+pub use words::{Invocation, Task, WordsFault, read_words};

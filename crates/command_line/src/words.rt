@@ -11,7 +11,7 @@ use std::convert::AsStr;
 
 /// What a command line asks for.
 #[derive(Debug, Drop)]
-pub enum Asked {
+pub enum Invocation {
     /// A task on standard input and output.
     Task(Task),
     /// To serve clients over sockets.
@@ -73,40 +73,42 @@ fn natsd_command<'a>(alloc: Global) -> Result<Command<'a>, AllocError>
 
 ghost use Rattle.clap.specs.Words.{found_of, rows_of, subcommand_rows_of};
 ghost use Rattle.command_line.specs.Options.{AreDefaults};
-ghost use Rattle.command_line.specs.Words.{found_in, kinds_of, IsAskedAs, IsAskedBy, IsReading, IsRefusal, IsServeOrMemory, IsTaskOrMemory, IsUnknown, IsWrongOrMemory};
+ghost use Rattle.command_line.specs.Words.{found_in, kinds_of, IsInvokedAs, IsInvokedBy, IsReading, IsRefusal, IsServeOrMemory, IsTaskOrMemory, IsUnknown, IsWrongOrMemory};
 
 /// What is made of a line for which clap gives no matches.
-fn read_refusal(alloc: Global, error: &Error) -> Result<Asked, WordsFault>
+fn read_refusal(alloc: Global, error: &Error) -> Result<Invocation, WordsFault>
     ensures { IsRefusal (kind_of error.now ∷ []) result }
 {
     match error.kind() {
         ErrorKind::OutOfMemory => Err(WordsFault::NoMemory),
-        ErrorKind::DisplayHelp => Ok(Asked::Task(Task::Help(format!(in alloc; "{error}")?))),
-        ErrorKind::DisplayVersion => Ok(Asked::Task(Task::Version(format!(in alloc; "{error}")?))),
+        ErrorKind::DisplayHelp => Ok(Invocation::Task(Task::Help(format!(in alloc; "{error}")?))),
+        ErrorKind::DisplayVersion => Ok(Invocation::Task(Task::Version(format!(in alloc;
+            "{error}"
+        )?))),
         _ => Err(WordsFault::WrongLine(format!(in alloc; "{error}")?)),
     }
 }
 
 /// What a subcommand asks for, by its name and its options: `serve`, `check`, or else `play`.
-fn asked_as(alloc: Global, name: &str, options: &ArgMatches<'_>) -> Result<Asked, AllocError>
-    ensures { IfOk result (IsAskedAs name.now (rows_of (found_of options.now))) }
+fn invoked_as(alloc: Global, name: &str, options: &ArgMatches<'_>) -> Result<Invocation, AllocError>
+    ensures { IfOk result (IsInvokedAs name.now (rows_of (found_of options.now))) }
 {
     if name == "serve" {
-        return Ok(Asked::Serve(options_of(alloc, options)?));
+        return Ok(Invocation::Serve(options_of(alloc, options)?));
     }
     if name == "check" {
-        return Ok(Asked::Task(Task::Check));
+        return Ok(Invocation::Task(Task::Check));
     }
-    Ok(Asked::Task(Task::Play))
+    Ok(Invocation::Task(Task::Play))
 }
 
 /// What the subcommand that the words name asks for.
-fn asked_by(alloc: Global, matches: &ArgMatches<'_>) -> Result<Asked, AllocError>
-    ensures { IfOk result (IsAskedBy (subcommand_rows_of matches.now)) }
+fn invoked_by(alloc: Global, matches: &ArgMatches<'_>) -> Result<Invocation, AllocError>
+    ensures { IfOk result (IsInvokedBy (subcommand_rows_of matches.now)) }
 {
     match matches.subcommand() {
-        None => Ok(Asked::Task(Task::Play)),
-        Some((name, options)) => asked_as(alloc, name, options),
+        None => Ok(Invocation::Task(Task::Play)),
+        Some((name, options)) => invoked_as(alloc, name, options),
     }
 }
 
@@ -117,7 +119,7 @@ fn asked_by(alloc: Global, matches: &ArgMatches<'_>) -> Result<Asked, AllocError
 /// `WrongLine` comes with clap's text where the line is another, such as one with no word behind the name, with one
 /// that is none of these or with a number out of its bounds; `NoMemory` where memory could not be had. No clause says
 /// what the texts are.
-pub fn read_words<S: AsStr>(alloc: Global, words: &[S]) -> Result<Asked, WordsFault>
+pub fn read_words<S: AsStr>(alloc: Global, words: &[S]) -> Result<Invocation, WordsFault>
     ensures reading { IsReading (kinds_of (map S.text words.now)) (found_in (map S.text words.now)) result }
     ensures play { (name : List ℕ) → map S.text words.now ≡ name ∷ codes "play" ∷ [] → IsTaskOrMemory Task.Play result }
     ensures check { (name : List ℕ) → map S.text words.now ≡ name ∷ codes "check" ∷ [] → IsTaskOrMemory Task.Check result }
@@ -128,8 +130,8 @@ pub fn read_words<S: AsStr>(alloc: Global, words: &[S]) -> Result<Asked, WordsFa
     let command = natsd_command(alloc)?;
     match command.try_get_matches_from(words) {
         Ok(matches) => {
-            let asked = asked_by(alloc, &matches)?;
-            Ok(asked)
+            let invocation = invoked_by(alloc, &matches)?;
+            Ok(invocation)
         }
         Err(error) => read_refusal(alloc, &error),
     }

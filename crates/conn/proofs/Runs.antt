@@ -4,9 +4,9 @@ use Rattle.std.proofs.lemmas.List.{append_assoc, append-nil}
 use Rattle.wire_read.specs.declared.frame.Frame.{Frame}
 use Rattle.protocol.specs.declared.stage.Stage.{Stage}
 use Rattle.conn.specs.declared.output.Stall.{Stall}
-use Rattle.conn.specs.declared.turn.Turn.TheVariants as turn
+use Rattle.conn.specs.declared.turn.FrameTurn.TheVariants as turn
 use Rattle.protocol.specs.Replies.{Told, told_text, is_closed}
-use Rattle.conn.specs.Turns.{Steps, Draws, Turned, Goes, Stalls, IsTurn, IsTurned}
+use Rattle.conn.specs.Turns.{Steps, Draws, Turned, Goes, Stalls, IsFrameTurn, IsFrameTurned}
 use Rattle.conn.specs.Serving.{Spot, spot, Served, served, rests, behind, UnlessClosed, IsFollowed, Serves}
 
 -- what is left, once it has had its turns, completes the whole
@@ -32,12 +32,12 @@ once_closed false at X h = absurd (cc)
 goes_on : {P W : Type 0} (steps : Steps P) (draws : Draws W) (now conn : ℕ) (all : List Frame) (start : Spot P W) (text : List ℕ) (at : Spot P W)
     (f : Frame) (fs : List Frame) (t : Told) (p : P) (w : W) →
     Completes steps draws now conn all start text (f ∷ fs) at → is_closed at.stage ≡ false →
-    IsTurn steps draws now conn at.stage at.word f at.port at.words (Goes t) p w →
+    IsFrameTurn steps draws now conn at.stage at.word f at.port at.words (Goes t) p w →
     Completes steps draws now conn all start (text ++ t.text) fs (spot p w t.stage None)
 unfolding Serves
 goes_on {P} {W} steps draws now conn all start text at f fs t p w done still turn r h =
     let whole = done (behind t.text r) (while_open (is_closed at.stage) at (behind t.text r)
-    ((t' : Turned) × (p' : P) × (w' : W) × IsTurn steps draws now conn at.stage at.word f at.port at.words t' p' w'
+    ((t' : Turned) × (p' : P) × (w' : W) × IsFrameTurn steps draws now conn at.stage at.word f at.port at.words t' p' w'
     × IsFollowed (Serves steps draws now conn fs) (f ∷ fs) at.stage t' p' w' (behind t.text r))
     still (Goes t, p, w, turn, (r, h, refl))) in
     subst (λ (x : List ℕ). Serves steps draws now conn all start (served x r.frames r.stall r.at)) (sym (append_assoc text t.text r.text)) whole
@@ -45,7 +45,7 @@ goes_on {P} {W} steps draws now conn all start text at f fs t p w done still tur
 pub completes_goes : {P W : Type 0} (steps : Steps P) (draws : Draws W) (now conn : ℕ) (all : List Frame) (start : Spot P W) (text : List ℕ) (at : Spot P W)
     (left : List Frame) (f : Frame) (fs : List Frame) (t : Told) (p : P) (w : W) → left ≡ f ∷ fs →
     Completes steps draws now conn all start text left at → is_closed at.stage ≡ false →
-    IsTurn steps draws now conn at.stage at.word f at.port at.words (Goes t) p w →
+    IsFrameTurn steps draws now conn at.stage at.word f at.port at.words (Goes t) p w →
     Completes steps draws now conn all start (text ++ t.text) fs (spot p w t.stage None)
 completes_goes steps draws now conn all start text at left f fs t p w is done =
     goes_on steps draws now conn all start text at f fs t p w (subst (λ (x : List Frame). Completes steps draws now conn all start text x at) is done)
@@ -54,7 +54,7 @@ completes_goes steps draws now conn all start text at left f fs t p w is done =
 pub completes_written : {P W : Type 0} (steps : Steps P) (draws : Draws W) (now conn : ℕ) (all : List Frame) (start : Spot P W) (text : List ℕ) (at : Spot P W)
     (left : List Frame) (f : Frame) (fs : List Frame) (s : Stage) (after : List ℕ) (p : P) (w : W) → left ≡ f ∷ fs →
     Completes steps draws now conn all start text left at → is_closed at.stage ≡ false →
-    IsTurned (λ t. IsTurn steps draws now conn at.stage at.word f at.port at.words t p w) (turn.Goes s) text after →
+    IsFrameTurned (λ t. IsFrameTurn steps draws now conn at.stage at.word f at.port at.words t p w) (turn.Goes s) text after →
     Completes steps draws now conn all start after fs (spot p w s None)
 completes_written steps draws now conn all start text at left f fs s after p w is done still (told, goes, written) =
     subst (λ (x : List ℕ). Completes steps draws now conn all start x fs (spot p w s None)) (sym written)
@@ -64,13 +64,13 @@ completes_written steps draws now conn all start text at left f fs s after p w i
 stalled : {P W : Type 0} (steps : Steps P) (draws : Draws W) (now conn : ℕ) (all : List Frame) (start : Spot P W) (text : List ℕ) (at : Spot P W)
     (f : Frame) (fs : List Frame) (stall : Stall) (word : Option ℕ) (p : P) (w : W) →
     Completes steps draws now conn all start text (f ∷ fs) at → is_closed at.stage ≡ false →
-    IsTurn steps draws now conn at.stage at.word f at.port at.words (Stalls stall word) p w →
+    IsFrameTurn steps draws now conn at.stage at.word f at.port at.words (Stalls stall word) p w →
     Serves steps draws now conn all start (served text (f ∷ fs) (Some stall) (spot p w at.stage word))
 unfolding Serves
 stalled {P} {W} steps draws now conn all start text at f fs stall word p w done still turn =
     let r : Served P W = served [] (f ∷ fs) (Some stall) (spot p w at.stage word) in
     let whole = done r (while_open (is_closed at.stage) at r
-    ((t' : Turned) × (p' : P) × (w' : W) × IsTurn steps draws now conn at.stage at.word f at.port at.words t' p' w'
+    ((t' : Turned) × (p' : P) × (w' : W) × IsFrameTurn steps draws now conn at.stage at.word f at.port at.words t' p' w'
     × IsFollowed (Serves steps draws now conn fs) (f ∷ fs) at.stage t' p' w' r)
     still (Stalls stall word, p, w, turn, refl)) in
     subst (λ (x : List ℕ). Serves steps draws now conn all start (served x (f ∷ fs) (Some stall) (spot p w at.stage word))) (append-nil text) whole
@@ -78,7 +78,7 @@ stalled {P} {W} steps draws now conn all start text at f fs stall word p w done 
 pub completes_stalls : {P W : Type 0} (steps : Steps P) (draws : Draws W) (now conn : ℕ) (all : List Frame) (start : Spot P W) (text : List ℕ) (at : Spot P W)
     (left : List Frame) (f : Frame) (fs : List Frame) (stall : Stall) (word : Option ℕ) (p : P) (w : W) → left ≡ f ∷ fs →
     Completes steps draws now conn all start text left at → is_closed at.stage ≡ false →
-    IsTurn steps draws now conn at.stage at.word f at.port at.words (Stalls stall word) p w →
+    IsFrameTurn steps draws now conn at.stage at.word f at.port at.words (Stalls stall word) p w →
     Serves steps draws now conn all start (served text left (Some stall) (spot p w at.stage word))
 completes_stalls steps draws now conn all start text at left f fs stall word p w is done still turn =
     subst (λ (x : List Frame). Serves steps draws now conn all start (served text x (Some stall) (spot p w at.stage word))) (sym is)
@@ -88,7 +88,7 @@ completes_stalls steps draws now conn all start text at left f fs stall word p w
 pub completes_stopped : {P W : Type 0} (steps : Steps P) (draws : Draws W) (now conn : ℕ) (all : List Frame) (start : Spot P W) (text : List ℕ) (at : Spot P W)
     (left : List Frame) (f : Frame) (fs : List Frame) (stall : Stall) (word : Option ℕ) (after : List ℕ) (p : P) (w : W) → left ≡ f ∷ fs →
     Completes steps draws now conn all start text left at → is_closed at.stage ≡ false →
-    IsTurned (λ t. IsTurn steps draws now conn at.stage at.word f at.port at.words t p w) (turn.Stalls stall word) text after →
+    IsFrameTurned (λ t. IsFrameTurn steps draws now conn at.stage at.word f at.port at.words t p w) (turn.Stalls stall word) text after →
     Serves steps draws now conn all start (served after left (Some stall) (spot p w at.stage word))
 completes_stopped steps draws now conn all start text at left f fs stall word after p w is done still (stalls, same) =
     subst (λ (x : List ℕ). Serves steps draws now conn all start (served x left (Some stall) (spot p w at.stage word))) (sym same)
@@ -106,7 +106,7 @@ closed_with : {P W : Type 0} (steps : Steps P) (draws : Draws W) (now conn : ℕ
 unfolding Serves
 closed_with {P} {W} steps draws now conn all start text at f fs done closed =
     done (rests at) (once_closed (is_closed at.stage) at
-    ((t' : Turned) × (p' : P) × (w' : W) × IsTurn steps draws now conn at.stage at.word f at.port at.words t' p' w'
+    ((t' : Turned) × (p' : P) × (w' : W) × IsFrameTurn steps draws now conn at.stage at.word f at.port at.words t' p' w'
     × IsFollowed (Serves steps draws now conn fs) (f ∷ fs) at.stage t' p' w' (rests at))
     closed)
 

@@ -5,7 +5,7 @@ pub use Rattle.pending.specs.Reading.{frames_after, reader_after}
 use Rattle.protocol.specs.declared.stage.Stage.{Stage}
 use Rattle.conn.specs.declared.output.Stall.{Stall}
 use Rattle.protocol.specs.Replies.{is_closed}
-use Rattle.conn.specs.Turns.{Steps, Draws, Turned, Goes, Stalls, IsTurn}
+use Rattle.conn.specs.Turns.{Steps, Draws, Turned, Goes, Stalls, IsFrameTurn}
 
 -- where a connection is between two turns: the word is that of the next frame, where it has drawn one
 pub record Spot (P W : Type 0) : Type 0 where
@@ -50,5 +50,5 @@ unfoldable pub Serves : {P W : Type 0} → Steps P → Draws W → ℕ → ℕ �
 Serves steps draws now conn [] at r = r ≡ rests at
 Serves {P} {W} steps draws now conn (f ∷ fs) at r =
     UnlessClosed (is_closed at.stage) at r
-    ((t : Turned) × (p : P) × (w : W) × IsTurn steps draws now conn at.stage at.word f at.port at.words t p w
+    ((t : Turned) × (p : P) × (w : W) × IsFrameTurn steps draws now conn at.stage at.word f at.port at.words t p w
     × IsFollowed (Serves steps draws now conn fs) (f ∷ fs) at.stage t p w r)

@@ -14,8 +14,8 @@ use Rattle.conn.specs.declared.output.Stall.{Stall}
 use Rattle.conn.specs.declared.output.Stall.TheVariants as stall
 use Rattle.protocol.specs.declared.plan.Plan.{Plan}
 use Rattle.protocol.specs.declared.plan.Plan.TheVariants.{Tells, Asks, Publishes}
-use Rattle.conn.specs.declared.turn.Turn.{Turn}
-use Rattle.conn.specs.declared.turn.Turn.TheVariants as turn
+use Rattle.conn.specs.declared.turn.FrameTurn.{FrameTurn}
+use Rattle.conn.specs.declared.turn.FrameTurn.TheVariants as turn
 use Rattle.protocol.specs.declared.stage.Stage.TheVariants as stage
 use Rattle.protocol.specs.Replies.{Told, told, told_text, reply_to}
 use Rattle.protocol.specs.Plans.{plan_of}
@@ -57,9 +57,9 @@ pub data Turned : Type 0 where
   Stalls : Stall → Option ℕ → Turned
 
 -- the same of what the code answers, where what is told is written behind what was written before
-abbrev pub IsTurned : (Turned → Type 0) → Turn → List ℕ → List ℕ → Type 0
-IsTurned Is (turn.Goes s) before after = (text : List ℕ) × Is (Goes (told_text text s)) × (after ≡ before ++ text)
-IsTurned Is (turn.Stalls stall word) before after = Is (Stalls stall word) × (after ≡ before)
+abbrev pub IsFrameTurned : (Turned → Type 0) → FrameTurn → List ℕ → List ℕ → Type 0
+IsFrameTurned Is (turn.Goes s) before after = (text : List ℕ) × Is (Goes (told_text text s)) × (after ≡ before ++ text)
+IsFrameTurned Is (turn.Stalls stall word) before after = Is (Stalls stall word) × (after ≡ before)
 
 -- after an answer: want of memory and a full history keep the frame, and all else is told
 abbrev pub turn_after : Stage → Stage → Frame → Option ℕ → Result Outcome HubRefusal → Turned
@@ -107,6 +107,6 @@ pub record IsUntouched {P W : Type 0} (word : Option ℕ) (p : P) (w : W) (t : T
   pub words : w' ≡ w
 
 -- a frame's turn at a stage
-abbrev pub IsTurn : {P W : Type 0} → Steps P → Draws W → ℕ → ℕ → Stage → Option ℕ → Frame → P → W → Turned → P → W → Type 0
-IsTurn steps draws now conn s word f p w t p' w' =
+abbrev pub IsFrameTurn : {P W : Type 0} → Steps P → Draws W → ℕ → ℕ → Stage → Option ℕ → Frame → P → W → Turned → P → W → Type 0
+IsFrameTurn steps draws now conn s word f p w t p' w' =
     IsUntouched word p w t p' w' ⊎ IsPlanned steps draws now conn s word f p w t p' w' (plan_of conn s f)

@@ -1,8 +1,8 @@
 // Frames, each in its turn.
 ghost use Rattle.std.specs.Prelude.{◌≡◌, ◌+◌, ◌++◌, ◌≤◌, length};
 ghost use Rattle.std.specs.Vec.{vec_len, vec_capacity};
-ghost use Rattle.conn.specs.declared.turn.Turn.TheVariants.{Goes};
-ghost use Rattle.conn.specs.Turns.{turn_after, outcome_of, is_verbose, is_published, is_quiet, IsWord, IsTurn, IsTurned};
+ghost use Rattle.conn.specs.declared.turn.FrameTurn.TheVariants.{Goes};
+ghost use Rattle.conn.specs.Turns.{turn_after, outcome_of, is_verbose, is_published, is_quiet, IsWord, IsFrameTurn, IsFrameTurned};
 ghost use Rattle.protocol.specs.declared.plan.Plan.TheVariants.{Publishes};
 ghost use Rattle.protocol.specs.Plans.{plan_of};
 ghost use Rattle.protocol.specs.Replies.{text_line, room_of};
@@ -22,7 +22,7 @@ use wire_read::Frame;
 
 /// What a frame's turn comes to. What the client is told of it is written.
 #[derive(Clone, Copy, Debug)]
-pub enum Turn {
+pub enum FrameTurn {
     /// The next frame is looked at, and the connection is at this stage.
     Goes(Stage),
     /// The frame stays, with its word if it has drawn one.
@@ -30,13 +30,13 @@ pub enum Turn {
 }
 
 /// Writes a reply for which there is room.
-fn tell(out: &mut Vec<u8>, reply: Reply<'_>) -> Turn
+fn tell(out: &mut Vec<u8>, reply: Reply<'_>) -> FrameTurn
     requires { vec_len out.old + length (text_line reply.text) ≤ vec_capacity out.old }
     ensures turn { result ≡ Goes reply.entry.stage }
     ensures text { out.new.items ≡ out.old.items ++ text_line reply.entry.text }
 {
     put_text(out, reply.text);
-    Turn::Goes(reply.stage)
+    FrameTurn::Goes(reply.stage)
 }
 
 /// What a frame's turn comes to, once the hub has answered. There is room for any text about the frame.
@@ -48,17 +48,17 @@ fn turn_of_answer(
     word: Option<u64>,
     answer: &Result<Answer, HubRefusal>,
     out: &mut Vec<u8>,
-) -> Turn
+) -> FrameTurn
     requires { vec_len out.old + room_of frame.now ≤ vec_capacity out.old }
-    ensures { IsTurned (λ turned. turned ≡ turn_after stage accepted frame.now word (outcome_of answer.now)) result out.old.items out.new.items }
+    ensures { IsFrameTurned (λ turned. turned ≡ turn_after stage accepted frame.now word (outcome_of answer.now)) result out.old.items out.new.items }
 {
     match answer {
         Ok(answer) => {
             let outcome = &answer.get().outcome;
             tell(out, reply_to_outcome(stage, accepted, frame, outcome))
         }
-        Err(HubRefusal::NoMemory) => Turn::Stalls(Stall::Memory, word),
-        Err(HubRefusal::HistoryFull) => Turn::Stalls(Stall::HistoryFull, word),
+        Err(HubRefusal::NoMemory) => FrameTurn::Stalls(Stall::Memory, word),
+        Err(HubRefusal::HistoryFull) => FrameTurn::Stalls(Stall::HistoryFull, word),
         Err(HubRefusal::NoSession) => tell(out, reply_to_refusal(stage, HubRefusal::NoSession)),
         Err(HubRefusal::SessionTaken) => {
             tell(out, reply_to_refusal(stage, HubRefusal::SessionTaken))
@@ -119,11 +119,11 @@ fn publish<P: Port, W: Words>(
     frame: &Frame,
     message: Message,
     out: &mut Vec<u8>,
-) -> Turn
+) -> FrameTurn
     requires plan { plan_of conn stage frame.now ≡ Publishes message }
     requires room { vec_len out.old + room_of frame.now ≤ vec_capacity out.old }
     ensures place { P.place port.new ≡ P.place port.old }
-    ensures turn { IsTurned (λ turned. IsTurn P.steps W.draws now conn stage word frame.now port.old words.old turned port.new words.new) result out.old.items out.new.items }
+    ensures turn { IsFrameTurned (λ turned. IsFrameTurn P.steps W.draws now conn stage word frame.now port.old words.old turned port.new words.new) result out.old.items out.new.items }
 {
     let drawn = word_of(words, word);
     let what = Command::Pub {
@@ -133,7 +133,7 @@ fn publish<P: Port, W: Words>(
     };
     let answer = submit(port, Event { now, what });
     if is_quiet(stage, &answer) {
-        return Turn::Goes(stage);
+        return FrameTurn::Goes(stage);
     }
     turn_of_answer(stage, stage, frame, Some(drawn), &answer, out)
 }
@@ -150,23 +150,23 @@ fn take_turn<P: Port, W: Words>(
     word: Option<u64>,
     frame: &Frame,
     out: &mut Vec<u8>,
-) -> Turn
+) -> FrameTurn
     ensures place { P.place port.new ≡ P.place port.old }
-    ensures turn { IsTurned (λ turned. IsTurn P.steps W.draws now conn stage word frame.now port.old words.old turned port.new words.new) result out.old.items out.new.items }
+    ensures turn { IsFrameTurned (λ turned. IsFrameTurn P.steps W.draws now conn stage word frame.now port.old words.old turned port.new words.new) result out.old.items out.new.items }
 {
     if make_room(out, frame).is_err() {
-        return Turn::Stalls(Stall::Memory, word);
+        return FrameTurn::Stalls(Stall::Memory, word);
     }
     let message = match message_of(stage, frame) {
         Ok(message) => message,
-        Err(_) => return Turn::Stalls(Stall::Memory, word),
+        Err(_) => return FrameTurn::Stalls(Stall::Memory, word),
     };
     if let Some(message) = message {
         return publish(conn, now, port, words, stage, word, frame, message, out);
     }
     let plan = match plan_of(alloc, conn, stage, frame) {
         Ok(plan) => plan,
-        Err(_) => return Turn::Stalls(Stall::Memory, word),
+        Err(_) => return FrameTurn::Stalls(Stall::Memory, word),
     };
     match plan {
         Plan::Tells(reply) => tell(out, reply),
@@ -235,10 +235,10 @@ pub fn serve<P: Port, W: Words>(
         match take_turn(
             alloc, conn, now, port, words, stage, word, frame, &mut bytes,
         ) {
-            Turn::Stalls(stall, kept) => {
+            FrameTurn::Stalls(stall, kept) => {
                 return Served::new(bytes, stage, kept, Some(stall));
             }
-            Turn::Goes(after) => {
+            FrameTurn::Goes(after) => {
                 stage = after;
                 word = None;
             }

@@ -5,8 +5,8 @@ use Rattle.std.proofs.lemmas.List.{take-take, get_or-take}
 use Rattle.std.proofs.lemmas.List.Sums.{position_or_len_is, passes_at_first, prefix_len-le-length}
 use Rattle.std.proofs.lemmas.Bool.{cases_lt, eqb-true, eqb-false, ltb-true, ltb-false, eq-eqb, ne_eqb, lt-ltb, le-ltb, cond-true, cond-false, false_from_ne_true}
 use Rattle.memchr.specs.Find.{IsFirstByte, is_byte}
-use Rattle.control_lines.specs.declared.line.Line.{Line}
-use Rattle.control_lines.specs.declared.line.Line.TheVariants.{Open, TooLong, Ended}
+use Rattle.control_lines.specs.declared.line.FoundLine.{FoundLine}
+use Rattle.control_lines.specs.declared.line.FoundLine.TheVariants.{Open, TooLong, Ended}
 use Rattle.control_lines.specs.Line.{is_lf, without_cr, is_too_long, line_of}
 
 -- a line has one byte more than it has without its CR, at most
@@ -91,17 +91,17 @@ none_short bytes n is none short =
     line_open bytes (omega (arith, ap (λ k. length (without_cr (take k bytes))) same)) (omega arith)
 
 -- what is known of the bytes by how far their line has come
-abbrev pub Long : List ℕ → Line → Type 0
+abbrev pub Long : List ℕ → FoundLine → Type 0
 Long bytes l = l ≡ TooLong → 4096 < length (without_cr (before_first is_lf bytes))
 
-abbrev pub Opened : List ℕ → Line → Type 0
+abbrev pub Opened : List ℕ → FoundLine → Type 0
 Opened bytes l = l ≡ Open → (length (without_cr (before_first is_lf bytes)) ≤ 4096) × (position_or_len is_lf bytes ≡ length bytes)
 
-abbrev pub EndedAt : List ℕ → Line → Type 0
+abbrev pub EndedAt : List ℕ → FoundLine → Type 0
 EndedAt bytes l = (end : ℕ) → l ≡ Ended end → (length (without_cr (before_first is_lf bytes)) ≤ 4096) × (position_or_len is_lf bytes ≡ end) × (end < length bytes)
 
 parts_by : (bytes : List ℕ) (s t : Bool) → is_too_long (before_first is_lf bytes) ≡ s → eqb (position_or_len is_lf bytes) (length bytes) ≡ t →
-    let l : Line = cond s TooLong (cond t Open (Ended (position_or_len is_lf bytes))) in Long bytes l × Opened bytes l × EndedAt bytes l
+    let l : FoundLine = cond s TooLong (cond t Open (Ended (position_or_len is_lf bytes))) in Long bytes l × Opened bytes l × EndedAt bytes l
 parts_by bytes true t e f = (λ _. ltb-true 4096 _ e, λ h. cc, λ end h. cc)
 parts_by bytes false true e f = (λ h. cc, λ _. (ltb-false 4096 _ e, eqb-true _ _ f), λ end h. cc)
 parts_by bytes false false e f = (

@@ -1,8 +1,8 @@
 -- Control lines (NATS documentation, "Client Protocol"; docs/PROTOCOL.md, "Control lines").
 use Rattle.std.specs.Prelude.{ℕ, ◌-◌, ◌==◌, Bool, List, length, take, slice_index, nat_lt, if◌then◌else◌}
 use Rattle.std.specs.List.{before_first, position_or_len}
-use Rattle.control_lines.specs.declared.line.Line.{Line}
-use Rattle.control_lines.specs.declared.line.Line.TheVariants.{Open, TooLong, Ended}
+use Rattle.control_lines.specs.declared.line.FoundLine.{FoundLine}
+use Rattle.control_lines.specs.declared.line.FoundLine.TheVariants.{Open, TooLong, Ended}
 
 -- a line ends before the first LF
 abbrev pub is_lf : ℕ → Bool
@@ -17,7 +17,7 @@ abbrev pub is_too_long : List ℕ → Bool
 is_too_long line = nat_lt 4096 (length (without_cr line))
 
 -- how far the first line of the bytes has come; its length is judged before its end came
-unfoldable pub line_of : List ℕ → Line
+unfoldable pub line_of : List ℕ → FoundLine
 line_of bytes =
     if is_too_long (before_first is_lf bytes) then TooLong
     else if position_or_len is_lf bytes == length bytes then Open

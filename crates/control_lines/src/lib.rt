@@ -7,5 +7,5 @@ mod line;
 mod operation;
 
 pub use field::{FieldsAt, Place, cut, cut_if, fields_of, first_place, text_at, trim};
-pub use line::{Line, MAX_CONTROL_LINE, find_line, len_without_cr};
+pub use line::{FoundLine, MAX_CONTROL_LINE, find_line, len_without_cr};
 pub use operation::{Operation, find_operation};

@@ -7,7 +7,7 @@ use memchr::memchr;
 pub const MAX_CONTROL_LINE: usize = 4096;
 
 /// How far the first control line of some bytes has come.
-pub enum Line {
+pub enum FoundLine {
     /// It goes on.
     Open,
     /// No continuation could make it short enough.
@@ -29,23 +29,23 @@ pub fn len_without_cr(line: &[u8]) -> usize
 }
 
 /// The first control line of the bytes, of which no more are searched than a line may have.
-pub fn find_line(bytes: &[u8]) -> Line
+pub fn find_line(bytes: &[u8]) -> FoundLine
     ensures { result ≡ line_of bytes.now }
 {
     let window = &bytes[..bytes.len().min(MAX_CONTROL_LINE + 2)];
     match memchr(b'\n', window) {
         Some(end) => {
             if len_without_cr(&window[..end]) > MAX_CONTROL_LINE {
-                Line::TooLong
+                FoundLine::TooLong
             } else {
-                Line::Ended(end)
+                FoundLine::Ended(end)
             }
         }
         None => {
             if len_without_cr(window) > MAX_CONTROL_LINE {
-                Line::TooLong
+                FoundLine::TooLong
             } else {
-                Line::Open
+                FoundLine::Open
             }
         }
     }

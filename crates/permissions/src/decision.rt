@@ -6,7 +6,7 @@ ghost use Rattle.permissions.specs.Lists.{Entry, names};
 ghost use Rattle.permissions.specs.Looked.{is_looked_at};
 ghost use Rattle.permissions.specs.Verdicts.{publish_by, by_entry_with, subscribe_by, allow_verdict, by_plain_entry, IsFirst, IsByEntry, IsByAllow, IsByPlain, IsJustifiedPublish, IsJustifiedSubscribe};
 
-use crate::asked::Asked;
+use crate::subject_set::SubjectSet;
 use crate::{By, Verdict};
 use policy_doc::{Direction, PermEntry};
 use subjects::{Pattern, Subject, SubjectRef};
@@ -95,7 +95,7 @@ fn by_plain_entry(entries: &[PermEntry], pattern: &Pattern) -> Verdict
 }
 
 /// The index of the first entry that has the whole of what is asked, whatever its queue part.
-fn first_with<A: Asked>(entries: &[PermEntry], asked: &A) -> Option<usize>
+fn first_with<A: SubjectSet>(entries: &[PermEntry], asked: &A) -> Option<usize>
     ensures least { result ≡ position (λ (e : Entry). A.is_within e.subject asked.now) entries.now }
     ensures first { IsFirst (λ e. A.IsWithin e.subject asked.now) (λ e. A.Lacks e.subject asked.now) entries.now result }
 {
@@ -103,7 +103,7 @@ fn first_with<A: Asked>(entries: &[PermEntry], asked: &A) -> Option<usize>
 }
 
 /// The index of the first entry that is looked at and has the whole of what is asked.
-pub(crate) fn first_entry<A: Asked>(
+pub(crate) fn first_entry<A: SubjectSet>(
     entries: &[PermEntry],
     among: Among,
     queue: Option<&Subject>,
@@ -124,7 +124,12 @@ pub(crate) fn first_entry<A: Asked>(
 }
 
 /// Whether an entry is looked at and has the whole of what is asked.
-fn has_whole<A: Asked>(entry: &PermEntry, among: Among, queue: Option<&Subject>, asked: &A) -> bool
+fn has_whole<A: SubjectSet>(
+    entry: &PermEntry,
+    among: Among,
+    queue: Option<&Subject>,
+    asked: &A,
+) -> bool
     ensures test { result ≡ is_looked_at among (option_copied queue.entry) entry.now && A.is_within entry.now.subject asked.now }
     ensures meaning { IsTrue result ↔ IsTrue (is_looked_at among (option_copied queue.entry) entry.now) × A.IsWithin entry.now.subject asked.now }
     ensures missing { OnFalse result ((is_looked_at among (option_copied queue.entry) entry.now ≡ false) ⊎ A.Lacks entry.now.subject asked.now) }

@@ -1,10 +1,10 @@
 //! What a user may publish, subscribe to and be sent: the verdicts of its permission lists.
 #![tactic(auto)]
 
-mod asked;
 mod compiled;
 mod decision;
 mod laws;
+mod subject_set;
 mod verdict;
 
 pub use compiled::Compiled;

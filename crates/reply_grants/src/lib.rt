@@ -1,11 +1,11 @@
 //! The reply subjects that a user may answer on: since when, and how many answers have passed.
 #![tactic(auto)]
 
-mod asked;
 mod grants;
 mod marks;
 mod plain;
 mod replies;
+mod subject_key;
 mod terms;
 
 pub use grants::Grants;

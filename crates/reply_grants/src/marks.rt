@@ -9,7 +9,7 @@ ghost use Rattle.reply_grants.specs.Grants as grants;
 ghost use Rattle.reply_grants.specs.Grants.{after_answer, has_live, without};
 ghost use Rattle.reply_grants.specs.Window.{Entry, IsKept, grant_of, so_far, window};
 
-use crate::asked::Asked;
+use crate::subject_key::SubjectKey;
 use crate::terms::allow;
 use indexmap::IndexMap;
 use policy_doc::Terms;
@@ -59,7 +59,7 @@ fn place_of(marks: &Marks, subject: &SubjectRef<'_>) -> Option<usize>
     ensures within { IfSome result (λ i. i < length marks.now.entries) }
     ensures unique { IsUnique same_subject marks.now }
 {
-    let place = marks.get_index_of(Asked::of(subject));
+    let place = marks.get_index_of(SubjectKey::of(subject));
     place
 }
 
@@ -91,7 +91,7 @@ pub(crate) fn count_answer(marks: &mut Marks, subject: &SubjectRef<'_>)
     ensures held { length marks.new.entries ≡ length marks.old.entries }
     ensures free { spare marks.new ≡ spare marks.old }
 {
-    if let Some(mark) = marks.get_mut(Asked::of(subject)) {
+    if let Some(mark) = marks.get_mut(SubjectKey::of(subject)) {
         mark.count = mark.count.saturating_add(1);
     }
 }

@@ -14,7 +14,7 @@ use Rattle.session.specs.Accounts.{IsPortTo}
 use Rattle.protocol.specs.Plans.{plan_of}
 use Rattle.protocol.specs.Replies.{told, is_closed}
 use Rattle.conn.specs.Serving.{Spot, spot, Served, served, rests, behind, UnlessClosed, IsFollowed, Serves}
-use Rattle.conn.specs.Turns.{Steps, Turned, Goes, Stalls, turn_after, event, IsAnswered, IsWord, IsPlanned, IsTurn}
+use Rattle.conn.specs.Turns.{Steps, Turned, Goes, Stalls, turn_after, event, IsAnswered, IsWord, IsPlanned, IsFrameTurn}
 use Rattle.script.specs.Server.{heard, IsNextWord}
 use Rattle.script.specs.Session.{Here, FrameTurn, frame_turn, word_of, words_after, answered_turn, planned, goes_on, turns, is_memory_stall}
 use Rattle.script.proofs.Answering.{is_memory_answer, answered_is}
@@ -97,7 +97,7 @@ unless_closed hub_of false at r Turns after while_open h = while_open h
 
 -- a turn of its plan
 turn_is : {P : Type 0} (steps : Steps P) (hub_of : P → State) → IsPortTo steps hub_of → (now conn : ℕ) (at : Spot P (List ℕ)) (f : Frame) (t : Turned) (p : P) (w : List ℕ) →
-    IsTurn steps IsNextWord now conn at.stage at.word f at.port at.words t p w → is_memory_turn t ≡ false →
+    IsFrameTurn steps IsNextWord now conn at.stage at.word f at.port at.words t p w → is_memory_turn t ≡ false →
     frame_turn t (hub_of p) w ≡ planned now conn (seen hub_of at) f (plan_of conn at.stage f)
 turn_is steps hub_of over now conn at f t p w (inl untouched) enough =
     let lacked : is_memory_turn t ≡ true = ap is_memory_turn untouched.stalls in absurd (cc)
@@ -109,7 +109,7 @@ pub turns_are : {P : Type 0} (steps : Steps P) (hub_of : P → State) → IsPort
 unfolding Serves turns
 turns_are steps hub_of over now conn [] at r h enough = ap (λ (x : Served _ (List ℕ)). seen_served hub_of x) h
 turns_are {P} steps hub_of over now conn (f ∷ fs) at r h enough =
-    let Turns : Type 0 = (t : Turned) × (p : P) × (w : List ℕ) × IsTurn steps IsNextWord now conn at.stage at.word f at.port at.words t p w
+    let Turns : Type 0 = (t : Turned) × (p : P) × (w : List ℕ) × IsFrameTurn steps IsNextWord now conn at.stage at.word f at.port at.words t p w
     × IsFollowed (Serves steps IsNextWord now conn fs) (f ∷ fs) at.stage t p w r in
     let t : FrameTurn = planned now conn (seen hub_of at) f (plan_of conn at.stage f) in
     unless_closed hub_of (is_closed at.stage) at r Turns (goes_on (turns now conn fs) (f ∷ fs) at.stage t t.turned)

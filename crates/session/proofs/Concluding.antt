@@ -17,7 +17,7 @@ use Rattle.protocol.specs.declared.plan.Plan.{Plan}
 use Rattle.protocol.specs.declared.plan.Plan.TheVariants.{Tells, Asks, Publishes}
 use Rattle.protocol.specs.Replies.{Told, reply_to}
 use Rattle.conn.specs.Turns.{Steps, Draws, Goes, Stalls, outcome_of, without_event, turn_after, IsAnswered, IsWord}
-use Rattle.session.specs.Happenings.{is_concluded}
+use Rattle.session.specs.Happenings.{is_final}
 use Rattle.session.specs.Accounts.{IsPortTo, IsStepped, IsDrawn, unless_refused}
 
 -- ---- the hub
@@ -70,7 +70,7 @@ asked_wordless (Some n) what accepted h = absurd h
 -- ---- answers
 
 pub goes_told : (t : Told) (s accepted : Stage) (f : Frame) (word : Option ℕ) (r : Result Outcome HubRefusal) → Goes t ≡ turn_after s accepted f word r →
-    (t ≡ reply_to s accepted f r) × (is_concluded r ≡ true)
+    (t ≡ reply_to s accepted f r) × (is_final r ≡ true)
 goes_told t s accepted f word (Err refusal.NoMemory) h = absurd (cc)
 goes_told t s accepted f word (Err refusal.HistoryFull) h = absurd (cc)
 goes_told t s accepted f word (Err x) h = (cc, refl)

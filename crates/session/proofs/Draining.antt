@@ -20,7 +20,7 @@ use Rattle.conn.specs.declared.drain.Written.TheVariants.{All, Closes, Short}
 use Rattle.protocol.specs.Replies.{Told, told_text, is_closed, closed_from, takes_headers}
 use Rattle.conn.specs.Turns.{Steps, event, IsAnswered}
 use Rattle.conn.specs.Drains.{Drain, delivery_text, texts, IsTold, stage_after, IsDrainEnd, drain_owing_nothing, IsTakeTold, Drains}
-use Rattle.session.specs.Happenings.{Happening, Took, Sent, Slow, take_told, took, has_missed, is_concluded}
+use Rattle.session.specs.Happenings.{Happening, Took, Sent, Slow, take_told, took, has_missed, is_final}
 use Rattle.session.specs.Accounts.{IsPortTo, IsOfDrain}
 use Rattle.session.proofs.Leading.{Place, Leads, leads_on, leads_as, stepped-nil, or_false, idles, one_happening}
 use Rattle.session.proofs.Concluding.{of_hub, stepped-one, refused, may_write, may_go}
@@ -98,11 +98,11 @@ abbrev settled : Place → Place
 settled a = record a { owed = []; missed = false }
 
 one_taken : (conn now most : ℕ) (a : Place) (hub : State) (r : Result Outcome HubRefusal) →
-    is_closed a.stage ≡ false → is_concluded r ≡ true → IsAnswered IsStep a.hub (event now (command.Take conn most)) r hub →
+    is_closed a.stage ≡ false → is_final r ≡ true → IsAnswered IsStep a.hub (event now (command.Take conn most)) r hub →
     Leads conn (settled a) (Took now most r ∷ []) (take_told a.stage r).text [] []
     (record a { stage = (take_told a.stage r).stage; owed = took (Took now most r); missed = has_missed (Took now most r); hub = hub })
 one_taken conn now most a hub r still done step =
-    one_happening (settled a) (Took now most r) refl (may_go (is_closed a.stage) (is_concluded r) still done) refl (stepped-one a.hub hub (event now (command.Take conn most)) r step) refl refl
+    one_happening (settled a) (Took now most r) refl (may_go (is_closed a.stage) (is_final r) still done) refl (stepped-one a.hub hub (event now (command.Take conn most)) r step) refl refl
 
 -- where a drain is, once it left that
 abbrev place_after : Place → Drain → State → Place
@@ -110,7 +110,7 @@ place_after a d hub = record a { stage = d.stage; owed = d.owed; missed = d.miss
 
 -- an answer without deliveries
 answered : (conn now most : ℕ) (a : Place) (before text : List ℕ) (s : Stage) (st : Option Stall) (d : Drain) (hub : State) (r : Result Outcome HubRefusal) →
-    is_closed a.stage ≡ false → is_concluded r ≡ true → IsAnswered IsStep a.hub (event now (command.Take conn most)) r hub →
+    is_closed a.stage ≡ false → is_final r ≡ true → IsAnswered IsStep a.hub (event now (command.Take conn most)) r hub →
     take_told a.stage r ≡ told_text text s → took (Took now most r) ≡ [] → has_missed (Took now most r) ≡ false → d ≡ drain_owing_nothing (before ++ text) s st false →
     IsPartTo conn now most (settled a) before d.text (place_after a d hub)
 answered conn now most a before text s st d hub r still done step told none kept is = record {
@@ -123,7 +123,7 @@ answered conn now most a before text s st d hub r still done step told none kept
   of_drain = ((refl, refl), tt);
 }
 
--- a refusal that concludes nothing
+-- a refusal that leaves the Take to be tried again
 not_taken : (conn now most : ℕ) (a : Place) (before : List ℕ) (st : Option Stall) (d : Drain) (hub : State) →
     hub ≡ a.hub → d ≡ drain_owing_nothing before a.stage st false → IsPartTo conn now most (settled a) before d.text (place_after a d hub)
 not_taken conn now most a before st d hub same is = record {

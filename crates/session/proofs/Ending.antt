@@ -16,7 +16,7 @@ use Rattle.conn.specs.declared.output.Stall.{Stall}
 use Rattle.protocol.specs.Replies.{told_text, is_closed, closed_from}
 use Rattle.conn.specs.Turns.{Steps, Draws, event, IsAnswered}
 use Rattle.conn.specs.Calls.{Connection, Given, given, nothing, stage_closed, IsQuiet, IsClosing, IsEnded}
-use Rattle.session.specs.Happenings.{Ended, Other, Asked, came, come_of_end}
+use Rattle.session.specs.Happenings.{Ended, Other, Submitted, came, come_of_end}
 use Rattle.session.specs.Accounts.{Call, Moment, IsPortTo, IsStepped, IsLeft}
 use Rattle.session.proofs.Leading.{Place, Leads, leads_as, stepped-nil, or_false, one_happening}
 use Rattle.session.proofs.Concluding.{of_hub, stepped-one}
@@ -30,10 +30,10 @@ record IsEndedTo (conn now : ℕ) (a : Place) (s : Stage) (hub : State) : Type 0
   leads : Leads conn a (Ended now answer ∷ []) [] [] [] (record a { stage = s; hub = hub })
   closed : is_closed s ≡ true
 
-end_leads : (conn now : ℕ) (a : Place) (s : Stage) (hub : State) (r : Result Outcome HubRefusal) (asked : List Asked) →
-    come_of_end conn now r (closed_from a.stage) ≡ came (told_text [] s) asked [] → IsStepped asked a.hub hub →
+end_leads : (conn now : ℕ) (a : Place) (s : Stage) (hub : State) (r : Result Outcome HubRefusal) (submitted : List Submitted) →
+    come_of_end conn now r (closed_from a.stage) ≡ came (told_text [] s) submitted [] → IsStepped submitted a.hub hub →
     Leads conn a (Ended now r ∷ []) [] [] [] (record a { stage = s; hub = hub })
-end_leads conn now a s hub r asked is stepped = one_happening a (Ended now r) is (search rules) refl stepped (append-nil a.owed) (or_false a.missed)
+end_leads conn now a s hub r submitted is stepped = one_happening a (Ended now r) is (search rules) refl stepped (append-nil a.owed) (or_false a.missed)
 
 closed_after : (r : Result Outcome HubRefusal) → is_closed (stage_closed r) ≡ true
 closed_after (Err refusal.NoSession) = refl

@@ -11,7 +11,7 @@ use Rattle.events.specs.declared.answer.Delivery.{Delivery}
 use Rattle.protocol.specs.declared.stage.Stage.{Stage}
 use Rattle.protocol.specs.Replies.{told_text}
 use Rattle.conn.specs.Turns.{Draws}
-use Rattle.session.specs.Happenings.{Happening, framed, sent, took, is_slow, has_missed, Asked, Came, came, come_of, then_came, comes, may_come, IsInOrder}
+use Rattle.session.specs.Happenings.{Happening, framed, sent, took, is_slow, has_missed, Submitted, Came, came, come_of, then_came, comes, may_come, IsInOrder}
 use Rattle.session.specs.Accounts.{IsStepped, IsDrawn}
 
 -- ---- one after another
@@ -20,7 +20,7 @@ then_assoc : (a b c : Came) → then_came (then_came a b) c ≡ then_came a (the
 then_assoc a b c = λ i. record {
   text = append_assoc a.text b.text c.text i;
   stage = c.stage;
-  asked = append_assoc a.asked b.asked c.asked i;
+  submitted = append_assoc a.submitted b.submitted c.submitted i;
   words = append_assoc a.words b.words c.words i;
 }
 
@@ -39,7 +39,7 @@ pub comes-one : (conn : ℕ) (s : Stage) (h : Happening) → comes conn s (h ∷
 unfolding comes
 comes-one conn s h =
     let c : Came = come_of conn s h in
-    λ i. record { text = append-nil c.text i; stage = c.stage; asked = append-nil c.asked i; words = append-nil c.words i }
+    λ i. record { text = append-nil c.text i; stage = c.stage; submitted = append-nil c.submitted i; words = append-nil c.words i }
 
 in_order-nil : (conn : ℕ) (s : Stage) → IsInOrder conn s []
 unfolding IsInOrder
@@ -58,7 +58,7 @@ pub stepped-nil : (s s' : State) → s' ≡ s → IsStepped [] s s'
 unfolding IsStepped
 stepped-nil s s' h = h
 
-stepped-append : (a b : List Asked) (s t u : State) → IsStepped a s t → IsStepped b t u → IsStepped (a ++ b) s u
+stepped-append : (a b : List Submitted) (s t u : State) → IsStepped a s t → IsStepped b t u → IsStepped (a ++ b) s u
 unfolding IsStepped
 stepped-append [] b s t u h k = subst (λ (x : State). IsStepped b x u) h k
 stepped-append (x ∷ a) b s t u h k = (h.0, h.1, stepped-append a b h.0 t u h.2 k)
@@ -91,7 +91,7 @@ pub record Leads (conn : ℕ) (a : Place) (hs : List Happening) (text : List ℕ
   pub order : IsInOrder conn a.stage hs
   pub text_so : text ≡ came.text
   pub stage_so : b.stage ≡ came.stage
-  pub hub : IsStepped came.asked a.hub b.hub
+  pub hub : IsStepped came.submitted a.hub b.hub
   pub words : came.words ++ option_to_list b.spare ≡ option_to_list a.spare ++ drawn
   pub frames : flat_map framed hs ++ b.left ≡ a.left ++ arrived
   pub owed : a.owed ++ flat_map took hs ≡ flat_map sent hs ++ b.owed
@@ -122,7 +122,7 @@ leads_on {conn} {a} {b} {c} {hs} {more} {text} {text'} {arrived} {arrived'} {dra
       order = in_order-append conn a.stage hs more h.order (subst (λ (s : Stage). IsInOrder conn s more) at k.order);
       text_so = λ i. h.text_so i ++ k.text_so i;
       stage_so = k.stage_so;
-      hub = stepped-append h.came.asked k.came.asked a.hub b.hub c.hub h.hub k.hub;
+      hub = stepped-append h.came.submitted k.came.submitted a.hub b.hub c.hub h.hub k.hub;
       words = sym (chain (option_to_list a.spare) (option_to_list b.spare) (option_to_list c.spare) drawn drawn' h.came.words k.came.words (sym h.words) (sym k.words));
       frames = ap (λ l. l ++ c.left) (flat_map-append framed hs more)
           ∙ sym (chain a.left b.left c.left arrived arrived' (flat_map framed hs) (flat_map framed more) (sym h.frames) (sym k.frames));
@@ -167,12 +167,12 @@ pub idles : {conn : ℕ} (a : Place) → Leads conn a [] [] [] [] a
 idles a = stays a refl (sym (append-nil (option_to_list a.spare)))
 
 -- one thing happens, and no frame has its turn
-pub one_happening : {conn : ℕ} (a : Place) (h : Happening) {text : List ℕ} {s : Stage} {asked : List Asked} {owed : List Delivery} {missed : Bool} {hub : State} →
-    come_of conn a.stage h ≡ came (told_text text s) asked [] → IsTrue (may_come a.stage h) → framed h ≡ [] → IsStepped asked a.hub hub →
+pub one_happening : {conn : ℕ} (a : Place) (h : Happening) {text : List ℕ} {s : Stage} {submitted : List Submitted} {owed : List Delivery} {missed : Bool} {hub : State} →
+    come_of conn a.stage h ≡ came (told_text text s) submitted [] → IsTrue (may_come a.stage h) → framed h ≡ [] → IsStepped submitted a.hub hub →
     a.owed ++ took h ≡ sent h ++ owed → (a.missed || has_missed h) ≡ (is_slow h || missed) →
     Leads conn a (h ∷ []) text [] [] (record a { stage = s; owed = owed; missed = missed; hub = hub })
-one_happening {conn} a h {text} {s} {asked} {owed} {missed} is may unframed stepped waiting told = record {
-  came = came (told_text text s) asked [];
+one_happening {conn} a h {text} {s} {submitted} {owed} {missed} is may unframed stepped waiting told = record {
+  came = came (told_text text s) submitted [];
   comes_so = comes-one conn a.stage h ∙ is;
   order = in_order-one conn a.stage h may;
   text_so = refl;

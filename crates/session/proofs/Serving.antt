@@ -8,7 +8,7 @@ use Rattle.protocol.specs.declared.stage.Stage.{Stage}
 use Rattle.conn.specs.declared.output.Stall.{Stall}
 use Rattle.protocol.specs.Replies.{Told, is_closed}
 use Rattle.protocol.specs.Plans.{plan_of}
-use Rattle.conn.specs.Turns.{Steps, Draws, Turned, Goes, Stalls, IsTurn}
+use Rattle.conn.specs.Turns.{Steps, Draws, Turned, Goes, Stalls, IsFrameTurn}
 use Rattle.conn.specs.Serving.{Spot, spot, Served, served, rests, behind, UnlessClosed, IsFollowed, Serves}
 use Rattle.session.specs.Happenings.{Happening, Framed}
 use Rattle.session.specs.Accounts.{IsPortTo, IsFramedAt, IsLeft, IsDrawn}
@@ -118,7 +118,7 @@ ServesTo {P} {W} steps draws hub_of conn now owed missed fs =
 first_turn : {P W : Type 0} (steps : Steps P) (draws : Draws W) (hub_of : P → State) → IsPortTo steps hub_of →
     (conn now : ℕ) (owed : List Delivery) (missed : Bool) (f : Frame) (fs : List Frame) (at : Spot P W) (r : Served P W) (t : Turned) (p : P) (w : W) →
     ServesTo steps draws hub_of conn now owed missed fs → is_closed at.stage ≡ false → HasWord at.word (plan_of conn at.stage f) →
-    IsTurn steps draws now conn at.stage at.word f at.port at.words t p w →
+    IsFrameTurn steps draws now conn at.stage at.word f at.port at.words t p w →
     IsFollowed (Serves steps draws now conn fs) (f ∷ fs) at.stage t p w r → IsServedTo draws hub_of conn now owed missed (f ∷ fs) at r
 first_turn steps draws hub_of port conn now owed missed f fs at r (Goes t) p w more still has turn h =
     subst (IsServedTo draws hub_of conn now owed missed (f ∷ fs) at) (sym h.2)
@@ -143,7 +143,7 @@ serves_to steps draws hub_of port conn now owed missed [] at r closed first h =
     subst (IsServedTo draws hub_of conn now owed missed [] at) (sym h) (no_turn draws hub_of conn now owed missed [] at (λ _. refl) first)
 serves_to {P} {W} steps draws hub_of port conn now owed missed (f ∷ fs) at r closed first h =
     by_stage at r
-    ((t : Turned) × (p : P) × (w : W) × IsTurn steps draws now conn at.stage at.word f at.port at.words t p w
+    ((t : Turned) × (p : P) × (w : W) × IsFrameTurn steps draws now conn at.stage at.word f at.port at.words t p w
     × IsFollowed (Serves steps draws now conn fs) (f ∷ fs) at.stage t p w r)
     (IsServedTo draws hub_of conn now owed missed (f ∷ fs) at r) (is_closed at.stage)
     (λ shut is. subst (IsServedTo draws hub_of conn now owed missed (f ∷ fs) at) (sym is)

@@ -15,9 +15,9 @@ use Rattle.protocol.specs.declared.plan.Plan.{Plan}
 use Rattle.protocol.specs.declared.plan.Plan.TheVariants.{Tells, Asks, Publishes}
 use Rattle.protocol.specs.Replies.{Told, told, is_closed}
 use Rattle.protocol.specs.Plans.{plan_of}
-use Rattle.conn.specs.Turns.{Steps, Draws, Goes, Stalls, event, IsPlanned, IsTurn}
+use Rattle.conn.specs.Turns.{Steps, Draws, Goes, Stalls, event, IsPlanned, IsFrameTurn}
 use Rattle.conn.specs.Serving.{Spot, spot}
-use Rattle.session.specs.Happenings.{Framed, Came, come_of_plan, is_concluded}
+use Rattle.session.specs.Happenings.{Framed, Came, come_of_plan, is_final}
 use Rattle.session.specs.Accounts.{IsPortTo, IsStepped, IsDrawn}
 use Rattle.session.proofs.Leading.{Place, Leads, comes-one, in_order-one, stepped-nil, drawn-nil, or_false, stays}
 use Rattle.session.proofs.Concluding.{of_hub, stepped-one, refused, IsWordFrom, word_from, HasWord, told_wordless, asked_wordless, goes_told, IsNoRefusal, IsStalled, stalls_told, may_go}
@@ -30,13 +30,13 @@ place_at hub_of owed missed left at = record { stage = at.stage; left = left; sp
 
 framed_leads : (conn now : ℕ) (a : Place) (f : Frame) (fs : List Frame) (hub : State) (t : Told) (word : ℕ) (r : Result Outcome HubRefusal) (plan : Plan) (drawn : List ℕ) →
     (let c : Came = come_of_plan conn now a.stage f word r plan in
-    is_closed a.stage ≡ false → is_concluded r ≡ true → plan_of conn a.stage f ≡ plan →
-    t.text ≡ c.text → t.stage ≡ c.stage → IsStepped c.asked a.hub hub → c.words ≡ option_to_list a.spare ++ drawn →
+    is_closed a.stage ≡ false → is_final r ≡ true → plan_of conn a.stage f ≡ plan →
+    t.text ≡ c.text → t.stage ≡ c.stage → IsStepped c.submitted a.hub hub → c.words ≡ option_to_list a.spare ++ drawn →
     Leads conn (record a { left = f ∷ fs }) (Framed now f word r ∷ []) t.text [] drawn (record a { stage = t.stage; left = fs; spare = None; hub = hub }))
 framed_leads conn now a f fs hub t word r plan drawn still done planned text stage stepped so = record {
   came = come_of_plan conn now a.stage f word r plan;
   comes_so = comes-one conn a.stage (Framed now f word r) ∙ ap (come_of_plan conn now a.stage f word r) planned;
-  order = in_order-one conn a.stage (Framed now f word r) (may_go (is_closed a.stage) (is_concluded r) still done);
+  order = in_order-one conn a.stage (Framed now f word r) (may_go (is_closed a.stage) (is_final r) still done);
   text_so = text;
   stage_so = stage;
   hub = stepped;
@@ -99,7 +99,7 @@ goes_by steps draws hub_of port conn now owed missed f fs at t p w (Publishes me
 
 pub turn_goes : {P W : Type 0} (steps : Steps P) (draws : Draws W) (hub_of : P → State) → IsPortTo steps hub_of →
     (conn now : ℕ) (owed : List Delivery) (missed : Bool) (f : Frame) (fs : List Frame) (at : Spot P W) (t : Told) (p : P) (w : W) →
-    is_closed at.stage ≡ false → HasWord at.word (plan_of conn at.stage f) → IsTurn steps draws now conn at.stage at.word f at.port at.words (Goes t) p w →
+    is_closed at.stage ≡ false → HasWord at.word (plan_of conn at.stage f) → IsFrameTurn steps draws now conn at.stage at.word f at.port at.words (Goes t) p w →
     IsConcluded draws hub_of conn now owed missed f fs at t p w
 turn_goes steps draws hub_of port conn now owed missed f fs at t p w still has (inl h) = absurd (unlike at.word h.stalls)
   where
@@ -150,7 +150,7 @@ stalls_by steps draws hub_of port conn now owed missed f left at st kept p w (Pu
 
 pub turn_stalls : {P W : Type 0} (steps : Steps P) (draws : Draws W) (hub_of : P → State) → IsPortTo steps hub_of →
     (conn now : ℕ) (owed : List Delivery) (missed : Bool) (f : Frame) (left : List Frame) (at : Spot P W) (st : Stall) (kept : Option ℕ) (p : P) (w : W) →
-    HasWord at.word (plan_of conn at.stage f) → IsTurn steps draws now conn at.stage at.word f at.port at.words (Stalls st kept) p w →
+    HasWord at.word (plan_of conn at.stage f) → IsFrameTurn steps draws now conn at.stage at.word f at.port at.words (Stalls st kept) p w →
     IsKept draws hub_of conn owed missed f left at st kept p w
 turn_stalls steps draws hub_of port conn now owed missed f left at st kept p w has (inl h) =
     let same = same_parts at.word h.stalls in

@@ -18,7 +18,7 @@ use Rattle.conn.specs.declared.output.Stall.TheVariants as stall
 use Rattle.protocol.specs.Replies.{is_closed}
 use Rattle.conn.specs.Turns.{Steps, Draws, IsAnswered}
 use Rattle.conn.specs.Calls.{Connection, new_connection, Given, given, nothing, IsOpened, IsServed, IsDrained, IsEnded}
-use Rattle.session.specs.Happenings.{Happening, Opened, Framed, Took, Sent, Slow, Ended, Other, framed, sent, took, is_slow, has_missed, Asked, comes, IsInOrder}
+use Rattle.session.specs.Happenings.{Happening, Opened, Framed, Took, Sent, Slow, Ended, Other, framed, sent, took, is_slow, has_missed, Submitted, comes, IsInOrder}
 
 -- ---- calls
 
@@ -121,7 +121,7 @@ HasParts conn s (made ∷ more) hs =
 
 -- The hub went from one state to another by these events with these answers, and by no other. What it refused for want
 -- of memory, or since its history is full, changed nothing.
-unfoldable pub IsStepped : List Asked → State → State → Type 0
+unfoldable pub IsStepped : List Submitted → State → State → Type 0
 IsStepped [] s s' = s' ≡ s
 IsStepped (ask ∷ asks) s s' = (next : State) × IsAnswered IsStep s ask.0 ask.1 next × IsStepped asks next s'
 
@@ -145,7 +145,7 @@ abbrev pub IsLeft : Bool → List Frame → Option ℕ → List Frame → Option
 IsLeft true left spare frames word = (frames ≡ []) × (word ≡ None)
 IsLeft false left spare frames word = (frames ≡ left) × (word ≡ spare)
 
--- What happened accounts for all that was written, taken, asked and drawn.
+-- What happened accounts for all that was written, taken, submitted and drawn.
 pub record IsAccounted {W : Type 0} (draws : Draws W) (conn : ℕ) (s : State) (calls : List (Made W)) (taken : List ℕ) (m : Moment) : Type 0 where
   -- what happened, the frames that had no turn, and the word of the first of these where it has drawn one
   pub happened : List Happening
@@ -158,7 +158,7 @@ pub record IsAccounted {W : Type 0} (draws : Draws W) (conn : ℕ) (s : State) (
   pub text : flat_map written_by calls ≡ (comes conn Fresh happened).text
   pub stage : m.at.stage ≡ (comes conn Fresh happened).stage
   -- each event is submitted once, in order, and a message has one word, however often it stalls
-  pub hub : IsStepped (comes conn Fresh happened).asked s m.hub
+  pub hub : IsStepped (comes conn Fresh happened).submitted s m.hub
   pub words : AreDrawn draws calls ((comes conn Fresh happened).words ++ option_to_list spare)
   -- each frame of the bytes that were taken has one turn, in order, or none; none waits but where something stopped it
   pub frames : framing (flat_map framed happened ++ left) m.at.reader.rest m.at.reader.failed ≡ frames_of taken

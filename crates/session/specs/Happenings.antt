@@ -66,19 +66,19 @@ has_missed _ = false
 
 -- ---- what it comes to
 
--- an event of the hub, and what was answered
-abbrev pub Asked : Type 0
-Asked = Event × Result Outcome HubRefusal
+-- an event that was submitted to the hub, and what was answered
+abbrev pub Submitted : Type 0
+Submitted = Event × Result Outcome HubRefusal
 
--- what is written, where the connection is then, what the hub was asked, and the words that messages took
+-- what is written, where the connection is then, what was submitted to the hub, and the words that messages took
 pub record Came : Type 0 where
   pub text : List ℕ
   pub stage : Stage
-  pub asked : List Asked
+  pub submitted : List Submitted
   pub words : List ℕ
 
-abbrev pub came : Told → List Asked → List ℕ → Came
-came t asked words = record { text = t.text; stage = t.stage; asked = asked; words = words }
+abbrev pub came : Told → List Submitted → List ℕ → Came
+came t submitted words = record { text = t.text; stage = t.stage; submitted = submitted; words = words }
 
 -- a frame's turn, by its plan
 abbrev pub come_of_plan : ℕ → ℕ → Stage → Frame → ℕ → Result Outcome HubRefusal → Plan → Came
@@ -114,7 +114,7 @@ come_of conn s (Other e r) = came (told_text [] s) ((e, r) ∷ []) []
 
 -- one thing, and then others
 abbrev pub then_came : Came → Came → Came
-then_came a b = record { text = a.text ++ b.text; stage = b.stage; asked = a.asked ++ b.asked; words = a.words ++ b.words }
+then_came a b = record { text = a.text ++ b.text; stage = b.stage; submitted = a.submitted ++ b.submitted; words = a.words ++ b.words }
 
 -- all that happens, in order
 unfoldable pub comes : ℕ → Stage → List Happening → Came
@@ -123,19 +123,19 @@ comes conn s (h ∷ hs) = then_came (come_of conn s h) (comes conn (come_of conn
 
 -- ---- what may happen
 
--- want of memory and a full history conclude nothing
-abbrev pub is_concluded : Result Outcome HubRefusal → Bool
-is_concluded (Err refusal.NoMemory) = false
-is_concluded (Err refusal.HistoryFull) = false
-is_concluded (Err refusal.NoSession) = true
-is_concluded (Err refusal.SessionTaken) = true
-is_concluded (Err refusal.SessionLimit) = true
-is_concluded (Ok _) = true
+-- want of memory and a full history leave the frame, or the Take, to be tried again
+abbrev pub is_final : Result Outcome HubRefusal → Bool
+is_final (Err refusal.NoMemory) = false
+is_final (Err refusal.HistoryFull) = false
+is_final (Err refusal.NoSession) = true
+is_final (Err refusal.SessionTaken) = true
+is_final (Err refusal.SessionLimit) = true
+is_final (Ok _) = true
 
 -- after a closing text no frame has its turn, no Take is made, and nothing but INFO is written, where it is asked for
 abbrev pub may_come : Stage → Happening → Bool
-may_come s (Framed now f word r) = not (is_closed s) && is_concluded r
-may_come s (Took now most r) = not (is_closed s) && is_concluded r
+may_come s (Framed now f word r) = not (is_closed s) && is_final r
+may_come s (Took now most r) = not (is_closed s) && is_final r
 may_come s (Sent d) = not (is_closed s)
 may_come s Slow = not (is_closed s)
 may_come s Opened = true

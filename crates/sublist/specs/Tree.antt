@@ -7,8 +7,8 @@ use Rattle.std.specs.declared.alloc.Global.{Global}
 use Rattle.subjects.specs.Subject.{Token, is_star, is_tail, same_token}
 use Rattle.sublist.specs.declared.node.Node.{Node}
 use Rattle.sublist.specs.declared.node.Node.TheViews.{out-Node}
-use Rattle.sublist.specs.declared.step.Step.{Step}
-use Rattle.sublist.specs.declared.step.Step.TheVariants.{End, Tail, Star, Literal}
+use Rattle.sublist.specs.declared.branch.Branch.{Branch}
+use Rattle.sublist.specs.declared.branch.Branch.TheVariants.{End, Tail, Star, Literal}
 
 -- what f gives of a node that may be missing
 abbrev pub below : (Node → List ℕ) → Option (Box Node Global) → List ℕ
@@ -60,15 +60,15 @@ abbrev pub IsRemoved : List Token → ℕ → Node → Node → Type 0
 IsRemoved p id old new = IsChanged (filter (λ i. not (i == id))) p old new
 
 -- where a token leads
-abbrev pub IsStepOf : Token → Step → Type 0
-IsStepOf t End = ⊥
-IsStepOf t Tail = t ≡ 62 ∷ []
-IsStepOf t Star = t ≡ 42 ∷ []
-IsStepOf t (Literal u) = (t ≡ u.now) × (is_tail t ≡ false) × (is_star t ≡ false)
+abbrev pub IsBranchOf : Token → Branch → Type 0
+IsBranchOf t End = ⊥
+IsBranchOf t Tail = t ≡ 62 ∷ []
+IsBranchOf t Star = t ≡ 42 ∷ []
+IsBranchOf t (Literal u) = (t ≡ u.now) × (is_tail t ≡ false) × (is_star t ≡ false)
 
--- the first step of a path, and what is left behind it
-abbrev pub IsStep : List Token → Step → List Token → Type 0
-IsStep path End rest = path ≡ []
-IsStep path Tail rest = path ≡ (62 ∷ []) ∷ rest
-IsStep path Star rest = path ≡ (42 ∷ []) ∷ rest
-IsStep path (Literal t) rest = (path ≡ t.now ∷ rest) × (is_tail t.now ≡ false) × (is_star t.now ≡ false)
+-- the branch that the first token of a path leads to, and what is left behind it
+abbrev pub IsBranch : List Token → Branch → List Token → Type 0
+IsBranch path End rest = path ≡ []
+IsBranch path Tail rest = path ≡ (62 ∷ []) ∷ rest
+IsBranch path Star rest = path ≡ (42 ∷ []) ∷ rest
+IsBranch path (Literal t) rest = (path ≡ t.now ∷ rest) × (is_tail t.now ≡ false) × (is_star t.now ≡ false)

@@ -4,7 +4,7 @@ ghost use Rattle.std.specs.Prelude.{◌≡◌, ◌==◌, not, ◌++◌, ◌∷�
 ghost use Rattle.subjects.specs.Subject.{Token, tail_is_last};
 ghost use Rattle.sublist.specs.Tree.{matched, ids_at, contains, IsSame, IsAdded, IsRemoved, HasOnly};
 
-use crate::step::{Step, next_step};
+use crate::branch::{Branch, next_branch};
 use lists::{NoMemory, Pieces};
 use std::alloc::Global;
 use std::collections::HashMap;
@@ -67,16 +67,16 @@ impl Node {
         ensures ok { OnOk result (IsAdded path.entry id self.old self.new) }
         ensures err { OnErr result (IsSame self.old self.new) }
     {
-        match next_step(&mut path) {
-            Step::End => match self.ids.push(id) {
+        match next_branch(&mut path) {
+            Branch::End => match self.ids.push(id) {
                 Ok(()) => Ok(()),
                 Err(_) => Err(NoMemory),
             },
-            Step::Tail => match self.tail.push(id) {
+            Branch::Tail => match self.tail.push(id) {
                 Ok(()) => Ok(()),
                 Err(_) => Err(NoMemory),
             },
-            Step::Star => match &mut self.star {
+            Branch::Star => match &mut self.star {
                 Some(star) => match star.insert(alloc, keys, path, id) {
                     Ok(()) => Ok(()),
                     Err(refused) => Err(refused),
@@ -86,7 +86,7 @@ impl Node {
                     Ok(())
                 }
             },
-            Step::Literal(token) => match self.children.get_mut(token) {
+            Branch::Literal(token) => match self.children.get_mut(token) {
                 Some(child) => match child.insert(alloc, keys, path, id) {
                     Ok(()) => Ok(()),
                     Err(refused) => Err(refused),
@@ -125,10 +125,10 @@ impl Node {
         requires { IsTrue (tail_is_last path) }
         ensures { IsRemoved path.entry id self.old self.new }
     {
-        match next_step(&mut path) {
-            Step::End => take_out(&mut self.ids, id),
-            Step::Tail => take_out(&mut self.tail, id),
-            Step::Star => match &mut self.star {
+        match next_branch(&mut path) {
+            Branch::End => take_out(&mut self.ids, id),
+            Branch::Tail => take_out(&mut self.tail, id),
+            Branch::Star => match &mut self.star {
                 None => (),
                 Some(star) => {
                     star.remove(path, id);
@@ -137,7 +137,7 @@ impl Node {
                     }
                 }
             },
-            Step::Literal(token) => match self.children.get_mut(token) {
+            Branch::Literal(token) => match self.children.get_mut(token) {
                 None => (),
                 Some(child) => {
                     child.remove(path, id);
@@ -154,14 +154,14 @@ impl Node {
         requires { IsTrue (tail_is_last path) }
         ensures { result ≡ contains (ids_at path.entry self.now) id }
     {
-        match next_step(&mut path) {
-            Step::End => self.ids.contains(&id),
-            Step::Tail => self.tail.contains(&id),
-            Step::Star => match &self.star {
+        match next_branch(&mut path) {
+            Branch::End => self.ids.contains(&id),
+            Branch::Tail => self.tail.contains(&id),
+            Branch::Star => match &self.star {
                 Some(star) => star.contains(path, id),
                 None => false,
             },
-            Step::Literal(token) => match self.children.get(token) {
+            Branch::Literal(token) => match self.children.get(token) {
                 Some(child) => child.contains(path, id),
                 None => false,
             },

@@ -2,14 +2,14 @@
 #![tactic(auto)]
 
 mod address;
-mod asked;
 mod change;
+mod new_subscription;
 mod sids;
 mod subscriptions;
 mod table;
 mod trees;
 
 pub use address::{address_each, addressed_to};
-pub use asked::Asked;
+pub use new_subscription::NewSubscription;
 pub use subscription_rows::{Keeps, RowValues, SharedSubscription, Subscription};
 pub use subscriptions::Subscriptions;

@@ -2,7 +2,7 @@ ghost use Rattle.std.specs.Prelude.{◌≡◌, ◌==◌, Bool};
 ghost use Rattle.subscription_rows.specs.declared.subscription.Subscription.{Subscription};
 
 use crate::table::Table;
-use crate::{Asked, Keeps, RowValues, SharedSubscription, Subscription, sids};
+use crate::{Keeps, NewSubscription, RowValues, SharedSubscription, Subscription, sids};
 use events::{Addressed, Item, Sid};
 use lists::NoMemory;
 use std::alloc::Global;
@@ -134,20 +134,20 @@ impl Subscriptions {
     /// Adds a subscription, the youngest of all, which with a queue name is a member of that queue group. On `NoMemory`
     /// nothing has changed.
     #[inline(never)]
-    pub fn add(&mut self, id: u64, asked: Asked) -> Result<(), NoMemory>
+    pub fn add(&mut self, id: u64, wanted: NewSubscription) -> Result<(), NoMemory>
         requires above { All (λ (s : Subscription). s.id < id) self.old }
-        requires free { stands self.old asked.conn asked.sid ≡ false }
+        requires free { stands self.old wanted.conn wanted.sid ≡ false }
         ensures ok { OnOk result (self.new ≡ self.old
-            ++ subscription_of id asked.conn asked.account asked.subject asked.queue asked.sid ∷ []) }
+            ++ subscription_of id wanted.conn wanted.account wanted.subject wanted.queue wanted.sid ∷ []) }
         ensures err { OnErr result (self.new ≡ self.old) }
     {
-        let Asked {
+        let NewSubscription {
             conn,
             account,
             subject,
             queue,
             sid,
-        } = asked;
+        } = wanted;
         let made = Subscription {
             id,
             conn,

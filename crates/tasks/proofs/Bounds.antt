@@ -7,8 +7,8 @@ use Rattle.tasks.specs.Run.{IsReadingRun, IsWordsRun, Reads, Writes}
 use Rattle.command_line.specs.declared.options.ServeOptions.{ServeOptions}
 use Rattle.tasks.specs.declared.status.Ran.{Ran}
 use Rattle.tasks.specs.declared.status.Ran.TheVariants as ran
-use Rattle.command_line.specs.declared.words.Asked.{Asked}
-use Rattle.command_line.specs.declared.words.Asked.TheVariants as asked
+use Rattle.command_line.specs.declared.words.Invocation.{Invocation}
+use Rattle.command_line.specs.declared.words.Invocation.TheVariants as invocation
 use Rattle.command_line.specs.declared.words.WordsFault.{WordsFault}
 use Rattle.command_line.specs.declared.words.WordsFault.TheVariants.{WrongLine, NoMemory}
 
@@ -27,10 +27,10 @@ by_serve found o h = by_options h.0 o h.2
 same_options : (o p : ServeOptions) → ran.Serve o ≡ ran.Serve p → p ≡ o
 same_options o p e = cc
 
-by_reading : (kinds : Kinds) (found : Option (Text × List Row)) (read : Result Asked WordsFault) (source : Reads) (sink errors : Writes) (o : ServeOptions) →
+by_reading : (kinds : Kinds) (found : Option (Text × List Row)) (read : Result Invocation WordsFault) (source : Reads) (sink errors : Writes) (o : ServeOptions) →
     IsReading kinds found read → IsReadingRun read source sink errors (ran.Serve o) → AreServable o
-by_reading kinds found (Ok (asked.Serve p)) source sink errors o h r = subst AreServable (same_options o p r.0) (by_serve found p h.1)
-by_reading kinds found (Ok (asked.Task task)) source sink errors o h r = absurd r
+by_reading kinds found (Ok (invocation.Serve p)) source sink errors o h r = subst AreServable (same_options o p r.0) (by_serve found p h.1)
+by_reading kinds found (Ok (invocation.Task task)) source sink errors o h r = absurd r
 by_reading kinds found (Err fault) source sink errors o h r = by_fault fault r
   where
     by_fault : (f : WordsFault) → IsReadingRun (Err f) source sink errors (ran.Serve o) → AreServable o

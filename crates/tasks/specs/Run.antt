@@ -12,8 +12,8 @@ use Rattle.tasks.specs.declared.status.Ran.{Ran}
 use Rattle.tasks.specs.declared.status.Ran.TheVariants as ran
 use Rattle.tasks.specs.declared.status.StartFault.{StartFault}
 use Rattle.tasks.specs.declared.status.StartFault.TheVariants as start
-use Rattle.command_line.specs.declared.words.Asked.{Asked}
-use Rattle.command_line.specs.declared.words.Asked.TheVariants as asked
+use Rattle.command_line.specs.declared.words.Invocation.{Invocation}
+use Rattle.command_line.specs.declared.words.Invocation.TheVariants as invocation
 use Rattle.command_line.specs.declared.words.Task.{Task}
 use Rattle.command_line.specs.declared.words.WordsFault.{WordsFault}
 use Rattle.command_line.specs.declared.words.WordsFault.TheVariants.{WrongLine, NoMemory}
@@ -83,16 +83,16 @@ IsEnded P (ran.Serve options) = ⊥
 
 -- a task is done; where clients are to be served, nothing is done yet; a wrong line is told on the error sink, with
 -- status 2, and want of memory with status 1
-abbrev pub IsReadingRun : Result Asked WordsFault → Reads → Writes → Writes → Ran → Type 0
-IsReadingRun (Ok (asked.Task task)) source sink errors r = IsEnded (IsTaskRun task source sink errors) r
-IsReadingRun (Ok (asked.Serve options)) source sink errors r = (r ≡ ran.Serve options) × IsUnread source × IsUnwritten sink × IsUnwritten errors
+abbrev pub IsReadingRun : Result Invocation WordsFault → Reads → Writes → Writes → Ran → Type 0
+IsReadingRun (Ok (invocation.Task task)) source sink errors r = IsEnded (IsTaskRun task source sink errors) r
+IsReadingRun (Ok (invocation.Serve options)) source sink errors r = (r ≡ ran.Serve options) × IsUnread source × IsUnwritten sink × IsUnwritten errors
 IsReadingRun (Err (WrongLine text)) source sink errors r = IsUnwritten sink × IsEnded (IsMistake 2 (string_bytes text) errors) r
 IsReadingRun (Err NoMemory) source sink errors r = IsUnwritten sink × IsEnded (IsMistake 1 (codes "no memory\n") errors) r
 
 -- what the words ask for, as clap judges them
 abbrev pub IsWordsRun : List (List ℕ) → Reads → Writes → Writes → Ran → Type 0
 IsWordsRun words source sink errors r =
-    (read : Result Asked WordsFault) × IsReading (kinds_of words) (found_in words) read × IsReadingRun read source sink errors r
+    (read : Result Invocation WordsFault) × IsReading (kinds_of words) (found_in words) read × IsReadingRun read source sink errors r
 
 -- the program could not start
 abbrev pub IsFailedStart : StartFault → Writes → Writes → ℕ → Type 0

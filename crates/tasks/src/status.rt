@@ -9,7 +9,7 @@ ghost use Rattle.tasks.specs.Run.{reads, writes, IsMistake, IsRun, IsTaskRun, Is
 
 use crate::check::check;
 use crate::playing::play;
-use command_line::{Asked, ServeOptions, Task, WordsFault, read_words};
+use command_line::{Invocation, ServeOptions, Task, WordsFault, read_words};
 use devices::{Sink, Source, write_all};
 use script::PlayFault;
 use std::alloc::Global;
@@ -173,11 +173,11 @@ fn run_words<S: AsStr, R: Source, W: Sink, E: Sink>(
         (writes (E.contents errors.old) (E.contents errors.new) (E.failed errors.old) (E.failed errors.new)) result }
 {
     match read_words(alloc, words) {
-        Ok(asked) => match asked {
-            Asked::Task(task) => {
+        Ok(invocation) => match invocation {
+            Invocation::Task(task) => {
                 Ran::Ended(run_and_tell(alloc, keys, &task, source, sink, errors))
             }
-            Asked::Serve(options) => Ran::Serve(options),
+            Invocation::Serve(options) => Ran::Serve(options),
         },
         Err(fault) => match fault {
             WordsFault::WrongLine(text) => { Ran::Ended(tell(errors, text.as_str().as_bytes(), 2)) }

@@ -11,8 +11,8 @@ use Rattle.wire_read.specs.declared.frame.Frame.{Frame}
 use Rattle.wire_read.specs.Command.{Announced}
 use Rattle.wire_read.specs.Command.{Alone, Publish, Refused}
 use Rattle.wire_read.specs.declared.front.End.TheVariants as ends
-use Rattle.control_lines.specs.declared.line.Line.{Line}
-use Rattle.control_lines.specs.declared.line.Line.TheVariants.{Open, TooLong, Ended}
+use Rattle.control_lines.specs.declared.line.FoundLine.{FoundLine}
+use Rattle.control_lines.specs.declared.line.FoundLine.TheVariants.{Open, TooLong, Ended}
 use Rattle.wire_read.specs.declared.awaited.Awaited.{Awaited}
 use Rattle.wire_read.specs.declared.awaited.Awaited.TheVariants.{LineEnd, Block}
 use Rattle.wire_read.specs.declared.front.Found.{Found}
@@ -27,7 +27,7 @@ use Rattle.wire_read.proofs.FramingLemmas.{frames_step}
 use Rattle.wire_read.proofs.CutLemmas.{ended_more, cut_anywhere_lem}
 
 -- what bytes begin with, by their line
-front_by : (bytes : List ℕ) (l : Line) → line_of bytes ≡ l → front bytes ≡ front_at l bytes
+front_by : (bytes : List ℕ) (l : FoundLine) → line_of bytes ≡ l → front bytes ≡ front_at l bytes
 unfolding front
 front_by bytes l is = ap (λ x. front_at x bytes) is
 

@@ -11,8 +11,8 @@ use Rattle.wire_read.specs.Command.{Announced}
 use Rattle.wire_read.specs.Command.{Command}
 use Rattle.wire_read.specs.Command.{Alone, Publish, Refused}
 use Rattle.wire_read.specs.declared.front.End.TheVariants as ends
-use Rattle.control_lines.specs.declared.line.Line.{Line}
-use Rattle.control_lines.specs.declared.line.Line.TheVariants.{Open, TooLong, Ended}
+use Rattle.control_lines.specs.declared.line.FoundLine.{FoundLine}
+use Rattle.control_lines.specs.declared.line.FoundLine.TheVariants.{Open, TooLong, Ended}
 use Rattle.wire_read.specs.Front.{Front, Whole, More, Wrong, front, front_at, after_line, after_announced, published, message, ended_by}
 use Rattle.control_lines.specs.Line.{is_lf, line_of, without_cr}
 use Rattle.wire_read.specs.Command.{command}
@@ -100,14 +100,14 @@ after_line_more (Refused w) n rest more settled = refl
 after_line_more (Alone f) n rest more settled = refl
 after_line_more (Publish a) n rest more settled = after_announced_more a n rest more settled
 
-front_at_more : (l : Line) (a b : List ℕ) → line_of a ≡ l → (front_at l a ≡ More → ⊥) → front_at l (a ++ b) ≡ front_at l a
+front_at_more : (l : FoundLine) (a b : List ℕ) → line_of a ≡ l → (front_at l a ≡ More → ⊥) → front_at l (a ++ b) ≡ front_at l a
 front_at_more Open a b is settled = absurd (settled refl)
 front_at_more TooLong a b is settled = refl
 front_at_more (Ended end) a b is settled =
     let parts = (line_parts a).2 end is in
     rw (take-append-le end a b (omega arith), drop-append-le (end + 1) a b (omega arith)) (after_line_more (command (without_cr (take end a))) (end + 1) (drop (end + 1) a) b settled)
 
-line_more : (l : Line) (a b : List ℕ) → line_of a ≡ l → (front_at l a ≡ More → ⊥) → line_of (a ++ b) ≡ l
+line_more : (l : FoundLine) (a b : List ℕ) → line_of a ≡ l → (front_at l a ≡ More → ⊥) → line_of (a ++ b) ≡ l
 line_more Open a b is settled = absurd (settled refl)
 line_more TooLong a b is settled = long_more a b is
 line_more (Ended end) a b is settled = ended_more a b end is

@@ -7,8 +7,8 @@ use Rattle.wire_read.specs.declared.frame.Frame.TheVariants as frame
 use Rattle.wire_read.specs.Command.{Command}
 use Rattle.wire_read.specs.Command.{Alone, Publish, Refused}
 use Rattle.wire_read.specs.declared.front.End.TheVariants as ends
-use Rattle.control_lines.specs.declared.line.Line.{Line}
-use Rattle.control_lines.specs.declared.line.Line.TheVariants.{Open, TooLong, Ended}
+use Rattle.control_lines.specs.declared.line.FoundLine.{FoundLine}
+use Rattle.control_lines.specs.declared.line.FoundLine.TheVariants.{Open, TooLong, Ended}
 use Rattle.wire_read.specs.Front.{Front, Whole, More, Wrong, front, front_at, after_line, published, message, ended_by}
 use Rattle.control_lines.specs.Line.{line_of, without_cr}
 use Rattle.wire_read.specs.Command.{command}
@@ -38,7 +38,7 @@ after_line_len (Publish a) bytes end f n within e =
     published_len (message a.subject a.reply a.head (take a.total rest)) (end + 1 + a.total + 2) (drop a.total rest) f n e in
     (omega arith, omega (arith, length-drop a.total (drop (end + 1) bytes), length-drop (end + 1) bytes))
 
-front_at_len : (l : Line) (bytes : List ℕ) (f : Frame) (n : ℕ) → line_of bytes ≡ l → front_at l bytes ≡ Whole f n → (0 < n) × (n ≤ length bytes)
+front_at_len : (l : FoundLine) (bytes : List ℕ) (f : Frame) (n : ℕ) → line_of bytes ≡ l → front_at l bytes ≡ Whole f n → (0 < n) × (n ≤ length bytes)
 front_at_len Open bytes f n is e = cc
 front_at_len TooLong bytes f n is e = cc
 front_at_len (Ended end) bytes f n is e = after_line_len (command (without_cr (take end bytes))) bytes end f n (ended_within bytes end is) e

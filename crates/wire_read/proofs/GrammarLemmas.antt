@@ -13,8 +13,8 @@ use Rattle.wire_read.specs.Command.{Announced}
 use Rattle.wire_read.specs.Command.{Command}
 use Rattle.wire_read.specs.Command.{Alone, Publish, Refused}
 use Rattle.wire_read.specs.declared.front.End.TheVariants as ends
-use Rattle.control_lines.specs.declared.line.Line.{Line}
-use Rattle.control_lines.specs.declared.line.Line.TheVariants.{Open, TooLong, Ended}
+use Rattle.control_lines.specs.declared.line.FoundLine.{FoundLine}
+use Rattle.control_lines.specs.declared.line.FoundLine.TheVariants.{Open, TooLong, Ended}
 use Rattle.wire_read.specs.Front.{Front, Whole, More, Wrong, front, front_at, after_line, after_announced, published, message, ended_by}
 use Rattle.control_lines.specs.Line.{is_lf, line_of, without_cr}
 use Rattle.wire_read.specs.Command.{command, announced}
@@ -168,7 +168,7 @@ spelled_by (Publish a) stream end f n is says e =
     spelled_message (without_cr (take end stream)) (take (end + 1) stream) stream a (end + 1)
     (sym (take-append-drop (end + 1) stream)) (omega (arith, length-take (end + 1) stream, parts.2)) (line_found stream end is) says f n e
 
-spelled_at : (l : Line) (stream : List ℕ) (f : Frame) (n : ℕ) → line_of stream ≡ l → front_at l stream ≡ Whole f n → (n ≤ length stream) × IsSpelling f (take n stream)
+spelled_at : (l : FoundLine) (stream : List ℕ) (f : Frame) (n : ℕ) → line_of stream ≡ l → front_at l stream ≡ Whole f n → (n ≤ length stream) × IsSpelling f (take n stream)
 spelled_at Open stream f n is e = cc
 spelled_at TooLong stream f n is e = cc
 spelled_at (Ended end) stream f n is e = spelled_by (command (without_cr (take end stream))) stream end f n is (says_command (without_cr (take end stream))) e
@@ -226,7 +226,7 @@ shown_by (Publish a) stream end w is says e =
     let found = published_wrong (message a.subject a.reply a.head (take a.total (drop (end + 1) stream))) (end + 1 + a.total + 2) (drop a.total (drop (end + 1) stream)) w e in
     inr (inr (found.0, (without_cr (take end stream), take (end + 1) stream, drop (end + 1) stream, a, sym (take-append-drop (end + 1) stream), line_found stream end is, says, found.1)))
 
-shown_at : (l : Line) (stream : List ℕ) (w : WireFault) → line_of stream ≡ l → front_at l stream ≡ Wrong w → Shows w stream
+shown_at : (l : FoundLine) (stream : List ℕ) (w : WireFault) → line_of stream ≡ l → front_at l stream ≡ Wrong w → Shows w stream
 shown_at Open stream w is e = cc
 shown_at TooLong stream w is e = let what : w ≡ ControlLine = cc in inl (what, (line_parts stream).0 is)
 shown_at (Ended end) stream w is e = shown_by (command (without_cr (take end stream))) stream end w is (says_command (without_cr (take end stream))) e

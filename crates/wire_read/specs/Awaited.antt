@@ -5,8 +5,8 @@ use Rattle.wire_read.specs.declared.awaited.Awaited.{Awaited}
 use Rattle.wire_read.specs.declared.awaited.Awaited.TheVariants.{LineEnd, Block}
 use Rattle.wire_read.specs.declared.front.Found.{Found}
 use Rattle.wire_read.specs.declared.front.Found.TheVariants as found
-use Rattle.wire_read.specs.declared.step.Step.{Step}
-use Rattle.wire_read.specs.declared.step.Step.TheVariants.{Quiet, Takes}
+use Rattle.wire_read.specs.declared.advance.Advance.{Advance}
+use Rattle.wire_read.specs.declared.advance.Advance.TheVariants.{Quiet, Takes}
 use Rattle.control_lines.specs.Line.{is_lf}
 use Rattle.wire_read.specs.Front.{Front, Whole, More, Wrong, front}
 
@@ -40,7 +40,7 @@ abbrev pub AwaitsBlock : Found → ℕ → Type 0
 AwaitsBlock (found.More awaited) end = awaited ≡ Block end
 AwaitsBlock _ end = Unit {0}
 
--- a piece that settles nothing, or how much of it may settle what the bytes before it begin with
-abbrev pub IsStep : Step → Awaited → List ℕ → List ℕ → Type 0
-IsStep Quiet awaited bytes piece = IsAwaiting awaited (bytes ++ piece)
-IsStep (Takes n) awaited bytes piece = (n ≤ length piece) × (0 < length piece → 0 < n)
+-- a piece with which the bytes before it are still less than a frame, or how much of it may end one
+abbrev pub IsAdvance : Advance → Awaited → List ℕ → List ℕ → Type 0
+IsAdvance Quiet awaited bytes piece = IsAwaiting awaited (bytes ++ piece)
+IsAdvance (Takes n) awaited bytes piece = (n ≤ length piece) × (0 < length piece → 0 < n)

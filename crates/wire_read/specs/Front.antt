@@ -8,8 +8,8 @@ use Rattle.wire_read.specs.declared.frame.Frame.TheVariants.{Pub, Hpub}
 use Rattle.wire_read.specs.Command.{Announced}
 use Rattle.wire_read.specs.Command.{Command}
 use Rattle.wire_read.specs.Command.{Alone, Publish, Refused}
-use Rattle.control_lines.specs.declared.line.Line.{Line}
-use Rattle.control_lines.specs.declared.line.Line.TheVariants.{Open, TooLong, Ended}
+use Rattle.control_lines.specs.declared.line.FoundLine.{FoundLine}
+use Rattle.control_lines.specs.declared.line.FoundLine.TheVariants.{Open, TooLong, Ended}
 use Rattle.wire_read.specs.declared.front.End.{End}
 use Rattle.wire_read.specs.declared.front.End.TheVariants as ends
 use Rattle.control_lines.specs.Line.{line_of, without_cr}
@@ -58,7 +58,7 @@ after_line (Alone frame) taken rest = Whole frame taken
 after_line (Publish a) taken rest = after_announced a taken rest
 
 -- what bytes begin with, by how far their first line has come
-abbrev pub front_at : Line → List ℕ → Front
+abbrev pub front_at : FoundLine → List ℕ → Front
 front_at Open bytes = More
 front_at TooLong bytes = Wrong ControlLine
 front_at (Ended end) bytes = after_line (command (without_cr (take end bytes))) (end + 1) (drop (end + 1) bytes)

@@ -1,6 +1,7 @@
 //! The frames of the NATS client protocol, read from a stream in any pieces (NATS documentation, "Client Protocol").
 #![tactic(auto)]
 
+mod advance;
 mod awaited;
 mod buffer;
 mod command;
@@ -13,7 +14,6 @@ mod progress;
 mod reader;
 mod scan;
 mod size;
-mod step;
 
 pub use fault::{FeedError, WireFault};
 pub use frame::Frame;

@@ -3,10 +3,10 @@ ghost use Rattle.wire_read.specs.Framing.{behind, followed, frames_of, framing};
 ghost use Rattle.wire_read.specs.Awaited.{IsAwaiting};
 
 use crate::Frame;
+use crate::advance::{Advance, advance_by};
 use crate::awaited::Awaited;
 use crate::buffer::Buffer;
 use crate::scan::{Scan, scan_frames};
-use crate::step::{Step, next_step};
 use lists::SharedBytes;
 use std::alloc::{AllocError, Global};
 
@@ -76,12 +76,12 @@ pub fn read_on(alloc: Global, before: Progress, piece: &[u8]) -> Result<Progress
     let mut read = before;
     let mut left = piece;
     while !read.failed && !left.is_empty() {
-        match next_step(&read.kept, read.awaited, left) {
-            Step::Quiet => {
+        match advance_by(&read.kept, read.awaited, left) {
+            Advance::Quiet => {
                 read.kept.append(left)?;
                 return Ok(read);
             }
-            Step::Takes(len) => {
+            Advance::Takes(len) => {
                 let (part, behind) = left.split_at(len);
                 read = read_part(alloc, read, part)?;
                 left = behind;

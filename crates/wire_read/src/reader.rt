@@ -1,9 +1,9 @@
 ghost use Rattle.std.specs.Prelude.{◌≡◌, []};
 
+use crate::advance::{Advance, advance_by};
 use crate::awaited::Awaited;
 use crate::buffer::Buffer;
 use crate::progress::{Progress, read_on, read_whole};
-use crate::step::{Step, next_step};
 use crate::{FeedError, Frame};
 use lists::Items;
 use std::alloc::Global;
@@ -56,12 +56,12 @@ impl FrameReader {
         if self.failed {
             return Err(FeedError::Failed);
         }
-        match next_step(&self.kept, self.awaited, piece) {
-            Step::Quiet => {
+        match advance_by(&self.kept, self.awaited, piece) {
+            Advance::Quiet => {
                 self.kept.append(piece)?;
                 Ok(Items::new(self.alloc))
             }
-            Step::Takes(len) => {
+            Advance::Takes(len) => {
                 let (part, behind) = piece.split_at(len);
                 let whole = self.kept.share(part)?;
                 let frames = frames_for(self.alloc, len);

@@ -42,9 +42,9 @@ impl World {
                 self.known.forget();
                 self.sessions.push(session.into_inner())
             }
-            Change::Stand(asked) => {
+            Change::Stand(wanted) => {
                 self.known.forget();
-                self.subscriptions.add(self.number + 1, asked.into_inner())
+                self.subscriptions.add(self.number + 1, wanted.into_inner())
             }
             Change::Limit { conn, sid, most } => {
                 self.known.forget();

@@ -4,7 +4,7 @@ use lists::{Boxed, Items};
 use ready::{Ready, User};
 use sessions::Session;
 use std::collections::VecDeque;
-use subscriptions::Asked;
+use subscriptions::NewSubscription;
 
 /// What is to be done for a command. All memory that it takes is had, but for the one growth of a new session or
 /// subscription, which comes first. What is large has a block of its own, since a change is handed on several times for
@@ -16,7 +16,7 @@ pub(crate) enum Change {
     /// A session is opened.
     Open(Boxed<Session>),
     /// A subscription stands.
-    Stand(Boxed<Asked>),
+    Stand(Boxed<NewSubscription>),
     /// A subscription takes a limit.
     Limit {
         conn: u64,

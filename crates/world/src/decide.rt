@@ -14,7 +14,7 @@ use receivers::address_all;
 use sessions::Session;
 use std::alloc::Global;
 use subjects::{Pattern, Subject};
-use subscriptions::Asked;
+use subscriptions::NewSubscription;
 
 /// How many sessions may stand.
 pub(crate) const SESSIONS: usize = 4096;
@@ -57,14 +57,14 @@ fn stand(
 ) -> Result<Change, NoMemory>
     ensures { IfOk result (λ made. made ≡ change.Stand (record { conn = conn; account = account.now; subject = subject.now; queue = queue.now; sid = sid.now })) }
 {
-    let asked = Asked {
+    let wanted = NewSubscription {
         conn,
         account: account.clone()?,
         subject: subject.again()?,
         queue: queue.copy(alloc)?,
         sid: sid.again()?,
     };
-    Ok(Change::Stand(Boxed::new(alloc, asked)?))
+    Ok(Change::Stand(Boxed::new(alloc, wanted)?))
 }
 
 /// A publish that is to be counted: one that a grant has allowed.

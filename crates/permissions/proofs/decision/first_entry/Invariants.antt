@@ -7,5 +7,5 @@ use Rattle.permissions.proofs.decision.first_entry.Given as goal
 
 abbrev pub invariant-loop-index : goal.invariant-loop-index
 invariant-loop-index g l =
-    NoneBefore (λ e. is_looked_at l.among (option_copied l.queue) e && g.A.Asked.is_within e.subject l.asked)
-    (λ e. (is_looked_at l.among (option_copied l.queue) e ≡ false) ⊎ g.A.Asked.Lacks e.subject l.asked) l.entries l.index
+    NoneBefore (λ e. is_looked_at l.among (option_copied l.queue) e && g.A.SubjectSet.is_within e.subject l.asked)
+    (λ e. (is_looked_at l.among (option_copied l.queue) e ≡ false) ⊎ g.A.SubjectSet.Lacks e.subject l.asked) l.entries l.index

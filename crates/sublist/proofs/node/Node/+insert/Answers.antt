@@ -19,7 +19,7 @@ insert-returns-in-End-clause-err t c = same-ids c.args.self.now c.push.new.self 
 pub insert-returns-in-Ok-push-clause-ok : goal.insert-returns-in-Ok-push-clause-ok
 insert-returns-in-Ok-push-clause-ok t c =
     let path = c.in-Tail.ensures in
-    let last = nothing_behind (62 ∷ []) c.next_step.new.path (rw path at c.requires) refl in
+    let last = nothing_behind (62 ∷ []) c.next_branch.new.path (rw path at c.requires) refl in
     rw (path, last) (changed-tail (one_more c.args.id) c.args.self.now c.push-in-Tail.new.self (62 ∷ []) refl c.in-Ok-push.ensures.items)
 
 pub insert-returns-in-Tail-clause-err : goal.insert-returns-in-Tail-clause-err

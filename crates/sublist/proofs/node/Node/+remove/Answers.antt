@@ -18,7 +18,7 @@ returns-in-End t c =
 pub returns-in-Tail : goal.returns-in-Tail
 returns-in-Tail t c =
     let path = c.in-Tail.ensures in
-    let last = nothing_behind (62 ∷ []) c.next_step.new.path (rw path at c.requires) refl in
+    let last = nothing_behind (62 ∷ []) c.next_branch.new.path (rw path at c.requires) refl in
     rw (path, last) (changed-tail (one_less c.args.id) c.args.self.now c.take_out-in-Tail.new.ids (62 ∷ []) refl c.take_out-in-Tail.ensures)
 
 pub returns-in-None : goal.returns-in-None
