@@ -1,22 +1,17 @@
-use devices::ReadFault;
 use lists::NoMemory;
 use std::error::Error;
 use std::fmt;
 
-/// Why a script could not be played to its end.
+/// Why the lines of a script could not be played to their end.
 #[derive(Clone, Copy, Debug, PartialEq, Eq)]
-pub enum PlayFault {
-    /// The source failed in the call.
-    ReadFailed,
+pub enum LinesFault {
     /// The sink failed in the call.
     WriteFailed,
     /// Memory could not be had.
     NoMemory,
-    /// The script's end wasn't found within 16,777,216 bytes and 1,000,000 reads.
-    ScriptTooLong,
 }
 
-impl fmt::Display for PlayFault {
+impl fmt::Display for LinesFault {
     ghost use Rattle.std.specs.Prelude.{Some};
     ghost use Rattle.script.specs.Fault.{fault_text};
 
@@ -24,37 +19,21 @@ impl fmt::Display for PlayFault {
 
     fn fmt<W: fmt::Write>(&self, f: &mut fmt::Formatter<W>) -> fmt::Result {
         match self {
-            PlayFault::ReadFailed => f.write_str("read failed"),
-            PlayFault::WriteFailed => f.write_str("write failed"),
-            PlayFault::NoMemory => f.write_str("no memory"),
-            PlayFault::ScriptTooLong => f.write_str("script too long"),
+            LinesFault::WriteFailed => f.write_str("write failed"),
+            LinesFault::NoMemory => f.write_str("no memory"),
         }
     }
 }
 
-impl Error for PlayFault {}
+impl Error for LinesFault {}
 
-impl From<NoMemory> for PlayFault {
+impl From<NoMemory> for LinesFault {
     ghost use Rattle.std.specs.Prelude.{◌≡◌};
-    ghost use Rattle.script.specs.declared.fault.PlayFault.TheVariants.{NoMemory};
+    ghost use Rattle.script.specs.declared.fault.LinesFault.TheVariants.{NoMemory};
 
     ghost from_gives = { λ _ e. e ≡ NoMemory };
 
-    fn from(_refused: NoMemory) -> PlayFault {
-        PlayFault::NoMemory
-    }
-}
-
-impl From<ReadFault> for PlayFault {
-    ghost use Rattle.std.specs.Prelude.{◌≡◌};
-    ghost use Rattle.script.specs.Fault.{of_reading};
-
-    ghost from_gives = { λ fault e. e ≡ of_reading fault };
-
-    fn from(fault: ReadFault) -> PlayFault {
-        match fault {
-            ReadFault::ReadFailed => PlayFault::ReadFailed,
-            ReadFault::NoMemory => PlayFault::NoMemory,
-        }
+    fn from(_refused: NoMemory) -> LinesFault {
+        LinesFault::NoMemory
     }
 }

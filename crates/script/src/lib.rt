@@ -7,5 +7,5 @@ mod player;
 mod policies;
 mod server;
 
-pub use fault::PlayFault;
+pub use fault::LinesFault;
 pub use player::play_lines;

@@ -1,5 +1,5 @@
 // A script over one hub (docs/SCRIPT.md).
-ghost use Rattle.std.specs.Prelude.{◌≡◌, ◌≤◌, List, IfOk, OnOk, nat_lt, length, ◌||◌, OnErr, ◌≢◌, false};
+ghost use Rattle.std.specs.Prelude.{◌≡◌, ◌≤◌, List, IfOk, OnOk, nat_lt, length, ◌||◌, OnErr};
 ghost use Rattle.std.specs.List.{position_or_len};
 ghost use Rattle.std.specs.Io.KnownBytes.{Appends};
 ghost use Rattle.script.specs.declared.client.Client.{Client};
@@ -7,10 +7,10 @@ ghost use Rattle.script_text.specs.declared.lines.Part.{Part};
 ghost use Rattle.script.specs.Play.{drained, done_in, is_open, with_client, caps_effect, line_effect, still_open, line_and_drains, IsEffect, output_of};
 ghost use Rattle.script.specs.Server.{Serving};
 ghost use Rattle.devices.specs.Device.{AppendsFront};
-ghost use Rattle.script.specs.Fault.{is_read_failed, is_write_failed};
+ghost use Rattle.script.specs.Fault.{is_write_failed};
 
 use crate::client::Client;
-use crate::fault::PlayFault;
+use crate::fault::LinesFault;
 use crate::policies::{on_policy, on_reload};
 use crate::server::Server;
 use devices::{Sink, write_all};
@@ -217,21 +217,19 @@ fn on_line_and_drain(
 /// Plays the lines of a script, and writes what they print to the sink, line by line (docs/SCRIPT.md). Answers the status,
 /// 0 or 1. What clients choose is hashed under the keys.
 ///
-/// `WriteFailed` comes where the sink failed in this call, and `NoMemory` where memory could not be had; no other fault
-/// does. What was written then is a front of what the script prints.
+/// `WriteFailed` comes where the sink failed in this call, and `NoMemory` where memory could not be had. What was written
+/// then is a front of what the script prints.
 pub fn play_lines<W: Sink>(
     alloc: Global,
     keys: RandomState,
     script: &[u8],
     sink: &mut W,
-) -> Result<u8, PlayFault>
+) -> Result<u8, LinesFault>
     requires { length script.now ≤ 16777216 }
     ensures meaning { IfOk result (λ status. Appends (W.contents sink.old) (W.contents sink.new) (output_of script.now).text
         × (status ≡ (output_of script.now).status)) }
     ensures prefix { OnErr result (AppendsFront (W.contents sink.old) (W.contents sink.new) (output_of script.now).text) }
     ensures failed { W.failed sink.new ≡ (W.failed sink.old || is_write_failed result) }
-    ensures read { is_read_failed result ≡ false }
-    ensures long { result ≢ Err PlayFault.ScriptTooLong }
 {
     let policy = Policy::builtin(alloc)?;
     let mut server = Server::new(alloc, keys, policy)?;
@@ -254,7 +252,7 @@ pub fn play_lines<W: Sink>(
         )?;
         part = next;
         match write_all(sink, out.as_slice()) {
-            Err(_) => return Err(PlayFault::WriteFailed),
+            Err(_) => return Err(LinesFault::WriteFailed),
             Ok(()) => {
                 if stops {
                     return Ok(1);

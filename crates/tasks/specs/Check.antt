@@ -8,8 +8,8 @@ use Rattle.reload.specs.Fault.{fault_line}
 use Rattle.reload.specs.Reload.{prepared}
 use Rattle.reload.specs.declared.fault.ReloadFault.{ReloadFault}
 use Rattle.script.specs.Play.{Played}
-use Rattle.script.specs.declared.fault.PlayFault.{PlayFault}
-use Rattle.script.specs.declared.fault.PlayFault.TheVariants as playing
+use Rattle.tasks.specs.declared.fault.PlayFault.{PlayFault}
+use Rattle.tasks.specs.declared.fault.PlayFault.TheVariants as playing
 use Rattle.tasks.specs.declared.fault.CheckFault.{CheckFault}
 use Rattle.tasks.specs.declared.fault.CheckFault.TheVariants.{ReadFailed, WriteFailed, NoMemory}
 

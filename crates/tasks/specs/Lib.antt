@@ -1,3 +1,4 @@
+pub mod Fault
 pub mod Check
 pub mod Tasks
 pub mod Run

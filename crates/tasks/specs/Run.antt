@@ -3,9 +3,9 @@ use Rattle.std.specs.Prelude.{◌≡◌, ◌++◌, ◌||◌, ℕ, List, Bool, fa
 use Rattle.std.specs.String.{string_bytes}
 use Rattle.std.specs.Io.KnownBytes.{Appends}
 use Rattle.devices.specs.Device.{AppendsFront}
-use Rattle.script.specs.Fault.{fault_text, is_read_failed, is_write_failed}
-use Rattle.script.specs.declared.fault.PlayFault.{PlayFault}
-use Rattle.script.specs.declared.fault.PlayFault.TheVariants.{ScriptTooLong}
+use Rattle.tasks.specs.Fault.{fault_text, is_read_failed, is_write_failed}
+use Rattle.tasks.specs.declared.fault.PlayFault.{PlayFault}
+use Rattle.tasks.specs.declared.fault.PlayFault.TheVariants.{ScriptTooLong}
 use Rattle.tasks.specs.Tasks.{done_by, input_of, IsLongScript, IsShortScript}
 use Rattle.command_line.specs.Words.{found_in, kinds_of, IsReading}
 use Rattle.tasks.specs.declared.status.Ran.{Ran}

@@ -1,7 +1,7 @@
 -- What a task reads and writes, and its status.
 use Rattle.std.specs.Prelude.{ℕ, List, [], Option, Some}
 use Rattle.std.specs.String.{string_bytes}
-use Rattle.script.specs.Fault.{IsShort, IsTooLong}
+use Rattle.tasks.specs.Fault.{IsShort, IsTooLong}
 use Rattle.script.specs.Play.{Played, output_of}
 use Rattle.tasks.specs.Check.{report_of}
 use Rattle.command_line.specs.declared.words.Task.{Task}

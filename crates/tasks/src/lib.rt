@@ -6,5 +6,6 @@ mod fault;
 mod playing;
 mod status;
 
+pub use fault::PlayFault;
 pub use playing::play;
 pub use status::{Ran, Start, StartFault, run};

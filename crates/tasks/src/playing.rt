@@ -2,11 +2,12 @@
 ghost use Rattle.std.specs.Prelude.{◌≡◌, ◌||◌, Err, IfOk, OnOk, OnErr, IfSome};
 ghost use Rattle.std.specs.Io.KnownBytes.{Appends, IsAtEnd};
 ghost use Rattle.devices.specs.Device.{AppendsFront};
-ghost use Rattle.script.specs.Fault.{is_read_failed, is_write_failed, IsShort, IsTooLong};
+ghost use Rattle.tasks.specs.Fault.{is_read_failed, is_write_failed, IsShort, IsTooLong};
 ghost use Rattle.script.specs.Play.{output_of};
 
+use crate::fault::PlayFault;
 use devices::{Sink, Source, read_within};
-use script::{PlayFault, play_lines};
+use script::play_lines;
 use std::alloc::Global;
 use std::hash::RandomState;
 
@@ -42,10 +43,10 @@ pub fn play<R: Source, W: Sink>(
     ensures too_long { result ≡ Err PlayFault.ScriptTooLong → IsTooLong (R.remaining source.old) (R.reads source.old) (R.reads source.new) }
 {
     match read_within(alloc, source, MOST_BYTES, MOST_READS)? {
-        Some(script) => {
-            let status = play_lines(alloc, keys, script.as_slice(), sink)?;
-            Ok(status)
-        }
+        Some(script) => match play_lines(alloc, keys, script.as_slice(), sink) {
+            Ok(status) => Ok(status),
+            Err(fault) => Err(PlayFault::from(fault)),
+        },
         None => Err(PlayFault::ScriptTooLong),
     }
 }

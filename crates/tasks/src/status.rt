@@ -2,16 +2,16 @@
 ghost use Rattle.std.specs.Prelude.{◌≡◌, ◌≢◌, ◌++◌, ◌||◌, Err, false, IfOk, OnOk, OnErr, IfSome, codes, map};
 ghost use Rattle.std.specs.Io.KnownBytes.{Appends};
 ghost use Rattle.devices.specs.Device.{AppendsFront};
-ghost use Rattle.script.specs.Fault.{fault_text, is_read_failed, is_write_failed};
+ghost use Rattle.tasks.specs.Fault.{fault_text, is_read_failed, is_write_failed};
 ghost use Rattle.tasks.specs.Tasks.{done_by, input_of, IsLongScript, IsShortScript};
 ghost use Rattle.command_line.specs.Options.{AreServable};
 ghost use Rattle.tasks.specs.Run.{reads, writes, IsMistake, IsRun, IsTaskRun, IsWordsRun};
 
 use crate::check::check;
+use crate::fault::PlayFault;
 use crate::playing::play;
 use command_line::{Invocation, ServeOptions, Task, WordsFault, read_words};
 use devices::{Sink, Source, write_all};
-use script::PlayFault;
 use std::alloc::Global;
 use std::convert::AsStr;
 use std::hash::RandomState;

@@ -17,7 +17,7 @@ playing-init g c = record {
   failed = refl;
 }
 
--- want of memory is a failure of neither the source nor the sink
+-- want of memory is no failure of the sink
 pub returns-in_err-line-clause-failed : goal.returns-in_err-line-clause-failed
 returns-in_err-line-clause-failed g c =
     let p = err_from_is_err_and c.from_residual-in_err-line.result c.from_residual-in_err-line.ensures.1 in
@@ -27,16 +27,6 @@ pub returns-in_err-stops-clause-failed : goal.returns-in_err-stops-clause-failed
 returns-in_err-stops-clause-failed g c =
     let p = err_from_is_err_and c.from_residual-in_err-stops.result c.from_residual-in_err-stops.ensures.1 in
     rw (p.1, p.2) (c.playing.invariant.failed ∙ sym (or-false _))
-
-pub returns-in_err-line-clause-read : goal.returns-in_err-line-clause-read
-returns-in_err-line-clause-read g c =
-    let p = err_from_is_err_and c.from_residual-in_err-line.result c.from_residual-in_err-line.ensures.1 in
-    rw (p.1, p.2) refl
-
-pub returns-in_err-stops-clause-read : goal.returns-in_err-stops-clause-read
-returns-in_err-stops-clause-read g c =
-    let p = err_from_is_err_and c.from_residual-in_err-stops.result c.from_residual-in_err-stops.ensures.1 in
-    rw (p.1, p.2) refl
 
 pub returns-in_err-line-clause-prefix : goal.returns-in_err-line-clause-prefix
 returns-in_err-line-clause-prefix g c = OnErr-always _ _ (plays_refused _ _ _ _ c.playing.invariant.plays)
