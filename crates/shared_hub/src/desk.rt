@@ -54,7 +54,8 @@ impl<L: Run> Seat<L> {
 }
 
 /// What lies under the lock: the hub, and the book that counts its entries since the run opened. Each desk is made of a
-/// blank ledger, and changes by `enter` and `rotate` alone, so nobody who holds the lock can put another in its place.
+/// blank ledger, and changes by `enter`, `answer` and `rotate` alone, so nobody who holds the lock can put another in its
+/// place.
 #[derive(Drop)]
 pub struct Desk<L: Run> {
     alloc: Global,
