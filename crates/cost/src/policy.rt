@@ -17,16 +17,24 @@ pub fn policy_of(alloc: Global, allows: u64) -> Result<Ready, CostFault> {
     Ready::of(alloc, policy).ok().ok_or(CostFault::NoMemory)
 }
 
+/// What stands before a policy's list, and behind it. Without a clause, so that what is appended is known as no more than a
+/// text.
+fn ends() -> (&'static str, &'static str) {
+    (
+        "{\"accounts\":{\"A\":{\"users\":[{\"user\":\"demo\",\"password\":\"demo\",\"permissions\":{\"publish\":[",
+        "\"foo\"]}}]}}}",
+    )
+}
+
 /// The text of a policy with one user and its list.
 fn listing(alloc: Global, allows: u64) -> Result<String, CostFault> {
+    let (head, tail) = ends();
     let mut text = String::new(alloc);
-    text.push_str(
-        "{\"accounts\":{\"A\":{\"users\":[{\"user\":\"demo\",\"password\":\"demo\",\"permissions\":{\"publish\":[",
-    )?;
+    text.push_str(head)?;
     for entry in 1..allows {
         let entry = format!(in alloc; "\"other.{entry}\",")?;
         text.push_str(entry.as_str())?;
     }
-    text.push_str("\"foo\"]}}]}}}")?;
+    text.push_str(tail)?;
     Ok(text)
 }

@@ -30,9 +30,14 @@ enum Told {
 
 const FULL: Told = Told::Refused(HubRefusal::HistoryFull);
 
+/// The built-in policy, without a clause: so its text is no part of what is known of a hub.
+fn ready(alloc: Global) -> Option<Ready> {
+    Ready::of(alloc, Policy::builtin(alloc).ok()?).ok()
+}
+
 /// A hub over the built-in policy, whose history holds two entries.
 fn opened(alloc: Global, keys: RandomState) -> Option<Hub> {
-    let ready = Ready::of(alloc, Policy::builtin(alloc).ok()?).ok()?;
+    let ready = ready(alloc)?;
     let caps = Caps {
         outbox: 16,
         history: 2,
@@ -52,16 +57,16 @@ fn event(alloc: Global, ask: Ask) -> Option<Event> {
     Some(Event { now: 0, what })
 }
 
-fn told_of(answer: Result<Answer, (Event, HubRefusal)>) -> Told {
+fn told_of(answer: &Result<Answer, (Event, HubRefusal)>) -> Told {
     match answer {
         Ok(answer) => Told::Entry(answer.get().number),
-        Err((_, refusal)) => Told::Refused(refusal),
+        Err((_, refusal)) => Told::Refused(*refusal),
     }
 }
 
 // A step, a run and a rotation without their clauses: what a test asserts, it computes.
 fn step(hub: &mut Hub, event: Event) -> Told {
-    told_of(hub.step(event))
+    told_of(&hub.step(event))
 }
 
 fn run(hub: &mut Hub, events: Vec<Event>) -> Option<Vec<Result<Answer, (Event, HubRefusal)>>> {
@@ -100,13 +105,22 @@ fn events(alloc: Global, asks: &[Ask]) -> Option<Vec<Event>> {
     Some(all)
 }
 
-/// What one run tells of all.
-fn ran(alloc: Global, hub: &mut Hub, asks: &[Ask]) -> Option<Vec<Told>> {
+fn told_of_all(
+    alloc: Global,
+    answers: &[Result<Answer, (Event, HubRefusal)>],
+) -> Option<Vec<Told>> {
     let mut all = Vec::new(alloc);
-    for answer in run(hub, events(alloc, asks)?)? {
+    for answer in answers {
         all.push(told_of(answer)).ok()?;
     }
     Some(all)
+}
+
+/// What one run tells of all.
+fn ran(alloc: Global, hub: &mut Hub, asks: &[Ask]) -> Option<Vec<Told>> {
+    let events = events(alloc, asks)?;
+    let answers = run(hub, events)?;
+    told_of_all(alloc, answers.as_slice())
 }
 
 #[test]

@@ -5,7 +5,7 @@ use denote.Param.Send.{IsSync, sendable, recorded_sync, struct_sync, shr_sync}
 use denote.Struct.Declared.{shape}
 use Rattle.std.proofs.alloc.Global.TheSendSync as global
 use Rattle.std.specs.declared.sync.ledger.Ledger.{Ghosts as Ledgers}
-use Rattle.shared_hub.specs.declared.desk.Run.{Ghosts as Runs}
+use Rattle.desk.specs.declared.desk.Run.{Ghosts as Runs}
 use Rattle.doors.proofs.house.House.TheSendSync as house
 use Rattle.server_loop.specs.contracts.server.Place as place
 use Rattle.shared_hub.proofs.Crossing.{shared_sync}

@@ -33,12 +33,12 @@ use Rattle.receivers.proofs.known.Known.TheSendSync as known
 use Rattle.events.proofs.answer.Entry.TheSendSync as entry
 use Rattle.lists.proofs.shared.Shared.TheSendSync as shared
 use Rattle.world.proofs.plain.PlainWorld.TheSendSync as plain
-use Rattle.shared_hub.specs.contracts.desk.Desk as desk
+use Rattle.desk.specs.contracts.desk.Desk as desk
 use Rattle.shared_hub.specs.contracts.shared.Shared as shared_row
 use Rattle.shared_hub.proofs.shared.Rest.TheSendSync as rest
 use Rattle.std.proofs.sync.ledger.Book.TheSendSync as book
 use Rattle.std.proofs.sync.Mutex.TheSendSync as mutex
-use Rattle.shared_hub.specs.declared.desk.Run.{Ghosts as Runs}
+use Rattle.desk.specs.declared.desk.Run.{Ghosts as Runs}
 use Rattle.std.specs.declared.sync.ledger.Ledger.{Ghosts as Ledgers}
 use Rattle.std.specs.contracts.sync.ledger.Share as share_row
 use Rattle.std.proofs.sync.ledger.Share.TheSendSync as share

@@ -1,4 +1,3 @@
 pub mod Crossing
 mod Entered
 mod Genuine
-mod Verdicts

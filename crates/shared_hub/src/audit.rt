@@ -1,17 +1,15 @@
-//! The closing audit.
-ghost use Rattle.std.specs.Prelude.{◌≡◌, ◌+◌, List, MatchResult, sum};
+//! What a closing audit looks for.
+ghost use Rattle.std.specs.Prelude.{◌≡◌, List, MatchResult};
 ghost use Rattle.std.specs.Bool.{Decides};
 ghost use Rattle.std.specs.Option.{option_copied};
 ghost use Rattle.events.specs.declared.answer.Entry.{Entry};
 ghost use Rattle.hub.specs.Segments.{held};
 ghost use Rattle.shared_hub.specs.Audits.{Stands, HasNone, IsFound, IsJoined, AreEntered, IsFault, IsLookUp, entry_after};
 
-use crate::{Receipt, Run};
+use crate::Receipt;
 use alike::Alike;
 use hub::{Answer, Hub, Segment};
-use lists::Items;
 use segments::joins;
-use std::marker::PhantomData;
 
 /// Why a closing audit is refused.
 #[derive(Clone, Copy, Debug, PartialEq, Eq)]
@@ -24,39 +22,6 @@ pub enum AuditFault {
     ReceiptMismatch(u64),
     /// Memory could not be had.
     NoMemory,
-}
-
-/// A run that has ended: its hub, the segments that with it are a whole history, and how many entries each seat has made.
-/// Together they are the entries since the run opened.
-#[derive(Drop)]
-pub struct Audit<L: Run> {
-    run: PhantomData<L>,
-    /// The hub, with the entries that it holds.
-    pub hub: Hub,
-    /// The segments, in the order in which they were handed in. With what the hub holds they are its history.
-    pub segments: Vec<Segment>,
-    /// How many entries each seat has made, in the order in which the seats were handed in.
-    pub counts: Items<u64>,
-    ghost counted: { hub.world.number ≡ L.opening + sum counts },
-}
-
-impl<L: Run> Audit<L> {
-    ghost use Rattle.std.specs.Prelude.{◌≡◌, ◌+◌, sum};
-
-    /// The audit of a hub whose entries since the run opened are as many as the counts tell.
-    pub(crate) fn of(hub: Hub, segments: Vec<Segment>, counts: Items<u64>) -> Audit<L>
-        requires { hub.world.number ≡ L.opening + sum counts }
-        ensures hub { result.hub ≡ hub }
-        ensures segments { result.segments ≡ segments }
-        ensures counts { result.counts ≡ counts }
-    {
-        Audit {
-            run: PhantomData,
-            hub,
-            segments,
-            counts,
-        }
-    }
 }
 
 /// What is wrong with segments and receipts, if anything is.

@@ -3,17 +3,15 @@
 #![tactic(auto)]
 
 mod audit;
-mod desk;
 mod port;
 mod seat_port;
 mod shared;
 mod unlocked;
 
-pub use audit::{Audit, AuditFault};
-pub use desk::{Desk, Run, Seat};
+pub use audit::AuditFault;
+pub use desk::{Audit, Blank, Desk, Run, Seat};
 pub use port::SharedPort;
 pub use receipts::Receipt;
 pub use seat_port::{Notes, SeatPort};
 pub use shared::Shared;
-pub use std::sync::ledger::Blank;
 pub use unlocked::{Parts, Unlocked};

@@ -1,9 +1,9 @@
 //! The lock, and what may be done through it.
 ghost use Rattle.std.specs.Prelude.{◌≡◌, ◌<◌, ◌≤◌, ℕ};
 
-use crate::audit::{Audit, AuditFault};
+use crate::audit::AuditFault;
 use crate::unlocked::{Parts, Unlocked};
-use crate::{Desk, Receipt, Run, Seat};
+use crate::{Audit, Desk, Receipt, Run, Seat};
 use hub::{Answer, Event, Hub, HubRefusal, Segment};
 use lists::NoMemory;
 use std::alloc::Global;

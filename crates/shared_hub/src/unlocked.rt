@@ -1,9 +1,9 @@
 //! A run whose hub no thread shares any more, and its closing audit.
 ghost use Rattle.std.specs.Prelude.{◌≡◌};
 
-use crate::audit::{Audit, AuditFault, judge};
+use crate::audit::{AuditFault, judge};
 use crate::shared::{Rest, Shared};
-use crate::{Desk, Receipt, Run, Seat};
+use crate::{Audit, Desk, Receipt, Run, Seat};
 use hub::Segment;
 use std::alloc::Global;
 

@@ -7,7 +7,7 @@ use denote.Struct.Declared.{shape}
 use mir.Syntax.{named}
 use Rattle.std.proofs.alloc.Global.TheSendSync as global
 use Rattle.std.specs.declared.sync.ledger.Ledger.{Ghosts as Ledgers}
-use Rattle.shared_hub.specs.declared.desk.Run.{Ghosts as Runs}
+use Rattle.desk.specs.declared.desk.Run.{Ghosts as Runs}
 use Rattle.shared_hub.proofs.Crossing.{shared_sync}
 use Rattle.shared_hub_tests.specs.contracts.worker.Place as place
 use Rattle.shared_hub_tests.proofs.runs.worked.Goals as goal

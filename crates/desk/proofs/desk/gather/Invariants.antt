@@ -2,7 +2,7 @@
 use Rattle.std.proofs.Common.{◌≡◌, ◌+◌, ◌≤◌, ◌++◌, length, map, vec_len, vec_capacity}
 use Rattle.std.specs.Prelude.{sum}
 use Rattle.std.specs.VecDeque.{deque_len}
-use Rattle.shared_hub.proofs.desk.gather.Given as goal
+use Rattle.desk.proofs.desk.gather.Given as goal
 
 abbrev pub invariant-loop-seat : goal.invariant-loop-seat
 invariant-loop-seat g l = record {

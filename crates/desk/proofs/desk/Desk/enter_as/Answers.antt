@@ -2,8 +2,8 @@
 use Rattle.std.proofs.Common.{◌≡◌, true, subst, sym}
 use Rattle.policy_doc.specs.declared.document.PolicyDoc.{PolicyDoc}
 use Rattle.receipts.specs.Receipts.{is_of_policy}
-use Rattle.shared_hub.proofs.Verdicts.{genuine}
-use Rattle.shared_hub.proofs.desk.Desk.enter_as.Goals as goal
+use Rattle.desk.proofs.Verdicts.{genuine}
+use Rattle.desk.proofs.desk.Desk.enter_as.Goals as goal
 
 pub of-requires : goal.of-requires
 of-requires g c =

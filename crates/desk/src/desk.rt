@@ -1,10 +1,10 @@
 //! What lies under the lock, and who may enter events into it.
 ghost use Rattle.std.specs.Prelude.{◌≡◌, ◌+◌, ◌≤◌, ℕ};
 
-use crate::Receipt;
 use crate::audit::Audit;
 use hub::{Answer, Command, Event, Hub, HubRefusal, Ready, Segment};
 use lists::{Copying, Items, NoMemory};
+use receipts::Receipt;
 use std::alloc::Global;
 use std::collections::VecDeque;
 use std::marker::Brand;
@@ -37,7 +37,7 @@ pub struct Seat<L: Run> {
 
 impl<L: Run> Seat<L> {
     /// The seat of one part of the ledger, which has entered nothing.
-    pub(crate) fn of(share: Share<L>) -> Seat<L>
+    pub fn of(share: Share<L>) -> Seat<L>
         requires part { share.parts ≡ 1 }
         requires amount { share.amount ≡ 0 }
         ensures { result.count ≡ 0 }
@@ -70,10 +70,10 @@ impl<L: Run> Desk<L> {
     ghost use Rattle.hub.specs.Segments.{held, rotated};
     ghost use Rattle.hub.specs.Sound.{IsSound};
     ghost use Rattle.hub.specs.Guarantee.{IsRouted, KeepsGuarantee};
-    ghost use Rattle.shared_hub.specs.Entering.{IsEntered};
+    ghost use Rattle.desk.specs.Entering.{IsEntered};
 
     /// The desk of a hub, with a share of every part, which counts nothing yet.
-    pub(crate) fn open(alloc: Global, blank: Blank, hub: Hub) -> (Desk<L>, Share<L>)
+    pub fn open(alloc: Global, blank: Blank, hub: Hub) -> (Desk<L>, Share<L>)
         requires name { blank.name ≡ L.name }
         requires parts { blank.parts ≡ L.parts }
         requires opening { hub.world.number ≡ L.opening }
@@ -103,7 +103,7 @@ impl<L: Run> Desk<L> {
     }
 
     /// Ends the run: the parts of all seats come together, and what they count is what the book has.
-    pub(crate) fn close(
+    pub fn close(
         self,
         rest: Share<L>,
         seats: Vec<Seat<L>>,
@@ -165,7 +165,7 @@ impl<L: Run> Desk<L> {
     }
 
     /// `rotate` without a seat.
-    pub(crate) fn rotate_held(&mut self) -> Result<Segment, NoMemory>
+    pub fn rotate_held(&mut self) -> Result<Segment, NoMemory>
         ensures segment { IfOk result (λ segment. segment ≡ held self.old.hub) }
         ensures ok { OnOk result (self.new.hub ≡ rotated self.old.hub) }
         ensures err { OnErr result (self.new.hub ≡ self.old.hub) }
@@ -177,7 +177,7 @@ impl<L: Run> Desk<L> {
 
     /// `enter` with a seat that is lent.
     #[inline(always)]
-    pub(crate) fn enter_as(
+    pub fn enter_as(
         &mut self,
         seat: &mut Seat<L>,
         event: Event,

@@ -1,0 +1,10 @@
+//! What lies under the lock of a hub that threads share: the hub, the book of its entries, and the seats that enter events
+//! (docs/GUARANTEE.md, "Threads").
+#![tactic(auto)]
+
+mod audit;
+mod desk;
+
+pub use audit::Audit;
+pub use desk::{Desk, Run, Seat};
+pub use std::sync::ledger::Blank;
