@@ -178,7 +178,13 @@ fn work_all<R: Threads + Sync, J: Send + Drop, O, T: Site<J, O> + Sync>(
 ) -> Option<ServeFault> {
     let work = |start: J| -> Option<ServeFault> { site.work(start) };
     match thread::map_vec(rt, starts, &work) {
-        Ok(faults) => faults.as_slice().iter().copied().fold(None, least),
+        Ok(faults) => {
+            let mut first = None;
+            for fault in faults.as_slice() {
+                first = least(first, *fault);
+            }
+            first
+        }
         Err(_) => {
             site.stop();
             Some(ServeFault::NoMemory)
