@@ -100,6 +100,20 @@ fn drain_all(server: &mut Server, receivers: &mut [Conn]) -> Result<(), CostFaul
     Ok(())
 }
 
+/// Opens what a scenario has, and publishes so many pieces.
+fn play(
+    alloc: Global,
+    server: &mut Server,
+    scenario: Scenario,
+    pieces: u64,
+) -> Result<(), CostFault> {
+    let piece = piece(alloc)?;
+    open_others(alloc, server, scenario)?;
+    let mut receivers = open_receivers(alloc, server, scenario)?;
+    let played = publish(server, receivers.as_mut_slice(), piece.as_slice(), pieces);
+    played
+}
+
 /// How many bytes the clients are sent where so many messages are published, in pieces, of which the last is
 /// whole too.
 pub fn publish_in(
@@ -109,14 +123,11 @@ pub fn publish_in(
     messages: u64,
 ) -> Result<u64, CostFault> {
     let mut server = Server::new(alloc, keys, scenario.allows)?;
-    open_others(alloc, &mut server, scenario)?;
-    let mut receivers = open_receivers(alloc, &mut server, scenario)?;
-    let piece = piece(alloc)?;
-    publish(
-        &mut server,
-        receivers.as_mut_slice(),
-        piece.as_slice(),
-        messages / PIECE,
-    )?;
-    Ok(server.sent())
+    let played = play(alloc, &mut server, scenario, messages / PIECE);
+    let sent = server.sent();
+    drop(server);
+    match played {
+        Ok(()) => Ok(sent),
+        Err(fault) => Err(fault),
+    }
 }

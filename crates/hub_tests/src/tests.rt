@@ -97,12 +97,20 @@ fn stepped(alloc: Global, hub: &mut Hub, asks: &[Ask]) -> Option<Vec<Told>> {
     Some(all)
 }
 
+fn add_event(alloc: Global, all: &mut Vec<Event>, ask: Ask) -> bool {
+    match event(alloc, ask) {
+        Some(event) => all.push(event).is_ok(),
+        None => false,
+    }
+}
+
 fn events(alloc: Global, asks: &[Ask]) -> Option<Vec<Event>> {
     let mut all = Vec::new(alloc);
+    let mut has_all = true;
     for ask in asks {
-        all.push(event(alloc, *ask)?).ok()?;
+        has_all = add_event(alloc, &mut all, *ask) && has_all;
     }
-    Some(all)
+    if has_all { Some(all) } else { None }
 }
 
 fn told_of_all(
