@@ -131,10 +131,39 @@ fn ran(alloc: Global, hub: &mut Hub, asks: &[Ask]) -> Option<Vec<Told>> {
     told_of_all(alloc, answers.as_slice())
 }
 
+/// What a hub has told of all that was asked, how many subscriptions stand then, and what waits for connection 1.
+#[derive(Drop)]
+struct Shown {
+    told: Vec<Told>,
+    standing: usize,
+    waiting: Option<(usize, bool)>,
+}
+
+/// What a hub tells of asks, in one run or one by one.
+fn show(alloc: Global, hub: &mut Hub, asks: &[Ask], in_one_run: bool) -> Option<Shown> {
+    let told = if in_one_run {
+        ran(alloc, hub, asks)?
+    } else {
+        stepped(alloc, hub, asks)?
+    };
+    Some(Shown {
+        told,
+        standing: hub.standing().ok()?.len(),
+        waiting: hub.waiting(1),
+    })
+}
+
+/// The same of a new hub. No early return drops it, since the check of each would read what all of a hub lets go.
+fn show_new(alloc: Global, keys: RandomState, asks: &[Ask], in_one_run: bool) -> Option<Shown> {
+    let mut hub = opened(alloc, keys)?;
+    let shown = show(alloc, &mut hub, asks, in_one_run);
+    drop(hub);
+    shown
+}
+
 #[test]
 fn a_run_changes_nothing_once_the_history_is_full(rt: HostRuntime) -> Result<(), Fail> {
     let keys = RandomState::new(&rt)?;
-    let mut hub = opened(rt.alloc(), keys).ok_or("no hub is open")?;
     let asks = [
         Ask::Connect,
         Ask::Sub,
@@ -142,18 +171,17 @@ fn a_run_changes_nothing_once_the_history_is_full(rt: HostRuntime) -> Result<(),
         Ask::StrangeTake,
         Ask::StrangeClose,
     ];
-    let told = ran(rt.alloc(), &mut hub, &asks).ok_or("memory lacked")?;
+    let shown = show_new(rt.alloc(), keys, &asks, true).ok_or("memory lacked")?;
     let want = [Told::Entry(1), Told::Entry(2), FULL, FULL, FULL];
-    assert_eq!(rt; told.as_slice(), want.as_slice());
-    assert_eq!(rt; hub.waiting(1), Some((0, false)));
-    assert_eq!(rt; hub.standing()?.len(), 1);
+    assert_eq!(rt; shown.told.as_slice(), want.as_slice());
+    assert_eq!(rt; shown.waiting, Some((0, false)));
+    assert_eq!(rt; shown.standing, 1);
     Ok(())
 }
 
 #[test]
 fn a_rotation_makes_room_and_numbers_go_on(rt: HostRuntime) -> Result<(), Fail> {
     let keys = RandomState::new(&rt)?;
-    let mut hub = opened(rt.alloc(), keys).ok_or("no hub is open")?;
     let asks = [
         Ask::Connect,
         Ask::Sub,
@@ -163,7 +191,7 @@ fn a_rotation_makes_room_and_numbers_go_on(rt: HostRuntime) -> Result<(), Fail> 
         Ask::Rotate,
         Ask::Rotate,
     ];
-    let told = stepped(rt.alloc(), &mut hub, &asks).ok_or("memory lacked")?;
+    let shown = show_new(rt.alloc(), keys, &asks, false).ok_or("memory lacked")?;
     let want = [
         Told::Entry(1),
         Told::Entry(2),
@@ -173,7 +201,7 @@ fn a_rotation_makes_room_and_numbers_go_on(rt: HostRuntime) -> Result<(), Fail> 
         Told::Segment(3, 1),
         Told::Segment(4, 0),
     ];
-    assert_eq!(rt; told.as_slice(), want.as_slice());
-    assert_eq!(rt; hub.standing()?.len(), 1);
+    assert_eq!(rt; shown.told.as_slice(), want.as_slice());
+    assert_eq!(rt; shown.standing, 1);
     Ok(())
 }
