@@ -8,7 +8,6 @@ use std::marker::Model;
 use std::mem;
 
 /// A connection with what its client hasn't been sent yet. A clause sees both.
-#[derive(Drop)]
 pub struct Client {
     conn: Conn,
     /// What is written next, and how much of it is written.
@@ -19,6 +18,19 @@ pub struct Client {
     /// Whether frames wait that a call could not come to the end of.
     stalled: bool,
     alloc: Global,
+}
+
+impl Drop for Client {
+    fn drop(self) {
+        let Self {
+            conn: _,
+            bytes: _,
+            written: _,
+            answers: _,
+            stalled: _,
+            alloc: _,
+        } = self;
+    }
 }
 
 impl Model for Client {

@@ -15,7 +15,6 @@ use wire_write::write_info;
 
 /// A connection. A clause sees its number, what its reader keeps, where it is in its life, the frames that wait for
 /// their turn with the word of the first and what stopped it, and what a Take gave and is not written yet.
-#[derive(Drop)]
 pub struct Conn {
     conn: u64,
     reader: FrameReader,
@@ -25,6 +24,21 @@ pub struct Conn {
     stall: Option<Stall>,
     owed: Owed,
     alloc: Global,
+}
+
+impl Drop for Conn {
+    fn drop(self) {
+        let Self {
+            conn: _,
+            reader: _,
+            stage: _,
+            frames: _,
+            word: _,
+            stall: _,
+            owed: _,
+            alloc: _,
+        } = self;
+    }
 }
 
 impl Model for Conn {

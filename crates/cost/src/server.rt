@@ -29,7 +29,6 @@ impl Words for Rising {
 }
 
 /// A hub, and how much its clients were sent.
-#[derive(Drop)]
 pub struct Server {
     alloc: Global,
     hub: Hub,
@@ -38,6 +37,18 @@ pub struct Server {
     last: u64,
     /// How many bytes were sent.
     sent: u64,
+}
+
+impl Drop for Server {
+    fn drop(self) {
+        let Self {
+            alloc: _,
+            hub: _,
+            words: _,
+            last: _,
+            sent: _,
+        } = self;
+    }
 }
 
 impl Server {

@@ -12,7 +12,6 @@ use std::sync::Wait;
 const LATEST: usize = 17;
 
 /// The connections that answers name, each with its owner's others.
-#[derive(Drop)]
 pub struct Notices {
     by_worker: Vec<Vec<Named>>,
     /// The worker that gathers them, if it is one.
@@ -21,6 +20,17 @@ pub struct Notices {
     pub most: usize,
     /// How many deliveries the latest Take gave, since this was cleared.
     pub given: Option<usize>,
+}
+
+impl Drop for Notices {
+    fn drop(self) {
+        let Self {
+            by_worker: _,
+            own: _,
+            most: _,
+            given: _,
+        } = self;
+    }
 }
 
 /// Which worker has a connection: sockets are handed round in turn.

@@ -11,12 +11,19 @@ use std::marker::Model;
 use std::slice;
 
 /// A message on its way to one subscription. All deliveries of a message share it.
-#[derive(Debug, Drop)]
+#[derive(Debug)]
 pub struct Delivery {
     /// What is sent: its subject is the one that the subscriber sees.
     pub message: Message,
     /// The client's own id of the subscription.
     pub sid: Sid,
+}
+
+impl Drop for Delivery {
+    #[inline(always)]
+    fn drop(self) {
+        let Self { message: _, sid: _ } = self;
+    }
 }
 
 impl Copying for Delivery {
@@ -52,9 +59,16 @@ pub enum Item {
 
 /// What a message met at the subscriptions that it is for. A clause sees the items, oldest subscription first. A
 /// single one has no block of its own.
-#[derive(Debug, Drop)]
+#[derive(Debug)]
 pub struct Met {
     items: MetItems,
+}
+
+impl Drop for Met {
+    #[inline(always)]
+    fn drop(self) {
+        let Self { items: _ } = self;
+    }
 }
 
 #[derive(Debug, Drop)]
@@ -106,7 +120,7 @@ impl Met {
 }
 
 /// A subscription that a reload has removed from a session that stays.
-#[derive(Debug, Drop)]
+#[derive(Debug)]
 pub struct Removed {
     /// The number of the entry that made it.
     pub id: u64,
@@ -116,6 +130,18 @@ pub struct Removed {
     pub sid: Sid,
     /// The verdict of the new policy, which refuses it.
     pub verdict: Verdict,
+}
+
+impl Drop for Removed {
+    #[inline(always)]
+    fn drop(self) {
+        let Self {
+            id: _,
+            conn: _,
+            sid: _,
+            verdict: _,
+        } = self;
+    }
 }
 
 /// What came of a command that was not refused.
@@ -151,7 +177,7 @@ pub enum Outcome {
 }
 
 /// What the hub remembers of an event that it answered, and tells of it.
-#[derive(Debug, Drop)]
+#[derive(Debug)]
 pub struct Entry {
     /// Numbers begin at 1 and rise by one.
     pub number: u64,
@@ -161,6 +187,18 @@ pub struct Entry {
     pub outcome: Outcome,
     /// What was asked, and when.
     pub event: Event,
+}
+
+impl Drop for Entry {
+    #[inline(always)]
+    fn drop(self) {
+        let Self {
+            number: _,
+            epoch: _,
+            outcome: _,
+            event: _,
+        } = self;
+    }
 }
 
 /// What is told of an event: the entry that is kept of it, which the answer and the history share.

@@ -11,12 +11,19 @@ use subjects::{Pattern, Subject};
 pub type Sid = SharedText;
 
 /// What the hub is asked, and when.
-#[derive(Debug, Drop)]
+#[derive(Debug)]
 pub struct Event {
     /// Milliseconds by the caller's clock. The hub's clock never goes back: an earlier moment counts as the latest one.
     pub now: u64,
     /// What is asked.
     pub what: Command,
+}
+
+impl Drop for Event {
+    #[inline(always)]
+    fn drop(self) {
+        let Self { now: _, what: _ } = self;
+    }
 }
 
 /// A command: of one connection, which the caller names by a number of its own, or a reload, which is nobody's.

@@ -12,9 +12,16 @@ use subjects::SubjectRef;
 
 /// What is published: all that those whom it is for are sent alike. A clause sees its four parts. It is one part of what
 /// was read, so one more owner takes no memory.
-#[derive(Debug, Drop)]
+#[derive(Debug)]
 pub struct Message {
     text: MessageText,
+}
+
+impl Drop for Message {
+    #[inline(always)]
+    fn drop(self) {
+        let Self { text: _ } = self;
+    }
 }
 
 impl Model for Message {

@@ -25,7 +25,6 @@ fn read_each(entries: &[Answer]) -> u64 {
 /// at each answer whose number is a multiple of half of what the history holds at most, and where the history is full.
 /// What was handed out is dropped outside the lock, as many entries as are entered: so new ones have the blocks of old ones,
 /// which malloc keeps at hand.
-#[derive(Drop)]
 pub struct GatedPort<'a, L: Run, R: Wait, G: Gate + Drop, N: Notes + Drop> {
     port: SeatPort<'a, L, R, N>,
     gate: G,
@@ -39,6 +38,21 @@ pub struct GatedPort<'a, L: Run, R: Wait, G: Gate + Drop, N: Notes + Drop> {
     at_hand: usize,
     /// What was read of those, so that the reads are made.
     read: u64,
+}
+
+impl<L: Run, R: Wait, G: Gate + Drop, N: Notes + Drop> Drop for GatedPort<'_, L, R, G, N> {
+    fn drop(self) {
+        let Self {
+            port: _,
+            gate: _,
+            is_spent: _,
+            half: _,
+            due: _,
+            spent: _,
+            at_hand: _,
+            read: _,
+        } = self;
+    }
 }
 
 impl<'a, L: Run, R: Wait, G: Gate + Drop, N: Notes + Drop> GatedPort<'a, L, R, G, N> {

@@ -23,7 +23,6 @@ pub struct Caps {
 /// The world, and the history of its steps since its opening or last rotation. A clause sees the world, the one before
 /// the entries, and the entries. Of every hub it holds that the policy in force refuses no standing subscription, that
 /// the entries are a legal run, and what else `known` tells.
-#[derive(Drop)]
 pub struct Hub {
     alloc: Global,
     world: World,
@@ -31,6 +30,18 @@ pub struct Hub {
     opening: Shared<PlainWorld>,
     most: usize,
     entries: Vec<Answer>,
+}
+
+impl Drop for Hub {
+    fn drop(self) {
+        let Self {
+            alloc: _,
+            world: _,
+            opening: _,
+            most: _,
+            entries: _,
+        } = self;
+    }
 }
 
 impl Model for Hub {

@@ -6,11 +6,20 @@ use world::PlainWorld;
 
 /// A part of a history that its hub has handed out: entries, the world before the first and that after the last. Its
 /// type keeps that they lead, one by one, from the one to the other. Parts that meet share the world between them.
-#[derive(Drop)]
 pub struct Segment {
     opening: Shared<PlainWorld>,
     entries: Vec<Answer>,
     closing: Shared<PlainWorld>,
+}
+
+impl Drop for Segment {
+    fn drop(self) {
+        let Self {
+            opening: _,
+            entries: _,
+            closing: _,
+        } = self;
+    }
 }
 
 impl Model for Segment {
@@ -75,7 +84,11 @@ impl Segment {
     pub fn into_entries(self) -> Vec<Answer>
         ensures { result.items ≡ self.entries }
     {
-        let Segment { entries, .. } = self;
+        let Segment {
+            opening: _,
+            entries,
+            closing: _,
+        } = self;
         entries
     }
 

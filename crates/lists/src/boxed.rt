@@ -5,9 +5,16 @@ use std::alloc::Global;
 use std::marker::Model;
 
 /// A value in a block of its own, so that what holds it stays small. A clause sees the value.
-#[derive(Debug, Drop)]
+#[derive(Debug)]
 pub struct Boxed<T> {
     value: Box<T>,
+}
+
+impl<T: Drop> Drop for Boxed<T> {
+    #[inline(always)]
+    fn drop(self) {
+        let Self { value: _ } = self;
+    }
 }
 
 impl<T> Model for Boxed<T> {

@@ -14,9 +14,16 @@ pub trait Copying: Sized {
 
 /// A list. A clause sees its elements in order and nothing else, so two lists with the same
 /// elements are equal whatever room they keep.
-#[derive(Debug, Drop)]
+#[derive(Debug)]
 pub struct Items<T> {
     items: Vec<T>,
+}
+
+impl<T: Drop> Drop for Items<T> {
+    #[inline(always)]
+    fn drop(self) {
+        let Self { items: _ } = self;
+    }
 }
 
 impl<T> Model for Items<T> {

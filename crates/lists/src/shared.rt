@@ -6,9 +6,16 @@ use std::marker::Model;
 use std::sync::Arc;
 
 /// A value with several owners. One more owner takes no memory and copies nothing. A clause sees the value.
-#[derive(Debug, Drop)]
+#[derive(Debug)]
 pub struct Shared<T> {
     value: Arc<T>,
+}
+
+impl<T: Drop> Drop for Shared<T> {
+    #[inline(always)]
+    fn drop(self) {
+        let Self { value: _ } = self;
+    }
 }
 
 impl<T> Model for Shared<T> {
@@ -57,9 +64,16 @@ impl<T> Copying for Shared<T> {
 
 /// A short text with several owners, as a name or an id. One more owner takes no memory. A clause sees its bytes. It has
 /// eight bytes, since each delivery that waits has one.
-#[derive(Debug, Drop)]
+#[derive(Debug)]
 pub struct SharedText {
     bytes: Arc<Vec<u8>>,
+}
+
+impl Drop for SharedText {
+    #[inline(always)]
+    fn drop(self) {
+        let Self { bytes: _ } = self;
+    }
 }
 
 impl Model for SharedText {

@@ -7,11 +7,22 @@ use std::sync::Arc;
 
 /// A part of a block of bytes with several owners. One more owner of the block, of the same part or of a part of it,
 /// takes no memory and copies nothing. A clause sees the part's bytes. It has 16 bytes, since it is moved often.
-#[derive(Debug, Drop)]
+#[derive(Debug)]
 pub struct SharedBytes {
     block: Arc<Vec<u8>>,
     start: u32,
     end: u32,
+}
+
+impl Drop for SharedBytes {
+    #[inline(always)]
+    fn drop(self) {
+        let Self {
+            block: _,
+            start: _,
+            end: _,
+        } = self;
+    }
 }
 
 impl Model for SharedBytes {

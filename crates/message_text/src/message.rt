@@ -10,11 +10,18 @@ use std::marker::Model;
 
 /// The texts of a published message as they stand in one block. One more owner copies nothing. A clause sees the four
 /// texts. It has 24 bytes, since it is moved often.
-#[derive(Debug, Drop)]
+#[derive(Debug)]
 pub struct MessageText {
     /// From the subject's first byte to the payload's last.
     text: SharedBytes,
     sizes: Sizes,
+}
+
+impl Drop for MessageText {
+    #[inline(always)]
+    fn drop(self) {
+        let Self { text: _, sizes: _ } = self;
+    }
 }
 
 impl Model for MessageText {

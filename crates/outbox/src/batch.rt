@@ -9,11 +9,18 @@ use std::sync::Arc;
 
 /// Elements that leave an outbox together, oldest first. They may have several owners: one more takes no memory and
 /// copies nothing. A clause sees their list.
-#[derive(Debug, Drop)]
+#[derive(Debug)]
 pub struct Batch<T> {
     items: Arc<Vec<T>>,
     /// How many of the items are left out, the oldest.
     gone: usize,
+}
+
+impl<T: Drop> Drop for Batch<T> {
+    #[inline(always)]
+    fn drop(self) {
+        let Self { items: _, gone: _ } = self;
+    }
 }
 
 impl<T> Model for Batch<T> {

@@ -8,11 +8,18 @@ use std::alloc::Global;
 use std::marker::Model;
 
 /// What waits for one session, oldest first. A clause sees the list and how long it may be.
-#[derive(Debug, Drop)]
+#[derive(Debug)]
 pub struct Outbox<T> {
     /// The oldest, once they were asked for together. They wait until they are let go.
     batch: Option<Batch<T>>,
     ring: HeapCircularBuffer<T>,
+}
+
+impl<T: Drop> Drop for Outbox<T> {
+    #[inline(always)]
+    fn drop(self) {
+        let Self { batch: _, ring: _ } = self;
+    }
 }
 
 impl<T> Model for Outbox<T> {

@@ -10,12 +10,22 @@ use wire_read::{FeedError, Frame, FrameReader};
 
 /// Frames in order. Those of the latest piece may stand apart, so that to take a piece needs no memory once its
 /// frames are read. A clause sees all of them.
-#[derive(Drop)]
 pub struct Frames {
     front: Vec<Frame>,
     // How many of the front ones had their turn: they are dropped together. If all had, none stands apart.
     done: usize,
     back: Vec<Frame>,
+}
+
+impl Drop for Frames {
+    #[inline(always)]
+    fn drop(self) {
+        let Self {
+            front: _,
+            done: _,
+            back: _,
+        } = self;
+    }
 }
 
 impl Model for Frames {

@@ -8,12 +8,22 @@ use std::marker::Model;
 
 /// What a Take gave and is not written yet, and whether it told that a delivery was missed. The deliveries stay in
 /// the answer, and nothing of them is copied.
-#[derive(Drop)]
 pub struct Owed {
     answer: Option<Answer>,
     // How many of the answer's deliveries are written.
     written: usize,
     missed: bool,
+}
+
+impl Drop for Owed {
+    #[inline(always)]
+    fn drop(self) {
+        let Self {
+            answer: _,
+            written: _,
+            missed: _,
+        } = self;
+    }
 }
 
 impl Model for Owed {

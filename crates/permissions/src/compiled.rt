@@ -8,9 +8,15 @@ use std::sync::Arc;
 use subjects::{Pattern, Subject, SubjectRef};
 
 /// A user's permission lists, ready to be asked. Copies share them. A clause sees the lists.
-#[derive(Debug, Drop)]
+#[derive(Debug)]
 pub struct Compiled {
     permissions: Option<Arc<PermDoc>>,
+}
+
+impl Drop for Compiled {
+    fn drop(self) {
+        let Self { permissions: _ } = self;
+    }
 }
 
 impl Model for Compiled {

@@ -13,7 +13,6 @@ use std::marker::Model;
 
 /// A session as it was at a moment. A clause sees the session. What waited for its client is a list, so that it takes
 /// no more memory than that.
-#[derive(Drop)]
 pub struct PlainSession {
     conn: u64,
     user: User,
@@ -23,6 +22,20 @@ pub struct PlainSession {
     capacity: u128,
     waiting: Items<Delivery>,
     replies: Option<Items<PlainGrant>>,
+}
+
+impl Drop for PlainSession {
+    fn drop(self) {
+        let Self {
+            conn: _,
+            user: _,
+            echo: _,
+            missed: _,
+            capacity: _,
+            waiting: _,
+            replies: _,
+        } = self;
+    }
 }
 
 impl Model for PlainSession {

@@ -7,9 +7,14 @@ use std::marker::Model;
 use subscriptions::{SharedSubscription, Subscriptions};
 
 /// A subscription as it stood at a moment. A clause sees the subscription.
-#[derive(Drop)]
 pub struct PlainSubscription {
     subscription: SharedSubscription,
+}
+
+impl Drop for PlainSubscription {
+    fn drop(self) {
+        let Self { subscription: _ } = self;
+    }
 }
 
 impl Model for PlainSubscription {

@@ -9,9 +9,15 @@ use std::alloc::Global;
 use std::marker::Model;
 
 /// The accounts of a document, each name once. A clause sees them in the order of their names' bytes.
-#[derive(Debug, Drop)]
+#[derive(Debug)]
 pub struct Accounts {
     accounts: Vec<NamedAccount>,
+}
+
+impl Drop for Accounts {
+    fn drop(self) {
+        let Self { accounts: _ } = self;
+    }
 }
 
 impl Model for Accounts {

@@ -5,10 +5,16 @@ use std::alloc::Global;
 use subjects::Pattern;
 
 /// What an operator writes down: the accounts by name. It may be invalid; a `Policy` is not.
-#[derive(Debug, Drop)]
+#[derive(Debug)]
 pub struct PolicyDoc {
     /// The accounts, each name once.
     pub accounts: Accounts,
+}
+
+impl Drop for PolicyDoc {
+    fn drop(self) {
+        let Self { accounts: _ } = self;
+    }
 }
 
 impl PolicyDoc {
@@ -46,14 +52,20 @@ pub struct NamedAccount {
 }
 
 /// What one account has: its users in the order in which they are written.
-#[derive(Debug, Drop)]
+#[derive(Debug)]
 pub struct AccountDoc {
     /// The users; a valid document has each name once over all accounts.
     pub users: Items<UserDoc>,
 }
 
+impl Drop for AccountDoc {
+    fn drop(self) {
+        let Self { users: _ } = self;
+    }
+}
+
 /// A user with its password. Without permissions it may do everything in its account.
-#[derive(Debug, Drop)]
+#[derive(Debug)]
 pub struct UserDoc {
     /// The bytes of its name.
     pub user: Bytes,
@@ -63,8 +75,18 @@ pub struct UserDoc {
     pub permissions: Option<PermDoc>,
 }
 
+impl Drop for UserDoc {
+    fn drop(self) {
+        let Self {
+            user: _,
+            password: _,
+            permissions: _,
+        } = self;
+    }
+}
+
 /// What a user may publish, what it may subscribe to, and on what terms it may answer requests.
-#[derive(Debug, Drop)]
+#[derive(Debug)]
 pub struct PermDoc {
     /// What decides a publish.
     pub publish: Direction,
@@ -72,6 +94,16 @@ pub struct PermDoc {
     pub subscribe: Direction,
     /// On what terms it may answer requests, or none. Where no publish allow list is given, terms bring the empty one.
     pub allow_responses: Option<Terms>,
+}
+
+impl Drop for PermDoc {
+    fn drop(self) {
+        let Self {
+            publish: _,
+            subscribe: _,
+            allow_responses: _,
+        } = self;
+    }
 }
 
 /// On what terms a user may answer requests, that is on the reply subjects of messages that it was sent.
@@ -85,7 +117,7 @@ pub struct Terms {
 
 /// The lists of one direction. No allow list allows all; an allow list that is given, even empty,
 /// denies what it doesn't cover. A deny entry wins over every allow entry.
-#[derive(Debug, Drop)]
+#[derive(Debug)]
 pub struct Direction {
     /// The allow list, or none.
     pub allow: Option<Items<PermEntry>>,
@@ -93,13 +125,28 @@ pub struct Direction {
     pub deny: Items<PermEntry>,
 }
 
+impl Drop for Direction {
+    fn drop(self) {
+        let Self { allow: _, deny: _ } = self;
+    }
+}
+
 /// An entry of an allow or a deny list. In a publish list it is plain: what it has for a queue part isn't looked at.
-#[derive(Debug, Drop)]
+#[derive(Debug)]
 pub struct PermEntry {
     /// The pattern whose subjects the entry has.
     pub subject: Pattern,
     /// The queue part: the pattern of the queue names that the entry is for. A plain entry has none.
     pub queue: Option<Pattern>,
+}
+
+impl Drop for PermEntry {
+    fn drop(self) {
+        let Self {
+            subject: _,
+            queue: _,
+        } = self;
+    }
 }
 
 impl PermEntry {

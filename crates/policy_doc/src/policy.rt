@@ -6,9 +6,15 @@ use std::alloc::Global;
 use std::marker::Model;
 
 /// A document that is valid. A clause sees the document.
-#[derive(Debug, Drop)]
+#[derive(Debug)]
 pub struct Policy {
     doc: PolicyDoc,
+}
+
+impl Drop for Policy {
+    fn drop(self) {
+        let Self { doc: _ } = self;
+    }
 }
 
 impl Model for Policy {

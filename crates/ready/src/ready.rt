@@ -9,7 +9,7 @@ use std::marker::Model;
 use std::sync::Arc;
 
 /// A user of a policy, with its permissions compiled.
-#[derive(Debug, Drop)]
+#[derive(Debug)]
 pub struct User {
     /// The name of its account.
     pub account: Bytes,
@@ -19,6 +19,17 @@ pub struct User {
     pub password: Bytes,
     /// What it may publish and subscribe to.
     pub rules: Compiled,
+}
+
+impl Drop for User {
+    fn drop(self) {
+        let Self {
+            account: _,
+            user: _,
+            password: _,
+            rules: _,
+        } = self;
+    }
 }
 
 impl Copying for User {
@@ -41,9 +52,15 @@ struct Parts {
 
 /// A policy made ready to be asked: each of its users has compiled permissions. Copies share it. A clause sees the
 /// policy.
-#[derive(Debug, Drop)]
+#[derive(Debug)]
 pub struct Ready {
     shared: Arc<Parts>,
+}
+
+impl Drop for Ready {
+    fn drop(self) {
+        let Self { shared: _ } = self;
+    }
 }
 
 impl Model for Ready {

@@ -13,10 +13,19 @@ use subjects::{Pattern, Subject};
 /// What a seat was told of one event: the answer, which has the event, and the policy in force after it. It is a few
 /// handles. A clause sees the entry and the policy. Its type keeps that where the outcome is Subscribed, Denied or
 /// Published, some user of that policy has that verdict on what the command asked for.
-#[derive(Debug, Drop)]
+#[derive(Debug)]
 pub struct Receipt {
     answer: Answer,
     ready: Ready,
+}
+
+impl Drop for Receipt {
+    fn drop(self) {
+        let Self {
+            answer: _,
+            ready: _,
+        } = self;
+    }
 }
 
 impl Model for Receipt {

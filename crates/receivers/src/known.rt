@@ -65,12 +65,23 @@ fn whom_of(alloc: Global, found: &[&SharedSubscription]) -> Whom
 
 /// Whom the messages of a publisher on a subject are for, where that was found. It stands as long as the subscriptions,
 /// and what permits them, do.
-#[derive(Drop)]
 pub struct Known {
     alloc: Global,
     conn: u64,
     subject: Vec<u8>,
     whom: Option<Whom>,
+}
+
+impl Drop for Known {
+    #[inline(always)]
+    fn drop(self) {
+        let Self {
+            alloc: _,
+            conn: _,
+            subject: _,
+            whom: _,
+        } = self;
+    }
 }
 
 impl Known {

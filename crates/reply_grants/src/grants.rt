@@ -9,11 +9,17 @@ use std::marker::Model;
 use subjects::{Subject, SubjectRef};
 
 /// The reply subjects that a user may answer on, at most 1,024. A clause sees the grants from the oldest to the youngest.
-#[derive(Drop)]
 pub struct Grants {
     marks: Marks,
     /// How many of them, the oldest, were dropped.
     gone: usize,
+}
+
+impl Drop for Grants {
+    #[inline(always)]
+    fn drop(self) {
+        let Self { marks: _, gone: _ } = self;
+    }
 }
 
 impl Model for Grants {

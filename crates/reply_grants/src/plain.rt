@@ -9,7 +9,6 @@ use std::marker::Model;
 use subjects::Subject;
 
 /// A grant as it was at a moment. A clause sees the grant.
-#[derive(Drop)]
 pub struct PlainGrant {
     /// The subject to answer on.
     pub subject: Subject,
@@ -17,6 +16,17 @@ pub struct PlainGrant {
     pub noted: u64,
     /// How many answers have passed on it since.
     pub count: u64,
+}
+
+impl Drop for PlainGrant {
+    #[inline(always)]
+    fn drop(self) {
+        let Self {
+            subject: _,
+            noted: _,
+            count: _,
+        } = self;
+    }
 }
 
 impl Model for PlainGrant {

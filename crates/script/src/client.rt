@@ -9,12 +9,17 @@ use session::{Conn, Output};
 use std::alloc::Global;
 
 /// An open connection.
-#[derive(Drop)]
 pub struct Client {
     /// Where it is by the protocol, and what it keeps of its client's bytes.
     pub conn: Conn,
     /// No drains are made for it.
     pub held: bool,
+}
+
+impl Drop for Client {
+    fn drop(self) {
+        let Self { conn: _, held: _ } = self;
+    }
 }
 
 /// The line of what a connection was sent, if it was sent anything.

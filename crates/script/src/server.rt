@@ -47,13 +47,24 @@ const USUAL: Caps = Caps {
 
 /// A hub, the moment of its events, and the words that messages take, first to last. A clause sees these, and what
 /// the hub was given at its opening.
-#[derive(Drop)]
 pub struct Server {
     keys: RandomState,
     hub: Hub,
     caps: Caps,
     moment: u64,
     words: ScriptWords,
+}
+
+impl Drop for Server {
+    fn drop(self) {
+        let Self {
+            keys: _,
+            hub: _,
+            caps: _,
+            moment: _,
+            words: _,
+        } = self;
+    }
 }
 
 impl Model for Server {

@@ -11,10 +11,15 @@ use std::sync::ledger::{Blank, Share};
 use std::sync::{Mutex, Wait};
 
 /// One hub that threads share. Each event is entered while its one lock is held; all else is done outside.
-#[derive(Drop)]
 pub struct Shared<L: Run> {
     desk: Mutex<Desk<L>>,
     rest: Rest<L>,
+}
+
+impl<L: Run> Drop for Shared<L> {
+    fn drop(self) {
+        let Self { desk: _, rest: _ } = self;
+    }
 }
 
 /// What is left of the ledger once each seat has its part. The parts come together here at the end.

@@ -7,9 +7,16 @@ use std::alloc::Global;
 use std::marker::Model;
 
 /// A subject that may have wildcards, as a subscription and a permission have it. A clause sees its tokens.
-#[derive(Debug, Drop)]
+#[derive(Debug)]
 pub struct Pattern {
     text: SharedBytes,
+}
+
+impl Drop for Pattern {
+    #[inline(always)]
+    fn drop(self) {
+        let Self { text: _ } = self;
+    }
 }
 
 impl Model for Pattern {

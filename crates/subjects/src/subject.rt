@@ -9,9 +9,16 @@ use std::hash::{Hash, Hasher};
 use std::marker::Model;
 
 /// A concrete subject of at most 512 tokens, as a message has it. A clause sees its tokens.
-#[derive(Debug, Drop)]
+#[derive(Debug)]
 pub struct Subject {
     text: SharedBytes,
+}
+
+impl Drop for Subject {
+    #[inline(always)]
+    fn drop(self) {
+        let Self { text: _ } = self;
+    }
 }
 
 impl Model for Subject {

@@ -11,12 +11,22 @@ use std::collections::HashMap;
 use std::hash::RandomState;
 
 /// What stands at one path of the tree, and below it. A path is the tokens of a pattern.
-#[derive(Drop)]
 pub struct Node {
     ids: Vec<u64>,
     tail: Vec<u64>,
     star: Option<Box<Node>>,
     children: HashMap<Vec<u8>, Box<Node>, RandomState>,
+}
+
+impl Drop for Node {
+    fn drop(self) {
+        let Self {
+            ids: _,
+            tail: _,
+            star: _,
+            children: _,
+        } = self;
+    }
 }
 
 impl Node {

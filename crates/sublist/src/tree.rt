@@ -12,11 +12,20 @@ use subjects::{Pattern, SubjectRef};
 ///
 /// A clause sees which pairs stand. Whoever keeps a list of subscriptions, whose ids rise, says in its own
 /// invariant that the tree is the index of the list (`IsIndexOf`): then `matching` is the list's filter.
-#[derive(Drop)]
 pub struct Sublist {
     alloc: Global,
     keys: RandomState,
     root: Node,
+}
+
+impl Drop for Sublist {
+    fn drop(self) {
+        let Self {
+            alloc: _,
+            keys: _,
+            root: _,
+        } = self;
+    }
 }
 
 impl Sublist {

@@ -13,11 +13,20 @@ pub type Own = HashMap<Vec<u8>, u64, RandomState>;
 
 /// The ids of subscriptions, found by their connection and sid. A clause sees which id each connection has under which
 /// sid. Whoever keeps the list of the subscriptions says in its invariant that they are the list's.
-#[derive(Drop)]
 pub struct Sids {
     alloc: Global,
     keys: RandomState,
     by_conn: HashMap<u64, Own, RandomState>,
+}
+
+impl Drop for Sids {
+    fn drop(self) {
+        let Self {
+            alloc: _,
+            keys: _,
+            by_conn: _,
+        } = self;
+    }
 }
 
 impl Sids {

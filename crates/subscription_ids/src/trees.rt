@@ -16,7 +16,6 @@ use sublist::{InsertError, Sublist};
 
 /// The ids of subscriptions, found by their account and a subject. A clause sees which account, pattern and id the
 /// trees hold. Whoever keeps the list of the subscriptions says in its invariant that the trees are the list's index.
-#[derive(Drop)]
 pub struct Trees {
     alloc: Global,
     keys: RandomState,
@@ -25,6 +24,17 @@ pub struct Trees {
     // What was found in the trees as they are.
     memos: Memos,
     ghost told: { AreTold memos by_account.entries },
+}
+
+impl Drop for Trees {
+    fn drop(self) {
+        let Self {
+            alloc: _,
+            keys: _,
+            by_account: _,
+            memos: _,
+        } = self;
+    }
 }
 
 impl Trees {

@@ -14,10 +14,16 @@ use std::slice;
 const SPARE: usize = 16;
 
 /// The row of an id, with the subscription of that id as long as it stands.
-#[derive(Drop)]
 pub struct Row {
     id: u64,
     standing: Option<SharedSubscription>,
+}
+
+impl Drop for Row {
+    #[inline(always)]
+    fn drop(self) {
+        let Self { id: _, standing: _ } = self;
+    }
 }
 
 impl Row {
@@ -205,13 +211,23 @@ fn empty_at(
 
 /// Subscriptions by rising id, seen as entries, of which each has an id and its subscription. One that goes leaves its
 /// row empty, so a walk over the rows comes once in many removals.
-#[derive(Drop)]
 pub struct Rows {
     rows: Vec<Row>,
     // How many of them are empty.
     empty: usize,
     // Where the last was found that was counted.
     guess: usize,
+}
+
+impl Drop for Rows {
+    #[inline(always)]
+    fn drop(self) {
+        let Self {
+            rows: _,
+            empty: _,
+            guess: _,
+        } = self;
+    }
 }
 
 impl Model for Rows {

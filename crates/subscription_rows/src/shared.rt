@@ -10,12 +10,22 @@ use subjects::{Pattern, Subject};
 
 /// A subscription that stands. It may have several owners: what never changes of it is in one block, so that one more
 /// owner is one count. A clause sees the subscription.
-#[derive(Drop)]
 pub struct SharedSubscription {
     // As its SUB made it. What it has received, and its limit, stand beside it.
     made: Shared<Subscription>,
     received: u64,
     most: Option<u64>,
+}
+
+impl Drop for SharedSubscription {
+    #[inline(always)]
+    fn drop(self) {
+        let Self {
+            made: _,
+            received: _,
+            most: _,
+        } = self;
+    }
 }
 
 impl Model for SharedSubscription {

@@ -4,7 +4,6 @@ use lists::Shared;
 use subjects::{Pattern, Subject};
 
 /// A subscription that stands.
-#[derive(Drop)]
 pub struct Subscription {
     /// The number of the entry that made it. They rise, so the oldest has the least.
     pub id: u64,
@@ -22,4 +21,20 @@ pub struct Subscription {
     pub received: u64,
     /// How many it is to receive in all, where an UNSUB has said so.
     pub most: Option<u64>,
+}
+
+impl Drop for Subscription {
+    #[inline(always)]
+    fn drop(self) {
+        let Self {
+            id: _,
+            conn: _,
+            account: _,
+            subject: _,
+            queue: _,
+            sid: _,
+            received: _,
+            most: _,
+        } = self;
+    }
 }

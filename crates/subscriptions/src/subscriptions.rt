@@ -15,11 +15,20 @@ use subscription_ids::Sids;
 const SUBSCRIPTIONS: usize = 4096;
 
 /// The standing subscriptions. A clause sees them as a list, oldest first. The sids find those of a connection.
-#[derive(Drop)]
 pub struct Subscriptions {
     alloc: Global,
     table: Table,
     sids: Sids,
+}
+
+impl Drop for Subscriptions {
+    fn drop(self) {
+        let Self {
+            alloc: _,
+            table: _,
+            sids: _,
+        } = self;
+    }
 }
 
 impl Model for Subscriptions {

@@ -7,13 +7,23 @@ use std::marker::Model;
 use std::mem;
 
 /// Bytes that grow at their end until they are shared. A clause sees them all, in order.
-#[derive(Debug, Drop)]
+#[derive(Debug)]
 pub struct Buffer {
     /// What was shared when memory ran out afterwards. Elsewhere there is nothing.
     shared: Option<SharedBytes>,
     /// The bytes behind.
     grown: Vec<u8>,
     alloc: Global,
+}
+
+impl Drop for Buffer {
+    fn drop(self) {
+        let Self {
+            shared: _,
+            grown: _,
+            alloc: _,
+        } = self;
+    }
 }
 
 impl Model for Buffer {

@@ -11,12 +11,23 @@ use std::marker::Model;
 
 /// Reads the frames of a stream that comes in pieces, however it was cut. A clause sees what is left
 /// of the pieces, less than a frame, and whether a fault was given.
-#[derive(Debug, Drop)]
+#[derive(Debug)]
 pub struct FrameReader {
     kept: Buffer,
     awaited: Awaited,
     failed: bool,
     alloc: Global,
+}
+
+impl Drop for FrameReader {
+    fn drop(self) {
+        let Self {
+            kept: _,
+            awaited: _,
+            failed: _,
+            alloc: _,
+        } = self;
+    }
 }
 
 impl Model for FrameReader {
