@@ -160,12 +160,12 @@ impl<L: Run> Desk<L> {
         ensures book { self.new.book.total ≡ self.old.book.total }
         ensures seat { result.0 ≡ seat }
     {
-        let result = self.rotate_held();
+        let result = self.rotate_as(&seat);
         (seat, result)
     }
 
-    /// `rotate` without a seat.
-    pub fn rotate_held(&mut self) -> Result<Segment, NoMemory>
+    /// `rotate` with a seat that is lent.
+    pub fn rotate_as(&mut self, _seat: &Seat<L>) -> Result<Segment, NoMemory>
         ensures segment { IfOk result (λ segment. segment ≡ held self.old.hub) }
         ensures ok { OnOk result (self.new.hub ≡ rotated self.old.hub) }
         ensures err { OnErr result (self.new.hub ≡ self.old.hub) }

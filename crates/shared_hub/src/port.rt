@@ -54,7 +54,7 @@ impl<'a, L: Run, R: Wait> SharedPort<'a, L, R> {
         ensures seat { self.new.seat ≡ self.old.seat }
         ensures receipts { self.new.receipts.items ≡ self.old.receipts.items }
     {
-        let result = self.shared.rotate_held(self.rt);
+        let result = self.shared.rotate_as(self.rt, &self.seat);
         result
     }
 

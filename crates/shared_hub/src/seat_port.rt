@@ -43,7 +43,7 @@ impl<'a, L: Run, R: Wait, N: Notes + Drop> SeatPort<'a, L, R, N> {
     pub fn rotate(&mut self) -> Result<Segment, NoMemory>
         ensures { self.new.seat ≡ self.old.seat }
     {
-        let result = self.shared.rotate_held(self.rt);
+        let result = self.shared.rotate_as(self.rt, &self.seat);
         result
     }
 }

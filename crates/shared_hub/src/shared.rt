@@ -98,13 +98,13 @@ impl<L: Run> Shared<L> {
     pub fn rotate<R: Wait>(&self, rt: &R, seat: Seat<L>) -> (Seat<L>, Result<Segment, NoMemory>)
         ensures { result.0 ≡ seat }
     {
-        let result = self.rotate_held(rt);
+        let result = self.rotate_as(rt, &seat);
         (seat, result)
     }
 
-    /// `rotate` without a seat.
-    pub(crate) fn rotate_held<R: Wait>(&self, rt: &R) -> Result<Segment, NoMemory> {
-        let result = self.desk.lock(rt).rotate_held();
+    /// `rotate` with a seat that is lent.
+    pub(crate) fn rotate_as<R: Wait>(&self, rt: &R, seat: &Seat<L>) -> Result<Segment, NoMemory> {
+        let result = self.desk.lock(rt).rotate_as(seat);
         result
     }
 
