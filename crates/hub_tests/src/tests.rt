@@ -153,7 +153,7 @@ fn show(alloc: Global, hub: &mut Hub, asks: &[Ask], in_one_run: bool) -> Option<
     })
 }
 
-/// The same of a new hub. No early return drops it, since the check of each would read what all of a hub lets go.
+/// The same of a new hub, which is let go in one place.
 fn show_new(alloc: Global, keys: RandomState, asks: &[Ask], in_one_run: bool) -> Option<Shown> {
     let mut hub = opened(alloc, keys)?;
     let shown = show(alloc, &mut hub, asks, in_one_run);
