@@ -1,3 +1,4 @@
 pub mod Messages
 pub mod Met
+pub mod Offers
 pub mod Refusals

@@ -12,4 +12,4 @@ pub use answer::{Addressed, Answer, Delivery, Entry, Item, Met, Outcome, Removed
 pub use event::{Command, Event, Sid};
 pub use message::Message;
 pub use port::Port;
-pub use refusal::HubRefusal;
+pub use refusal::{HubRefusal, PublishRefusal};

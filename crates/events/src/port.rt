@@ -1,9 +1,10 @@
-ghost use Rattle.std.specs.Prelude.{◌≡◌, ℕ, Result, IfErr};
+ghost use Rattle.std.specs.Prelude.{◌≡◌, ℕ, Result, IfErr, IsTrue};
 ghost use Rattle.events.specs.declared.event.Event.{Event};
 ghost use Rattle.events.specs.declared.answer.Entry.{Entry};
 ghost use Rattle.events.specs.declared.refusal.HubRefusal.{HubRefusal};
+ghost use Rattle.events.specs.Offers.{IsOffered};
 
-use crate::{Answer, Event, HubRefusal};
+use crate::{Answer, Event, HubRefusal, PublishRefusal};
 
 /// Where a connection's events go. Others may submit events of their own between two of this one, so what an
 /// answer and the state after it are is a relation.
@@ -14,9 +15,33 @@ pub trait Port {
     /// An event, its answer or refusal, and the port before and after it.
     ghost steps: { Self → Event → Result Entry (Event × HubRefusal) → Self → Type 0 };
 
+    /// The port before and after it held something back: nothing was submitted. A port that holds nothing back has none.
+    ghost holds: { Self → Self → Type 0 } = { λ _ _. ⊥ };
+
     /// Submits an event, once. A refusal hands it back.
     fn submit(&mut self, event: Event) -> Result<Answer, (Event, HubRefusal)>
         ensures place { place self.new ≡ place self.old }
         ensures step { steps self.old event result self.new }
         ensures err { IfErr result (λ refused. refused.0 ≡ event) };
+
+    /// Offers a message's event: it is submitted, once, or held back until its receivers have room. A refusal hands it back.
+    #[inline(always)]
+    fn publish(&mut self, event: Event) -> Result<Answer, (Event, PublishRefusal)>
+        ensures place { place self.new ≡ place self.old }
+        ensures offered { IsOffered steps holds self.old event result self.new }
+        ensures err { IfErr result (λ refused. refused.0 ≡ event) }
+    {
+        match self.submit(event) {
+            Ok(answer) => Ok(answer),
+            Err((event, refusal)) => Err((event, PublishRefusal::By(refusal))),
+        }
+    }
+
+    /// Whether what a connection is told next is held back until it has what waits for it.
+    #[inline(always)]
+    fn must_wait(&self, _conn: u64) -> bool
+        ensures { IsTrue result → holds self.now self.now }
+    {
+        false
+    }
 }

@@ -22,6 +22,16 @@ pub enum HubRefusal {
     NoMemory,
 }
 
+/// Why a message was not entered. Nothing has changed then.
+#[derive(Clone, Copy, Debug, PartialEq, Eq)]
+pub enum PublishRefusal {
+    /// It was submitted, and refused for this cause.
+    By(HubRefusal),
+    /// It was not submitted: its receivers have no room yet, or its publisher has had its share of a turn. It may be offered
+    /// again later.
+    Held,
+}
+
 impl fmt::Display for HubRefusal {
     ghost use Rattle.std.specs.Prelude.{Some};
     ghost use Rattle.events.specs.Refusals.{refusal_text};
