@@ -7,3 +7,4 @@ pub mod Inclusion
 pub mod Sharing
 pub mod Exact
 pub mod Text
+pub mod Marks

@@ -5,6 +5,7 @@ mod bytewise;
 mod compare;
 mod error;
 mod faults;
+mod mark;
 mod pattern;
 mod subject;
 mod subject_ref;

@@ -1,5 +1,6 @@
 ghost use Rattle.std.specs.Prelude.{◌≡◌, ◌↔◌, IsTrue};
 
+use crate::mark::Mark;
 use crate::tokens::tokens_in;
 use crate::{SubjectError, SubjectRef, compare, faults};
 use lists::{Copying, NoMemory, Pieces, SharedBytes};
@@ -10,12 +11,14 @@ use std::marker::Model;
 #[derive(Debug)]
 pub struct Pattern {
     text: SharedBytes,
+    // They tell of most patterns that they don't cover another.
+    mark: Mark,
 }
 
 impl Drop for Pattern {
     #[inline(always)]
     fn drop(self) {
-        let Self { text: _ } = self;
+        let Self { text: _, mark: _ } = self;
     }
 }
 
@@ -25,10 +28,11 @@ impl Model for Pattern {
     ghost Value = { List (List ℕ) };
 
     ghost use Rattle.subjects.specs.Subject.{tokens_of, IsPattern};
+    ghost use Rattle.subjects.specs.Mark.{IsMarkOf};
 
     ghost view = { λ p. tokens_of p.text };
 
-    ghost invariant = { λ p. IsPattern (tokens_of p.text) };
+    ghost invariant = { λ p. IsPattern (tokens_of p.text) × IsMarkOf (tokens_of p.text) p.mark };
 }
 
 impl Pattern {
@@ -47,6 +51,7 @@ impl Pattern {
             Some(fault) => Err(fault),
             None => Ok(Pattern {
                 text: SharedBytes::copy_from_slice(alloc, text)?,
+                mark: Mark::of(tokens_in(text)),
             }),
         }
     }
@@ -81,7 +86,21 @@ impl Pattern {
     {
         // The loan tells the prover what the other's type keeps: its tokens are a pattern.
         let _ = &other.text;
-        compare::covers(self.tokens(), other.tokens())
+        self.has_whole(other)
+    }
+
+    /// The test of `covers`: by the numbers first, which tell of most, and then token by token.
+    fn has_whole(&self, other: &Pattern) -> bool
+        ensures { result ≡ covers self.now other.now }
+    {
+        // The loans tell the prover what the type keeps of both: these are their numbers.
+        let _ = &self.text;
+        let _ = &other.text;
+        if !self.mark.may_cover(other.mark) {
+            return false;
+        }
+        let covers = compare::covers(self.tokens(), other.tokens());
+        covers
     }
 
     /// Whether some subject is one of both patterns.
@@ -108,6 +127,7 @@ impl Copying for Pattern {
     fn copy(&self, alloc: Global) -> Result<Pattern, NoMemory> {
         Ok(Pattern {
             text: self.text.again()?,
+            mark: self.mark,
         })
     }
 }

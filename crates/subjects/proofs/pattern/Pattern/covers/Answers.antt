@@ -6,12 +6,12 @@ use Rattle.subjects.proofs.pattern.Pattern.covers.Goals as goal
 
 pub returns-clause-inclusion : goal.returns-clause-inclusion
 returns-clause-inclusion c =
-    let h : IsPattern c.args.other.now = rw (← c.other.view_is) c.other.invariant in
-    let e : c.covers.result ≡ covers c.args.self.now c.args.other.now = cc in
+    let h : IsPattern c.args.other.now = rw (← c.other.view_is) c.other.invariant.0 in
+    let e : c.has_whole.result ≡ covers c.args.self.now c.args.other.now = cc in
     rw e (covers-Covers c.args.self.now c.args.other.now h)
 
 pub returns-clause-missing : goal.returns-clause-missing
 returns-clause-missing c =
-    let h : IsPattern c.args.other.now = rw (← c.other.view_is) c.other.invariant in
-    let e : c.covers.result ≡ covers c.args.self.now c.args.other.now = cc in
-    covers-Lacks c.args.self.now c.args.other.now c.covers.result e h
+    let h : IsPattern c.args.other.now = rw (← c.other.view_is) c.other.invariant.0 in
+    let e : c.has_whole.result ≡ covers c.args.self.now c.args.other.now = cc in
+    covers-Lacks c.args.self.now c.args.other.now c.has_whole.result e h

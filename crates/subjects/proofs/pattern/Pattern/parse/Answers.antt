@@ -7,7 +7,7 @@ use Rattle.subjects.proofs.pattern.Pattern.parse.Goals as goal
 
 pub invariant_of-result : goal.invariant_of-result
 invariant_of-result c =
-    rw c.in_ok-copy_from_slice-in-None.ensures (pattern_from_no_fault c.args.text.now (sym c.pattern_fault.ensures ∙ c.in-None.is))
+    (rw c.in_ok-copy_from_slice-in-None.ensures (pattern_from_no_fault c.args.text.now (sym c.pattern_fault.ensures ∙ c.in-None.is)), rw (c.in_ok-copy_from_slice-in-None.ensures, ← c.tokens_in.ensures) c.of.ensures)
 
 pub returns-in-Some-clause-grammar : goal.returns-in-Some-clause-grammar
 returns-in-Some-clause-grammar c =
