@@ -1,5 +1,5 @@
 -- The index by connection and sid: what each change of the list and of it keeps, and what it tells of a connection.
-use Rattle.std.proofs.Common.{◌≡◌, ◌==◌, ◌<◌, ℕ, Bool, true, false, not, ◌&&◌, ◌||◌, cond, List, [], ◌∷◌, ◌++◌, map, filter, length, Option, Some, None, MatchOption, Vec, refl, sym, ap, subst, ◌∙◌, inl, inr, arith, nat_eq}
+use Rattle.std.proofs.Common.{◌≡◌, ◌==◌, ◌<◌, ℕ, Bool, true, false, not, ◌&&◌, cond, List, [], ◌∷◌, ◌++◌, map, filter, length, Option, Some, None, MatchOption, Vec, refl, sym, ap, subst, ◌∙◌, inl, inr, arith, nat_eq}
 use Rattle.std.specs.Prelude.{find}
 use Rattle.std.specs.List.{list_any, AllByRecursion, IsDistinct}
 use Rattle.std.specs.List.Sorted.{IsPermutation}
@@ -7,7 +7,6 @@ use Rattle.std.specs.Option.{option_map, is_some}
 use Rattle.std.specs.Map.{lookup, keys_of, values_of}
 use Rattle.std.specs.Cmp.Lexicographic.{pointwise}
 use Rattle.std.specs.declared.alloc.Global.{Global}
-use Rattle.std.proofs.Math.Bool.{or-false}
 use Rattle.std.proofs.lemmas.Bool.{cases_Bool, eqb-true, eq-eqb}
 use Rattle.std.proofs.lemmas.Bool.Decides.{nat_tests}
 use Rattle.std.proofs.lemmas.Cmp.{nat_list_eq_equiv}
@@ -122,19 +121,6 @@ pub sids_kept : (k g : Subscription → Bool) → ((s : Subscription) → g s �
 sids_kept k g other subs old new apart less index = record {
   each = λ conn sid. less conn sid ∙ rw (index.each conn sid) (under_cond (stands (filter g subs) conn sid) (find (is_under conn sid) subs) ∙ sym (ap (option_map id) (found_kept k g other conn sid subs apart)));
 }
-
--- the first is taken out, then the others
-pub one_sid_without : (k : Subscription → Bool) (s : Subscription) (subs : List Subscription) (old new : Sids) → IsWithoutAll old (filter k (s ∷ [])) new
-    → (conn : ℕ) (sid : List ℕ) → cond (stands (filter k subs) conn sid) None (id_under new conn sid) ≡ cond (stands (filter k (s ∷ subs)) conn sid) None (id_under old conn sid)
-one_sid_without k s subs old new less conn sid = elim (cases_Bool (k s)) [
-  | inl y ↦ rw (less conn sid, y, or-false (is_under conn sid s)) (less_again (is_under conn sid s) (stands (filter k subs) conn sid) (id_under old conn sid))
-  | inr n ↦ rw (less conn sid, n) refl
-]
-  where
-    less_again : (m f : Bool) (x : Option ℕ) → cond f None (cond m None x) ≡ cond (m || f) None x
-    less_again true true x = refl
-    less_again true false x = refl
-    less_again false f x = refl
 
 -- ---- a change of one, by its id
 
@@ -293,6 +279,22 @@ ids_gone conn (s ∷ subs) apart =
           let these : ids_of (of_connection conn (s ∷ subs)) ≡ ids = rw n refl in
           ap (λ (is : List ℕ). without is (s ∷ subs)) these
           ∙ rw (n, not_among s ids (ids_above (λ r. r.conn == conn) s subs apart.0)) (ap (λ (xs : List Subscription). s ∷ xs) (ids_gone conn subs apart.1))
+    ]
+
+-- without the ids of those that fail a test, those are left that pass it
+pub passing_left : (k : Subscription → Bool) (subs : List Subscription) → Apart subs → without (ids_of (filter (λ (s : Subscription). not (k s)) subs)) subs ≡ filter k subs
+unfolding Apart
+passing_left k [] apart = refl
+passing_left k (s ∷ subs) apart =
+    let ids = ids_of (filter (λ (r : Subscription). not (k r)) subs) in
+    elim (cases_Bool (k s)) [
+      | inl y ↦
+          let these : ids_of (filter (λ (r : Subscription). not (k r)) (s ∷ subs)) ≡ ids = rw y refl in
+          ap (λ (is : List ℕ). without is (s ∷ subs)) these
+          ∙ rw (y, not_among s ids (ids_above (λ r. not (k r)) s subs apart.0)) (ap (λ (xs : List Subscription). s ∷ xs) (passing_left k subs apart.1))
+      | inr n ↦
+          let these : ids_of (filter (λ (r : Subscription). not (k r)) (s ∷ subs)) ≡ s.id ∷ ids = rw n refl in
+          ap (λ (is : List ℕ). without is (s ∷ subs)) these ∙ rw (eq-eqb s.id s.id refl, n) (skip_first s ids subs apart.0 ∙ passing_left k subs apart.1)
     ]
 
 none_of : (conn : ℕ) (subs : List Subscription) → ((sid : List ℕ) → None ≡ id_of subs conn sid) → of_connection conn subs ≡ []

@@ -91,19 +91,6 @@ indexes_kept k subs old new apart less index = record {
   each = λ a p i. less a p i ∙ rw (index.each a p i) (sym (listed_kept k subs a p i apart));
 }
 
-less_again : (x m f : Bool) → ((x && not m) && not f) ≡ (x && not (m || f))
-less_again true true f = refl
-less_again true false f = refl
-less_again false m f = refl
-
--- the first is taken out, then the others
-pub one_without : (k : Subscription → Bool) (s : Subscription) (subs : List Subscription) (old new : Trees) → IsWithoutAll old (filter k (s ∷ [])) new
-    → (a : List ℕ) (p : List Token) (i : ℕ) → (holds new a p i && not (listed (filter k subs) a p i)) ≡ (holds old a p i && not (listed (filter k (s ∷ subs)) a p i))
-one_without k s subs old new less a p i = elim (cases_Bool (k s)) [
-  | inl y ↦ rw (less a p i, y, or-false (is_of s a p i)) (less_again (holds old a p i) (is_of s a p i) (listed (filter k subs) a p i))
-  | inr n ↦ rw (less a p i, n) (less_again (holds old a p i) false (listed (filter k subs) a p i))
-]
-
 -- ---- a change of one, by its id
 
 pub bumped-is_of : (s : Subscription) (a : List ℕ) (p : List Token) (i : ℕ) → is_of (bumped s) a p i ≡ is_of s a p i
@@ -220,6 +207,18 @@ one_of_id id (e ∷ es) kept = elim (cases_Bool (is_id id e.0)) [
       let other : (e.1.id == id) ≡ false = ap (λ k. k == id) kept.0 ∙ sym (test_is id e.0) ∙ n in
       rw (n, other) (one_of_id id es kept.3)
 ]
+
+-- the one of an id, or none
+pub those_of_id : (id : ℕ) (es : Entries) → IsKept es → filter (λ (s : Subscription). s.id == id) (values_of es) ≡ if_any (lookup (is_id id) es)
+those_of_id id es kept = twice (values_of es) ∙ one_of_id id es kept
+  where
+    here : (b : Bool) (s : Subscription) (xs ys : List Subscription) → xs ≡ ys → cond b (s ∷ xs) xs ≡ cond (not (not b)) (s ∷ ys) ys
+    here true s xs ys e = ap (λ zs. s ∷ zs) e
+    here false s xs ys e = e
+
+    twice : (subs : List Subscription) → filter (λ (s : Subscription). s.id == id) subs ≡ filter (λ (s : Subscription). not (not (s.id == id))) subs
+    twice [] = refl
+    twice (s ∷ subs) = here (s.id == id) s _ _ (twice subs)
 
 pub indexes_without : (id : ℕ) (es : Entries) (old new : Trees) → IsKept es → Apart (values_of es) → MatchOption (lookup (is_id id) es) (IsSame old new) (λ sub. IsWithout old sub new)
     → AreIndexesOf (values_of es) old → AreIndexesOf (filter (λ (s : Subscription). not (s.id == id)) (values_of es)) new

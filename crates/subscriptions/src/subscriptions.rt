@@ -2,7 +2,7 @@ ghost use Rattle.std.specs.Prelude.{◌≡◌, ◌==◌, Bool};
 ghost use Rattle.subscription_rows.specs.declared.subscription.Subscription.{Subscription};
 
 use crate::table::Table;
-use crate::{Keeps, NewSubscription, RowValues, SharedSubscription, Subscription, sids};
+use crate::{NewSubscription, RowValues, SharedSubscription, Subscription, sids};
 use events::{Addressed, Item, Sid};
 use lists::NoMemory;
 use std::alloc::Global;
@@ -55,7 +55,7 @@ impl Subscriptions {
     ghost use Rattle.subscriptions.specs.BySid.{id_of};
     ghost use Rattle.subscriptions.specs.Kept.{Apart};
     ghost use Rattle.subscriptions.specs.Changes.{only, bumped, capped};
-    ghost use Rattle.subscriptions.specs.Turns.{in_turn, entered_ids, TellEach};
+    ghost use Rattle.subscriptions.specs.Turns.{in_turn, entered_ids, is_one_of, TellEach};
     ghost use Rattle.subscriptions.specs.Index.{found_by};
 
     /// No subscriptions. Clients choose the tokens of subjects, and sids, so what finds them is hashed under keys that
@@ -258,13 +258,21 @@ impl Subscriptions {
         }
     }
 
-    /// Removes those that don't pass a test.
-    #[inline(never)]
-    pub fn keep<K: Keeps>(&mut self, test: &K)
-        ensures { self.new ≡ filter (K.keeps test.now) self.old }
+    /// Removes the one of that id, if it stands.
+    fn remove_one(&mut self, id: u64)
+        ensures { self.new ≡ filter (λ (s : Subscription). not (s.id == id)) self.old }
     {
         self.table.known();
-        sids::forget_failing(&mut self.sids, &self.table, test);
-        self.table.keep(test);
+        self.table.end(id, &mut self.sids);
+    }
+
+    /// Removes those of these ids. No other is touched.
+    #[inline(never)]
+    pub fn remove_each(&mut self, ids: &[u64])
+        ensures { self.new ≡ filter (λ (s : Subscription). not (is_one_of ids.now s)) self.old }
+    {
+        for id in ids {
+            self.remove_one(*id);
+        }
     }
 }

@@ -2,7 +2,7 @@
 ghost use Rattle.std.specs.Prelude.{◌≡◌, ◌==◌};
 
 use crate::change::{end_at, take_out};
-use crate::{Keeps, RowValues, SharedSubscription, trees};
+use crate::{RowValues, SharedSubscription, trees};
 use lists::NoMemory;
 use std::alloc::Global;
 use std::hash::RandomState;
@@ -159,6 +159,14 @@ impl Table {
         }
     }
 
+    /// Takes the subscription of that id out, and its sid, if it stands.
+    pub fn end(&mut self, id: u64, sids: &mut Sids)
+        ensures after { self.new ≡ filter (λ (s : Subscription). not (s.id == id)) self.old }
+        ensures sids { IsWithoutAll sids.old (filter (λ (s : Subscription). s.id == id) self.old) sids.new }
+    {
+        end_at(&mut self.by_id, &mut self.trees, sids, id);
+    }
+
     /// Takes the subscription of that id out, if it stands.
     fn take(&mut self, id: u64)
         ensures { self.new ≡ filter (λ (s : Subscription). not (s.id == id)) self.old }
@@ -175,13 +183,5 @@ impl Table {
         for id in own.values() {
             self.take(*id);
         }
-    }
-
-    /// Removes those that don't pass a test.
-    pub fn keep<K: Keeps>(&mut self, test: &K)
-        ensures { self.new ≡ filter (K.keeps test.now) self.old }
-    {
-        trees::forget_failing(&mut self.trees, &self.by_id, test);
-        self.by_id.keep(test);
     }
 }

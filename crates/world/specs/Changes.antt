@@ -1,5 +1,5 @@
 -- What is to be done for a command, once all memory for it is had (docs/ARCHITECTURE.md, "Decide, then do").
-use Rattle.std.specs.Prelude.{◌≡◌, ◌==◌, ◌+◌, ◌∷◌, ◌++◌, ℕ, Bool, List, [], Option, Some, None, Result, Ok, Err, filter, map, not, false}
+use Rattle.std.specs.Prelude.{◌≡◌, ◌==◌, ◌+◌, ◌∷◌, ◌++◌, ℕ, Bool, List, [], Option, Some, None, Result, Ok, Err, filter, map, not, false, if◌then◌else◌}
 use Rattle.std.specs.List.{filter_map}
 use Rattle.permissions.specs.declared.verdict.By.{By}
 use Rattle.permissions.specs.declared.verdict.By.TheVariants.{All as AllowsAll, Index, Grant}
@@ -19,6 +19,7 @@ use Rattle.subscriptions.specs.Limit.{unended, counted, limited}
 use Rattle.subscriptions.specs.Addressing.{addressed_to}
 use Rattle.subscription_rows.specs.declared.subscription.Subscription.{Subscription}
 use Rattle.world.specs.World.{World}
+use Rattle.policy_doc.specs.declared.document.PolicyDoc.{PolicyDoc}
 use Rattle.world.specs.Reload.{stands_on}
 use Rattle.world.specs.Transition.{IsRefusal}
 use Rattle.world.specs.declared.change.Change.{Change}
@@ -46,6 +47,10 @@ abbrev pub handed_over : ℕ → Option Answered → List Addressed → List Ses
 handed_over now None all zs = (delivered now all zs).0
 handed_over now (Some a) all zs = with_session (ending a.message.subject) a.conn (delivered now all (with_session (answering a.message.subject) a.conn zs)).0
 
+-- the id of a subscription that doesn't stand on
+abbrev pub lost_id : PolicyDoc → List Session → Subscription → Option ℕ
+lost_id doc zs sub = if stands_on doc zs sub then None else Some sub.id
+
 abbrev pub done : World → Change → Outcome → World
 done w Nothing o = w
 done w (Open z) o = record w { sessions = w.sessions ++ z ∷ [] }
@@ -56,7 +61,7 @@ done w (Deliver all answered) o =
 done w (Drain conn most) o = record w { sessions = with_session (drained most) conn w.sessions }
 done w (Leave conn) o =
     record w { sessions = filter (λ (z : Session). not (z.conn == conn)) w.sessions; subscriptions = filter (λ (s : Subscription). not (s.conn == conn)) w.subscriptions }
-done w (Install doc users) o = record w {
+done w (Install doc users lost) o = record w {
   policy = doc;
   epoch = w.epoch + 1;
   sessions = remaining w.moment doc w.sessions;
@@ -64,7 +69,8 @@ done w (Install doc users) o = record w {
 }
 
 -- what opens has no session yet, and what is to stand doesn't; deliveries are for standing subscriptions, and the
--- outcome tells what each of them meets; a policy comes with the users of the sessions that stay
+-- outcome tells what each of them meets; a policy comes with the users of the sessions that stay, and the ids of the
+-- subscriptions that don't stand on
 abbrev pub IsFit : World → Change → Outcome → Type 0
 IsFit w Nothing o = Unit {0}
 IsFit w (Open z) o = session_of w.sessions z.conn ≡ None
@@ -73,7 +79,8 @@ IsFit w (Limit conn sid most) o = Unit {0}
 IsFit w (Deliver all answered) o = (items_in o ≡ (delivered w.moment all w.sessions).1) × AreAddressed w.sessions all w.subscriptions
 IsFit w (Drain conn most) o = Unit {0}
 IsFit w (Leave conn) o = Unit {0}
-IsFit w (Install doc users) o = users.items ≡ filter_map (user_again_of doc) w.sessions
+IsFit w (Install doc users lost) o =
+    (users.items ≡ filter_map (user_again_of doc) w.sessions) × (lost.items ≡ filter_map (lost_id doc w.sessions) w.subscriptions)
 
 -- what a command comes to, or why it is refused
 abbrev pub IsDecided : World → Result (Outcome × World) HubRefusal → Result Decided HubRefusal → Type 0
@@ -82,5 +89,5 @@ IsDecided w t (Err r) = IsRefusal t r
 
 -- which policy is in force once a change is done
 abbrev pub epoch_after : ℕ → Change → ℕ
-epoch_after epoch (Install doc users) = epoch + 1
+epoch_after epoch (Install doc users lost) = epoch + 1
 epoch_after epoch _ = epoch

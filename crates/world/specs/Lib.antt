@@ -5,3 +5,4 @@ pub mod Reload
 pub mod Transition
 pub mod Changes
 pub mod Shown
+pub mod Holding

@@ -3,7 +3,6 @@ use Rattle.std.specs.Prelude.{◌&&◌, ℕ, List, Bool, filter, map}
 use Rattle.events.specs.Messages.{Message}
 use Rattle.events.specs.declared.answer.Addressed.{Addressed}
 use Rattle.events.specs.declared.answer.Item.{Item}
-use Rattle.sessions.specs.Sessions.{session_of}
 use Rattle.sessions.specs.Delivered.{delivered}
 use Rattle.sessions.specs.Replying.{with_note}
 use Rattle.sessions.specs.declared.session.Session.{Session}

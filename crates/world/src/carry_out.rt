@@ -6,7 +6,7 @@ ghost use Rattle.subscriptions.specs.Limit.{unended, counted};
 ghost use Rattle.world.specs.Changes.{AreAddressed, handed_over, items_in};
 
 use crate::change::{Answered, Change};
-use crate::reload::keep_allowed;
+use crate::reload::remove_lost;
 use crate::world::World;
 use events::{Addressed, Item, Outcome};
 use lists::NoMemory;
@@ -22,7 +22,7 @@ impl World {
     ghost use Rattle.std.specs.List.{filter_map};
     ghost use Rattle.events.specs.declared.answer.Outcome.{Outcome};
     ghost use Rattle.sessions.specs.Renewal.{user_again_of};
-    ghost use Rattle.world.specs.Changes.{done, IsFit};
+    ghost use Rattle.world.specs.Changes.{done, lost_id, IsFit};
     ghost use Rattle.world.specs.declared.change.Change.TheVariants as change;
 
     /// Does what was decided of a command of which this is told. Where memory could not be had for a new session or
@@ -73,8 +73,8 @@ impl World {
                 self.leave(conn);
                 Ok(())
             }
-            Change::Install { ready, users } => {
-                self.install(ready, users);
+            Change::Install { ready, users, lost } => {
+                self.install(ready, users, lost);
                 Ok(())
             }
         }
@@ -89,15 +89,16 @@ impl World {
         self.subscriptions.remove(conn);
     }
 
-    /// A policy comes into force, with the users of the sessions that stay.
-    fn install(&mut self, ready: Ready, users: VecDeque<User>)
+    /// A policy comes into force, with the users of the sessions that stay. The subscriptions of these ids go.
+    fn install(&mut self, ready: Ready, users: VecDeque<User>, lost: Vec<u64>)
         requires users { users.items ≡ filter_map (user_again_of ready) self.old.sessions }
+        requires lost { lost.items ≡ filter_map (lost_id ready self.old.sessions) self.old.subscriptions }
         requires epoch { self.old.epoch < 340282366920938463463374607431768211455 }
-        ensures { (told : Outcome) → self.new ≡ done self.old (change.Install ready users) told }
+        ensures { (told : Outcome) → self.new ≡ done self.old (change.Install ready users lost) told }
     {
         // What was known goes with the policy under which it was so.
         self.known = Known::new(self.alloc);
-        keep_allowed(&ready, &self.sessions, &mut self.subscriptions);
+        remove_lost(&mut self.subscriptions, lost.as_slice());
         self.sessions.renew(&ready, users, self.moment);
         self.ready = ready;
         self.epoch += 1;
@@ -162,7 +163,7 @@ fn hand_over(
 }
 
 /// The items of an outcome.
-fn items_in(outcome: &Outcome) -> &[Item]
+pub(crate) fn items_in(outcome: &Outcome) -> &[Item]
     ensures { result.now ≡ items_in outcome.now }
 {
     match outcome {

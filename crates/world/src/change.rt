@@ -37,10 +37,12 @@ pub(crate) enum Change {
     Leave {
         conn: u64,
     },
-    /// A policy comes into force, with the users of the sessions that stay, session by session.
+    /// A policy comes into force, with the users of the sessions that stay, session by session, and the ids of the
+    /// subscriptions that go, oldest first.
     Install {
         ready: Ready,
         users: VecDeque<User>,
+        lost: Vec<u64>,
     },
 }
 

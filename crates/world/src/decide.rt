@@ -2,7 +2,7 @@
 ghost use Rattle.std.specs.Prelude.{◌≡◌, IfOk, IfErr};
 
 use crate::change::{Answered, Change, Decided};
-use crate::reload::{Prepared, prepare};
+use crate::reload::{Lost, Prepared, prepare};
 use crate::verdict::{on_publish, on_subscription};
 use crate::world::World;
 use bytes::Bytes;
@@ -331,14 +331,19 @@ impl World {
             ready,
             users,
             gone,
-            removed,
+            lost,
         } = prepared;
+        let Lost { removed, ids } = lost;
         Ok(Decided {
             outcome: Outcome::Reloaded {
                 gone: Items::from_vec(gone),
                 removed: Items::from_vec(removed),
             },
-            change: Change::Install { ready, users },
+            change: Change::Install {
+                ready,
+                users,
+                lost: ids,
+            },
         })
     }
 }

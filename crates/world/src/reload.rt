@@ -1,8 +1,11 @@
 //! Another policy comes into force: what may stand on, and what is reported.
-ghost use Rattle.std.specs.Prelude.{◌≡◌, ◌∷◌, ◌++◌, [], IfOk, OnOk, filter, All};
+ghost use Rattle.std.specs.Prelude.{◌≡◌, ◌∷◌, ◌++◌, [], List, IfOk, OnOk, filter, All};
 ghost use Rattle.std.specs.List.{filter_map};
 ghost use Rattle.std.specs.Option.{option_copied};
 ghost use Rattle.sessions.specs.Renewal.{user_again_of, closed_conns};
+ghost use Rattle.policy_doc.specs.declared.document.PolicyDoc.{PolicyDoc};
+ghost use Rattle.sessions.specs.declared.session.Session.{Session};
+ghost use Rattle.world.specs.Changes.{lost_id};
 ghost use Rattle.world.specs.Reload.{user_after, verdict_after, stands_on, removal_after, IsReasonedVerdict, IsReasonedReload};
 
 use crate::verdict::on_subscription;
@@ -13,7 +16,7 @@ use ready::{Ready, User};
 use sessions::{Session, Sessions};
 use std::alloc::Global;
 use std::collections::VecDeque;
-use subscriptions::{Keeps, SharedSubscription, Subscriptions};
+use subscriptions::{SharedSubscription, Subscriptions};
 
 /// A reload with all the memory that it takes. Nothing of it is in force yet.
 #[derive(Drop)]
@@ -24,8 +27,17 @@ pub(crate) struct Prepared {
     pub users: VecDeque<User>,
     /// The connections of the sessions that go, ascending.
     pub gone: Vec<u64>,
-    /// The subscriptions that sessions that stay may not have, oldest first.
+    /// What is reported of the subscriptions that don't stand on.
+    pub lost: Lost,
+}
+
+/// The subscriptions that don't stand on.
+#[derive(Drop)]
+pub(crate) struct Lost {
+    /// Those that sessions that stay may not have, oldest first.
     pub removed: Vec<Removed>,
+    /// The ids of these and of those of sessions that go, oldest first.
+    pub ids: Vec<u64>,
 }
 
 /// Makes a reload ready. The policy stays with the caller.
@@ -38,18 +50,19 @@ pub(crate) fn prepare(
     ensures ready { IfOk result (λ prepared. prepared.ready ≡ ready.now) }
     ensures users { IfOk result (λ prepared. prepared.users.items ≡ filter_map (user_again_of ready.now) sessions.now) }
     ensures gone { IfOk result (λ prepared. prepared.gone.items ≡ closed_conns ready.now sessions.now) }
-    ensures removed { IfOk result (λ prepared. prepared.removed.items ≡ filter_map (removal_after ready.now sessions.now) subscriptions.now) }
+    ensures removed { IfOk result (λ prepared. prepared.lost.removed.items ≡ filter_map (removal_after ready.now sessions.now) subscriptions.now) }
+    ensures ids { IfOk result (λ prepared. prepared.lost.ids.items ≡ filter_map (lost_id ready.now sessions.now) subscriptions.now) }
     ensures reason { OnOk result (IsReasonedReload ready.now sessions.now subscriptions.now) }
 {
     let users = sessions.users_again(ready)?;
     let gone = sessions.closed(ready)?;
-    let removed = removals(alloc, ready, sessions, subscriptions)?;
+    let lost = lost_by(alloc, ready, sessions, subscriptions)?;
     let ready = ready.copy(alloc)?;
     Ok(Prepared {
         ready,
         users,
         gone,
-        removed,
+        lost,
     })
 }
 
@@ -82,22 +95,28 @@ fn verdict_on(
     }
 }
 
-/// Adds what is reported of a subscription: its removal, if its session stays and may not have it.
-fn add_removal(
-    removed: &mut Vec<Removed>,
+/// Adds a subscription, if it doesn't stand on.
+fn add_if_lost(
+    lost: &mut Lost,
     ready: &Ready,
     sessions: &Sessions,
     subscription: &SharedSubscription,
 ) -> Result<(), NoMemory>
-    ensures removed { OnOk result (removed.new.items ≡ removed.old.items
+    ensures removed { OnOk result (lost.new.removed.items ≡ lost.old.removed.items
         ++ filter_map (removal_after ready.now sessions.now) (subscription.now ∷ [])) }
+    ensures ids { OnOk result (lost.new.ids.items ≡ lost.old.ids.items
+        ++ filter_map (lost_id ready.now sessions.now) (subscription.now ∷ [])) }
     ensures reason { IsReasonedVerdict ready.now sessions.now subscription.now }
 {
     match verdict_on(ready, sessions, subscription) {
-        None => Ok(()),
+        None => {
+            lost.ids.push(subscription.id())?;
+            Ok(())
+        }
         Some(verdict) => {
             if !verdict.is_allowed() {
-                removed.push(Removed {
+                lost.ids.push(subscription.id())?;
+                lost.removed.push(Removed {
                     id: subscription.id(),
                     conn: subscription.conn(),
                     sid: subscription.sid().again()?,
@@ -109,45 +128,33 @@ fn add_removal(
     }
 }
 
-/// What is reported of all subscriptions, oldest first.
+/// The subscriptions that don't stand on. Each is judged once, here.
 #[tactic(auto, using(queue_groups::proofs::Lists::filter_map_first))]
-fn removals(
+fn lost_by(
     alloc: Global,
     ready: &Ready,
     sessions: &Sessions,
     subscriptions: &Subscriptions,
-) -> Result<Vec<Removed>, NoMemory>
-    ensures removed { IfOk result (λ removed. removed.items ≡ filter_map (removal_after ready.now sessions.now) subscriptions.now) }
+) -> Result<Lost, NoMemory>
+    ensures removed { IfOk result (λ lost. lost.removed.items ≡ filter_map (removal_after ready.now sessions.now) subscriptions.now) }
+    ensures ids { IfOk result (λ lost. lost.ids.items ≡ filter_map (lost_id ready.now sessions.now) subscriptions.now) }
     ensures reason { OnOk result (All (IsReasonedVerdict ready.now sessions.now) subscriptions.now) }
 {
-    let mut removed = Vec::new(alloc);
+    let mut lost = Lost {
+        removed: Vec::new(alloc),
+        ids: Vec::new(alloc),
+    };
     for subscription in subscriptions.values() {
-        add_removal(&mut removed, ready, sessions, subscription)?;
+        add_if_lost(&mut lost, ready, sessions, subscription)?;
     }
-    Ok(removed)
+    Ok(lost)
 }
 
-/// Which subscriptions stand on once a policy is in force, by the sessions before it.
-#[derive(Drop)]
-struct StandsOn<'a> {
-    ready: &'a Ready,
-    sessions: &'a Sessions,
-}
-
-impl Keeps for StandsOn<'_> {
-    ghost keeps = { λ test subscription. stands_on test.ready.now test.sessions.now subscription };
-
-    fn keeps(&self, subscription: &SharedSubscription) -> bool {
-        match verdict_on(self.ready, self.sessions, subscription) {
-            None => false,
-            Some(verdict) => verdict.is_allowed(),
-        }
-    }
-}
-
-/// Removes the subscriptions that don't stand on.
-pub(crate) fn keep_allowed(ready: &Ready, sessions: &Sessions, subscriptions: &mut Subscriptions)
-    ensures { subscriptions.new ≡ filter (stands_on ready.now sessions.now) subscriptions.old }
+/// Removes the subscriptions of these ids. Where they are those that don't stand on, the others are left.
+pub(crate) fn remove_lost(subscriptions: &mut Subscriptions, ids: &[u64])
+    ensures { (doc : PolicyDoc) (zs : List Session) → ids.now ≡ filter_map (lost_id doc zs) subscriptions.old
+        → subscriptions.new ≡ filter (stands_on doc zs) subscriptions.old }
 {
-    subscriptions.keep(&StandsOn { ready, sessions });
+    subscriptions.known();
+    subscriptions.remove_each(ids);
 }

@@ -1,8 +1,10 @@
 //! The tables, and one step of them.
+use crate::carry_out::items_in;
 use crate::change::{Change, Decided};
 use crate::decide::SESSIONS;
 use crate::standing::{Standing, standing_all};
-use events::{Addressed, Answer, Command, Entry, Event, HubRefusal, Outcome};
+use events::{Addressed, Answer, Command, Entry, Event, HubRefusal, Outcome, PublishRefusal};
+use leniency::{Lenient, LenientToAll, note_held};
 use lists::{Copying, Items, NoMemory, Shared};
 use policy_doc::Policy;
 use ready::Ready;
@@ -55,7 +57,7 @@ impl Model for World {
 }
 
 impl World {
-    ghost use Rattle.std.specs.Prelude.{◌≡◌, ◌==◌, ◌<◌, ◌≤◌, ◌+◌, ℕ, false, IfOk, IfErr, All, map};
+    ghost use Rattle.std.specs.Prelude.{◌≡◌, ◌==◌, ◌<◌, ◌≤◌, ◌+◌, ℕ, Ok, [], false, IfOk, IfErr, All, map};
     ghost use Rattle.events.specs.declared.answer.Outcome.{Outcome};
     ghost use Rattle.sessions.specs.Sessions.{session_of};
     ghost use Rattle.sessions.specs.declared.session.Session.{Session};
@@ -63,6 +65,8 @@ impl World {
     ghost use Rattle.world.specs.World as worlds;
     ghost use Rattle.world.specs.World.{opening_world, advanced};
     ghost use Rattle.world.specs.Transition.{IsApplied, IsReasoned, IsRefusal, IsMoved, transition, moved, refusal_in, in_session, in_new_session};
+    ghost use Rattle.world.specs.Changes.{IsDecided};
+    ghost use Rattle.world.specs.Holding.{IsAppliedIf, IsMovedIf};
     ghost use Rattle.world.specs.Shown.{standing_of, waiting_of};
 
     /// The tables over a policy, with nobody connected. `outbox` is how many deliveries may wait for a session. Clients
@@ -105,10 +109,35 @@ impl World {
         ensures step { IsApplied self.old event.entry.now result self.new }
         ensures reason { IfOk result (λ both. IsReasoned self.old event.entry.now.what both.0.outcome) }
     {
+        let mut held = Vec::new(self.alloc);
+        match self.apply_if(event, &LenientToAll, &mut held) {
+            Ok(both) => Ok(both),
+            Err(PublishRefusal::By(refusal)) => Err(refusal),
+            // Nobody holds an event back from a caller that is lenient to all.
+            Err(PublishRefusal::Held) => unreachable!(),
+        }
+    }
+
+    /// Applies one event as `apply` does, unless somebody holds it back: its outcome would tell of a full outbox, of a
+    /// connection to which the caller isn't lenient and for which something waits. Then nothing changes, `Held` is
+    /// answered, and these connections are in `held`, once for each item.
+    pub fn apply_if<T: Lenient>(
+        &mut self,
+        event: &Event,
+        lenient: &T,
+        held: &mut Vec<u64>,
+    ) -> Result<(Answer, Answer), PublishRefusal>
+        requires fresh { (self.old.number == 18446744073709551615) ≡ false }
+        requires epoch { self.old.epoch ≤ self.old.number + 1 }
+        requires ids { All (λ (s : Subscription). s.id ≤ self.old.number) self.old.subscriptions }
+        requires none { held.old.items ≡ [] }
+        ensures step { IsAppliedIf (T.lets lenient.now) self.old event.entry.now result held.new.items self.new }
+        ensures reason { IfOk result (λ both. IsReasoned self.old event.entry.now.what both.0.outcome) }
+    {
         let next = self.number + 1;
         let before = self.moment;
         self.moment = before.max(event.now);
-        match self.enter(event) {
+        match self.enter_if(event, lenient, held) {
             Ok(both) => {
                 self.number = next;
                 Ok(both)
@@ -120,17 +149,50 @@ impl World {
         }
     }
 
-    /// Decides, makes the event's entry, and then does what was decided. The moment is the event's already, the number
-    /// the last one's still.
+    /// Decides, and does what was decided unless somebody holds the event back. The moment is the event's already, the
+    /// number the last one's still.
     #[inline(always)]
-    fn enter(&mut self, event: &Event) -> Result<(Answer, Answer), HubRefusal>
+    fn enter_if<T: Lenient>(
+        &mut self,
+        event: &Event,
+        lenient: &T,
+        held: &mut Vec<u64>,
+    ) -> Result<(Answer, Answer), PublishRefusal>
         requires fresh { self.old.number < 18446744073709551615 }
         requires epoch { self.old.epoch ≤ self.old.number + 1 }
         requires ids { All (λ (s : Subscription). s.id ≤ self.old.number) self.old.subscriptions }
-        ensures step { IsMoved self.old event.entry.now result self.new }
+        requires none { held.old.items ≡ [] }
+        ensures step { IsMovedIf (T.lets lenient.now) self.old event.entry.now result held.new.items self.new }
         ensures reason { IfOk result (λ both. IsReasoned self.old event.entry.now.what both.0.outcome) }
     {
-        let Decided { outcome, change } = self.decide(&event.what)?;
+        let decided = match self.decide(&event.what) {
+            Ok(decided) => decided,
+            Err(refusal) => return Err(PublishRefusal::By(refusal)),
+        };
+        match note_held(lenient, &self.sessions, items_in(&decided.outcome), held) {
+            Ok(()) => {}
+            Err(_) => return Err(PublishRefusal::By(HubRefusal::NoMemory)),
+        }
+        if !held.is_empty() {
+            return Err(PublishRefusal::Held);
+        }
+        match self.enter(event, decided) {
+            Ok(both) => Ok(both),
+            Err(refusal) => Err(PublishRefusal::By(refusal)),
+        }
+    }
+
+    /// Makes the event's entry, and then does what was decided.
+    #[inline(always)]
+    fn enter(&mut self, event: &Event, decided: Decided) -> Result<(Answer, Answer), HubRefusal>
+        requires fresh { self.old.number < 18446744073709551615 }
+        requires epoch { self.old.epoch ≤ self.old.number + 1 }
+        requires ids { All (λ (s : Subscription). s.id ≤ self.old.number) self.old.subscriptions }
+        requires decided { IsDecided self.old (moved self.old event.now.what) (Ok decided) }
+        ensures step { IsMoved self.old event.entry.now result self.new }
+        ensures told { IfOk result (λ both. both.0.outcome ≡ decided.outcome) }
+    {
+        let Decided { outcome, change } = decided;
         let epoch = epoch_after(self.epoch, &change);
         let (told, kept) = entry_twice(self.alloc, self.number + 1, epoch, outcome, event)?;
         self.carry_out(change, &told.get().outcome)?;
