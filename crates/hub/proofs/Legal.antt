@@ -3,15 +3,21 @@ use Rattle.std.proofs.Common.{◌≡◌, ◌∙◌, ◌≤◌, ◌||◌, ℕ, Bo
 use Rattle.std.specs.Prelude.{nat_le}
 use Rattle.std.proofs.lemmas.Bool.{leb-false}
 use Rattle.std.proofs.lemmas.List.{length-append}
+use Rattle.events.specs.Offers.{IsOffered}
 use Rattle.events.specs.declared.event.Event.{Event}
 use Rattle.events.specs.declared.answer.Entry.{Entry}
 use Rattle.events.specs.declared.answer.Outcome.{Outcome}
 use Rattle.events.specs.declared.refusal.HubRefusal.{HubRefusal}
 use Rattle.events.specs.declared.refusal.HubRefusal.TheVariants.{HistoryFull}
+use Rattle.events.specs.declared.refusal.PublishRefusal.{PublishRefusal}
+use Rattle.events.specs.declared.refusal.PublishRefusal.TheVariants.{By, Held}
 use Rattle.world.specs.World.{World}
 use Rattle.world.specs.Transition.{transition, entry_of, IsReasoned, IsRefusal}
+use Rattle.world.specs.Holding.{IsAppliedIf}
+use Rattle.world.proofs.Applied.{none_holds_back}
 use Rattle.hub.specs.Sound.{IsSound}
 use Rattle.hub.specs.History.{State, is_history_full, remembered, IsStep, IsEntry, IsLegalRun}
+use Rattle.hub.specs.Holding.{IsStepIf}
 use Rattle.hub.specs.Segments.{IsReached}
 use Rattle.hub.specs.Guarantee.{KeepsGuarantee}
 use Rattle.hub.proofs.Guaranteed.{IsMoved, moved-by, guaranteed}
@@ -91,16 +97,48 @@ remembered-refusal : (s : State) (e : Event) (t : Result (Outcome × World) HubR
 remembered-refusal s e (Ok done) refusal is = is
 remembered-refusal s e (Err cause) refusal is = is
 
--- it keeps the guarantee, where there was room
-pub refused-guaranteed : (opening : World) (w : World) (most : ℕ) (es : List Entry) (e : Event) (refusal : HubRefusal) (after : World) (entries : List Entry) → IsSound w →
+-- where there was room, it is a refusal of the state
+pub refused-step : (opening : World) (w : World) (most : ℕ) (es : List Entry) (e : Event) (refusal : HubRefusal) (after : World) (entries : List Entry) →
     is_history_full (state_of opening w most es) ≡ false → IsRefusal (transition w e) refusal → after ≡ w → entries ≡ es →
-    KeepsGuarantee (state_of opening w most es) e (Err (e, refusal)) (state_of opening after most entries)
-refused-guaranteed opening w most es e refusal after entries sound room is same_world same_entries =
-    let s = state_of opening w most es in
-    guaranteed s e (Err (e, refusal)) (state_of opening after most entries) sound (
+    IsStep (state_of opening w most es) e (Err (e, refusal)) (state_of opening after most entries)
+refused-step opening w most es e refusal after entries room is same_world same_entries =
+    let s = state_of opening w most es in (
       refl,
       ap (λ (v : World). state_of opening v most entries) same_world ∙ ap (λ (l : List Entry). state_of opening w most l) same_entries,
       subst (λ (b : Bool). IsRefusal (cond b (Err HistoryFull) (remembered s e (transition w e))) refusal) (sym room)
           (remembered-refusal s e (transition w e) refusal is),
     )
+
+-- and keeps the guarantee
+pub refused-guaranteed : (opening : World) (w : World) (most : ℕ) (es : List Entry) (e : Event) (refusal : HubRefusal) (after : World) (entries : List Entry) → IsSound w →
+    is_history_full (state_of opening w most es) ≡ false → IsRefusal (transition w e) refusal → after ≡ w → entries ≡ es →
+    KeepsGuarantee (state_of opening w most es) e (Err (e, refusal)) (state_of opening after most entries)
+refused-guaranteed opening w most es e refusal after entries sound room is same_world same_entries =
+    guaranteed (state_of opening w most es) e (Err (e, refusal)) (state_of opening after most entries) sound
+    (refused-step opening w most es e refusal after entries room is same_world same_entries)
     tt
+
+-- ---- a step that is refused or held back
+
+module _ (lets : ℕ → Bool) (opening : World) (w : World) (most : ℕ) (es : List Entry) (e : Event) where
+  pub unmade-step : (refusal : PublishRefusal) (held : List ℕ) (after : World) (entries : List Entry) → is_history_full (state_of opening w most es) ≡ false →
+      IsAppliedIf lets w e (Err refusal) held after → entries ≡ es → IsStepIf lets (state_of opening w most es) e (Err (e, refusal)) held (state_of opening after most entries)
+  unmade-step (By refusal) held after entries room is same = refused-step opening w most es e refusal after entries room is.1 is.0 same
+  unmade-step Held held after entries room is same = (
+    refl,
+    ap (λ (v : World). state_of opening v most entries) is.0 ∙ ap (λ (l : List Entry). state_of opening w most l) same,
+    room,
+    is.1,
+    is.2,
+  )
+
+  pub unmade-guaranteed : (refusal : PublishRefusal) (held : List ℕ) (after : World) (entries : List Entry) → IsSound w → is_history_full (state_of opening w most es) ≡ false →
+      IsAppliedIf lets w e (Err refusal) held after → entries ≡ es →
+      IsOffered KeepsGuarantee (λ s next. next ≡ s) (state_of opening w most es) e (Err (e, refusal)) (state_of opening after most entries)
+  unmade-guaranteed (By refusal) held after entries sound room is same = refused-guaranteed opening w most es e refusal after entries sound room is.1 is.0 same
+  unmade-guaranteed Held held after entries sound room is same =
+      ap (λ (v : World). state_of opening v most entries) is.0 ∙ ap (λ (l : List Entry). state_of opening w most l) same
+
+-- a caller that is lenient to all is never told that an event is held back
+pub never-held : (s after : State) (e back : Event) (held : List ℕ) → IsStepIf (λ conn. true) s e (Err (back, Held)) held after → ⊥
+never-held s after e back held h = h.3 (h.4 ∙ none_holds_back s.world.sessions (transition s.world e))

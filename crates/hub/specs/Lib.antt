@@ -7,3 +7,4 @@ pub mod Run
 pub mod InForce
 pub mod Guarantee
 pub mod Counts
+pub mod Holding

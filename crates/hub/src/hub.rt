@@ -1,6 +1,7 @@
 //! One step of the world, which is remembered, and a run of steps.
 use crate::Segment;
-use events::{Answer, Event, HubRefusal};
+use events::{Answer, Event, HubRefusal, PublishRefusal};
+use leniency::{Lenient, LenientToAll};
 use lists::{Copying, Items, NoMemory, Shared};
 use policy_doc::Policy;
 use ready::Ready;
@@ -67,10 +68,11 @@ impl Model for Hub {
 
 impl Hub {
     ghost use Rattle.std.specs.Prelude.{◌≡◌, ◌≤◌, ◌++◌, List, IfOk, IfErr, OnOk, OnErr, All, length};
+    ghost use Rattle.events.specs.Offers.{IsOffered};
     ghost use Rattle.events.specs.declared.answer.Entry.{Entry};
     ghost use Rattle.world.specs.World as worlds;
     ghost use Rattle.hub.specs.Sound.{IsSound};
-    ghost use Rattle.hub.specs.History.{opening_state, is_history_full, IsOpening, IsLegalRun, IsStep};
+    ghost use Rattle.hub.specs.History.{opening_state, is_history_full, stepped, IsOpening, IsLegalRun, IsStep};
     ghost use Rattle.hub.specs.Segments.{IsReached, held, rotated};
 
     /// A hub over a policy, with nobody connected and nothing to remember. `NoMemory` hands the policy back. Clients
@@ -108,6 +110,7 @@ impl Hub {
     ghost use Rattle.world.specs.Transition.{transition, IsRefusal};
     ghost use Rattle.hub.specs.Guarantee.{KeepsGuarantee, IsGuarded};
     ghost use Rattle.hub.specs.Counts.{IsCounted};
+    ghost use Rattle.hub.specs.Holding.{IsStepIf};
 
     /// Tells what holds of every hub (docs/GUARANTEE.md, "What always holds"): the policy in force is valid and
     /// refuses no standing subscription, each of which is of its user's account; at most 4,096 sessions stand, each of
@@ -141,20 +144,58 @@ impl Hub {
         ensures transition { IsStep self.old event result self.new }
         ensures guarantee { KeepsGuarantee self.old event result self.new }
     {
+        let mut held = Vec::new(self.alloc);
+        match self.step_if(event, &LenientToAll, &mut held) {
+            Ok(answer) => Ok(answer),
+            Err((event, refusal)) => match refusal {
+                PublishRefusal::By(refusal) => Err((event, refusal)),
+                // Nobody holds an event back from a caller that is lenient to all.
+                PublishRefusal::Held => unreachable!(),
+            },
+        }
+    }
+
+    /// One event as `step` takes it, unless somebody holds it back: its answer would tell of a full outbox, of a connection
+    /// to which the caller isn't lenient and for which something waits. Then nothing changes, the event is handed back with
+    /// `Held`, and these connections are in `held`, once for each item. So each full outbox of which an answer tells is
+    /// of a connection to which the caller is lenient, or was empty before the message. What is refused isn't held back.
+    #[inline(always)]
+    pub fn step_if<T: Lenient>(
+        &mut self,
+        event: Event,
+        lenient: &T,
+        held: &mut Vec<u64>,
+    ) -> Result<Answer, (Event, PublishRefusal)>
+        requires none { held.old.items ≡ [] }
+        ensures transition { IsStepIf (T.lets lenient.now) self.old event result held.new.items self.new }
+        ensures guarantee { IsOffered KeepsGuarantee (λ s after. after ≡ s) self.old event result self.new }
+    {
         if self.is_full() {
-            return Err((event, HubRefusal::HistoryFull));
+            return Err((event, PublishRefusal::By(HubRefusal::HistoryFull)));
         }
         if self.entries.reserve(1).is_err() {
             let refusal = self.refusal_of(&event);
-            return Err((event, refusal));
+            return Err((event, PublishRefusal::By(refusal)));
         }
-        match self.world.apply(&event) {
+        match self.world.apply_if(&event, lenient, held) {
             Ok((told, kept)) => {
                 // The entry has all that the event has.
                 drop(event);
                 Ok(enter(&mut self.entries, told, kept))
             }
             Err(refusal) => Err((event, refusal)),
+        }
+    }
+
+    /// The refusal of an event for which memory could not be had: the step's own, or `NoMemory` where a step would answer
+    /// it.
+    pub fn refusal(&self, event: &Event) -> HubRefusal
+        ensures { IsRefusal (stepped self.now event.entry.now) result }
+    {
+        if self.is_full() {
+            HubRefusal::HistoryFull
+        } else {
+            self.refusal_of(event)
         }
     }
 

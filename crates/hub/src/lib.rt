@@ -6,9 +6,10 @@ mod segment;
 
 pub use events::{
     Answer, Command, Delivery, Entry, Event, HubRefusal, Item, Message, Met, Outcome, Port,
-    Removed, Sid,
+    PublishRefusal, Removed, Sid,
 };
 pub use hub::{Caps, Hub};
+pub use leniency::{Lenient, LenientToAll};
 pub use ready::{Ready, User};
 pub use segment::Segment;
 pub use world::{PlainWorld, Standing};

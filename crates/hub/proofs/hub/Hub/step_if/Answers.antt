@@ -1,0 +1,68 @@
+-- an answered step is entered: it is the transition's, keeps the guarantee and what every hub keeps
+use Rattle.std.proofs.Common.{◌≡◌, ◌∙◌, ◌++◌, ◌∷◌, [], List, Ok, Err, false, ap, sym, refl, subst}
+use Rattle.events.specs.Offers.{IsOffered}
+use Rattle.events.specs.declared.answer.Entry.{Entry}
+use Rattle.world.specs.Holding.{held_in}
+use Rattle.hub.specs.History.{State, is_history_full}
+use Rattle.hub.specs.Holding.{IsStepIf}
+use Rattle.hub.specs.Guarantee.{KeepsGuarantee}
+use Rattle.hub.proofs.Legal.{state_of, IsEntered, kept-step, entered-step, entered-guaranteed, refused-guaranteed, unmade-step, unmade-guaranteed}
+use Rattle.hub.proofs.hub.Hub.step_if.Given as given
+use Rattle.hub.proofs.hub.Hub.step_if.Goals as goal
+
+-- what the calls ensure
+is_entered : (g : given.Over) (c : goal.After-enter g) → IsEntered c.self.inside.opening c.self.inside.world c.self.inside.most c.self.inside.entries.items c.args.event c.enter.result c.apply_if.new.self c.enter.new.entries.items
+is_entered g c =
+    let room : is_history_full c.args.self.now ≡ false = sym c.is_full.ensures ∙ c.if-is_full.false in
+    let P : State → Type 0 = λ s. is_history_full s ≡ false in
+    let Q : Entry → Type 0 = λ a. IsEntered c.self.inside.opening c.self.inside.world c.self.inside.most c.self.inside.entries.items c.args.event a c.apply_if.new.self c.enter.new.entries.items in
+    subst Q (sym c.enter.ensures.answer)
+    (record {
+      sound = c.self.invariant.0;
+      reached = c.self.invariant.3;
+      run = c.self.invariant.1;
+      room = subst P (sym c.self.view_is) room;
+      step = c.in-Ok.ensures.step.0.0;
+      answer = c.in-Ok.ensures.step.0.1;
+      reason = c.in-Ok.ensures.reason;
+      entered = c.enter.ensures.entered ∙ ap (λ (l : List Entry). l ++ c.in-Ok.told ∷ []) c.reserve.ensures.items;
+    })
+
+pub invariant_of-self-in-Ok : goal.invariant_of-self-in-Ok
+invariant_of-self-in-Ok g c = kept-step _ _ _ _ _ _ _ _ (is_entered g c)
+
+pub returns-in-Ok-clause-transition : goal.returns-in-Ok-clause-transition
+returns-in-Ok-clause-transition g c =
+    let lets = g.T.Lenient.lets c.args.lenient.now in
+    let after = state_of c.self.inside.opening c.apply_if.new.self c.self.inside.most c.enter.new.entries.items in
+    let P : State → Type 0 = λ s. IsStepIf lets s c.args.event (Ok c.enter.result) c.apply_if.new.held.items after in
+    let letting = ap (λ (a : Entry). held_in lets c.self.inside.world.sessions a.outcome) c.enter.ensures.answer ∙ c.in-Ok.ensures.step.1 in
+    subst P c.self.view_is (entered-step _ _ _ _ _ _ _ _ (is_entered g c), letting)
+
+pub returns-in-Ok-clause-guarantee : goal.returns-in-Ok-clause-guarantee
+returns-in-Ok-clause-guarantee g c =
+    let P : State → Type 0 = λ s. KeepsGuarantee s c.args.event (Ok c.enter.result) (state_of c.self.inside.opening c.apply_if.new.self c.self.inside.most c.enter.new.entries.items) in
+    subst P c.self.view_is (entered-guaranteed _ _ _ _ _ _ _ _ (is_entered g c))
+
+-- one that isn't made keeps the guarantee, whether the world refuses it, or memory, or somebody holds it back
+pub returns-then-is_err-clause-guarantee : goal.returns-then-is_err-clause-guarantee
+returns-then-is_err-clause-guarantee g c =
+    let room : is_history_full c.args.self.now ≡ false = sym c.is_full.ensures ∙ c.if-is_full.false in
+    let P : State → Type 0 = λ s. is_history_full s ≡ false in
+    let Q : State → Type 0 = λ s. KeepsGuarantee s c.args.event (Err (c.args.event, c.refusal_of-refusal.result)) (state_of c.self.inside.opening c.self.inside.world c.self.inside.most c.reserve.new.self.items) in
+    subst Q c.self.view_is (refused-guaranteed _ _ _ _ _ _ _ _ c.self.invariant.0 (subst P (sym c.self.view_is) room) c.refusal_of-refusal.ensures refl c.reserve.ensures.items)
+
+pub returns-in-Err-clause-guarantee : goal.returns-in-Err-clause-guarantee
+returns-in-Err-clause-guarantee g c =
+    let room : is_history_full c.args.self.now ≡ false = sym c.is_full.ensures ∙ c.if-is_full.false in
+    let P : State → Type 0 = λ s. is_history_full s ≡ false in
+    let Q : State → Type 0 = λ s. IsOffered KeepsGuarantee (λ s next. next ≡ s) s c.args.event (Err (c.args.event, c.in-Err.refusal)) (state_of c.self.inside.opening c.apply_if.new.self c.self.inside.most c.reserve.new.self.items) in
+    subst Q c.self.view_is (unmade-guaranteed (g.T.Lenient.lets c.args.lenient.now) _ _ _ _ _ _ c.apply_if.new.held.items _ _ c.self.invariant.0 (subst P (sym c.self.view_is) room) c.in-Err.ensures.step c.reserve.ensures.items)
+
+pub returns-in-Err-clause-transition : goal.returns-in-Err-clause-transition
+returns-in-Err-clause-transition g c =
+    let lets = g.T.Lenient.lets c.args.lenient.now in
+    let room : is_history_full c.args.self.now ≡ false = sym c.is_full.ensures ∙ c.if-is_full.false in
+    let P : State → Type 0 = λ s. is_history_full s ≡ false in
+    let Q : State → Type 0 = λ s. IsStepIf lets s c.args.event (Err (c.args.event, c.in-Err.refusal)) c.apply_if.new.held.items (state_of c.self.inside.opening c.apply_if.new.self c.self.inside.most c.reserve.new.self.items) in
+    subst Q c.self.view_is (unmade-step lets _ _ _ _ _ _ c.apply_if.new.held.items _ _ (subst P (sym c.self.view_is) room) c.in-Err.ensures.step c.reserve.ensures.items)
