@@ -43,11 +43,20 @@ impl Copying for User {
     }
 }
 
+/// The name of a user, and its place among all users.
+#[derive(Debug, Drop)]
+struct Named {
+    name: Bytes,
+    place: usize,
+}
+
 /// A policy with its users, each with compiled permissions.
 #[derive(Debug, Drop)]
 struct Parts {
     policy: Policy,
     users: Vec<User>,
+    /// Where each user is likely to stand, by rising names. Whoever is looked for is compared there.
+    by_name: Vec<Named>,
 }
 
 /// A policy made ready to be asked: each of its users has compiled permissions. Copies share it. A clause sees the
@@ -89,8 +98,19 @@ impl Ready {
         ensures ok { IfOk result (λ ready. ready ≡ policy) }
         ensures err { IfErr result (λ refused. refused.0 ≡ policy) }
     {
-        match users_of(alloc, policy.doc()) {
-            Ok(users) => share(alloc, Parts { policy, users }),
+        let users = match users_of(alloc, policy.doc()) {
+            Ok(users) => users,
+            Err(refused) => return Err((policy, refused)),
+        };
+        match names_of(alloc, users.as_slice()) {
+            Ok(by_name) => share(
+                alloc,
+                Parts {
+                    policy,
+                    users,
+                    by_name,
+                },
+            ),
             Err(refused) => Err((policy, refused)),
         }
     }
@@ -134,11 +154,11 @@ impl Ready {
     pub fn user_again(&self, user: &User) -> Option<&User>
         ensures { option_copied result ≡ user_again self.now user.now }
     {
-        self.shared.users.iter().find(|known| {
-            known.user == user.user
-                && known.password == user.password
-                && known.account == user.account
-        })
+        let users = self.shared.users.as_slice();
+        match place_again(users, self.shared.by_name.as_slice(), user) {
+            Some(place) => Some(&users[place]),
+            None => users.iter().find(|known| is_same_user(known, user)),
+        }
     }
 }
 
@@ -150,8 +170,9 @@ impl Copying for Ready {
     }
 }
 
-ghost use Rattle.std.specs.Prelude.{IfErr};
-ghost use Rattle.ready.specs.Users.{user_in, users_in, users_of as all_users_of};
+ghost use Rattle.std.specs.Prelude.{◌<◌, IfErr, IfSome, true, length};
+ghost use Rattle.std.specs.List.{HoldsAt};
+ghost use Rattle.ready.specs.Users.{is_same_user, user_in, users_in, users_of as all_users_of};
 
 /// Shares what was made ready. Where memory could not be had, the policy is handed back.
 fn share(alloc: Global, parts: Parts) -> Result<Ready, (Policy, NoMemory)>
@@ -163,6 +184,44 @@ fn share(alloc: Global, parts: Parts) -> Result<Ready, (Policy, NoMemory)>
         Ok(shared) => Ok(Ready { shared }),
         Err(refused) => Err((refused.value.policy, NoMemory)),
     }
+}
+
+/// Whether two users have the same name, password and account.
+fn is_same_user(known: &User, user: &User) -> bool
+    ensures { result ≡ is_same_user known.now user.now }
+{
+    known.user == user.user && known.password == user.password && known.account == user.account
+}
+
+/// Where the same user stands, if it is found by its name.
+fn place_again(users: &[User], by_name: &[Named], user: &User) -> Option<usize>
+    ensures within { IfSome result (λ place. place < length users.now) }
+    ensures same { IfSome result (HoldsAt (λ u. is_same_user u user.now ≡ true) users.now) }
+{
+    match by_name.binary_search_by(|named| named.name.as_slice().cmp(user.user.as_slice())) {
+        Err(_) => None,
+        Ok(at) => {
+            let place = by_name[at].place;
+            if place < users.len() && is_same_user(&users[place], user) {
+                Some(place)
+            } else {
+                None
+            }
+        }
+    }
+}
+
+/// The place of each user, by rising names.
+fn names_of(alloc: Global, users: &[User]) -> Result<Vec<Named>, NoMemory> {
+    let mut by_name = Vec::with_capacity(alloc, users.len())?;
+    for (place, user) in users.iter().enumerate() {
+        by_name.push(Named {
+            name: user.user.clone()?,
+            place,
+        })?;
+    }
+    by_name.sort_unstable_by(|one, other| one.name.as_slice().cmp(other.name.as_slice()));
+    Ok(by_name)
 }
 
 fn users_of(alloc: Global, doc: &PolicyDoc) -> Result<Vec<User>, NoMemory>
