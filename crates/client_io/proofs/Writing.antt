@@ -1,11 +1,13 @@
 -- One write after another.
-use Rattle.std.proofs.Common.{◌≡◌, ◌≢◌, ◌<◌, ◌+◌, ◌-◌, ◌++◌, ◌∙◌, ℕ, Bool, true, false, nat_lt, List, [], Option, Some, None, length, take, drop, ap, sym, refl, subst, append_assoc, arith, rules}
+use Rattle.std.proofs.Common.{◌≡◌, ◌≢◌, ◌<◌, ◌≤◌, ◌+◌, ◌-◌, ◌++◌, ◌∙◌, ℕ, true, nat_lt, List, [], Option, Some, None, length, take, drop, ap, sym, refl, subst, append_assoc, arith, rules}
 use Rattle.std.proofs.lemmas.Grind.{common_steps}
-use Rattle.std.proofs.lemmas.List.{append-nil, take-append-drop, drop-drop, drop_all, length-drop}
+use Rattle.std.proofs.lemmas.List.{append-nil, take-append-drop, drop-drop, drop_all, length-drop, length-take-le}
 use Rattle.std.proofs.lemmas.Bool.{lt-ltb, ltb-true}
 use Rattle.std.proofs.Math.Nat.{lt_of_not-le}
+use Rattle.std.specs.Prelude.{is_some}
 use Rattle.std.specs.Io.KnownBytes.{Appends, Consumes}
-use Rattle.client_io.specs.Turns.{answers_left, Client, Writes, waiting}
+use Rattle.conn.specs.declared.output.Stall.{Stall}
+use Rattle.client_io.specs.Turns.{Writes}
 
 rest_whole : (i : ℕ) (bs : List ℕ) → take (length bs - i) (drop i bs) ≡ drop i bs
 rest_whole i bs = search (rules, common_steps)
@@ -43,35 +45,6 @@ writes_more old mid new all bs i n w next = record {
 pub all_written : (old new : Option (List ℕ)) (all kept : List ℕ) → Writes old new all kept → kept ≡ [] → Appends old new all
 all_written old new all kept w none = subst (λ (xs : List ℕ). Appends old new xs) (sym (w.whole ∙ (ap (λ (xs : List ℕ). w.front ++ xs) none ∙ append-nil w.front))) w.appended
 
--- what is written behind it waits with what is kept
-pub writes_before : (old new : Option (List ℕ)) (all kept xs : List ℕ) → Writes old new all kept → Writes old new (all ++ xs) (kept ++ xs)
-writes_before old new all kept xs w = record {
-  front = w.front;
-  appended = w.appended;
-  whole = ap (λ (ys : List ℕ). ys ++ xs) w.whole ∙ append_assoc w.front kept xs;
-}
-
--- all of the first is written, and then a front of the second
-pub writes_then : (old mid new : Option (List ℕ)) (first all kept : List ℕ) → Appends old mid first → Writes mid new all kept → Writes old new (first ++ all) (kept ++ [])
-writes_then old mid new first all kept done w = record {
-  front = first ++ w.front;
-  appended = appends_both old mid new first w.front done w.appended;
-  whole = ap (λ (ys : List ℕ). first ++ ys) w.whole ∙ (sym (append_assoc first w.front kept) ∙ ap (λ (ys : List ℕ). (first ++ w.front) ++ ys) (sym (append-nil kept)));
-}
-
--- nothing waits once neither bytes are kept nor answers
-pub nothing_waits : (c : Client) → c.kept ≡ [] → c.answers ≡ [] → waiting c ≡ []
-nothing_waits c kept answers = ap (λ (xs : List ℕ). xs ++ c.answers) kept ∙ answers
-
--- where no answers waited none are left
-pub none_left : (b : Bool) (answers : List ℕ) → answers ≡ [] → answers_left b answers ≡ []
-none_left true answers none = refl
-none_left false answers none = none
-
--- no answers wait
-pub writes_alone : (old new : Option (List ℕ)) (all kept xs : List ℕ) → xs ≡ [] → Writes old new all kept → Writes old new all (kept ++ xs)
-writes_alone old new all kept xs none w = subst (λ (ys : List ℕ). Writes old new all ys) (sym (ap (λ (ys : List ℕ). kept ++ ys) none ∙ append-nil kept)) w
-
 -- what isn't written yet is left
 pub left_over : (i : ℕ) (bs : List ℕ) → i < length bs → drop i bs ≢ []
 left_over i bs within none =
@@ -81,3 +54,14 @@ left_over i bs within none =
 -- whether something is left
 pub decides_left : (i : ℕ) (bs : List ℕ) → (nat_lt i (length bs) ≡ true → drop i bs ≢ []) × (drop i bs ≢ [] → nat_lt i (length bs) ≡ true)
 decides_left i bs = (λ within. left_over i bs (ltb-true i (length bs) within), λ some. lt-ltb i (length bs) (lt_of_not-le (λ over. some (drop_all i bs over))))
+
+-- bytes were read, or none
+pub piece_some : (n : ℕ) (bs : List ℕ) → n ≤ length bs → n ≢ 0 → take n bs ≢ []
+piece_some n bs within some none =
+    let gone : n ≡ 0 = sym (length-take-le n bs within) ∙ ap length none in
+    some gone
+
+-- something has stopped the frames
+pub stopped_some : (o : Option Stall) → o ≢ None → is_some o ≡ true
+stopped_some None some = absurd (some refl)
+stopped_some (Some s) some = refl

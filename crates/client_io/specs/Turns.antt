@@ -14,24 +14,13 @@ use Rattle.client_io.specs.declared.turn.Turn.TheVariants.{Done, Idle, Waits, St
 
 -- ---- a client
 
--- a connection, and the bytes that were given for its client and aren't written yet: those that are written next, and
--- the answers to the latest piece, which wait for the deliveries that came before them
+-- a connection, and the bytes that were given for its client and aren't written yet
 pub record Client : Type 0 where
   pub conn : Connection
   pub kept : List ℕ
-  pub answers : List ℕ
 
-abbrev pub client : Connection → List ℕ → List ℕ → Client
-client conn kept answers = record { conn = conn; kept = kept; answers = answers }
-
--- all that isn't written yet
-abbrev pub waiting : Client → List ℕ
-waiting c = c.kept ++ c.answers
-
--- behind a closing text nothing is written
-abbrev pub answers_left : Bool → List ℕ → List ℕ
-answers_left true answers = []
-answers_left false answers = answers
+abbrev pub client : Connection → List ℕ → Client
+client conn kept = record { conn = conn; kept = kept }
 
 -- a client, the port of its events, and what was written to it, where that is known
 pub record State (P : Type 0) : Type 0 where
@@ -86,7 +75,7 @@ IsStallTold s Ended = ⊥
 pub record IsFlush {P : Type 0} (a b : State P) (turn : Turn) : Type 0 where
   pub conn : b.client.conn ≡ a.client.conn
   pub port : b.port ≡ a.port
-  pub written : Writes a.written b.written (waiting a.client) (waiting b.client)
+  pub written : Writes a.written b.written a.client.kept b.client.kept
   pub early : is_early turn ≡ true
 
 -- the opening
@@ -94,35 +83,28 @@ pub record IsInfo (old new : Client) (before after : Option (List ℕ)) (turn : 
   pub output : Output
   pub opened : IsOpened old.conn.conn output
   pub conn : new.conn ≡ old.conn
-  pub told : IsToldAll before after (waiting old) output (waiting new)
+  pub told : IsToldAll before after old.kept output new.kept
   pub stall_told : IsStallTold output.stall turn
 
 pub record IsKeptWritten (old new : Client) (before after : Option (List ℕ)) (turn : Turn) : Type 0 where
   pub conn : new.conn ≡ old.conn
-  pub written : Writes before after (waiting old) (waiting new)
+  pub written : Writes before after old.kept new.kept
   pub early : is_early turn ≡ true
 
 abbrev pub IsOpening : Client → Client → Option (List ℕ) → Option (List ℕ) → Turn → Type 0
 IsOpening old new before after turn = IsKeptWritten old new before after turn ⊎ IsInfo old new before after turn
 
--- A piece was read, no longer than the buffer and empty where frames wait, and the connection was given it. What it gave
--- are the answers, of which nothing is written unless the connection has closed.
+-- A piece was read, no longer than the buffer, and empty exactly where frames wait; and the connection was given it. What
+-- that gave is written first of all that is written later.
 pub record IsFed {P W : Type 0} (steps : Steps P) (draws : Draws W) (now most : ℕ) (a : State P) (w : W) (left : Option (List ℕ)) (b : State P) (w' : W) (left' : Option (List ℕ)) (turn : Turn) : Type 0 where
   pub piece : List ℕ
   pub output : Output
   pub within : length piece ≤ most
   pub read : Consumes left left' piece
+  pub some : a.client.conn.stall ≡ None → piece ≢ []
+  pub none : a.client.conn.stall ≢ None → piece ≡ []
   pub served : IsServed steps draws now piece a.client.conn a.port w output b.client.conn b.port w'
-  pub told : IsToldAll a.written b.written (waiting a.client) output (waiting b.client)
-  pub held : is_closed b.client.conn.stage ≡ false → b.client.answers ≡ output.bytes.items
-  pub stall_told : IsStallTold output.stall turn
-
--- a connection was given a piece
-pub record IsGiven {P W : Type 0} (steps : Steps P) (draws : Draws W) (now : ℕ) (piece : List ℕ) (a : State P) (w : W) (b : State P) (w' : W) (turn : Turn) : Type 0 where
-  pub output : Output
-  pub served : IsServed steps draws now piece a.client.conn a.port w output b.client.conn b.port w'
-  pub rest : Writes a.written b.written output.bytes.items (waiting b.client)
-  pub held : is_closed b.client.conn.stage ≡ false → b.client.answers ≡ output.bytes.items
+  pub told : IsToldAll a.written b.written a.client.kept output b.client.kept
   pub stall_told : IsStallTold output.stall turn
 
 -- nothing was read
@@ -134,12 +116,11 @@ pub record IsUnread {P W : Type 0} (a : State P) (w : W) (left : Option (List �
 abbrev pub IsServing : {P W : Type 0} → Steps P → Draws W → ℕ → ℕ → State P → W → Option (List ℕ) → State P → W → Option (List ℕ) → Turn → Type 0
 IsServing steps draws now most a w left b w' left' turn = IsUnread a w left b w' left' turn ⊎ IsFed steps draws now most a w left b w' left' turn
 
--- One drain was made. What it gave is written before the answers, which wait still unless it has closed the connection.
+-- one drain was made
 pub record IsTaken {P : Type 0} (steps : Steps P) (now most : ℕ) (a b : State P) (turn : Turn) : Type 0 where
   pub output : Output
   pub drained : IsDrained steps now most a.client.conn a.port output b.client.conn b.port
   pub told : IsToldAll a.written b.written a.client.kept output b.client.kept
-  pub answers : b.client.answers ≡ answers_left (is_closed b.client.conn.stage) a.client.answers
   pub stall_told : IsStallTold output.stall turn
 
 abbrev pub IsDraining : {P : Type 0} → Steps P → ℕ → ℕ → State P → State P → Turn → Type 0
@@ -150,7 +131,7 @@ pub record IsOver {P : Type 0} (steps : Steps P) (now : ℕ) (old : Client) (p :
   pub output : Output
   pub ended : IsEnded steps now old.conn p output new.conn p'
   pub stall_is : stall ≡ output.stall
-  pub kept : waiting new ≡ []
+  pub kept : new.kept ≡ []
 
 -- ---- how a turn ends
 
@@ -172,12 +153,12 @@ pub record IsWritten (kept : List ℕ) (failed failed' : Bool) : Type 0 where
 abbrev pub IsTurn : Client → Bool → Bool → Bool → Turn → Type 0
 IsTurn c failed failed' waits Waits = (c.kept ≢ []) × (waits ≡ true) × (failed' ≡ failed)
 IsTurn c failed failed' waits Failed = failed' ≡ true
-IsTurn c failed failed' waits Closed = IsWritten c.kept failed failed' × (c.answers ≡ []) × (is_closed c.conn.stage ≡ true)
+IsTurn c failed failed' waits Closed = IsWritten c.kept failed failed' × (is_closed c.conn.stage ≡ true)
 IsTurn c failed failed' waits Done = IsWritten c.kept failed failed' × (is_closed c.conn.stage ≡ false)
 IsTurn c failed failed' waits (Stalled _) = IsWritten c.kept failed failed' × (is_closed c.conn.stage ≡ false)
 IsTurn c failed failed' waits Lost = IsWritten c.kept failed failed'
-IsTurn c failed failed' waits Idle = IsWritten c.kept failed failed' × (c.answers ≡ [])
-IsTurn c failed failed' waits Ended = IsWritten c.kept failed failed' × (c.answers ≡ [])
+IsTurn c failed failed' waits Idle = IsWritten c.kept failed failed'
+IsTurn c failed failed' waits Ended = IsWritten c.kept failed failed'
 
 -- the same where the reader may have failed
 abbrev pub IsReadTurn : Client → Bool → Bool → Bool → Bool → Bool → Turn → Type 0

@@ -5,7 +5,6 @@ use devices::DeviceFailed;
 use events::Port;
 use std::alloc::Global;
 use std::marker::Model;
-use std::mem;
 
 /// A connection with what its client hasn't been sent yet. A clause sees both.
 pub struct Client {
@@ -13,10 +12,6 @@ pub struct Client {
     /// What is written next, and how much of it is written.
     bytes: Vec<u8>,
     written: usize,
-    /// What the latest piece gave, which is written behind the deliveries that came before it.
-    answers: Vec<u8>,
-    /// Whether frames wait that a call could not come to the end of.
-    stalled: bool,
     alloc: Global,
 }
 
@@ -26,8 +21,6 @@ impl Drop for Client {
             conn: _,
             bytes: _,
             written: _,
-            answers: _,
-            stalled: _,
             alloc: _,
         } = self;
     }
@@ -40,16 +33,17 @@ impl Model for Client {
 
     ghost Value = { Turns.Client };
 
-    ghost view = { λ c. client c.conn (drop c.written c.bytes.items) c.answers.items };
+    ghost view = { λ c. client c.conn (drop c.written c.bytes.items) };
 }
 
-ghost use Rattle.std.specs.Prelude.{◌≡◌, ◌≢◌, ◌||◌, ◌<◌, ◌≤◌, Ok, [], Bool, Option, true, false, is_err, length, take};
+ghost use Rattle.std.specs.Prelude.{◌≡◌, ◌≢◌, ◌||◌, ◌<◌, ◌≤◌, Ok, [], None, Bool, Option, true, false, is_err, length, take};
 ghost use Rattle.std.specs.Bool.{Decides};
 ghost use Rattle.std.specs.Io.KnownBytes.{Consumes, IsAtEnd};
+ghost use Rattle.conn.specs.Turns.{port_of};
 ghost use Rattle.conn.specs.Calls.{new_connection};
 ghost use Rattle.protocol.specs.Replies.{is_closed};
-ghost use Rattle.client_io.specs.declared.turn.Turn.TheVariants.{Done};
-ghost use Rattle.client_io.specs.Turns.{answers_left, client, is_early, state, waiting, Client, Writes, IsTurn, IsReadTurn, IsServing, IsGiven, IsNoRead, IsStallTold, IsDraining, IsOpening, IsOver, IsPiece, piece_length};
+ghost use Rattle.client_io.specs.declared.client.Piece.TheVariants as piece;
+ghost use Rattle.client_io.specs.Turns.{client, is_early, state, Client, Writes, IsTurn, IsReadTurn, IsServing, IsNoRead, IsStallTold, IsDraining, IsOpening, IsOver, IsPiece, piece_length};
 
 /// What a read has brought.
 enum Piece {
@@ -68,6 +62,9 @@ fn next_piece<R: Reader>(reader: &mut R, buf: &mut [u8], frames_wait: bool) -> P
     requires { 0 < length buf.old }
     ensures within { piece_length result ≤ length buf.new }
     ensures read { Consumes (R.remaining reader.old) (R.remaining reader.new) (take (piece_length result) buf.new) }
+    ensures held { frames_wait ≡ true → reader.new ≡ reader.old }
+    ensures none { frames_wait ≡ true → result ≡ piece.Read 0 }
+    ensures some { frames_wait ≡ false → result ≢ piece.Read 0 }
     ensures piece { IsPiece (R.remaining reader.new) (R.failed reader.old) (R.failed reader.new) (R.waits reader.new) result }
 {
     if frames_wait {
@@ -92,20 +89,19 @@ fn turn_of(stall: Option<Stall>) -> Turn
         Some(Stall::PieceNotTaken) => Turn::Lost,
         Some(Stall::Memory) => Turn::Stalled(Stall::Memory),
         Some(Stall::HistoryFull) => Turn::Stalled(Stall::HistoryFull),
+        Some(Stall::Held) => Turn::Stalled(Stall::Held),
     }
 }
 
 impl Client {
     /// A connection with this number, whose client has sent nothing and been sent nothing. It takes no memory.
     pub fn new(alloc: Global, conn: u64) -> Client
-        ensures { result ≡ client (new_connection conn) [] [] }
+        ensures { result ≡ client (new_connection conn) [] }
     {
         Client {
             conn: Conn::new(alloc, conn),
             bytes: Vec::new(alloc),
             written: 0,
-            answers: Vec::new(alloc),
-            stalled: false,
             alloc,
         }
     }
@@ -124,18 +120,10 @@ impl Client {
         self.written < self.bytes.len()
     }
 
-    /// Whether answers wait until `answer` is called.
-    pub fn has_answers(&self) -> bool
-        ensures { Decides result (self.now.answers ≢ []) }
-    {
-        !self.answers.is_empty()
-    }
-
     /// Writes what is kept, as far as the writer takes it, and answers whether that was all of it.
     #[tactic(auto, using(crate::proofs::Writing::left_over))]
     fn write_kept<S: Writer>(&mut self, writer: &mut S) -> Result<bool, DeviceFailed>
         ensures conn { self.new.conn ≡ self.old.conn }
-        ensures answers { self.new.answers ≡ self.old.answers }
         ensures written { Writes (S.contents writer.old) (S.contents writer.new) self.old.kept self.new.kept }
         ensures all { result ≡ Ok true → self.new.kept ≡ [] }
         ensures left { result ≡ Ok false → self.new.kept ≢ [] }
@@ -154,48 +142,29 @@ impl Client {
         Ok(true)
     }
 
-    /// Writes what is kept and then the answers, as far as the writer takes them, and answers whether that was all.
-    fn write_all<S: Writer>(&mut self, writer: &mut S) -> Result<bool, DeviceFailed>
-        ensures conn { self.new.conn ≡ self.old.conn }
-        ensures written { Writes (S.contents writer.old) (S.contents writer.new) (waiting self.old) (waiting self.new) }
-        ensures all { result ≡ Ok true → (self.new.kept ≡ []) × (self.new.answers ≡ []) }
-        ensures left { result ≡ Ok false → self.new.kept ≢ [] }
-        ensures waits { result ≡ Ok false → S.waits writer.new ≡ true }
-        ensures failed { S.failed writer.new ≡ (S.failed writer.old || is_err result) }
-    {
-        match self.write_kept(writer) {
-            Err(failed) => return Err(failed),
-            Ok(false) => return Ok(false),
-            Ok(true) => {}
-        }
-        self.bytes = mem::replace(&mut self.answers, Vec::new(self.alloc));
-        self.written = 0;
-        self.write_kept(writer)
-    }
-
-    /// Writes all that waits once the connection has closed, its closing text too.
+    /// Writes what is kept once the connection has closed, its closing text too.
     fn close<S: Writer>(&mut self, writer: &mut S) -> Turn
         requires { is_closed self.old.conn.stage ≡ true }
         ensures conn { self.new.conn ≡ self.old.conn }
-        ensures written { Writes (S.contents writer.old) (S.contents writer.new) (waiting self.old) (waiting self.new) }
+        ensures written { Writes (S.contents writer.old) (S.contents writer.new) self.old.kept self.new.kept }
         ensures turn { IsTurn self.new (S.failed writer.old) (S.failed writer.new) (S.waits writer.new) result }
         ensures early { is_early result ≡ true }
         ensures told { (stall : Option Stall) → IsStallTold stall result }
         ensures neither { IsNoRead result }
     {
-        match self.write_all(writer) {
+        match self.write_kept(writer) {
             Err(_) => Turn::Failed,
             Ok(false) => Turn::Waits,
             Ok(true) => Turn::Closed,
         }
     }
 
-    /// Writes what is kept, as far as the writer takes it. Answers wait, unless the connection has closed.
+    /// Writes what is kept, as far as the writer takes it.
     pub fn flush<S: Writer>(&mut self, writer: &mut S) -> Turn
         ensures conn { self.new.conn ≡ self.old.conn }
-        ensures answers { is_closed self.old.conn.stage ≡ false → self.new.answers ≡ self.old.answers }
-        ensures written { Writes (S.contents writer.old) (S.contents writer.new) (waiting self.old) (waiting self.new) }
+        ensures written { Writes (S.contents writer.old) (S.contents writer.new) self.old.kept self.new.kept }
         ensures turn { IsTurn self.new (S.failed writer.old) (S.failed writer.new) (S.waits writer.new) result }
+        ensures told { IsStallTold None result }
     {
         if self.conn.stage().is_closed() {
             return self.close(writer);
@@ -207,28 +176,9 @@ impl Client {
         }
     }
 
-    /// Writes what is kept and then the answers, as far as the writer takes them.
-    pub fn answer<S: Writer>(&mut self, writer: &mut S) -> Turn
-        ensures conn { self.new.conn ≡ self.old.conn }
-        ensures written { Writes (S.contents writer.old) (S.contents writer.new) (waiting self.old) (waiting self.new) }
-        ensures all { result ≡ Turn.Done → self.new.answers ≡ [] }
-        ensures turn { IsTurn self.new (S.failed writer.old) (S.failed writer.new) (S.waits writer.new) result }
-    {
-        if self.conn.stage().is_closed() {
-            return self.close(writer);
-        }
-        match self.write_all(writer) {
-            Err(_) => Turn::Failed,
-            Ok(false) => Turn::Waits,
-            Ok(true) => Turn::Done,
-        }
-    }
-
-    /// Keeps what a call gave, in place of what is all written, and writes it as far as the writer takes it. Behind a
-    /// closing text nothing is written.
+    /// Keeps what a call gave, in place of what is all written, and writes it as far as the writer takes it.
     fn tell<S: Writer>(&mut self, output: Output, writer: &mut S) -> Turn
         ensures conn { self.new.conn ≡ self.old.conn }
-        ensures answers { self.new.answers ≡ answers_left (is_closed self.old.conn.stage) self.old.answers }
         ensures written { Writes (S.contents writer.old) (S.contents writer.new) output.bytes.items self.new.kept }
         ensures turn { IsTurn self.new (S.failed writer.old) (S.failed writer.new) (S.waits writer.new) result }
         ensures told { IsStallTold output.stall result }
@@ -237,9 +187,6 @@ impl Client {
         let Output { bytes, stall, .. } = output;
         self.bytes = bytes;
         self.written = 0;
-        if self.conn.stage().is_closed() {
-            self.answers = Vec::new(self.alloc);
-        }
         match self.write_kept(writer) {
             Err(_) => return Turn::Failed,
             Ok(false) => return Turn::Waits,
@@ -255,11 +202,12 @@ impl Client {
     pub fn open<S: Writer>(&mut self, writer: &mut S) -> Turn
         ensures opening { IsOpening self.old self.new (S.contents writer.old) (S.contents writer.new) result }
         ensures turn { IsTurn self.new (S.failed writer.old) (S.failed writer.new) (S.waits writer.new) result }
+        ensures neither { IsNoRead result }
     {
         if self.conn.stage().is_closed() {
             return self.close(writer);
         }
-        match self.write_all(writer) {
+        match self.write_kept(writer) {
             Err(_) => return Turn::Failed,
             Ok(false) => return Turn::Waits,
             Ok(true) => {}
@@ -268,11 +216,10 @@ impl Client {
         self.tell(output, writer)
     }
 
-    /// One read and what comes of it. What waits is written first, answers too, and nothing is read before all of it is
-    /// written. Then one piece is read, no longer than the buffer, and its frames have their turns; or those that an
-    /// earlier piece has left, where they stopped. What that gives are the answers. They wait until `answer` is called,
-    /// so that deliveries that came before them can be written first; where the connection has closed they are written
-    /// at once.
+    /// One read and what comes of it. What is kept is written first, and nothing is read before all of it is written. Then
+    /// one piece is read, no longer than the buffer, and its frames have their turns; or those that an earlier piece has
+    /// left, where they stopped, and nothing is read. What that gives is written at once, as far as the writer takes it, so
+    /// it comes before all that is taken later.
     #[tactic(auto, using(crate::proofs::Writing::consumes_nothing))]
     pub fn serve<P: Port, W: Words, R: Reader, S: Writer>(
         &mut self,
@@ -285,56 +232,35 @@ impl Client {
     ) -> Turn
         requires { 0 < length buf.old }
         ensures place { P.place port.new ≡ P.place port.old }
-        ensures serving { IsServing P.steps W.draws now (length buf.old) (state self.old port.old (S.contents writer.old)) words.old (R.remaining reader.old) (state self.new port.new (S.contents writer.new)) words.new (R.remaining reader.new) result }
+        ensures serving { IsServing (port_of P.steps P.holds) W.draws now (length buf.old) (state self.old port.old (S.contents writer.old)) words.old (R.remaining reader.old) (state self.new port.new (S.contents writer.new)) words.new (R.remaining reader.new) result }
         ensures turn { IsReadTurn self.new (R.failed reader.old) (R.failed reader.new) (S.failed writer.old) (S.failed writer.new) (S.waits writer.new) result }
         ensures ended { result ≡ Turn.Ended → IsAtEnd (R.remaining reader.new) }
         ensures idle { result ≡ Turn.Idle → R.waits reader.new ≡ true }
+        ensures held { self.old.conn.stall ≢ None → reader.new ≡ reader.old }
     {
         if self.conn.stage().is_closed() {
             return self.close(writer);
         }
-        match self.write_all(writer) {
+        match self.write_kept(writer) {
             Err(_) => return Turn::Failed,
             Ok(false) => return Turn::Waits,
             Ok(true) => {}
         }
-        let count = match next_piece(reader, buf, self.stalled) {
+        let frames_wait = self.conn.stall().is_some();
+        let count = match next_piece(reader, buf, frames_wait) {
             Piece::Failed => return Turn::Failed,
             Piece::Later => return Turn::Idle,
             Piece::Last => return Turn::Ended,
             Piece::Read(count) => count,
         };
-        self.feed(port, words, writer, &buf[..count], now)
-    }
-
-    /// Gives the connection a piece. What it gives are the answers, which are written where it has closed.
-    fn feed<P: Port, W: Words, S: Writer>(
-        &mut self,
-        port: &mut P,
-        words: &mut W,
-        writer: &mut S,
-        piece: &[u8],
-        now: u64,
-    ) -> Turn
-        requires { self.old.kept ≡ [] }
-        ensures place { P.place port.new ≡ P.place port.old }
-        ensures given { IsGiven P.steps W.draws now piece.now (state self.old port.old (S.contents writer.old)) words.old (state self.new port.new (S.contents writer.new)) words.new result }
-        ensures turn { IsTurn self.new (S.failed writer.old) (S.failed writer.new) (S.waits writer.new) result }
-        ensures neither { IsNoRead result }
-    {
-        let output = self.conn.on_bytes(self.alloc, port, piece, now, words);
-        self.stalled = output.stall.is_some();
-        let Output { bytes, stall, .. } = output;
-        self.answers = bytes;
-        if self.conn.stage().is_closed() {
-            return self.close(writer);
-        }
-        turn_of(stall)
+        let output = self
+            .conn
+            .on_bytes(self.alloc, port, &buf[..count], now, words);
+        self.tell(output, writer)
     }
 
     /// One drain: what was kept is written first, and nothing is taken before all of it is written. Then at most so
-    /// many deliveries are taken, and written as far as the writer takes them, before the answers that wait. Where it
-    /// closes the connection, those answers are dropped.
+    /// many deliveries are taken, and written as far as the writer takes them. It goes on while frames are held back.
     pub fn drain<P: Port, S: Writer>(
         &mut self,
         port: &mut P,
@@ -343,8 +269,9 @@ impl Client {
         now: u64,
     ) -> Turn
         ensures place { P.place port.new ≡ P.place port.old }
-        ensures draining { IsDraining P.steps now most (state self.old port.old (S.contents writer.old)) (state self.new port.new (S.contents writer.new)) result }
+        ensures draining { IsDraining (port_of P.steps P.holds) now most (state self.old port.old (S.contents writer.old)) (state self.new port.new (S.contents writer.new)) result }
         ensures turn { IsTurn self.new (S.failed writer.old) (S.failed writer.new) (S.waits writer.new) result }
+        ensures neither { IsNoRead result }
     {
         if self.conn.stage().is_closed() {
             return self.close(writer);
@@ -362,12 +289,10 @@ impl Client {
     /// or the history is full it stands still, and this may be called again.
     pub fn end<P: Port>(&mut self, port: &mut P, now: u64) -> Option<Stall>
         ensures place { P.place port.new ≡ P.place port.old }
-        ensures ended { IsOver P.steps now self.old port.old result self.new port.new }
+        ensures ended { IsOver (port_of P.steps P.holds) now self.old port.old result self.new port.new }
     {
         self.bytes = Vec::new(self.alloc);
         self.written = 0;
-        self.answers = Vec::new(self.alloc);
-        self.stalled = false;
         self.conn.ended(port, now).stall
     }
 }

@@ -1,5 +1,6 @@
 // What is read and written without waiting.
-ghost use Rattle.std.specs.Prelude.{◌≡◌, ◌≢◌, ◌<◌, ◌≤◌, ℕ, List, Option, Some, Ok, Bool, length, take, false, is_err, ◌||◌};
+ghost use Rattle.std.specs.Prelude.{◌≡◌, ◌≢◌, ◌⊎◌, ◌<◌, ◌≤◌, ℕ, List, Option, Some, None, Ok, Bool, length, take, true, false, is_err, ◌||◌};
+ghost use Rattle.std.specs.declared.io.ErrorKind.TheVariants.{WouldBlock, Interrupted};
 ghost use Rattle.std.specs.Io.KnownBytes.{Appends, Consumes, IsAtEnd};
 ghost use Rattle.client_io.specs.Devices.{count_of, is_not_now};
 
@@ -77,6 +78,9 @@ impl<D> NonBlocking<D> {
         ensures some { result ≢ Ok (Some 0) }
         ensures waits { self.new.waits ≡ is_not_now result }
         ensures failed { self.new.has_failed ≡ (self.old.has_failed || is_err result) }
+        ensures not_now { kind ≡ WouldBlock → result ≡ Ok None }
+        ensures again { kind ≡ Interrupted → result ≡ Ok None }
+        ensures other { is_not_now result ≡ true → (kind ≡ WouldBlock) ⊎ (kind ≡ Interrupted) }
     {
         match kind {
             io::ErrorKind::WouldBlock | io::ErrorKind::Interrupted => {

@@ -6,14 +6,13 @@ use conn::Stall;
 /// How a turn of a connection ended.
 #[derive(Clone, Copy, Debug, PartialEq, Eq)]
 pub enum Turn {
-    /// What was asked is done. What it gave is written, but for answers to a piece.
+    /// What was asked is done, and what it gave is written.
     Done,
     /// Nothing has come to be read. All is written.
     Idle,
-    /// Bytes wait until the writer takes more. Nothing is read or drained before.
+    /// Bytes wait until the writer takes more. Nothing is read or drained before. Whether frames wait too, says the connection.
     Waits,
-    /// Memory lacked, or the history is full: the next turn goes on with it. What it gave is written, but for answers
-    /// to a piece.
+    /// Memory lacked, the history is full, or a frame is held back: the next turn goes on with it. What it gave is written.
     Stalled(Stall),
     /// The connection has closed, and all is written, its closing text too.
     Closed,

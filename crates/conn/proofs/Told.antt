@@ -8,7 +8,9 @@ use Rattle.events.specs.declared.refusal.HubRefusal.TheVariants as refusal
 use Rattle.protocol.specs.declared.stage.Stage.{Stage}
 use Rattle.protocol.specs.declared.stage.Stage.TheVariants as stage
 use Rattle.protocol.specs.Replies.{told_text, ok_if}
-use Rattle.conn.specs.Turns.{Goes, turn_after, is_verbose, is_published, is_quiet}
+use Rattle.conn.specs.declared.turn.FrameTurn.{FrameTurn}
+use Rattle.conn.specs.declared.turn.FrameTurn.TheVariants as turn
+use Rattle.conn.specs.Turns.{Turned, Goes, Stalls, turn_after, is_verbose, is_published, is_quiet, IsFrameTurned}
 
 -- a client that asked for no answer has none
 no_answer : (s : Stage) → is_verbose s ≡ false → ok_if s ≡ []
@@ -46,3 +48,8 @@ quiet_both s f word r false v e = told_published s f word r e ∙ ap (λ (text :
 pub told_nothing : (s : Stage) (f : Frame) (word : Option ℕ) (r : Result Outcome HubRefusal) → is_quiet s r ≡ true →
     turn_after s s f word r ≡ Goes (told_text [] s)
 told_nothing s f word r = quiet_both s f word r (is_verbose s) refl
+
+-- what a turn comes to is also what follows of it
+pub turned_so : (A B : Turned → Type 0) (r : FrameTurn) (before after : List ℕ) → ((t : Turned) → A t → B t) → IsFrameTurned A r before after → IsFrameTurned B r before after
+turned_so A B (turn.Goes s) before after so h = (h.0, so (Goes (told_text h.0 s)) h.1, h.2)
+turned_so A B (turn.Stalls stall word) before after so h = (so (Stalls stall word) h.0, h.1)

@@ -1,5 +1,5 @@
 -- What each call of a connection does (docs/GUARANTEE.md, "A connection").
-use Rattle.std.specs.Prelude.{◌≡◌, ◌⊎◌, ℕ, Bool, true, false, List, [], ◌++◌, Option, Some, None, Result, Ok, Err}
+use Rattle.std.specs.Prelude.{◌≡◌, ◌⊎◌, ℕ, Bool, true, false, List, [], ◌++◌, Option, Some, None, Result, Ok, Err, if◌then◌else◌}
 use Rattle.connect_opts.specs.Info.{info_text}
 use Rattle.wire_read.specs.declared.frame.Frame.{Frame}
 use Rattle.wire_read.specs.Framing.{Reader}
@@ -94,21 +94,39 @@ IsServed steps draws now piece old p w o new p' w' = IsServedAt steps draws now 
 
 -- ---- drains
 
--- a drain changes where the connection is, and what is owed
+-- no frame waits
+abbrev pub without_frames : Connection → Connection
+without_frames c = record c { frames = []; word = None; stall = None }
+
+-- behind a closing text none has its turn
+abbrev pub unless_closed : Bool → Connection → Connection
+unless_closed closed c =
+    record c { frames = if closed then [] else c.frames; word = if closed then None else c.word; stall = if closed then None else c.stall }
+
+-- A drain changes where the connection is, and what is owed. Frames that are kept stay as they are, unless it closes the
+-- connection: then they are dropped.
 pub record IsDrain {P : Type 0} (steps : Steps P) (now most : ℕ) (old : Connection) (p : P) (o : Output) (new : Connection) (p' : P) : Type 0 where
   pub drains : Drains steps now old.conn most old.stage old.owed old.missed p
       (record { text = o.bytes.items; stage = new.stage; stall = o.stall; owed = new.owed; missed = new.missed }) p'
   pub close : o.close ≡ is_closed new.stage
-  pub same : new ≡ record old { stage = new.stage; owed = new.owed; missed = new.missed }
+  pub same : new ≡ unless_closed (is_closed new.stage) (record old { stage = new.stage; owed = new.owed; missed = new.missed })
 
--- while frames are kept it gives what stopped them
+-- why there is no drain, by what stopped the frames that are kept: what is held back keeps none up
+abbrev pub undrained : Option Stall → Option Stall
+undrained None = None
+undrained (Some stall.Held) = None
+undrained (Some stall.PieceNotTaken) = Some stall.PieceNotTaken
+undrained (Some stall.Memory) = Some stall.Memory
+undrained (Some stall.HistoryFull) = Some stall.HistoryFull
+
+-- while frames are kept it gives what stopped them, unless they are held back
 abbrev pub IsDrainIf : {P : Type 0} → Steps P → ℕ → ℕ → Connection → P → Output → Connection → P → Option Stall → Type 0
 IsDrainIf steps now most old p o new p' (Some s) = IsNothing (nothing false (Some s)) old p o new p'
 IsDrainIf steps now most old p o new p' None = IsDrain steps now most old p o new p'
 
 abbrev pub IsDrainedAt : {P : Type 0} → Steps P → ℕ → ℕ → Connection → P → Output → Connection → P → Bool → Type 0
 IsDrainedAt steps now most old p o new p' true = IsNothing (nothing true None) old p o new p'
-IsDrainedAt steps now most old p o new p' false = IsDrainIf steps now most old p o new p' old.stall
+IsDrainedAt steps now most old p o new p' false = IsDrainIf steps now most old p o new p' (undrained old.stall)
 
 abbrev pub IsDrained : {P : Type 0} → Steps P → ℕ → ℕ → Connection → P → Output → Connection → P → Type 0
 IsDrained steps now most old p o new p' = IsDrainedAt steps now most old p o new p' (is_closed old.stage)
@@ -135,7 +153,7 @@ pub record IsQuiet {P : Type 0} (s : Stage) (p : P) (s' : Stage) (stall : Option
 -- a Close is submitted exactly where a session stands, as far as the connection was told
 abbrev pub IsClosing : {P : Type 0} → Steps P → ℕ → ℕ → Stage → P → Stage → Option Stall → P → Type 0
 IsClosing steps now conn (stage.Closed true) p s' stall p' =
-    (r : Result Outcome HubRefusal) × IsAnswered steps p (event now (command.Close conn)) r p' × (s' ≡ stage_closed r) × (stall ≡ stall_closed r)
+    (r : Result Outcome HubRefusal) × IsAnswered steps.step p (event now (command.Close conn)) r p' × (s' ≡ stage_closed r) × (stall ≡ stall_closed r)
 IsClosing steps now conn s p s' stall p' = IsQuiet s p s' stall p'
 
 -- the end: no bytes, frames that were kept are dropped, and a session that stands is closed
@@ -143,4 +161,4 @@ pub record IsEnded {P : Type 0} (steps : Steps P) (now : ℕ) (old : Connection)
   pub closing : IsClosing steps now old.conn (closed_from old.stage) p new.stage o.stall p'
   pub bytes : o.bytes.items ≡ []
   pub close : o.close ≡ false
-  pub same : new ≡ record old { stage = new.stage; frames = []; word = None; stall = None }
+  pub same : new ≡ without_frames (record old { stage = new.stage })

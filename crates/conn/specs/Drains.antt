@@ -98,7 +98,7 @@ pub record IsNotTaken {P : Type 0} (s : Stage) (before : List ℕ) (missed : Boo
 -- one Take was made
 abbrev pub IsTakeMade : {P : Type 0} → Steps P → ℕ → ℕ → ℕ → Stage → List ℕ → Bool → P → Drain → P → Type 0
 IsTakeMade steps now conn most s before missed p d p' =
-    (r : Result Outcome HubRefusal) × IsAnswered steps p (event now (command.Take conn most)) r p' × IsTakeTold s before missed r d
+    (r : Result Outcome HubRefusal) × IsAnswered steps.step p (event now (command.Take conn most)) r p' × IsTakeTold s before missed r d
 
 abbrev pub IsTaken : {P : Type 0} → Steps P → ℕ → ℕ → ℕ → Stage → List ℕ → Bool → P → Drain → P → Type 0
 IsTaken steps now conn most s before missed p d p' =

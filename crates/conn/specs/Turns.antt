@@ -23,8 +23,16 @@ use Rattle.protocol.specs.Plans.{plan_of}
 -- ---- what a port and the words do
 
 -- an event, its answer or refusal, and the port before and after it
-abbrev pub Steps : Type 0 → Type 1
-Steps P = P → Event → Result Entry (Event × HubRefusal) → P → Type 0
+abbrev pub Step : Type 0 → Type 1
+Step P = P → Event → Result Entry (Event × HubRefusal) → P → Type 0
+
+-- what a port does with an event; and the port before and after it held something back, so that nothing was submitted
+pub record Steps (P : Type 0) : Type 1 where
+  pub step : Step P
+  pub holds : P → P → Type 0
+
+abbrev pub port_of : {P : Type 0} → Step P → (P → P → Type 0) → Steps P
+port_of step holds = record { step = step; holds = holds }
 
 -- a word, and what it is drawn from before and after it
 abbrev pub Draws : Type 0 → Type 1
@@ -41,8 +49,8 @@ without_event (Ok entry) = Ok entry
 without_event (Err refused) = Err refused.1
 
 -- an event was submitted, once, and this came of it
-abbrev pub IsAnswered : {P : Type 0} → Steps P → P → Event → Result Outcome HubRefusal → P → Type 0
-IsAnswered steps p e r p' = (a : Result Entry (Event × HubRefusal)) × steps p e a p' × (r ≡ outcome_of (without_event a))
+abbrev pub IsAnswered : {P : Type 0} → Step P → P → Event → Result Outcome HubRefusal → P → Type 0
+IsAnswered step p e r p' = (a : Result Entry (Event × HubRefusal)) × step p e a p' × (r ≡ outcome_of (without_event a))
 
 -- the word of a message: the one that it has drawn, or the next one
 abbrev pub IsWord : {W : Type 0} → Draws W → W → Option ℕ → ℕ → W → Type 0
@@ -95,10 +103,10 @@ event now what = record { now = now; what = what }
 abbrev pub IsPlanned : {P W : Type 0} → Steps P → Draws W → ℕ → ℕ → Stage → Option ℕ → Frame → P → W → Turned → P → W → Plan → Type 0
 IsPlanned steps draws now conn s word f p w t p' w' (Tells r) = (t ≡ Goes (told r)) × (p' ≡ p) × (w' ≡ w)
 IsPlanned steps draws now conn s word f p w t p' w' (Asks what accepted) =
-    (r : Result Outcome HubRefusal) × IsAnswered steps p (event now what) r p' × (t ≡ turn_after s accepted f word r) × (w' ≡ w)
+    (r : Result Outcome HubRefusal) × IsAnswered steps.step p (event now what) r p' × (t ≡ turn_after s accepted f word r) × (w' ≡ w)
 IsPlanned steps draws now conn s word f p w t p' w' (Publishes message) =
     (r : Result Outcome HubRefusal) × (drawn : ℕ) × IsWord draws w word drawn w'
-    × IsAnswered steps p (event now (command.Pub conn message drawn)) r p' × (t ≡ turn_after s s f (Some drawn) r)
+    × IsAnswered steps.step p (event now (command.Pub conn message drawn)) r p' × (t ≡ turn_after s s f (Some drawn) r)
 
 -- the frame stays before anything was asked, since memory lacked
 pub record IsUntouched {P W : Type 0} (word : Option ℕ) (p : P) (w : W) (t : Turned) (p' : P) (w' : W) : Type 0 where
@@ -106,7 +114,16 @@ pub record IsUntouched {P W : Type 0} (word : Option ℕ) (p : P) (w : W) (t : T
   pub port : p' ≡ p
   pub words : w' ≡ w
 
+-- A turn that is held back, by its plan: nothing is submitted, and the frame stays. A message has its word then. What asks
+-- the hub for anything else isn't held back.
+abbrev pub IsHeldBack : {P W : Type 0} → Steps P → Draws W → Option ℕ → P → W → Turned → P → W → Plan → Type 0
+IsHeldBack steps draws word p w t p' w' (Tells r) = steps.holds p p' × (t ≡ Stalls stall.Held word) × (w' ≡ w)
+IsHeldBack steps draws word p w t p' w' (Asks what accepted) = ⊥
+IsHeldBack steps draws word p w t p' w' (Publishes message) =
+    (drawn : ℕ) × IsWord draws w word drawn w' × steps.holds p p' × (t ≡ Stalls stall.Held (Some drawn))
+
 -- a frame's turn at a stage
 abbrev pub IsFrameTurn : {P W : Type 0} → Steps P → Draws W → ℕ → ℕ → Stage → Option ℕ → Frame → P → W → Turned → P → W → Type 0
 IsFrameTurn steps draws now conn s word f p w t p' w' =
-    IsUntouched word p w t p' w' ⊎ IsPlanned steps draws now conn s word f p w t p' w' (plan_of conn s f)
+    IsUntouched word p w t p' w' ⊎ IsHeldBack steps draws word p w t p' w' (plan_of conn s f)
+    ⊎ IsPlanned steps draws now conn s word f p w t p' w' (plan_of conn s f)

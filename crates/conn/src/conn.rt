@@ -71,6 +71,18 @@ fn nothing(alloc: Global, close: bool, stall: Option<Stall>) -> Output
     }
 }
 
+/// Why a connection that was stopped by this is not drained. One that is held back is drained all the same.
+fn undrained(stall: Option<Stall>) -> Option<Stall>
+    ensures { result ≡ undrained stall }
+{
+    match stall {
+        None | Some(Stall::Held) => None,
+        Some(Stall::PieceNotTaken) => Some(Stall::PieceNotTaken),
+        Some(Stall::Memory) => Some(Stall::Memory),
+        Some(Stall::HistoryFull) => Some(Stall::HistoryFull),
+    }
+}
+
 /// The INFO of a connection.
 fn info_of(alloc: Global, conn: u64) -> Result<Vec<u8>, NoMemory>
     ensures { IfOk result (λ bytes. bytes.items ≡ info_line (info_text conn)) }
@@ -81,12 +93,14 @@ fn info_of(alloc: Global, conn: u64) -> Result<Vec<u8>, NoMemory>
     Ok(bytes)
 }
 
-ghost use Rattle.std.specs.Prelude.{◌≡◌, [], IfOk, false, true, None};
+ghost use Rattle.std.specs.Prelude.{◌≡◌, ◌≤◌, [], IfOk, false, length, true, None};
+ghost use Rattle.conn.specs.Calls.{undrained};
 ghost use Rattle.connect_opts.specs.Info.{info_text};
 ghost use Rattle.wire_write.specs.Texts.{info_line};
 
 impl Conn {
-    ghost use Rattle.conn.specs.Calls.{new_connection, IsOpened, IsServed, IsDrained, IsEnded};
+    ghost use Rattle.conn.specs.Turns.{port_of};
+    ghost use Rattle.conn.specs.Calls.{new_connection, without_frames, IsOpened, IsServed, IsDrained, IsEnded};
 
     /// A connection with this number, whose client has sent nothing. It takes no memory.
     pub fn new(alloc: Global, conn: u64) -> Conn
@@ -118,6 +132,20 @@ impl Conn {
         self.stage
     }
 
+    /// How many bytes are kept of a frame that isn't whole, or how many there is room for, if that is more.
+    pub fn holds(&self) -> usize
+        ensures { length self.now.reader.rest ≤ result }
+    {
+        self.reader.holds()
+    }
+
+    /// What stopped the frames that wait for their turn; none waits where nothing did.
+    pub fn stall(&self) -> Option<Stall>
+        ensures { result ≡ self.now.stall }
+    {
+        self.stall
+    }
+
     /// What the client is sent at the opening: INFO. Without memory nothing, and it can be asked again.
     pub fn opened(&self, alloc: Global) -> Output
         ensures { IsOpened self.now.conn result }
@@ -133,8 +161,8 @@ impl Conn {
     }
 
     /// The client's bytes: the frames that were kept, and then those that the piece completes, each in its turn.
-    /// An event is submitted once. Where memory lacks or the history is full the frame in hand is kept with its
-    /// word, and those behind it, and the next call goes on with them, with an empty piece too.
+    /// An event is submitted once. Where memory lacks, the history is full or the port holds it back, the frame in hand
+    /// is kept with its word, and those behind it, and the next call goes on with them, with an empty piece too.
     pub fn on_bytes<P: Port, W: Words>(
         &mut self,
         alloc: Global,
@@ -144,7 +172,7 @@ impl Conn {
         words: &mut W,
     ) -> Output
         ensures place { P.place port.new ≡ P.place port.old }
-        ensures served { IsServed P.steps W.draws now piece.now self.old port.old words.old result self.new port.new words.new }
+        ensures served { IsServed (port_of P.steps P.holds) W.draws now piece.now self.old port.old words.old result self.new port.new words.new }
     {
         if self.stage.is_closed() {
             return nothing(alloc, true, None);
@@ -174,16 +202,16 @@ impl Conn {
         }
     }
 
-    /// A drain: what an earlier one could not write, and then one Take of at most so many deliveries. While frames
-    /// are kept it gives nothing but what stopped them.
+    /// A drain: what an earlier one could not write, and then one Take of at most so many deliveries. While frames are kept
+    /// it gives nothing but what stopped them, unless they are only held back. Where it closes the connection they are dropped.
     pub fn drain<P: Port>(&mut self, alloc: Global, port: &mut P, most: usize, now: u64) -> Output
         ensures place { P.place port.new ≡ P.place port.old }
-        ensures drained { IsDrained P.steps now most self.old port.old result self.new port.new }
+        ensures drained { IsDrained (port_of P.steps P.holds) now most self.old port.old result self.new port.new }
     {
         if self.stage.is_closed() {
             return nothing(alloc, true, None);
         }
-        if let Some(stall) = self.stall {
+        if let Some(stall) = undrained(self.stall) {
             return nothing(alloc, false, Some(stall));
         }
         let drained = drain(
@@ -196,6 +224,9 @@ impl Conn {
             &mut self.owed,
         );
         self.stage = drained.stage;
+        if drained.stage.is_closed() {
+            self.drop_frames();
+        }
         Output {
             bytes: drained.bytes,
             close: drained.stage.is_closed(),
@@ -207,17 +238,25 @@ impl Conn {
     /// is closed. After a stall it may be called again.
     pub fn ended<P: Port>(&mut self, port: &mut P, now: u64) -> Output
         ensures place { P.place port.new ≡ P.place port.old }
-        ensures ended { IsEnded P.steps now self.old port.old result self.new port.new }
+        ensures ended { IsEnded (port_of P.steps P.holds) now self.old port.old result self.new port.new }
     {
-        self.frames.clear();
-        self.word = None;
-        self.stall = None;
+        self.drop_frames();
         let closing = close_session(self.conn, now, port, self.stage.closed());
         self.stage = closing.0;
         nothing(self.alloc, false, closing.1)
     }
+
+    /// Drops the frames that wait.
+    fn drop_frames(&mut self)
+        ensures { self.new ≡ without_frames self.old }
+    {
+        self.frames.clear();
+        self.word = None;
+        self.stall = None;
+    }
 }
 
+ghost use Rattle.conn.specs.Turns.{port_of};
 ghost use Rattle.conn.specs.Calls.{IsClosing, stage_closed, stall_closed};
 ghost use Rattle.conn.specs.Turns.{outcome_of};
 
@@ -242,7 +281,7 @@ fn after_close(answer: &Result<Answer, HubRefusal>) -> (Stage, Option<Stall>)
 /// Submits the Close of a session that stands, and gives whether it stands still, and what stopped it.
 fn close_session<P: Port>(conn: u64, now: u64, port: &mut P, stage: Stage) -> (Stage, Option<Stall>)
     ensures place { P.place port.new ≡ P.place port.old }
-    ensures closing { IsClosing P.steps now conn stage port.old result.0 result.1 port.new }
+    ensures closing { IsClosing (port_of P.steps P.holds) now conn stage port.old result.0 result.1 port.new }
 {
     match stage {
         Stage::Closed { session: true } => {

@@ -7,6 +7,9 @@ pub enum Stall {
     Memory,
     /// The history takes no more events.
     HistoryFull,
+    /// A message waits for room at one of its receivers, or a text waits until its own client has what came before it. The
+    /// frame stays, and drains go on, since the room may be made by one of them.
+    Held,
 }
 
 /// What a call gives.

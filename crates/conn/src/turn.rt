@@ -2,14 +2,14 @@
 ghost use Rattle.std.specs.Prelude.{◌≡◌, ◌+◌, ◌++◌, ◌≤◌, length};
 ghost use Rattle.std.specs.Vec.{vec_len, vec_capacity};
 ghost use Rattle.conn.specs.declared.turn.FrameTurn.TheVariants.{Goes};
-ghost use Rattle.conn.specs.Turns.{turn_after, outcome_of, is_verbose, is_published, is_quiet, IsWord, IsFrameTurn, IsFrameTurned};
+ghost use Rattle.conn.specs.Turns.{port_of, turn_after, outcome_of, is_verbose, is_published, is_quiet, IsWord, IsFrameTurn, IsFrameTurned};
 ghost use Rattle.protocol.specs.declared.plan.Plan.TheVariants.{Publishes};
 ghost use Rattle.protocol.specs.Plans.{plan_of};
 ghost use Rattle.protocol.specs.Replies.{text_line, room_of};
 ghost use Rattle.conn.specs.Serving.{spot, served, Serves};
 
 use crate::output::Stall;
-use crate::submit::submit;
+use crate::submit::{offer, submit};
 use crate::words::Words;
 use events::{Answer, Command, Event, HubRefusal, Message, Outcome, Port};
 use pending::Frames;
@@ -107,7 +107,8 @@ fn is_quiet(stage: Stage, answer: &Result<Answer, HubRefusal>) -> bool
     !is_verbose(stage) && is_published(answer)
 }
 
-/// The turn of a frame that publishes this message. There is room for any text about the frame.
+/// The turn of a frame that publishes this message. There is room for any text about the frame. Where the message is held
+/// back the frame stays with its word, so that the same members of queue groups are asked for when it is offered again.
 #[inline(always)]
 fn publish<P: Port, W: Words>(
     conn: u64,
@@ -123,7 +124,7 @@ fn publish<P: Port, W: Words>(
     requires plan { plan_of conn stage frame.now ≡ Publishes message }
     requires room { vec_len out.old + room_of frame.now ≤ vec_capacity out.old }
     ensures place { P.place port.new ≡ P.place port.old }
-    ensures turn { IsFrameTurned (λ turned. IsFrameTurn P.steps W.draws now conn stage word frame.now port.old words.old turned port.new words.new) result out.old.items out.new.items }
+    ensures turn { IsFrameTurned (λ turned. IsFrameTurn (port_of P.steps P.holds) W.draws now conn stage word frame.now port.old words.old turned port.new words.new) result out.old.items out.new.items }
 {
     let drawn = word_of(words, word);
     let what = Command::Pub {
@@ -131,7 +132,9 @@ fn publish<P: Port, W: Words>(
         message,
         word: drawn,
     };
-    let answer = submit(port, Event { now, what });
+    let Some(answer) = offer(port, Event { now, what }) else {
+        return FrameTurn::Stalls(Stall::Held, Some(drawn));
+    };
     if is_quiet(stage, &answer) {
         return FrameTurn::Goes(stage);
     }
@@ -139,7 +142,7 @@ fn publish<P: Port, W: Words>(
 }
 
 /// A frame's turn. A PUB is published without a plan. Room for what is told is made before the hub is asked, so that
-/// what it answers is told.
+/// what it answers is told. What is told without asking the hub waits for what the port has for the client.
 fn take_turn<P: Port, W: Words>(
     alloc: Global,
     conn: u64,
@@ -152,7 +155,7 @@ fn take_turn<P: Port, W: Words>(
     out: &mut Vec<u8>,
 ) -> FrameTurn
     ensures place { P.place port.new ≡ P.place port.old }
-    ensures turn { IsFrameTurned (λ turned. IsFrameTurn P.steps W.draws now conn stage word frame.now port.old words.old turned port.new words.new) result out.old.items out.new.items }
+    ensures turn { IsFrameTurned (λ turned. IsFrameTurn (port_of P.steps P.holds) W.draws now conn stage word frame.now port.old words.old turned port.new words.new) result out.old.items out.new.items }
 {
     if make_room(out, frame).is_err() {
         return FrameTurn::Stalls(Stall::Memory, word);
@@ -169,7 +172,12 @@ fn take_turn<P: Port, W: Words>(
         Err(_) => return FrameTurn::Stalls(Stall::Memory, word),
     };
     match plan {
-        Plan::Tells(reply) => tell(out, reply),
+        Plan::Tells(reply) => {
+            if port.must_wait(conn) {
+                return FrameTurn::Stalls(Stall::Held, word);
+            }
+            tell(out, reply)
+        }
         Plan::Asks(what, accepted) => {
             let answer = submit(port, Event { now, what });
             turn_of_answer(stage, accepted, frame, word, &answer, out)
@@ -222,7 +230,7 @@ pub fn serve<P: Port, W: Words>(
     frames: &mut Frames,
 ) -> Served
     ensures place { P.place port.new ≡ P.place port.old }
-    ensures served { Serves P.steps W.draws now conn frames.old (spot port.old words.old stage word) (served result.bytes.items frames.new result.stall (spot port.new words.new result.stage result.word)) }
+    ensures served { Serves (port_of P.steps P.holds) W.draws now conn frames.old (spot port.old words.old stage word) (served result.bytes.items frames.new result.stall (spot port.new words.new result.stage result.word)) }
 {
     let mut bytes = Vec::new(alloc);
     let mut stage = stage;

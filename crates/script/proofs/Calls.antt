@@ -17,23 +17,25 @@ use Rattle.protocol.specs.declared.stage.Stage.TheVariants as stage
 use Rattle.session.specs.declared.direct.Direct.{Direct}
 use Rattle.conn.specs.declared.drain.Written.{Written}
 use Rattle.conn.specs.declared.drain.Written.TheVariants.{All, Closes, Short}
-use Rattle.session.specs.Accounts.{IsPortTo}
-use Rattle.conn.specs.Calls.{Connection, IsNothing, IsRead, IsServedAt, IsServed, IsDrain, IsDrainIf, IsDrainedAt, IsDrained, IsQuiet, IsClosing, IsEnded, Given, nothing, stage_closed, stall_closed}
+use Rattle.conn.specs.Calls.{Connection, IsNothing, IsRead, IsServedAt, IsServed, IsDrain, IsDrainIf, IsDrainedAt, IsDrained, IsQuiet, IsClosing, IsEnded, Given, nothing, stage_closed, stall_closed, undrained, unless_closed}
 use Rattle.conn.specs.Drains.{Drain, Drains, drain_owing_nothing, texts, IsTold, IsTakeTold, stage_after, stall_after}
 use Rattle.protocol.specs.Replies.{is_closed, closed_from, takes_headers}
 use Rattle.conn.specs.Serving.{Served, spot, served, frames_after, reader_after}
-use Rattle.conn.specs.Turns.{Steps, event}
+use Rattle.conn.specs.Turns.{Steps, port_of, event}
 use Rattle.script.specs.Server.{Serving, heard, IsNextWord}
 use Rattle.script.specs.Session.{Here, Closing, turns, after_turns, unchanged, bytes_call, delivered, take_answered, drain_of, after_drain, drain_if, drain_call, closed_by, closing, end_call, is_memory_stall, IsCall}
 use Rattle.script.proofs.Answering.{is_memory_answer, answered_is}
-use Rattle.script.proofs.Turning.{turns_are}
+use Rattle.script.proofs.Turning.{IsOpenPort, turns_are}
 
--- a hub that is lent steps as a hub does
+-- a hub that is lent steps as a hub does, and holds nothing back
 abbrev pub direct_steps : Steps Direct
-direct_steps old e r new = IsStep old.hub.now e r new.hub.now
+direct_steps = port_of (λ old e r new. IsStep old.hub.now e r new.hub.now) (λ _ _. ⊥)
 
 abbrev pub hub_of : Direct → State
 hub_of p = p.hub.now
+
+pub direct_open : IsOpenPort direct_steps hub_of
+direct_open = record { step = λ p e r p' h. h; never = λ p p' h. h }
 
 -- ---- a call that does nothing
 
@@ -63,7 +65,7 @@ read_conn c c' reader o text at r is_reader is_stall is_conn is_owed is_missed i
     ∙ ap (λ (x : Served State (List ℕ)). record c { reader = reader; stage = x.at.stage; frames = x.frames; word = x.at.word; stall = x.stall }) is
 
 -- the piece is read
-read_is : {P : Type 0} (steps : Steps P) (hub_of : P → State) → IsPortTo steps hub_of → (w : Serving) (piece : List ℕ) (c : Connection) (p : P) (o : Output) (c' : Connection) (p' : P) (words : List ℕ) →
+read_is : {P : Type 0} (steps : Steps P) (hub_of : P → State) → IsOpenPort steps hub_of → (w : Serving) (piece : List ℕ) (c : Connection) (p : P) (o : Output) (c' : Connection) (p' : P) (words : List ℕ) →
     IsRead steps IsNextWord w.moment piece c p w.words o c' p' words → is_memory_stall o.stall ≡ false → hub_of p ≡ w.hub →
     IsCall (after_turns w c piece (turns w.moment c.conn (c.frames ++ frames_after c.reader piece) (spot w.hub w.words c.stage c.word))) o c' (record w { hub = hub_of p'; words = words })
 read_is steps hub_of over w piece c p o c' p' words h enough at =
@@ -80,7 +82,7 @@ read_is steps hub_of over w piece c p o c' p' words h enough at =
     }
 
 -- the client's bytes, and whether the connection has closed
-bytes_at : {P : Type 0} (steps : Steps P) (hub_of : P → State) → IsPortTo steps hub_of → (w : Serving) (piece : List ℕ) (c : Connection) (p : P) (o : Output) (c' : Connection) (p' : P) (words : List ℕ) (closed : Bool) →
+bytes_at : {P : Type 0} (steps : Steps P) (hub_of : P → State) → IsOpenPort steps hub_of → (w : Serving) (piece : List ℕ) (c : Connection) (p : P) (o : Output) (c' : Connection) (p' : P) (words : List ℕ) (closed : Bool) →
     IsServedAt steps IsNextWord w.moment piece c p w.words o c' p' words closed → is_memory_stall o.stall ≡ false → hub_of p ≡ w.hub →
     IsCall (cond closed (unchanged w c None) (after_turns w c piece (turns w.moment c.conn (c.frames ++ frames_after c.reader piece) (spot w.hub w.words c.stage c.word)))) o c' (record w { hub = hub_of p'; words = words })
 bytes_at steps hub_of over w piece c p o c' p' words true h enough at = nothing_is hub_of w c p o c' p' words true None h.0 at h.1
@@ -88,7 +90,7 @@ bytes_at steps hub_of over w piece c p o c' p' words false (inl h) enough at =
     let lacked : is_memory_stall o.stall ≡ true = ap (λ (g : Given). is_memory_stall g.stall) h.0.gives in absurd (cc)
 bytes_at steps hub_of over w piece c p o c' p' words false (inr h) enough at = read_is steps hub_of over w piece c p o c' p' words h enough at
 
-pub bytes_is : {P : Type 0} (steps : Steps P) (hub_of : P → State) → IsPortTo steps hub_of → (w : Serving) (piece : List ℕ) (c : Connection) (p : P) (o : Output) (c' : Connection) (p' : P) (words : List ℕ) →
+pub bytes_is : {P : Type 0} (steps : Steps P) (hub_of : P → State) → IsOpenPort steps hub_of → (w : Serving) (piece : List ℕ) (c : Connection) (p : P) (o : Output) (c' : Connection) (p' : P) (words : List ℕ) →
     IsServed steps IsNextWord w.moment piece c p w.words o c' p' words → is_memory_stall o.stall ≡ false → hub_of p ≡ w.hub →
     IsCall (bytes_call w c piece) o c' (record w { hub = hub_of p'; words = words })
 unfolding bytes_call
@@ -149,7 +151,7 @@ take_is s before (Ok outcome.Closed) d h enough = h
 take_is s before (Ok (outcome.Reloaded _ _)) d h enough = h
 
 -- a drain of an open connection whose frames have had their turns
-drains_are : {P : Type 0} (steps : Steps P) (hub_of : P → State) → IsPortTo steps hub_of → (w : Serving) (most : ℕ) (c : Connection) (p : P) (d : Drain) (p' : P) →
+drains_are : {P : Type 0} (steps : Steps P) (hub_of : P → State) → IsOpenPort steps hub_of → (w : Serving) (most : ℕ) (c : Connection) (p : P) (d : Drain) (p' : P) →
     Drains steps w.moment c.conn most c.stage c.owed c.missed p d p' → is_memory_stall d.stall ≡ false → hub_of p ≡ w.hub →
     (d, hub_of p') ≡ drain_of w c most
 drains_are steps hub_of over w most c p d p' (inl h) enough at = let lacked : is_memory_stall d.stall ≡ true = ap is_memory_stall h.stall in absurd (cc)
@@ -167,14 +169,14 @@ drains_are steps hub_of over w most c p d p' (inr (inr (missed, inr h))) enough 
     let e = event w.moment (command.Take c.conn most) in
     let had : is_memory_answer h.0 ≡ false = take_had c.stage before h.0 d h.2 enough in
     let answer : (h.0, hub_of p') ≡ heard w.hub e =
-    answered_is (hub_of p) e h.1.0 h.0 (hub_of p') (over p e h.1.0 p' h.1.1) h.1.2 had ∙ ap (λ (x : State). heard x e) at in
+    answered_is (hub_of p) e h.1.0 h.0 (hub_of p') (over.step p e h.1.0 p' h.1.1) h.1.2 had ∙ ap (λ (x : State). heard x e) at in
     let a : Result Outcome HubRefusal × State = heard w.hub e in
     let after : Drain × State = (take_answered c.stage before a.0, a.1) in
     ap (λ (x : Drain). (x, hub_of p')) (take_is c.stage before h.0 d h.2 enough)
     ∙ ap (λ (x : Result Outcome HubRefusal × State). (take_answered c.stage before x.0, x.1)) answer
     ∙ ap (λ (b : Bool). cond b (delivered c.stage [] c.owed true, w.hub) after) (sym missed)
 
-drain_made : {P : Type 0} (steps : Steps P) (hub_of : P → State) → IsPortTo steps hub_of → (w : Serving) (most : ℕ) (c : Connection) (p : P) (o : Output) (c' : Connection) (p' : P) →
+drain_made : {P : Type 0} (steps : Steps P) (hub_of : P → State) → IsOpenPort steps hub_of → (w : Serving) (most : ℕ) (c : Connection) (p : P) (o : Output) (c' : Connection) (p' : P) →
     IsDrain steps w.moment most c p o c' p' → is_memory_stall o.stall ≡ false → hub_of p ≡ w.hub →
     IsCall (after_drain w c (drain_of w c most)) o c' (record w { hub = hub_of p' })
 drain_made steps hub_of over w most c p o c' p' h enough at =
@@ -183,23 +185,23 @@ drain_made steps hub_of over w most c p o c' p' h enough at =
     record {
       text = ap (λ (x : Drain × State). x.0.text) is;
       stall = ap (λ (x : Drain × State). x.0.stall) is;
-      conn_is = h.same ∙ ap (λ (x : Drain × State). record c { stage = x.0.stage; owed = x.0.owed; missed = x.0.missed }) is;
+      conn_is = h.same ∙ ap (λ (x : Drain × State). unless_closed (is_closed x.0.stage) (record c { stage = x.0.stage; owed = x.0.owed; missed = x.0.missed })) is;
       server_is = ap (λ (x : Drain × State). record w { hub = x.1 }) is;
     }
 
-drain_if_is : {P : Type 0} (steps : Steps P) (hub_of : P → State) → IsPortTo steps hub_of → (w : Serving) (most : ℕ) (c : Connection) (p : P) (o : Output) (c' : Connection) (p' : P) (stall : Option Stall) →
+drain_if_is : {P : Type 0} (steps : Steps P) (hub_of : P → State) → IsOpenPort steps hub_of → (w : Serving) (most : ℕ) (c : Connection) (p : P) (o : Output) (c' : Connection) (p' : P) (stall : Option Stall) →
     IsDrainIf steps w.moment most c p o c' p' stall → is_memory_stall o.stall ≡ false → hub_of p ≡ w.hub →
     IsCall (drain_if w c most stall) o c' (record w { hub = hub_of p' })
 drain_if_is steps hub_of over w most c p o c' p' (Some s) h enough at = nothing_is hub_of w c p o c' p' w.words false (Some s) h at refl
 drain_if_is steps hub_of over w most c p o c' p' None h enough at = drain_made steps hub_of over w most c p o c' p' h enough at
 
-drain_at : {P : Type 0} (steps : Steps P) (hub_of : P → State) → IsPortTo steps hub_of → (w : Serving) (most : ℕ) (c : Connection) (p : P) (o : Output) (c' : Connection) (p' : P) (closed : Bool) →
+drain_at : {P : Type 0} (steps : Steps P) (hub_of : P → State) → IsOpenPort steps hub_of → (w : Serving) (most : ℕ) (c : Connection) (p : P) (o : Output) (c' : Connection) (p' : P) (closed : Bool) →
     IsDrainedAt steps w.moment most c p o c' p' closed → is_memory_stall o.stall ≡ false → hub_of p ≡ w.hub →
-    IsCall (cond closed (unchanged w c None) (drain_if w c most c.stall)) o c' (record w { hub = hub_of p' })
+    IsCall (cond closed (unchanged w c None) (drain_if w c most (undrained c.stall))) o c' (record w { hub = hub_of p' })
 drain_at steps hub_of over w most c p o c' p' true h enough at = nothing_is hub_of w c p o c' p' w.words true None h at refl
-drain_at steps hub_of over w most c p o c' p' false h enough at = drain_if_is steps hub_of over w most c p o c' p' c.stall h enough at
+drain_at steps hub_of over w most c p o c' p' false h enough at = drain_if_is steps hub_of over w most c p o c' p' (undrained c.stall) h enough at
 
-pub drained_is : {P : Type 0} (steps : Steps P) (hub_of : P → State) → IsPortTo steps hub_of → (w : Serving) (most : ℕ) (c : Connection) (p : P) (o : Output) (c' : Connection) (p' : P) →
+pub drained_is : {P : Type 0} (steps : Steps P) (hub_of : P → State) → IsOpenPort steps hub_of → (w : Serving) (most : ℕ) (c : Connection) (p : P) (o : Output) (c' : Connection) (p' : P) →
     IsDrained steps w.moment most c p o c' p' → is_memory_stall o.stall ≡ false → hub_of p ≡ w.hub →
     IsCall (drain_call w c most) o c' (record w { hub = hub_of p' })
 unfolding drain_call
@@ -224,14 +226,14 @@ quiet_is : {P : Type 0} (hub_of : P → State) (w : Serving) (s : Stage) (p : P)
 quiet_is hub_of w s p s' stall p' h at =
     ap (λ (x : Stage). ending x stall (hub_of p')) h.stage ∙ ap (λ (x : Option Stall). ending s x (hub_of p')) h.stall_is ∙ ap (λ (x : State). ending s None x) (ap hub_of h.port ∙ at)
 
-closing_is : {P : Type 0} (steps : Steps P) (hub_of : P → State) → IsPortTo steps hub_of → (w : Serving) (conn : ℕ) (s : Stage) (p : P) (s' : Stage) (stall : Option Stall) (p' : P) →
+closing_is : {P : Type 0} (steps : Steps P) (hub_of : P → State) → IsOpenPort steps hub_of → (w : Serving) (conn : ℕ) (s : Stage) (p : P) (s' : Stage) (stall : Option Stall) (p' : P) →
     IsClosing steps w.moment conn s p s' stall p' → is_memory_stall stall ≡ false → hub_of p ≡ w.hub →
     ending s' stall (hub_of p') ≡ closing w conn s
 closing_is steps hub_of over w conn (stage.Closed true) p s' stall p' h enough at =
     let e = event w.moment (command.Close conn) in
     let had : is_memory_answer h.0 ≡ false = sym (close_had h.0) ∙ sym (ap is_memory_stall h.3) ∙ enough in
     let answer : (h.0, hub_of p') ≡ heard w.hub e =
-    answered_is (hub_of p) e h.1.0 h.0 (hub_of p') (over p e h.1.0 p' h.1.1) h.1.2 had ∙ ap (λ (x : State). heard x e) at in
+    answered_is (hub_of p) e h.1.0 h.0 (hub_of p') (over.step p e h.1.0 p' h.1.1) h.1.2 had ∙ ap (λ (x : State). heard x e) at in
     ap (λ (x : Stage). ending x stall (hub_of p')) h.2
     ∙ ap (λ (x : Option Stall). ending (stage_closed h.0) x (hub_of p')) h.3
     ∙ ap (λ (x : Result Outcome HubRefusal × State). closed_by x) answer
@@ -239,7 +241,7 @@ closing_is steps hub_of over w conn (stage.Closed false) p s' stall p' h enough 
 closing_is steps hub_of over w conn stage.Fresh p s' stall p' h enough at = quiet_is hub_of w stage.Fresh p s' stall p' h at
 closing_is steps hub_of over w conn (stage.Connected verbose headers) p s' stall p' h enough at = quiet_is hub_of w (stage.Connected verbose headers) p s' stall p' h at
 
-pub ended_is : {P : Type 0} (steps : Steps P) (hub_of : P → State) → IsPortTo steps hub_of → (w : Serving) (c : Connection) (p : P) (o : Output) (c' : Connection) (p' : P) →
+pub ended_is : {P : Type 0} (steps : Steps P) (hub_of : P → State) → IsOpenPort steps hub_of → (w : Serving) (c : Connection) (p : P) (o : Output) (c' : Connection) (p' : P) →
     IsEnded steps w.moment c p o c' p' → is_memory_stall o.stall ≡ false → hub_of p ≡ w.hub →
     IsCall (end_call w c) o c' (record w { hub = hub_of p' })
 unfolding end_call

@@ -16,7 +16,7 @@ use Rattle.events.specs.declared.refusal.HubRefusal.TheVariants as refusal
 use Rattle.conn.specs.declared.output.Stall.{Stall}
 use Rattle.protocol.specs.declared.stage.Stage.{Stage}
 use Rattle.protocol.specs.declared.stage.Stage.TheVariants as stage
-use Rattle.conn.specs.Calls.{Connection, stage_closed}
+use Rattle.conn.specs.Calls.{Connection, stage_closed, undrained}
 use Rattle.conn.specs.Drains.{Drain, texts}
 use Rattle.protocol.specs.Replies.{is_closed, is_connected, closed_from, takes_headers}
 use Rattle.conn.specs.Turns.{event}
@@ -118,9 +118,9 @@ call_leaves w c stands = by_stage (is_closed c.stage) (not_closed c.stage stands
     by_stall None = drain_leaves w c
     by_stall (Some s) = inl refl
 
-    by_stage : (b : Bool) → b ≡ false → CallLeaves (waiting_of w.hub.world c.conn) (cond b (unchanged w c None) (drain_if w c 64 c.stall))
+    by_stage : (b : Bool) → b ≡ false → CallLeaves (waiting_of w.hub.world c.conn) (cond b (unchanged w c None) (drain_if w c 64 (undrained c.stall)))
     by_stage true e = absurd (cc)
-    by_stage false e = by_stall c.stall
+    by_stage false e = by_stall (undrained c.stall)
 
 -- ---- what is printed of it
 

@@ -1,23 +1,28 @@
 -- The turns of frames over a hub, where memory is enough.
 use Rattle.std.proofs.Common.{◌≡◌, ◌∙◌, ◌∷◌, [], ℕ, List, Bool, true, false, Option, Some, None, Result, Ok, Err, inl, inr, cond, ap, sym, refl}
 use Rattle.wire_read.specs.declared.frame.Frame.{Frame}
-use Rattle.hub.specs.History.{State}
+use Rattle.hub.specs.History.{State, IsStep}
 use Rattle.events.specs.declared.event.Event.{Event}
 use Rattle.events.specs.declared.event.Command.TheVariants as command
+use Rattle.events.specs.declared.answer.Entry.{Entry}
 use Rattle.events.specs.declared.answer.Outcome.{Outcome}
 use Rattle.events.specs.declared.refusal.HubRefusal.{HubRefusal}
 use Rattle.events.specs.declared.refusal.HubRefusal.TheVariants as refusal
 use Rattle.protocol.specs.declared.plan.Plan.{Plan}
 use Rattle.protocol.specs.declared.plan.Plan.TheVariants.{Tells, Asks, Publishes}
 use Rattle.protocol.specs.declared.stage.Stage.{Stage}
-use Rattle.session.specs.Accounts.{IsPortTo}
 use Rattle.protocol.specs.Plans.{plan_of}
 use Rattle.protocol.specs.Replies.{told, is_closed}
 use Rattle.conn.specs.Serving.{Spot, spot, Served, served, rests, behind, UnlessClosed, IsFollowed, Serves}
-use Rattle.conn.specs.Turns.{Steps, Turned, Goes, Stalls, turn_after, event, IsAnswered, IsWord, IsPlanned, IsFrameTurn}
+use Rattle.conn.specs.Turns.{Steps, Turned, Goes, Stalls, turn_after, event, IsAnswered, IsWord, IsHeldBack, IsPlanned, IsFrameTurn}
 use Rattle.script.specs.Server.{heard, IsNextWord}
 use Rattle.script.specs.Session.{Here, FrameTurn, frame_turn, word_of, words_after, answered_turn, planned, goes_on, turns, is_memory_stall}
 use Rattle.script.proofs.Answering.{is_memory_answer, answered_is}
+
+-- a port to a hub that holds nothing back
+pub record IsOpenPort {P : Type 0} (steps : Steps P) (hub_of : P → State) : Type 0 where
+  pub step : (p : P) (e : Event) (a : Result Entry (Event × HubRefusal)) (p' : P) → steps.step p e a p' → IsStep (hub_of p) e a (hub_of p')
+  pub never : (p p' : P) → steps.holds p p' → ⊥
 
 -- what is seen of a place between two turns, and of what the turns came to
 abbrev pub seen : {P : Type 0} → (P → State) → Spot P (List ℕ) → Here
@@ -43,13 +48,13 @@ memory_after s accepted f word (Err refusal.SessionTaken) = refl
 memory_after s accepted f word (Err refusal.SessionLimit) = refl
 
 -- the hub was asked
-asked_is : {P : Type 0} (steps : Steps P) (hub_of : P → State) → IsPortTo steps hub_of → (s accepted : Stage) (f : Frame) (word : Option ℕ) (words : List ℕ) (e : Event)
-    (p p' : P) (r : Result Outcome HubRefusal) (t : Turned) → IsAnswered steps p e r p' → t ≡ turn_after s accepted f word r → is_memory_turn t ≡ false →
+asked_is : {P : Type 0} (steps : Steps P) (hub_of : P → State) → IsOpenPort steps hub_of → (s accepted : Stage) (f : Frame) (word : Option ℕ) (words : List ℕ) (e : Event)
+    (p p' : P) (r : Result Outcome HubRefusal) (t : Turned) → IsAnswered steps.step p e r p' → t ≡ turn_after s accepted f word r → is_memory_turn t ≡ false →
     frame_turn t (hub_of p') words ≡ answered_turn s accepted f word words (heard (hub_of p) e)
 asked_is steps hub_of over s accepted f word words e p p' r t answered is enough =
     let had : is_memory_answer r ≡ false = sym (memory_after s accepted f word r) ∙ sym (ap is_memory_turn is) ∙ enough in
     ap (λ (x : Turned). frame_turn x (hub_of p') words) is
-    ∙ ap (λ (a : Result Outcome HubRefusal × State). answered_turn s accepted f word words a) (answered_is (hub_of p) e answered.0 r (hub_of p') (over p e answered.0 p' answered.1) answered.2 had)
+    ∙ ap (λ (a : Result Outcome HubRefusal × State). answered_turn s accepted f word words a) (answered_is (hub_of p) e answered.0 r (hub_of p') (over.step p e answered.0 p' answered.1) answered.2 had)
 
 -- the word of a message
 word_is : (word : Option ℕ) (words words' : List ℕ) (drawn : ℕ) → IsWord IsNextWord words word drawn words' → (drawn ≡ word_of word words) × (words' ≡ words_after word words)
@@ -57,7 +62,7 @@ word_is (Some w) words words' drawn h = (h.0, h.1)
 word_is None words words' drawn h = (h.0, h.1)
 
 -- a turn by its plan
-planned_is : {P : Type 0} (steps : Steps P) (hub_of : P → State) → IsPortTo steps hub_of → (now conn : ℕ) (at : Spot P (List ℕ)) (f : Frame) (t : Turned) (p : P) (w : List ℕ) (plan : Plan) →
+planned_is : {P : Type 0} (steps : Steps P) (hub_of : P → State) → IsOpenPort steps hub_of → (now conn : ℕ) (at : Spot P (List ℕ)) (f : Frame) (t : Turned) (p : P) (w : List ℕ) (plan : Plan) →
     IsPlanned steps IsNextWord now conn at.stage at.word f at.port at.words t p w plan → is_memory_turn t ≡ false →
     frame_turn t (hub_of p) w ≡ planned now conn (seen hub_of at) f plan
 planned_is steps hub_of over now conn at f t p w (Tells r) h enough =
@@ -95,16 +100,24 @@ unless_closed : {P : Type 0} (hub_of : P → State) (closed : Bool) (at : Spot P
 unless_closed hub_of true at r Turns after while_open h = ap (λ (x : Served _ (List ℕ)). seen_served hub_of x) h
 unless_closed hub_of false at r Turns after while_open h = while_open h
 
+-- nothing is held back
+held_never : {P : Type 0} (steps : Steps P) (hub_of : P → State) → IsOpenPort steps hub_of → (word : Option ℕ) (p : P) (words : List ℕ) (t : Turned) (p' : P) (words' : List ℕ) (plan : Plan) →
+    IsHeldBack steps IsNextWord word p words t p' words' plan → ⊥
+held_never steps hub_of over word p words t p' words' (Tells r) h = over.never p p' h.0
+held_never steps hub_of over word p words t p' words' (Asks what accepted) h = h
+held_never steps hub_of over word p words t p' words' (Publishes message) h = over.never p p' h.2
+
 -- a turn of its plan
-turn_is : {P : Type 0} (steps : Steps P) (hub_of : P → State) → IsPortTo steps hub_of → (now conn : ℕ) (at : Spot P (List ℕ)) (f : Frame) (t : Turned) (p : P) (w : List ℕ) →
+turn_is : {P : Type 0} (steps : Steps P) (hub_of : P → State) → IsOpenPort steps hub_of → (now conn : ℕ) (at : Spot P (List ℕ)) (f : Frame) (t : Turned) (p : P) (w : List ℕ) →
     IsFrameTurn steps IsNextWord now conn at.stage at.word f at.port at.words t p w → is_memory_turn t ≡ false →
     frame_turn t (hub_of p) w ≡ planned now conn (seen hub_of at) f (plan_of conn at.stage f)
 turn_is steps hub_of over now conn at f t p w (inl untouched) enough =
     let lacked : is_memory_turn t ≡ true = ap is_memory_turn untouched.stalls in absurd (cc)
-turn_is steps hub_of over now conn at f t p w (inr h) enough = planned_is steps hub_of over now conn at f t p w (plan_of conn at.stage f) h enough
+turn_is steps hub_of over now conn at f t p w (inr (inl h)) enough = absurd (held_never steps hub_of over at.word at.port at.words t p w (plan_of conn at.stage f) h)
+turn_is steps hub_of over now conn at f t p w (inr (inr h)) enough = planned_is steps hub_of over now conn at f t p w (plan_of conn at.stage f) h enough
 
 -- frames in order
-pub turns_are : {P : Type 0} (steps : Steps P) (hub_of : P → State) → IsPortTo steps hub_of → (now conn : ℕ) (fs : List Frame) (at : Spot P (List ℕ)) (r : Served P (List ℕ)) →
+pub turns_are : {P : Type 0} (steps : Steps P) (hub_of : P → State) → IsOpenPort steps hub_of → (now conn : ℕ) (fs : List Frame) (at : Spot P (List ℕ)) (r : Served P (List ℕ)) →
     Serves steps IsNextWord now conn fs at r → is_memory_stall r.stall ≡ false → seen_served hub_of r ≡ turns now conn fs (seen hub_of at)
 unfolding Serves turns
 turns_are steps hub_of over now conn [] at r h enough = ap (λ (x : Served _ (List ℕ)). seen_served hub_of x) h

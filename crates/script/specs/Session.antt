@@ -18,7 +18,7 @@ use Rattle.protocol.specs.declared.plan.Plan.{Plan}
 use Rattle.protocol.specs.declared.plan.Plan.TheVariants.{Tells, Asks, Publishes}
 use Rattle.protocol.specs.declared.stage.Stage.{Stage}
 use Rattle.protocol.specs.declared.stage.Stage.TheVariants as stage
-use Rattle.conn.specs.Calls.{Connection, stage_closed, stall_closed}
+use Rattle.conn.specs.Calls.{Connection, stage_closed, stall_closed, undrained, unless_closed}
 use Rattle.conn.specs.Drains.{Drain, drain_owing_nothing, texts}
 use Rattle.protocol.specs.Plans.{plan_of}
 use Rattle.protocol.specs.Replies.{told, is_closed, closed_from, takes_headers}
@@ -128,7 +128,7 @@ after_drain w c d =
     record {
       text = d.0.text;
       stall = d.0.stall;
-      conn = record c { stage = d.0.stage; owed = d.0.owed; missed = d.0.missed };
+      conn = unless_closed (is_closed d.0.stage) (record c { stage = d.0.stage; owed = d.0.owed; missed = d.0.missed });
       server = record w { hub = d.1 };
     }
 
@@ -138,7 +138,7 @@ drain_if w c most (Some s) = unchanged w c (Some s)
 drain_if w c most None = after_drain w c (drain_of w c most)
 
 unfoldable pub drain_call : Serving → Connection → ℕ → Call
-drain_call w c most = if is_closed c.stage then unchanged w c None else drain_if w c most c.stall
+drain_call w c most = if is_closed c.stage then unchanged w c None else drain_if w c most (undrained c.stall)
 
 -- whether a session stands after the Close of one that stood, what stopped it, and the hub after it
 pub record Closing : Type 0 where

@@ -1,5 +1,5 @@
 -- Where a call leads: INFO, and a drain.
-use Rattle.std.proofs.Common.{rules, ◌≡◌, ◌∙◌, ◌∷◌, ◌++◌, [], ℕ, List, Bool, true, false, Option, Some, None, ap, refl, sym, subst, inl, inr}
+use Rattle.std.proofs.Common.{rules, ◌≡◌, ◌∙◌, ◌∷◌, ◌++◌, [], ℕ, List, Bool, true, false, Option, Some, None, cond, ap, refl, sym, subst, inl, inr}
 use Rattle.std.proofs.lemmas.List.{append-nil}
 use Rattle.connect_opts.specs.Info.{info_text}
 use Rattle.wire_read.specs.declared.frame.Frame.{Frame}
@@ -12,12 +12,12 @@ use Rattle.conn.specs.declared.output.Stall.{Stall}
 use Rattle.protocol.specs.Replies.{is_closed}
 use Rattle.conn.specs.Turns.{Steps, Draws}
 use Rattle.conn.specs.Drains.{Drain, Drains}
-use Rattle.conn.specs.Calls.{Connection, Given, given, IsOpenedBy, IsDrain, IsDrainIf, IsDrainedAt}
+use Rattle.conn.specs.Calls.{Connection, Given, given, undrained, IsOpenedBy, IsDrain, IsDrainIf, IsDrainedAt}
 use Rattle.session.specs.Happenings.{Happening, Opened}
 use Rattle.session.specs.Accounts.{Call, Moment, IsDrawnBy, IsPortTo, taken_by, closes_by, IsPart, IsLeft}
 use Rattle.session.proofs.Leading.{Place, Leads, leads_as, stepped-nil, or_false, idles, one_happening}
-use Rattle.session.proofs.Serving.{HasFirst, IsStanding}
-use Rattle.session.proofs.Draining.{IsDrainedTo, drains_to}
+use Rattle.session.proofs.Serving.{IsStanding}
+use Rattle.session.proofs.Draining.{IsDrainedTo, drained_open, drains_to}
 
 -- ---- between two calls
 
@@ -96,30 +96,25 @@ pub as_kept : (b : Bool) (left : List Frame) (spare : Option ℕ) (frames : List
 as_kept true left spare frames word still h = absurd (cc)
 as_kept false left spare frames word still h = h
 
-none_kept : (b : Bool) (left : List Frame) (spare : Option ℕ) (frames : List Frame) (word : Option ℕ) → frames ≡ left → word ≡ spare → frames ≡ [] → word ≡ None → IsLeft b left spare frames word
-none_kept true left spare frames word kept so none wordless = (none, wordless)
-none_kept false left spare frames word kept so none wordless = (kept, so)
-
--- where no frame is kept the stage may change
-stands_still : (conn : ℕ) (s s' : Stage) (frames : List Frame) (word : Option ℕ) (st : Option Stall) (left : List Frame) (spare : Option ℕ) →
-    IsStanding conn s frames word st left spare → is_closed s ≡ false → st ≡ None → IsStanding conn s' frames word st left spare
-stands_still conn s s' frames word st left spare h still none =
-    let empty : frames ≡ [] = h.rests none in
-    let wordless : word ≡ None = subst (HasFirst conn s word) empty h.first in
-    let kept = as_kept (is_closed s) left spare frames word still h.waits in
-    record {
-      waits = none_kept (is_closed s') left spare frames word kept.0 kept.1 empty wordless;
-      first = subst (HasFirst conn s' word) (sym empty) wordless;
-      rests = h.rests;
-      wordless = h.wordless;
-    }
+-- they wait as they did while it stays open, and are dropped once it has closed
+stands_on : (conn : ℕ) (s s' : Stage) (frames : List Frame) (word : Option ℕ) (st : Option Stall) (left : List Frame) (spare : Option ℕ) (shut : Bool) →
+    is_closed s' ≡ shut → (shut ≡ false → s' ≡ s) → IsStanding conn s frames word st left spare →
+    IsStanding conn s' (cond shut [] frames) (cond shut None word) (cond shut None st) left spare
+stands_on conn s s' frames word st left spare true closed same h = record {
+  waits = subst (λ (b : Bool). IsLeft b left spare [] None) (sym closed) (refl, refl);
+  first = refl;
+  rests = λ _. refl;
+  wordless = h.wordless;
+}
+stands_on conn s s' frames word st left spare false closed same h =
+    subst (λ (x : Stage). IsStanding conn x frames word st left spare) (sym (same refl)) h
 
 drain_to : {P W : Type 0} (steps : Steps P) (draws : Draws W) (hub_of : P → State) → IsPortTo steps hub_of →
     (conn now most : ℕ) (m : Moment) (left : List Frame) (spare : Option ℕ) (p : P) (o : Output) (p' : P) (m' : Moment) →
-    IsBetween conn m.at left spare → hub_of p ≡ m.hub → m'.hub ≡ hub_of p' → is_closed m.at.stage ≡ false → m.at.stall ≡ None →
+    IsBetween conn m.at left spare → hub_of p ≡ m.hub → m'.hub ≡ hub_of p' → is_closed m.at.stage ≡ false →
     IsDrain steps now most m.at p o m'.at p' →
     IsCallTo draws conn (Call.Drains now most) m left spare (given o) m'
-drain_to steps draws hub_of port conn now most m left spare p o p' m' between before after still none h =
+drain_to steps draws hub_of port conn now most m left spare p o p' m' between before after still h =
     let c : Connection = m.at in
     let d : Drain = record { text = o.bytes.items; stage = m'.at.stage; stall = o.stall; owed = m'.at.owed; missed = m'.at.missed } in
     let to : IsDrainedTo conn now most (place_of m left spare) d (hub_of p') = drains_to steps hub_of port conn now most (place_of m left spare) p d p' still before
@@ -133,7 +128,11 @@ drain_to steps draws hub_of port conn now most m left spare p o p' m' between be
       words = refl;
       leads = leads_as refl refl (λ i. place_of (record { at = m'.at; hub = after i }) left spare) to.leads;
       between = subst (λ (x : Connection). IsBetween conn x left spare) (sym h.same)
-          (record { same = between.same; standing = stands_still conn c.stage m'.at.stage c.frames c.word c.stall left spare between.standing still none });
+          (record {
+            same = between.same;
+            standing = stands_on conn c.stage m'.at.stage c.frames c.word c.stall left spare (is_closed m'.at.stage) refl
+                (drained_open steps now c.conn most c.stage c.owed c.missed p d p' h.drains) between.standing;
+          });
       part = to.of_drain;
       closes = h.close;
       reads = subst (ReadsOn c.reader [] []) (ap (λ (x : Connection). x.reader) (sym h.same)) (reads_none c.reader);
@@ -141,11 +140,11 @@ drain_to steps draws hub_of port conn now most m left spare p o p' m' between be
 
 drain_if : {P W : Type 0} (steps : Steps P) (draws : Draws W) (hub_of : P → State) → IsPortTo steps hub_of →
     (conn now most : ℕ) (m : Moment) (left : List Frame) (spare : Option ℕ) (p : P) (o : Output) (p' : P) (m' : Moment) (st : Option Stall) →
-    IsBetween conn m.at left spare → hub_of p ≡ m.hub → m'.hub ≡ hub_of p' → is_closed m.at.stage ≡ false → m.at.stall ≡ st →
+    IsBetween conn m.at left spare → hub_of p ≡ m.hub → m'.hub ≡ hub_of p' → is_closed m.at.stage ≡ false →
     IsDrainIf steps now most m.at p o m'.at p' st → IsCallTo draws conn (Call.Drains now most) m left spare (given o) m'
-drain_if steps draws hub_of port conn now most m left spare p o p' m' None between before after still is h =
-    drain_to steps draws hub_of port conn now most m left spare p o p' m' between before after still is h
-drain_if steps draws hub_of port conn now most m left spare p o p' m' (Some s) between before after still is h =
+drain_if steps draws hub_of port conn now most m left spare p o p' m' None between before after still h =
+    drain_to steps draws hub_of port conn now most m left spare p o p' m' between before after still h
+drain_if steps draws hub_of port conn now most m left spare p o p' m' (Some s) between before after still h =
     idle draws conn (Call.Drains now most) m left spare (given o) m' between (ap (λ (g : Given). g.bytes) h.gives) (ap (λ (g : Given). g.close) h.gives ∙ sym still) refl tt refl h.conn (after ∙ ap hub_of h.port ∙ before)
 
 pub drained_to : {P W : Type 0} (steps : Steps P) (draws : Draws W) (hub_of : P → State) → IsPortTo steps hub_of →
@@ -155,4 +154,4 @@ pub drained_to : {P W : Type 0} (steps : Steps P) (draws : Draws W) (hub_of : P 
 drained_to steps draws hub_of port conn now most m left spare p o p' m' true between before after closed h =
     idle draws conn (Call.Drains now most) m left spare (given o) m' between (ap (λ (g : Given). g.bytes) h.gives) (ap (λ (g : Given). g.close) h.gives ∙ sym closed) refl tt refl h.conn (after ∙ ap hub_of h.port ∙ before)
 drained_to steps draws hub_of port conn now most m left spare p o p' m' false between before after closed h =
-    drain_if steps draws hub_of port conn now most m left spare p o p' m' m.at.stall between before after closed refl h
+    drain_if steps draws hub_of port conn now most m left spare p o p' m' (undrained m.at.stall) between before after closed h

@@ -24,8 +24,8 @@ use Rattle.session.specs.Accounts.{IsPortTo, IsStepped, IsDrawn, unless_refused}
 
 -- what a port answers, its hub does
 pub of_hub : {P : Type 0} (steps : Steps P) (hub_of : P → State) → IsPortTo steps hub_of →
-    {p : P} {e : Event} {r : Result Outcome HubRefusal} {p' : P} → IsAnswered steps p e r p' → IsAnswered IsStep (hub_of p) e r (hub_of p')
-of_hub steps hub_of port {p} {e} {p'} h = (h.0, port p e h.0 p' h.1, h.2)
+    {p : P} {e : Event} {r : Result Outcome HubRefusal} {p' : P} → IsAnswered steps.step p e r p' → IsAnswered IsStep (hub_of p) e r (hub_of p')
+of_hub steps hub_of port {p} {e} {p'} h = (h.0, port.step p e h.0 p' h.1, h.2)
 
 pub stepped-one : (s s' : State) (e : Event) (r : Result Outcome HubRefusal) → IsAnswered IsStep s e r s' → IsStepped ((e, r) ∷ []) s s'
 unfolding IsStepped

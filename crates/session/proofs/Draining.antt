@@ -1,5 +1,5 @@
 -- Where a drain and its Take lead.
-use Rattle.std.proofs.Common.{◌≡◌, ◌∙◌, ◌∷◌, ◌++◌, [], ℕ, List, Bool, true, false, Option, Some, None, Result, Ok, Err, map, ap, refl, sym, subst, inl, inr}
+use Rattle.std.proofs.Common.{◌≡◌, ◌∙◌, ◌∷◌, ◌++◌, [], ℕ, List, Bool, true, false, Option, Some, None, Result, Ok, Err, map, ap, refl, sym, subst, true≢false, inl, inr}
 use Rattle.std.specs.List.{AllByRecursion}
 use Rattle.std.proofs.lemmas.List.{append_assoc, append-nil}
 use Rattle.wire_write.specs.Errors.{err_line}
@@ -173,6 +173,30 @@ pub record IsDrainedTo (conn now most : ℕ) (a : Place) (d : Drain) (hub : Stat
   pub happened : List Happening
   pub leads : Leads conn a happened d.text [] [] (place_after a d hub)
   pub of_drain : AllByRecursion (IsOfDrain now most) happened
+
+-- it closes the connection, or leaves it at its stage
+shut_from : (s : Stage) → is_closed (closed_from s) ≡ true
+shut_from stage.Fresh = refl
+shut_from (stage.Connected verbose headers) = refl
+shut_from (stage.Closed session) = refl
+
+open_after : (s s' : Stage) (written : Written) → s' ≡ stage_after s written → is_closed s' ≡ false → s' ≡ s
+open_after s s' All is going = is
+open_after s s' Short is going = is
+open_after s s' Closes is going = absurd (true≢false (sym (ap is_closed is ∙ shut_from s) ∙ going))
+
+open_take : (s : Stage) (before : List ℕ) (missed : Bool) (r : Result Outcome HubRefusal) (d : Drain) → IsTakeTold s before missed r d → is_closed d.stage ≡ false → d.stage ≡ s
+open_take s before missed (Ok (outcome.Taken ds was_missed)) d h going = open_after s d.stage h.0 h.2 going
+open_take s before missed (Ok o) d h going = ap (λ (y : Drain). y.stage) h
+open_take s before missed (Err refusal.NoSession) d h going = absurd (true≢false (sym (ap (λ (x : Drain). is_closed x.stage) h) ∙ going))
+open_take s before missed (Err x) d h going = ap (λ (y : Drain). y.stage) h
+
+pub drained_open : {P : Type 0} (steps : Steps P) (now conn most : ℕ) (s : Stage) (owed : List Delivery) (missed : Bool) (p : P) (d : Drain) (p' : P) →
+    Drains steps now conn most s owed missed p d p' → is_closed d.stage ≡ false → d.stage ≡ s
+drained_open steps now conn most s owed missed p d p' (inl h) going = open_after s d.stage Short h.stage going
+drained_open steps now conn most s owed missed p d p' (inr (inl h)) going = open_after s d.stage Closes h.stage going
+drained_open steps now conn most s owed missed p d p' (inr (inr (none, inl h))) going = ap (λ (x : Drain). x.stage) h.drain
+drained_open steps now conn most s owed missed p d p' (inr (inr (none, inr h))) going = open_take s (texts (takes_headers s) owed) false h.0 d h.2 going
 
 -- no Take is made
 owed_still : (conn now most : ℕ) (a : Place) (d : Drain) (hub : State) (written : Written) →

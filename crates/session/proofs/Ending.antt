@@ -51,7 +51,7 @@ quiet_end hub_of conn now a p s st p' at from h = record {
 
 close_end : {P : Type 0} (steps : Steps P) (hub_of : P → State) → IsPortTo steps hub_of →
     (conn now : ℕ) (a : Place) (p : P) (s : Stage) (p' : P) (r : Result Outcome HubRefusal) →
-    hub_of p ≡ a.hub → closed_from a.stage ≡ stage.Closed true → IsAnswered steps p (event now (command.Close conn)) r p' → s ≡ stage_closed r →
+    hub_of p ≡ a.hub → closed_from a.stage ≡ stage.Closed true → IsAnswered steps.step p (event now (command.Close conn)) r p' → s ≡ stage_closed r →
     IsEndedTo conn now a s (hub_of p')
 close_end steps hub_of port conn now a p s p' r at from step is = record {
   answer = r;

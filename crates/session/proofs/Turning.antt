@@ -15,7 +15,7 @@ use Rattle.protocol.specs.declared.plan.Plan.{Plan}
 use Rattle.protocol.specs.declared.plan.Plan.TheVariants.{Tells, Asks, Publishes}
 use Rattle.protocol.specs.Replies.{Told, told, is_closed}
 use Rattle.protocol.specs.Plans.{plan_of}
-use Rattle.conn.specs.Turns.{Steps, Draws, Goes, Stalls, event, IsPlanned, IsFrameTurn}
+use Rattle.conn.specs.Turns.{Steps, Draws, Goes, Stalls, event, IsHeldBack, IsPlanned, IsFrameTurn}
 use Rattle.conn.specs.Serving.{Spot, spot}
 use Rattle.session.specs.Happenings.{Framed, Came, come_of_plan, is_final}
 use Rattle.session.specs.Accounts.{IsPortTo, IsStepped, IsDrawn}
@@ -97,6 +97,19 @@ goes_by steps draws hub_of port conn now owed missed f fs at t p w (Publishes me
       words = drawn.are;
     }
 
+-- what is held back stalls
+held_goes : {P W : Type 0} (steps : Steps P) (draws : Draws W) (word : Option ℕ) (p : P) (w : W) (t : Told) (p' : P) (w' : W) (plan : Plan) →
+    IsHeldBack steps draws word p w (Goes t) p' w' plan → ⊥
+held_goes steps draws word p w t p' w' (Tells r) h = unlike word h.1
+  where
+    unlike : (k : Option ℕ) → Goes t ≡ Stalls stall.Held k → ⊥
+    unlike k e = cc
+held_goes steps draws word p w t p' w' (Asks what accepted) h = h
+held_goes steps draws word p w t p' w' (Publishes message) h = unlike (Some h.0) h.3
+  where
+    unlike : (k : Option ℕ) → Goes t ≡ Stalls stall.Held k → ⊥
+    unlike k e = cc
+
 pub turn_goes : {P W : Type 0} (steps : Steps P) (draws : Draws W) (hub_of : P → State) → IsPortTo steps hub_of →
     (conn now : ℕ) (owed : List Delivery) (missed : Bool) (f : Frame) (fs : List Frame) (at : Spot P W) (t : Told) (p : P) (w : W) →
     is_closed at.stage ≡ false → HasWord at.word (plan_of conn at.stage f) → IsFrameTurn steps draws now conn at.stage at.word f at.port at.words (Goes t) p w →
@@ -105,7 +118,9 @@ turn_goes steps draws hub_of port conn now owed missed f fs at t p w still has (
   where
     unlike : (word : Option ℕ) → Goes t ≡ Stalls stall.Memory word → ⊥
     unlike word e = cc
-turn_goes steps draws hub_of port conn now owed missed f fs at t p w still has (inr h) =
+turn_goes steps draws hub_of port conn now owed missed f fs at t p w still has (inr (inl h)) =
+    absurd (held_goes steps draws at.word at.port at.words t p w (plan_of conn at.stage f) h)
+turn_goes steps draws hub_of port conn now owed missed f fs at t p w still has (inr (inr h)) =
     goes_by steps draws hub_of port conn now owed missed f fs at t p w (plan_of conn at.stage f) still has refl h
 
 -- ---- a turn that stalls
@@ -117,6 +132,10 @@ pub record IsKept {P W : Type 0} (draws : Draws W) (hub_of : P → State) (conn 
   pub words : IsDrawn draws at.words drawn w
   pub has : HasWord kept (plan_of conn at.stage f)
   pub takes : IsNoRefusal (Some st)
+
+-- what stopped it, and the word
+same_parts : (st : Stall) (kept : Option ℕ) (st' : Stall) (word : Option ℕ) → Stalls st kept ≡ Stalls st' word → (st ≡ st') × (kept ≡ word)
+same_parts st kept st' word e = (cc, cc)
 
 stalls_by : {P W : Type 0} (steps : Steps P) (draws : Draws W) (hub_of : P → State) → IsPortTo steps hub_of →
     (conn now : ℕ) (owed : List Delivery) (missed : Bool) (f : Frame) (left : List Frame) (at : Spot P W) (st : Stall) (kept : Option ℕ) (p : P) (w : W) (plan : Plan) →
@@ -148,12 +167,38 @@ stalls_by steps draws hub_of port conn now owed missed f left at st kept p w (Pu
       takes = so.takes;
     }
 
+-- the same where it is held back
+held_by : {P W : Type 0} (steps : Steps P) (draws : Draws W) (hub_of : P → State) → IsPortTo steps hub_of →
+    (conn : ℕ) (owed : List Delivery) (missed : Bool) (f : Frame) (left : List Frame) (at : Spot P W) (st : Stall) (kept : Option ℕ) (p : P) (w : W) (plan : Plan) →
+    HasWord at.word plan → plan_of conn at.stage f ≡ plan → IsHeldBack steps draws at.word at.port at.words (Stalls st kept) p w plan →
+    IsKept draws hub_of conn owed missed f left at st kept p w
+held_by steps draws hub_of port conn owed missed f left at st kept p w (Tells r) has planned h =
+    let same = same_parts st kept stall.Held at.word h.1 in
+    record {
+      drawn = [];
+      leads = stays (place_at hub_of owed missed left at) (port.holds at.port p h.0) (ap option_to_list same.1 ∙ sym (append-nil (option_to_list at.word)));
+      words = drawn-nil draws at.words w h.2;
+      has = subst (HasWord kept) (sym planned) (subst (λ (o : Option ℕ). HasWord o (Tells r)) (sym same.1) has);
+      takes = subst (λ (y : Stall). IsNoRefusal (Some y)) (sym same.0) (λ piece. refl);
+    }
+held_by steps draws hub_of port conn owed missed f left at st kept p w (Asks what accepted) has planned h = absurd h
+held_by steps draws hub_of port conn owed missed f left at st kept p w (Publishes message) has planned h =
+    let same = same_parts st kept stall.Held (Some h.0) h.3 in
+    let drawn : IsWordFrom draws at.words at.word h.0 w = word_from draws at.words at.word h.0 w h.1 in
+    record {
+      drawn = drawn.new;
+      leads = stays (place_at hub_of owed missed left at) (port.holds at.port p h.2) (ap option_to_list same.1 ∙ drawn.same);
+      words = drawn.are;
+      has = subst (HasWord kept) (sym planned) (subst (λ (o : Option ℕ). HasWord o (Publishes message)) (sym same.1) tt);
+      takes = subst (λ (y : Stall). IsNoRefusal (Some y)) (sym same.0) (λ piece. refl);
+    }
+
 pub turn_stalls : {P W : Type 0} (steps : Steps P) (draws : Draws W) (hub_of : P → State) → IsPortTo steps hub_of →
     (conn now : ℕ) (owed : List Delivery) (missed : Bool) (f : Frame) (left : List Frame) (at : Spot P W) (st : Stall) (kept : Option ℕ) (p : P) (w : W) →
     HasWord at.word (plan_of conn at.stage f) → IsFrameTurn steps draws now conn at.stage at.word f at.port at.words (Stalls st kept) p w →
     IsKept draws hub_of conn owed missed f left at st kept p w
 turn_stalls steps draws hub_of port conn now owed missed f left at st kept p w has (inl h) =
-    let same = same_parts at.word h.stalls in
+    let same = same_parts st kept stall.Memory at.word h.stalls in
     record {
       drawn = [];
       leads = stays (place_at hub_of owed missed left at) (ap hub_of h.port) (ap option_to_list same.1 ∙ sym (append-nil (option_to_list at.word)));
@@ -161,8 +206,7 @@ turn_stalls steps draws hub_of port conn now owed missed f left at st kept p w h
       has = subst (λ (o : Option ℕ). HasWord o (plan_of conn at.stage f)) (sym same.1) has;
       takes = subst (λ (y : Stall). IsNoRefusal (Some y)) (sym same.0) (λ piece. refl);
     }
-  where
-    same_parts : (word : Option ℕ) → Stalls st kept ≡ Stalls stall.Memory word → (st ≡ stall.Memory) × (kept ≡ word)
-    same_parts word e = (cc, cc)
-turn_stalls steps draws hub_of port conn now owed missed f left at st kept p w has (inr h) =
+turn_stalls steps draws hub_of port conn now owed missed f left at st kept p w has (inr (inl h)) =
+    held_by steps draws hub_of port conn owed missed f left at st kept p w (plan_of conn at.stage f) has refl h
+turn_stalls steps draws hub_of port conn now owed missed f left at st kept p w has (inr (inr h)) =
     stalls_by steps draws hub_of port conn now owed missed f left at st kept p w (plan_of conn at.stage f) has refl h

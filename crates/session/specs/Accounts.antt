@@ -39,10 +39,10 @@ pub record Moment : Type 0 where
 abbrev pub moment : Connection → State → Moment
 moment at hub = record { at = at; hub = hub }
 
--- a port to a hub: each of its events is a step of it
-abbrev pub IsPortTo : {P : Type 0} → Steps P → (P → State) → Type 0
-IsPortTo {P} steps hub_of =
-    (p : P) (e : Event) (a : Result Entry (Event × HubRefusal)) (p' : P) → steps p e a p' → IsStep (hub_of p) e a (hub_of p')
+-- a port to a hub: each of its events is a step of it, and what it holds back leaves it as it is
+pub record IsPortTo {P : Type 0} (steps : Steps P) (hub_of : P → State) : Type 0 where
+  pub step : (p : P) (e : Event) (a : Result Entry (Event × HubRefusal)) (p' : P) → steps.step p e a p' → IsStep (hub_of p) e a (hub_of p')
+  pub holds : (p p' : P) → steps.holds p p' → hub_of p' ≡ hub_of p
 
 -- a call over a port of its own: what is lent to it is the hub as it is then, and what it leaves is the hub after it
 abbrev pub Lends : {P : Type 0} → (P → State) → State → State → (P → P → Type 0) → Type 0

@@ -1,7 +1,7 @@
 ghost use Rattle.std.specs.Prelude.{◌≡◌};
 ghost use Rattle.hub.specs.History.{IsStep};
 
-use events::{Answer, Event, HubRefusal, Port};
+use events::{Answer, Event, HubRefusal, Port, PublishRefusal};
 use hub::Hub;
 
 /// A hub that is this thread's alone: each event is one step of it.
@@ -28,5 +28,14 @@ impl Port for Direct<'_> {
     #[inline(always)]
     fn submit(&mut self, event: Event) -> Result<Answer, (Event, HubRefusal)> {
         self.hub.step(event)
+    }
+
+    // (as the trait's own body, whose hint on inlining isn't followed)
+    #[inline(always)]
+    fn publish(&mut self, event: Event) -> Result<Answer, (Event, PublishRefusal)> {
+        match self.submit(event) {
+            Ok(answer) => Ok(answer),
+            Err((event, refusal)) => Err((event, PublishRefusal::By(refusal))),
+        }
     }
 }

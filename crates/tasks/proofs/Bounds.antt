@@ -19,6 +19,8 @@ by_options rows o h = record {
   outbox = h.outbox.at_least;
   outboxes = h.outbox.at_most;
   history = h.history.at_least;
+  history_byte = h.history_bytes.at_least;
+  connection = h.connections.at_least;
 }
 
 by_serve : (found : Option (Text × List Row)) (o : ServeOptions) → IsServe found o → AreServable o

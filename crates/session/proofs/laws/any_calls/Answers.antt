@@ -1,6 +1,7 @@
 -- what happened in any calls accounts for them
+use Rattle.conn.specs.Turns.{port_of}
 use Rattle.session.proofs.Accounting.{accounts_for_calls}
 use Rattle.session.proofs.laws.any_calls.Goals as goal
 
 pub returns : goal.returns
-returns g c = accounts_for_calls g.P.Port.steps g.W.Words.draws c.cut_anywhere.ensures
+returns g c = accounts_for_calls (port_of g.P.Port.steps g.P.Port.holds) g.W.Words.draws c.cut_anywhere.ensures

@@ -10,7 +10,6 @@ use Rattle.client_io.proofs.client.Client.write_kept.Goals as goal
 pub loop-self-init : goal.loop-self-init
 loop-self-init g c = record {
   conn = ap (λ (x : Client). x.conn) c.self.view_is;
-  answers = ap (λ (x : Client). x.answers) c.self.view_is;
   writes = writes_nothing _ _ _ (ap (λ (x : Client). x.kept) c.self.view_is);
   failed = refl;
 }
@@ -22,7 +21,6 @@ loop-self-preserved g c =
     let bytes = subst (λ (got : Option ℕ). Appends (g.S.Writer.contents c.loop-self.writer) (g.S.Writer.contents c.write.new.self) (take (count_of {E = DeviceFailed} (Ok got)) rest)) found c.in-Ok-Some.ensures.bytes in
     record {
       conn = c.loop-self.invariant.conn;
-      answers = c.loop-self.invariant.answers;
       writes = writes_more (g.S.Writer.contents c.args.writer.now) (g.S.Writer.contents c.loop-self.writer) (g.S.Writer.contents c.write.new.self)
           c.args.self.now.kept c.loop-self.self-inside.bytes.items c.loop-self.self-inside.written c.in-Ok-Some.count
           c.loop-self.invariant.writes

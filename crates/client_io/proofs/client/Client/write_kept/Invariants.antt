@@ -6,7 +6,6 @@ use Rattle.client_io.proofs.client.Client.write_kept.Given as goal
 abbrev pub invariant-loop-self : goal.invariant-loop-self
 invariant-loop-self g l = record {
   conn : l.self-inside.conn ≡ l.fn.self.conn;
-  answers : l.self-inside.answers.items ≡ l.fn.self.answers;
   writes : Writes (g.S.Writer.contents l.fn.writer) (g.S.Writer.contents l.writer) l.fn.self.kept (drop l.self-inside.written l.self-inside.bytes.items);
   failed : g.S.Writer.failed l.writer ≡ g.S.Writer.failed l.fn.writer;
 }

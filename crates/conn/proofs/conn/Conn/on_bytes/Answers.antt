@@ -3,6 +3,7 @@ use Rattle.std.proofs.Common.{◌∙◌, List, refl, sym, subst}
 use Rattle.wire_read.specs.declared.frame.Frame.{Frame}
 use Rattle.conn.specs.contracts.conn.Conn.{the_view}
 use Rattle.conn.specs.declared.output.Output.{Output}
+use Rattle.conn.specs.Turns.{port_of}
 use Rattle.conn.specs.Serving.{spot, served, Serves}
 use Rattle.conn.specs.Calls.{Connection, IsServed}
 use Rattle.conn.proofs.Reading.{read_open}
@@ -16,10 +17,10 @@ returns-in-Ok-clause-served g c =
     let before = spot c.args.port.now c.args.words.now c.self.inside.stage c.self.inside.word in
     let after = served c.serve-served.result.bytes.items c.serve-served.new.frames c.serve-served.result.stall
     (spot c.serve-served.new.port c.serve-served.new.words c.serve-served.result.stage c.serve-served.result.word) in
-    let turns = subst (λ (fs : List Frame). Serves g.P.Port.steps g.W.Words.draws c.args.now c.self.inside.conn fs before after) c.in-Ok.ensures.frames c.serve-served.ensures.served in
-    subst (λ (was : Connection). IsServed g.P.Port.steps g.W.Words.draws c.args.now c.args.piece.now was c.args.port.now c.args.words.now output new c.serve-served.new.port c.serve-served.new.words)
+    let turns = subst (λ (fs : List Frame). Serves (port_of g.P.Port.steps g.P.Port.holds) g.W.Words.draws c.args.now c.self.inside.conn fs before after) c.in-Ok.ensures.frames c.serve-served.ensures.served in
+    subst (λ (was : Connection). IsServed (port_of g.P.Port.steps g.P.Port.holds) g.W.Words.draws c.args.now c.args.piece.now was c.args.port.now c.args.words.now output new c.serve-served.new.port c.serve-served.new.words)
     c.self.view_is
-    (read_open g.P.Port.steps g.W.Words.draws c.args.now c.args.piece.now old c.args.port.now c.args.words.now output new c.serve-served.new.port c.serve-served.new.words
+    (read_open (port_of g.P.Port.steps g.P.Port.holds) g.W.Words.draws c.args.now c.args.piece.now old c.args.port.now c.args.words.now output new c.serve-served.new.port c.serve-served.new.words
     (sym c.is_closed.ensures ∙ c.if-is_closed.false)
     (record {
       turns = turns;

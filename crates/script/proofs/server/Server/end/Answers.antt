@@ -5,7 +5,7 @@ use Rattle.script.specs.Server.{Serving}
 use Rattle.script.specs.Session.{end_call, IsCall}
 use Rattle.conn.specs.Calls.{IsEnded}
 use Rattle.conn.specs.declared.output.Output.{Output}
-use Rattle.script.proofs.Calls.{direct_steps, hub_of, ended_is}
+use Rattle.script.proofs.Calls.{direct_steps, direct_open, hub_of, ended_is}
 use Rattle.script.proofs.server.Server.end.Goals as goal
 
 pub returns : goal.returns
@@ -15,5 +15,5 @@ returns c =
     let ended = subst (λ (o : Output). IsEnded direct_steps w.moment c.args.conn.now c.new-port.result o c.ended-output.new.self c.ended-output.new.port)
     (sym c.in_ok-output.ensures.0) c.ended-output.ensures.ended in
     subst (λ (was : Serving). IsCall (end_call was c.args.conn.now) c.in_ok-output.output c.ended-output.new.self new) c.self.view_is
-    (ended_is direct_steps hub_of (λ p e r p' h. h) w c.args.conn.now c.new-port.result c.in_ok-output.output c.ended-output.new.self c.ended-output.new.port
+    (ended_is direct_steps hub_of direct_open w c.args.conn.now c.new-port.result c.in_ok-output.output c.ended-output.new.self c.ended-output.new.port
     ended c.in_ok-output.ensures.1 c.new-port.ensures.hub)
