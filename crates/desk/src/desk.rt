@@ -2,12 +2,18 @@
 ghost use Rattle.std.specs.Prelude.{◌≡◌, ◌+◌, ◌≤◌, ℕ};
 
 use crate::audit::Audit;
-use hub::{Answer, Command, Event, Hub, HubRefusal, Ready, Segment};
+use crate::told::Told;
+use crate::views::{AtMoment, HubOutboxes};
+use hub::{
+    Answer, Command, Entry, Event, Hub, HubRefusal, Outcome, PublishRefusal, Ready, Segment,
+};
 use lists::{Copying, Items, NoMemory};
 use receipts::Receipt;
+use shared_waits::{Outboxes, Waits};
 use std::alloc::Global;
 use std::collections::VecDeque;
 use std::marker::Brand;
+use std::slice;
 use std::sync::ledger::{Blank, Book, Ledger, Share};
 
 /// Which run a desk, its seats and their audit belong to: the ledger that counts its entries, and what its hub was when
@@ -53,26 +59,36 @@ impl<L: Run> Seat<L> {
     }
 }
 
-/// What lies under the lock: the hub, and the book that counts its entries since the run opened. Each desk is made of a
-/// blank ledger, and changes by `enter`, `answer` and `rotate` alone, so nobody who holds the lock can put another in its
-/// place.
+/// What lies under the lock: the hub, the book that counts its entries since the run opened, and who waits for whom. Each
+/// desk is made of a blank ledger, and changes by `enter`, `publish`, `answer` and `rotate` alone, so nobody who holds the
+/// lock can put another in its place.
 #[derive(Drop)]
 pub struct Desk<L: Run> {
     alloc: Global,
     hub: Hub,
     book: Book<L>,
+    waits: Waits,
+    /// Who held the message back that was offered last.
+    held: Vec<u64>,
     ghost counted: { hub.world.number ≡ L.opening + book.total },
 }
 
 impl<L: Run> Desk<L> {
-    ghost use Rattle.std.specs.Prelude.{◌≡◌, ◌+◌, ◌≤◌, ◌++◌, ◌∷◌, [], IfOk, OnOk, OnErr, MatchResult, map, vec_len, vec_capacity};
+    ghost use Rattle.std.specs.Prelude.{◌≡◌, ◌+◌, ◌≤◌, ◌++◌, ◌∷◌, [], IfOk, OnOk, OnErr, MatchResult, map, vec_len, vec_capacity, length, ◌<◌};
     ghost use Rattle.hub.specs.History.{IsLegalRun, IsStep};
     ghost use Rattle.hub.specs.Segments.{held, rotated};
     ghost use Rattle.hub.specs.Sound.{IsSound};
     ghost use Rattle.hub.specs.Guarantee.{IsRouted, KeepsGuarantee};
     ghost use Rattle.desk.specs.Entering.{IsEntered};
+    ghost use Rattle.std.specs.Prelude.{Some, None};
+    ghost use Rattle.events.specs.Offers.{IsOffered};
+    ghost use Rattle.hub.specs.Holding.{IsStepIf};
+    ghost use Rattle.shared_waits.specs.Waiting.{nobody, is_out_with};
+    ghost use Rattle.world.specs.Transition.{IsRefusal};
+    ghost use Rattle.hub.specs.History.{stepped};
+    ghost use Rattle.desk.specs.Waits.{waiting_in, offered, IsHeldBack, until_if, IfBy, IsOfferedTo, until_of, freed_of, rest_of, IsSettled};
 
-    /// The desk of a hub, with a share of every part, which counts nothing yet.
+    /// The desk of a hub, with a share of every part, which counts nothing yet. Nobody waits.
     pub fn open(alloc: Global, blank: Blank, hub: Hub) -> (Desk<L>, Share<L>)
         requires name { blank.name ≡ L.name }
         requires parts { blank.parts ≡ L.parts }
@@ -80,9 +96,17 @@ impl<L: Run> Desk<L> {
         ensures hub { result.0.hub ≡ hub }
         ensures parts { result.1.parts ≡ L.parts }
         ensures amount { result.1.amount ≡ 0 }
+        ensures waits { result.0.waits ≡ nobody }
     {
         let (book, all) = blank.open::<L>();
-        (Desk { alloc, hub, book }, all)
+        let desk = Desk {
+            alloc,
+            hub,
+            book,
+            waits: Waits::new(alloc),
+            held: Vec::new(alloc),
+        };
+        (desk, all)
     }
 
     /// The hub.
@@ -123,6 +147,8 @@ impl<L: Run> Desk<L> {
             alloc: _,
             hub,
             book,
+            waits: _,
+            held: _,
         } = self;
         let mut book = book;
         let mut all = rest;
@@ -134,7 +160,8 @@ impl<L: Run> Desk<L> {
 
     /// Enters an event: one step of the hub, whose receipt has the step's entry and the policy then in force. The entries
     /// before stay, the event's stands behind them, and the seat has one more. A refusal changes neither desk nor seat; it
-    /// is the step's, or want of memory for the receipt, all of which is had before the step.
+    /// is the step's, or want of memory for the receipt, all of which is had before the step. It is for threads that keep
+    /// receipts: no message is held back, and nobody who waits is let on.
     pub fn enter(
         &mut self,
         seat: Seat<L>,
@@ -145,6 +172,7 @@ impl<L: Run> Desk<L> {
         ensures guarantee { IfOk result.1 (λ r. IsRouted self.old.hub event r.entry self.new.hub) }
         ensures count { MatchResult result.1 (λ _. result.0.count ≡ seat.count + 1) (λ _. result.0.count ≡ seat.count) }
         ensures number { IfOk result.1 (λ r. L.opening + result.0.count ≤ r.entry.number) }
+        ensures waits { self.new.waits ≡ self.old.waits }
     {
         let mut seat = seat;
         let result = self.enter_as(&mut seat, event);
@@ -159,6 +187,7 @@ impl<L: Run> Desk<L> {
         ensures err { OnErr result.1 (self.new.hub ≡ self.old.hub) }
         ensures book { self.new.book.total ≡ self.old.book.total }
         ensures seat { result.0 ≡ seat }
+        ensures waits { self.new.waits ≡ self.old.waits }
     {
         let result = self.rotate_as(&seat);
         (seat, result)
@@ -170,6 +199,7 @@ impl<L: Run> Desk<L> {
         ensures ok { OnOk result (self.new.hub ≡ rotated self.old.hub) }
         ensures err { OnErr result (self.new.hub ≡ self.old.hub) }
         ensures book { self.new.book.total ≡ self.old.book.total }
+        ensures waits { self.new.waits ≡ self.old.waits }
     {
         let result = self.hub.rotate();
         result
@@ -187,29 +217,26 @@ impl<L: Run> Desk<L> {
         ensures guarantee { IfOk result (λ r. IsRouted self.old.hub event r.entry self.new.hub) }
         ensures count { MatchResult result (λ _. seat.new.count ≡ seat.old.count + 1) (λ _. seat.new.count ≡ seat.old.count) }
         ensures number { IfOk result (λ r. L.opening + seat.new.count ≤ r.entry.number) }
+        ensures waits { self.new.waits ≡ self.old.waits }
     {
         let ready = match ready_after(self.alloc, &self.hub, &event) {
             Ok(ready) => ready,
             Err(_) => return Err((event, HubRefusal::NoMemory)),
         };
-        match self.answer(seat, event) {
+        match self.step(seat, event) {
             Ok(answer) => Ok(Receipt::of(answer, ready)),
             Err(refused) => Err(refused),
         }
     }
 
-    /// Answers an event: `enter` without a receipt, for a seat that is lent. It is one step of the hub, with the routing
-    /// guarantee, and the seat has one more. A refusal is the step's, and changes neither desk nor seat.
+    /// One step of the hub, which the seat has made.
     #[inline(always)]
-    pub fn answer(
-        &mut self,
-        seat: &mut Seat<L>,
-        event: Event,
-    ) -> Result<Answer, (Event, HubRefusal)>
+    fn step(&mut self, seat: &mut Seat<L>, event: Event) -> Result<Answer, (Event, HubRefusal)>
         ensures step { IsStep self.old.hub event result self.new.hub }
         ensures guarantee { KeepsGuarantee self.old.hub event result self.new.hub }
         ensures count { MatchResult result (λ _. seat.new.count ≡ seat.old.count + 1) (λ _. seat.new.count ≡ seat.old.count) }
         ensures number { IfOk result (λ answer. L.opening + seat.new.count ≤ answer.number) }
+        ensures waits { self.new.waits ≡ self.old.waits }
     {
         let answer = match self.hub.step(event) {
             Ok(answer) => answer,
@@ -217,6 +244,193 @@ impl<L: Run> Desk<L> {
         };
         count(&mut self.book, seat, answer.get().number);
         Ok(answer)
+    }
+
+    /// Answers an event that is no message: `enter` without a receipt, for a seat that is lent. It is one step of the hub,
+    /// with the routing guarantee, and the seat has one more. A Take that makes enough room lets publishers on that wait
+    /// for its connection; the end of a session lets all on that wait for it, and it waits no more. A refusal is the
+    /// step's, or want of memory for those that may be let on, and changes neither desk nor seat.
+    #[inline(always)]
+    pub fn answer(
+        &mut self,
+        seat: &mut Seat<L>,
+        event: Event,
+        told: &mut Told,
+    ) -> Result<Answer, (Event, HubRefusal)>
+        ensures step { IsStep self.old.hub event result self.new.hub }
+        ensures guarantee { KeepsGuarantee self.old.hub event result self.new.hub }
+        ensures count { MatchResult result (λ _. seat.new.count ≡ seat.old.count + 1) (λ _. seat.new.count ≡ seat.old.count) }
+        ensures number { IfOk result (λ answer. L.opening + seat.new.count ≤ answer.number) }
+        ensures settled { IfOk result (λ answer. IsSettled (waiting_in self.new.hub.world) answer.event.now answer.event.what answer.outcome self.old.waits self.new.waits) }
+        ensures freed { IfOk result (λ answer. told.new.freed.items ≡ told.old.freed.items ++ freed_of (waiting_in self.new.hub.world) answer.event.what answer.outcome self.old.waits) }
+        ensures rest { IfOk result (λ answer. told.new.rest ≡ rest_of (waiting_in self.new.hub.world) answer.event.what) }
+        ensures same { OnErr result (self.new.waits ≡ self.old.waits) }
+        ensures none { OnErr result (told.new.freed.items ≡ told.old.freed.items) }
+    {
+        if told.freed.reserve(self.waits.len()).is_err() {
+            let refusal = self.hub.refusal(&event);
+            self.hub.known();
+            return Err((event, refusal));
+        }
+        let answer = match self.step(seat, event) {
+            Ok(answer) => answer,
+            Err(refused) => return Err(refused),
+        };
+        self.settle(answer.get(), told);
+        Ok(answer)
+    }
+
+    /// What an answer makes of the waits.
+    fn settle(&mut self, entry: &Entry, told: &mut Told)
+        requires room { vec_len told.old.freed + length self.old.waits.publishers ≤ vec_capacity told.old.freed }
+        ensures settled { IsSettled (waiting_in self.old.hub.world) entry.entry.now.event.now entry.entry.now.event.what entry.entry.now.outcome self.old.waits self.new.waits }
+        ensures freed { told.new.freed.items ≡ told.old.freed.items ++ freed_of (waiting_in self.old.hub.world) entry.entry.now.event.what entry.entry.now.outcome self.old.waits }
+        ensures rest { told.new.rest ≡ rest_of (waiting_in self.old.hub.world) entry.entry.now.event.what }
+        ensures hub { self.new.hub ≡ self.old.hub }
+    {
+        match &entry.event.what {
+            Command::Take { conn, .. } => {
+                let waiting = HubOutboxes { hub: &self.hub }.waiting(*conn);
+                self.waits
+                    .rest(*conn, waiting, entry.event.now, &mut told.freed);
+                told.rest = Some(waiting);
+            }
+            Command::Close { conn } => {
+                self.waits.remove(slice::from_ref(conn), &mut told.freed);
+                told.rest = None;
+            }
+            Command::Reload(_) => {
+                self.waits.remove(gone_of(&entry.outcome), &mut told.freed);
+                told.rest = None;
+            }
+            Command::Connect { .. } => told.rest = None,
+            Command::Sub { .. } => told.rest = None,
+            Command::Unsub { .. } => told.rest = None,
+            Command::Pub { .. } => told.rest = None,
+        }
+    }
+
+    /// Offers a message's event: it is one step of the hub, as `answer` tells, unless receivers have no room for it with
+    /// which there is patience still, by the waits at its moment. Then it is held back and nothing has changed, but that
+    /// its publisher is laid down under the first of them and that they are behind since this moment, if they weren't
+    /// before. So each full outbox of which an answer tells was empty before the message, or is of a receiver with which
+    /// the patience was used up at that moment. The publisher is taken out of where it stood before. A refusal is the
+    /// step's, or want of memory for the waits.
+    #[inline(always)]
+    pub fn publish(
+        &mut self,
+        seat: &mut Seat<L>,
+        event: Event,
+        told: &mut Told,
+    ) -> Result<Answer, (Event, PublishRefusal)>
+        ensures step { IsStepIf (is_out_with self.old.waits event.now) self.old.hub event result self.new.held.items self.new.hub }
+        ensures guarantee { IsOffered KeepsGuarantee (λ s after. after ≡ s) self.old.hub event result self.new.hub }
+        ensures count { MatchResult result (λ _. seat.new.count ≡ seat.old.count + 1) (λ _. seat.new.count ≡ seat.old.count) }
+        ensures number { IfOk result (λ answer. L.opening + seat.new.count ≤ answer.number) }
+        ensures waits { IsOfferedTo (waiting_in self.old.hub.world) event result self.new.held.items self.old.waits self.new.waits }
+        ensures until { told.new.until ≡ until_of event result self.new.held.items self.new.waits }
+        ensures freed { told.new.freed.items ≡ told.old.freed.items }
+    {
+        self.take_out(&event.what);
+        told.until = None;
+        self.held.clear();
+        let at = AtMoment {
+            waits: &self.waits,
+            moment: event.now,
+        };
+        match self.hub.step_if(event, &at, &mut self.held) {
+            Ok(answer) => {
+                let number = answer.get().number;
+                count(&mut self.book, seat, number);
+                Ok(answer)
+            }
+            Err((event, refusal)) => match refusal {
+                PublishRefusal::By(refusal) => Err((event, PublishRefusal::By(refusal))),
+                PublishRefusal::Held => {
+                    let held = self.hold(&event, told);
+                    Err((event, held))
+                }
+            },
+        }
+    }
+
+    /// Takes the publisher of a message out of where it stands.
+    #[inline(always)]
+    fn take_out(&mut self, what: &Command)
+        ensures waits { self.new.waits ≡ offered what.now self.old.waits }
+        ensures hub { self.new.hub ≡ self.old.hub }
+    {
+        if let Command::Pub { conn, .. } = what {
+            self.waits.take_out(*conn);
+        }
+    }
+
+    /// Lays the publisher of a message down that is held back, and tells until when. Apart, so that what each message
+    /// passes stays small. Without memory the message is refused.
+    #[inline(never)]
+    fn hold(&mut self, event: &Event, told: &mut Told) -> PublishRefusal
+        requires some { 0 < length self.old.held.items }
+        ensures sound { IsSound self.old.hub.world }
+        ensures waits { IsHeldBack result (waiting_in self.old.hub.world) event.entry.now self.old.held.items self.old.waits self.new.waits }
+        ensures until { told.old.until ≡ None → told.new.until ≡ until_if result event.entry.now.what self.old.held.items self.new.waits }
+        ensures freed { told.new.freed.items ≡ told.old.freed.items }
+        ensures due { IfBy result (IsRefusal (stepped self.old.hub event.entry.now)) }
+        ensures hub { self.new.hub ≡ self.old.hub }
+        ensures held { self.new.held.items ≡ self.old.held.items }
+    {
+        self.hub.known();
+        let Some(publisher) = publisher_of(&event.what) else {
+            return PublishRefusal::Held;
+        };
+        let first = self.held[0];
+        let outboxes = HubOutboxes { hub: &self.hub };
+        let held = self.held.as_slice();
+        if self
+            .waits
+            .hold(publisher, held, event.now, &outboxes)
+            .is_err()
+        {
+            let refusal = self.hub.refusal(event);
+            return PublishRefusal::By(refusal);
+        }
+        told.until = self.waits.until(first);
+        PublishRefusal::Held
+    }
+}
+
+ghost use Rattle.desk.specs.Waits as waits;
+
+/// Whose message it is, if it is one.
+fn publisher_of(what: &Command) -> Option<u64>
+    ensures { result ≡ waits.publisher_of what.now }
+{
+    match what {
+        Command::Pub { conn, .. } => Some(*conn),
+        Command::Connect { .. } => None,
+        Command::Sub { .. } => None,
+        Command::Unsub { .. } => None,
+        Command::Take { .. } => None,
+        Command::Close { .. } => None,
+        Command::Reload(_) => None,
+    }
+}
+
+/// Whose session a reload has ended.
+fn gone_of(outcome: &Outcome) -> &[u64]
+    ensures { result.now ≡ waits.gone_in outcome.now }
+{
+    match outcome {
+        Outcome::Reloaded { gone, .. } => gone.as_slice(),
+        Outcome::Connected => &[],
+        Outcome::AuthViolation => &[],
+        Outcome::Subscribed => &[],
+        Outcome::SameSid => &[],
+        Outcome::SubLimit => &[],
+        Outcome::Denied(_) => &[],
+        Outcome::Published(_, _) => &[],
+        Outcome::Taken(_, _) => &[],
+        Outcome::Unsubscribed => &[],
+        Outcome::Closed => &[],
     }
 }
 

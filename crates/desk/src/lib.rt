@@ -4,7 +4,10 @@
 
 mod audit;
 mod desk;
+mod told;
+mod views;
 
 pub use audit::Audit;
 pub use desk::{Desk, Run, Seat};
 pub use std::sync::ledger::Blank;
+pub use told::Told;

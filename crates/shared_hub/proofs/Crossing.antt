@@ -1,7 +1,7 @@
 -- A shared hub may be used by several threads at once. The prover finds no such law by itself where a map's values hold maps
 -- again (a tree's nodes) or are trees; so each type from a node up to the shared hub has it here, by its fields.
 use denote.RattleType.{RattleType}
-use denote.Param.Send.{IsSend, IsSync, sendable, recorded_send, struct_send, recorded_sync, struct_sync, shr_sync, part_keyless}
+use denote.Param.Send.{IsSend, IsSync, sendable, recorded_send, struct_send, recorded_sync, struct_sync, part_keyless}
 use denote.Struct.Declared.{shape}
 use Rattle.std.proofs.Crossing.{frees, crosses}
 use Rattle.std.specs.contracts.hash.DefaultHasher as hasher
@@ -35,8 +35,8 @@ use Rattle.lists.proofs.shared.Shared.TheSendSync as shared
 use Rattle.world.proofs.plain.PlainWorld.TheSendSync as plain
 use Rattle.desk.specs.contracts.desk.Desk as desk
 use Rattle.shared_hub.specs.contracts.shared.Shared as shared_row
-use Rattle.shared_hub.proofs.shared.Rest.TheSendSync as rest
 use Rattle.std.proofs.sync.ledger.Book.TheSendSync as book
+use Rattle.shared_waits.proofs.waits.Waits.TheSendSync as waits
 use Rattle.std.proofs.sync.Mutex.TheSendSync as mutex
 use Rattle.desk.specs.declared.desk.Run.{Ghosts as Runs}
 use Rattle.std.specs.declared.sync.ledger.Ledger.{Ghosts as Ledgers}
@@ -96,7 +96,7 @@ hubs_send : IsSend hub.the_row
 hubs_send = hub_out_send (hub_send (world_out_send (world_send (subs_out_send (subs_send (table_send (tables_send trees_send)))))))
 
 desk_send : (L : RattleType) (r : Runs L.Denot) (l : Ledgers L.Denot) → IsSend (desk.the_row L r l)
-desk_send L r l = recorded_send _ _ _ (desk.the_type L r l).to_one (struct_send (shape (desk.the_type L r l)) (global.the_field_send, (hubs_send, (book.the_send L l, tt))))
+desk_send L r l = recorded_send _ _ _ (desk.the_type L r l).to_one (struct_send (shape (desk.the_type L r l)) (global.the_field_send, (hubs_send, (book.the_send L l, (waits.the_send, (search (sendable, crosses) depth 12, tt))))))
 
 share_sync : (L : RattleType) (l : Ledgers L.Denot) → IsSync (share_row.the_row L l)
 share_sync L l = record { shared = λ x b o κ q. part_keyless (share_row.the_row L l) (share.the_send L l) q x b o }

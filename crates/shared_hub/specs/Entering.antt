@@ -3,6 +3,9 @@ use Rattle.std.specs.Prelude.{◌≡◌, ◌+◌, ◌≤◌, ◌++◌, ◌∷◌
 use Rattle.events.specs.declared.event.Event.{Event}
 use Rattle.events.specs.declared.answer.Entry.{Entry}
 use Rattle.events.specs.declared.refusal.HubRefusal.{HubRefusal}
+use Rattle.events.specs.declared.refusal.PublishRefusal.{PublishRefusal}
+use Rattle.events.specs.Offers.{IsOffered}
+use Rattle.hub.specs.History.{State, IsStep}
 use Rattle.receipts.specs.Receipts.{Receipt}
 
 -- What a seat knows of an answered event: its entry has the event, it is one more of the seat's, and since the run opened
@@ -10,11 +13,19 @@ use Rattle.receipts.specs.Receipts.{Receipt}
 abbrev pub IsCounted : ℕ → Event → ℕ → Entry → ℕ → Type 0
 IsCounted opening e before a after = (a.event ≡ e) × (after ≡ before + 1) × (opening + after ≤ a.number)
 
+-- An answer or a refusal is that of a step of some hub, so nobody makes one up.
+abbrev pub IsSteps : Event → Result Entry (Event × HubRefusal) → Type 0
+IsSteps e r = (s : State) × ((t : State) × IsStep s e r t)
+
 -- An event that a seat has submitted without asking for a receipt: with an answer it is counted; a refusal hands it back,
 -- and the seat is as before.
 abbrev pub IsAnswered : ℕ → ℕ → Event → Result Entry (Event × HubRefusal) → ℕ → Type 0
-IsAnswered opening before e (Ok a) after = IsCounted opening e before a after
-IsAnswered opening before e (Err refused) after = (refused.0 ≡ e) × (after ≡ before)
+IsAnswered opening before e (Ok a) after = IsCounted opening e before a after × IsSteps e (Ok a)
+IsAnswered opening before e (Err refused) after = (refused.0 ≡ e) × (after ≡ before) × IsSteps e (Err refused)
+
+-- A message's event that a seat has offered: it was submitted, or it is held back, and the seat is as before.
+abbrev pub IsOfferedBy : ℕ → ℕ → Event → Result Entry (Event × PublishRefusal) → ℕ → Type 0
+IsOfferedBy opening = IsOffered (IsAnswered opening) (λ before after. after ≡ before)
 
 -- An event that a seat has submitted: with a receipt it is counted; a refusal hands it back, and the seat is as before.
 abbrev pub IsSubmitted : ℕ → ℕ → Event → Result Receipt (Event × HubRefusal) → ℕ → Type 0

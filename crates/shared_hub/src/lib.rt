@@ -9,7 +9,7 @@ mod shared;
 mod unlocked;
 
 pub use audit::AuditFault;
-pub use desk::{Audit, Blank, Desk, Run, Seat};
+pub use desk::{Audit, Blank, Desk, Run, Seat, Told};
 pub use port::SharedPort;
 pub use receipts::Receipt;
 pub use seat_port::{Notes, SeatPort};

@@ -1,7 +1,7 @@
 ghost use Rattle.std.specs.Prelude.{◌≡◌};
 
-use crate::{Run, Seat, Shared};
-use hub::{Answer, Event, HubRefusal, Port, Segment};
+use crate::{Run, Seat, Shared, Told};
+use hub::{Answer, Event, HubRefusal, Port, PublishRefusal, Segment};
 use lists::NoMemory;
 use std::sync::Wait;
 
@@ -12,18 +12,26 @@ pub trait Notes {
 }
 
 /// A port of one seat to a hub that threads share, which keeps no receipts: note is taken of each answer, outside the lock.
-/// What is done under the lock is `Desk::answer`. It is for a server, which runs for good and asks for no audit.
+/// What is done under the lock is `Desk::answer` and `Desk::publish`, and what they tell is kept for the port's owner. It is
+/// for a server, which runs for good and asks for no audit.
 #[derive(Drop)]
 pub struct SeatPort<'a, L: Run, R: Wait, N: Notes + Drop> {
     rt: &'a R,
     shared: &'a Shared<L>,
     seat: Seat<L>,
     notes: N,
+    told: Told,
 }
 
 impl<'a, L: Run, R: Wait, N: Notes + Drop> SeatPort<'a, L, R, N> {
     /// A port of a seat.
-    pub fn new(rt: &'a R, shared: &'a Shared<L>, seat: Seat<L>, notes: N) -> SeatPort<'a, L, R, N>
+    pub fn new(
+        rt: &'a R,
+        shared: &'a Shared<L>,
+        seat: Seat<L>,
+        notes: N,
+        told: Told,
+    ) -> SeatPort<'a, L, R, N>
         ensures { result.seat.count ≡ seat.count }
     {
         SeatPort {
@@ -31,7 +39,19 @@ impl<'a, L: Run, R: Wait, N: Notes + Drop> SeatPort<'a, L, R, N> {
             shared,
             seat,
             notes,
+            told,
         }
+    }
+
+    /// What was told beside the answers. Whoever acts on the publishers that are let on takes them out.
+    pub fn told(&mut self) -> &mut Told {
+        &mut self.told
+    }
+
+    /// How many deliveries wait for a connection, 0 without a session.
+    pub fn waiting(&self, conn: u64) -> usize {
+        let waiting = self.shared.waiting(self.rt, conn);
+        waiting
     }
 
     /// Who takes note of the answers.
@@ -55,14 +75,33 @@ impl<L: Run, R: Wait, N: Notes + Drop> Port for SeatPort<'_, L, R, N> {
 
     ghost steps = { λ old event result new. IsAnswered L.opening old.seat.count event result new.seat.count };
 
+    ghost holds = { λ old new. new.seat.count ≡ old.seat.count };
+
     #[inline(always)]
     fn submit(&mut self, event: Event) -> Result<Answer, (Event, HubRefusal)> {
-        match self.shared.answer_as(self.rt, &mut self.seat, event) {
+        match self
+            .shared
+            .answer_as(self.rt, &mut self.seat, event, &mut self.told)
+        {
             Ok(answer) => {
                 self.notes.note(&answer);
                 Ok(answer)
             }
             Err(refused) => Err(refused),
+        }
+    }
+
+    #[inline(always)]
+    fn publish(&mut self, event: Event) -> Result<Answer, (Event, PublishRefusal)> {
+        match self
+            .shared
+            .publish_as(self.rt, &mut self.seat, event, &mut self.told)
+        {
+            Ok(answer) => {
+                self.notes.note(&answer);
+                Ok(answer)
+            }
+            Err((event, refusal)) => Err((event, refusal)),
         }
     }
 }

@@ -3,8 +3,8 @@ ghost use Rattle.std.specs.Prelude.{◌≡◌, ◌<◌, ◌≤◌, ℕ};
 
 use crate::audit::AuditFault;
 use crate::unlocked::{Parts, Unlocked};
-use crate::{Audit, Desk, Receipt, Run, Seat};
-use hub::{Answer, Event, Hub, HubRefusal, Segment};
+use crate::{Audit, Desk, Receipt, Run, Seat, Told};
+use hub::{Answer, Event, Hub, HubRefusal, PublishRefusal, Segment};
 use lists::NoMemory;
 use std::alloc::Global;
 use std::sync::ledger::{Blank, Share};
@@ -36,7 +36,7 @@ pub(crate) struct Rest<L: Run> {
 
 impl<L: Run> Shared<L> {
     ghost use Rattle.std.specs.Prelude.{◌≡◌, ◌+◌, ◌<◌, ◌≤◌, IfOk, IfErr, All, vec_len, map};
-    ghost use Rattle.shared_hub.specs.Entering.{IsSubmitted, IsAnswered};
+    ghost use Rattle.shared_hub.specs.Entering.{IsSubmitted, IsAnswered, IsOfferedBy};
     ghost use Rattle.shared_hub.specs.Audits.{IsWhole, IsDue};
 
     /// A hub under its lock, with so many seats, none of which has entered anything. The blank ledger has a part for each,
@@ -103,7 +103,7 @@ impl<L: Run> Shared<L> {
     }
 
     /// `rotate` with a seat that is lent.
-    pub(crate) fn rotate_as<R: Wait>(&self, rt: &R, seat: &Seat<L>) -> Result<Segment, NoMemory> {
+    pub fn rotate_as<R: Wait>(&self, rt: &R, seat: &Seat<L>) -> Result<Segment, NoMemory> {
         let result = self.desk.lock(rt).rotate_as(seat);
         result
     }
@@ -140,17 +140,42 @@ impl<L: Run> Shared<L> {
         self.desk.lock(rt).enter_as(seat, event)
     }
 
-    /// `submit_as` without a receipt, so that no owner of the policy is counted while the lock is held.
+    /// `submit_as` without a receipt, so that no owner of the policy is counted while the lock is held. Publishers that
+    /// wait are let on as `Desk::answer` tells.
     #[inline(always)]
-    pub(crate) fn answer_as<R: Wait>(
+    pub fn answer_as<R: Wait>(
         &self,
         rt: &R,
         seat: &mut Seat<L>,
         event: Event,
+        told: &mut Told,
     ) -> Result<Answer, (Event, HubRefusal)>
         ensures { IsAnswered L.opening seat.old.count event result seat.new.count }
     {
-        self.desk.lock(rt).answer(seat, event)
+        self.desk.lock(rt).answer(seat, event, told)
+    }
+
+    /// Offers a message's event while the lock is held: it is answered, or held back, as `Desk::publish` tells.
+    #[inline(always)]
+    pub fn publish_as<R: Wait>(
+        &self,
+        rt: &R,
+        seat: &mut Seat<L>,
+        event: Event,
+        told: &mut Told,
+    ) -> Result<Answer, (Event, PublishRefusal)>
+        ensures offered { IsOfferedBy L.opening seat.old.count event result seat.new.count }
+        ensures err { IfErr result (λ refused. refused.0 ≡ event) }
+    {
+        self.desk.lock(rt).publish(seat, event, told)
+    }
+
+    /// How many deliveries wait for a connection, 0 without a session.
+    pub fn waiting<R: Wait>(&self, rt: &R, conn: u64) -> usize {
+        match self.desk.lock(rt).hub().waiting(conn) {
+            None => 0,
+            Some((waiting, _)) => waiting,
+        }
     }
 }
 

@@ -7,5 +7,5 @@ use Rattle.desk.proofs.desk.Desk.enter_as.Goals as goal
 
 pub of-requires : goal.of-requires
 of-requires g c =
-    let P : PolicyDoc → Type 0 = λ doc. is_of_policy doc c.in-Ok-answer.answer.event.what c.in-Ok-answer.answer.outcome ≡ true in
-    subst P (sym c.in-Ok.ensures) (genuine _ _ _ _ c.in-Ok-answer.ensures.guarantee)
+    let P : PolicyDoc → Type 0 = λ doc. is_of_policy doc c.in-Ok-step.answer.event.what c.in-Ok-step.answer.outcome ≡ true in
+    subst P (sym c.in-Ok.ensures) (genuine _ _ _ _ c.in-Ok-step.ensures.guarantee)
