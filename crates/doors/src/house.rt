@@ -1,8 +1,11 @@
 use crate::door::Door;
+use crate::kept::Kept;
+use crate::ways::Way;
 use mio::{Poll, Token};
 use std::alloc::Global;
 use std::hash::RandomState;
 use std::net::Net;
+use std::sync::Mutex;
 use std::sync::atomic::{AtomicU64, Ordering};
 use std::time::Clock;
 
@@ -13,6 +16,10 @@ pub struct Limits {
     pub outbox: usize,
     /// How many entries its hub holds at most.
     pub history: usize,
+    /// How many bytes the entries of the history may keep.
+    pub history_bytes: u64,
+    /// How many connections may be open.
+    pub connections: u64,
     /// The keys of hash maps, which clients can't know.
     pub keys: RandomState,
 }
@@ -24,13 +31,12 @@ pub struct Flags {
     stops: AtomicU64,
     /// How many workers read no more.
     rested: AtomicU64,
-    /// Until when a receiver counts as one that lags.
-    lags_until: AtomicU64,
-    /// The client that was read last, and until when more than one counts as being read.
-    latest: AtomicU64,
-    several_until: AtomicU64,
-    /// How many workers may have entered deliveries for others' connections that they haven't named yet.
-    telling: AtomicU64,
+    /// How many sockets of clients are open.
+    open: AtomicU64,
+    /// Who lets a descriptor go to have it again, and who opens one, has this.
+    descriptors: Mutex<()>,
+    /// What the history keeps.
+    kept: Kept,
 }
 
 /// What all threads of a server share.
@@ -52,15 +58,14 @@ pub fn millis<R: Clock>(rt: &R) -> u64 {
 }
 
 impl Flags {
-    /// A server that has just begun.
-    pub fn new() -> Flags {
+    /// A server that has just begun, and keeps to these limits.
+    pub fn new(limits: Limits) -> Flags {
         Flags {
             stops: AtomicU64::new(0),
             rested: AtomicU64::new(0),
-            lags_until: AtomicU64::new(0),
-            latest: AtomicU64::new(0),
-            several_until: AtomicU64::new(0),
-            telling: AtomicU64::new(0),
+            open: AtomicU64::new(0),
+            descriptors: Mutex::new(()),
+            kept: Kept::new(limits.history_bytes),
         }
     }
 }
@@ -79,6 +84,57 @@ impl<'a> House<'a> {
     /// How many milliseconds have passed since the start.
     pub fn now<R: Clock>(&self, rt: &R) -> u64 {
         millis(rt).saturating_sub(self.start)
+    }
+
+    /// The lock under which descriptors are opened, so that nobody takes one that another has let go for a moment.
+    pub fn descriptors(&self) -> &Mutex<()> {
+        &self.flags.descriptors
+    }
+
+    /// What the history keeps.
+    pub fn kept(&self) -> &'a Kept {
+        &self.flags.kept
+    }
+
+    /// Notes that a client's socket was accepted.
+    pub fn note_open(&self) {
+        let _ = self.flags.open.fetch_add(1, Ordering::SeqCst);
+    }
+
+    /// Notes that a client's socket was closed.
+    pub fn note_closed(&self) {
+        let _ = self.flags.open.fetch_sub(1, Ordering::SeqCst);
+    }
+
+    /// Whether as many sockets of clients are open as may be.
+    pub fn is_full(&self) -> bool {
+        self.flags.open.load(Ordering::SeqCst) >= self.limits.connections
+    }
+
+    /// Has a connection give way to a new one: one that lingers, else the one that has waited longest without an accepted
+    /// CONNECT. Answers whether there is one.
+    pub fn ask_way(&self) -> bool {
+        self.ask_first(Way::Lingering) || self.ask_first(Way::Fresh)
+    }
+
+    /// Has the first of such connections give way. Answers whether there is one.
+    fn ask_first(&self, way: Way) -> bool {
+        let mut least = u64::MAX;
+        let mut first = None;
+        for door in self.doors {
+            let shown = door.ways.shown(way);
+            if shown < least {
+                least = shown;
+                first = Some(door);
+            }
+        }
+        match first {
+            None => false,
+            Some(door) => {
+                door.ask_way();
+                true
+            }
+        }
     }
 
     /// Has all workers stop.
@@ -103,52 +159,12 @@ impl<'a> House<'a> {
     pub fn all_rest(&self) -> bool {
         self.flags.rested.load(Ordering::SeqCst) >= self.doors.len() as u64
     }
-
-    /// Notes that a worker may enter deliveries before it names them, or that it has named all.
-    pub fn note_telling(&self, tells: bool) {
-        let _ = if tells {
-            self.flags.telling.fetch_add(1, Ordering::SeqCst)
-        } else {
-            self.flags.telling.fetch_sub(1, Ordering::SeqCst)
-        };
-    }
-
-    /// How many workers may have entered deliveries that they haven't named yet.
-    pub fn telling(&self) -> u64 {
-        self.flags.telling.load(Ordering::SeqCst)
-    }
-
-    /// Notes that a receiver lags, which counts until a moment.
-    pub fn note_lag(&self, until: u64) {
-        self.flags.lags_until.store(until, Ordering::SeqCst);
-    }
-
-    /// Notes which client is read next. Where it was another one before, several are read, which counts until a moment.
-    pub fn note_read(&self, conn: u64, until: u64) {
-        if self.flags.latest.load(Ordering::SeqCst) != conn {
-            self.flags.latest.store(conn, Ordering::SeqCst);
-            self.flags.several_until.store(until, Ordering::SeqCst);
-        }
-    }
-
-    /// Whether pieces are small at a moment: a receiver lags, and several clients are read. One alone is held before its
-    /// pieces fill an outbox; of several each may fill a part of it before it is held.
-    pub fn reads_less(&self, now: u64) -> bool {
-        now < self.flags.lags_until.load(Ordering::SeqCst)
-            && now < self.flags.several_until.load(Ordering::SeqCst)
-    }
 }
 
 /// A way to wait for sockets, and a door by which it is ended, with a waker of this token. `None` where the system gives
 /// no such way.
-pub fn open_door<R: Net>(
-    rt: &R,
-    alloc: Global,
-    limits: Limits,
-    token: Token,
-) -> Option<(Door, Poll)> {
+pub fn open_door<R: Net>(rt: &R, alloc: Global, token: Token) -> Option<(Door, Poll)> {
     let poll = Poll::new(rt).ok()?;
-    let half = limits.outbox / 2;
-    let door = Door::new(alloc, limits.keys, half, poll.registry(), token).ok()?;
+    let door = Door::new(alloc, poll.registry(), token).ok()?;
     Some((door, poll))
 }

@@ -27,21 +27,9 @@ next_take a = take_if (nat_eq (mean a) 0) (mean a)
 abbrev pub fewer : Awaited → ℕ → Awaited
 fewer a most = record { count = a.count - min a.count most; bytes = a.bytes - u64_saturate (mean a * min a.count most) }
 
-abbrev pub whole_if : Bool → ℕ → ℕ
-whole_if true outbox = max (outbox * 4) 16
-whole_if false outbox = 4096
-
-abbrev pub piece_if : Bool → ℕ → ℕ
-piece_if true whole = max (whole / 8) 16
-piece_if false whole = whole
-
--- four bytes for each that an outbox holds, 16 to 4,096 of them; and an eighth of that, 16 at least
-abbrev pub piece_length : ℕ → Bool → ℕ
-piece_length outbox small = piece_if small (whole_if (nat_lt outbox 1024) outbox)
-
 -- A message takes 11 bytes at least. So with fewer than these, and those of another piece, half an outbox is free.
 abbrev pub many : ℕ → ℕ
-many outbox = outbox / 2 - piece_length outbox false / 11
+many outbox = outbox / 2 - 4096 / 11
 
 -- what publishers of all other workers may have entered unnamed, together, is not more than many
 abbrev pub batch : ℕ → ℕ → ℕ

@@ -1,6 +1,6 @@
 -- What is due to a connection, and when (docs/ARCHITECTURE.md, "The server").
 use Rattle.std.specs.Option.{unwrap_or}
-use Rattle.std.specs.Prelude.{◌-◌, ◌||◌, ◌&&◌, ℕ, Bool, true, false, not, Option, Some, None, max, nat_eq, nat_lt}
+use Rattle.std.specs.Prelude.{◌-◌, ◌||◌, ◌&&◌, ℕ, Bool, true, false, not, Option, Some, None, max, min, nat_eq, nat_lt}
 use Rattle.pacing.specs.Awaited as awaited
 use Rattle.pacing.specs.declared.named.Named.{Named}
 use Rattle.pacing.specs.declared.due.Due.{Due}
@@ -13,17 +13,21 @@ nothing = record { awaited = record { count = 0; bytes = 0 }; ahead = None; drai
 abbrev pub named : Due → Named → Due
 named d name = record d { awaited = awaited.more d.awaited name.entered name.bytes; drain = d.drain || name.drain }
 
-abbrev pub none_ahead : Option ℕ → Option ℕ
-none_ahead None = None
-none_ahead (Some ahead) = Some 0
+abbrev pub ahead_of : Option ℕ → ℕ → Option ℕ
+ahead_of None rest = None
+ahead_of (Some ahead) rest = Some (min ahead rest)
 
--- a Take has given less than it asked for: nothing more comes before the answers
-abbrev pub emptied : Due → Due
-emptied d = record d { ahead = none_ahead d.ahead }
+abbrev pub bytes_of : Bool → ℕ → ℕ
+bytes_of true bytes = 0
+bytes_of false bytes = bytes
 
--- names of it may be lost, and so many may wait
-abbrev pub unnamed : Due → ℕ → Due
-unnamed d most = record d { awaited = record d.awaited { count = max d.awaited.count most }; drain = true }
+-- a Take has left so many, and no more than these come before what waits behind
+abbrev pub rested : Due → ℕ → Due
+rested d rest = record { awaited = record { count = rest; bytes = bytes_of (nat_eq rest 0) d.awaited.bytes }; ahead = ahead_of d.ahead rest; drain = d.drain }
+
+-- names of it may be lost: something may wait
+abbrev pub unnamed : Due → Due
+unnamed d = record d { awaited = record { count = max d.awaited.count 1; bytes = d.awaited.bytes } }
 
 abbrev pub ahead_after : Option ℕ → ℕ → Option ℕ
 ahead_after None most = None
@@ -33,13 +37,13 @@ ahead_after (Some ahead) most = Some (ahead - most)
 abbrev pub taken : Due → ℕ → Due
 taken d most = record { awaited = awaited.fewer d.awaited most; ahead = ahead_after d.ahead most; drain = false }
 
-abbrev pub ahead_of : Option ℕ → ℕ → Option ℕ
-ahead_of None count = Some count
-ahead_of (Some ahead) count = Some ahead
+-- so many wait, and come before what waits behind them
+abbrev pub barred : Due → ℕ → Due
+barred d count = record { awaited = record { count = max d.awaited.count count; bytes = d.awaited.bytes }; ahead = Some count; drain = d.drain }
 
--- what waits now comes before the answers, where that wasn't counted yet
-abbrev pub counted : Due → Due
-counted d = record d { ahead = ahead_of d.ahead d.awaited.count }
+-- what waited behind is told
+abbrev pub passed : Due → Due
+passed d = record d { ahead = None }
 
 -- deliveries wait, or may wait before answers, or it is to be drained whatever waits; but nothing is due to a client that
 -- isn't connected
@@ -54,7 +58,7 @@ take_if false d = awaited.next_take d.awaited
 abbrev pub next_take : Due → ℕ
 next_take d = take_if (nat_eq d.awaited.count 0 && not d.drain) d
 
--- all deliveries that come before the answers are taken
+-- all deliveries that come before what waits behind them are taken
 abbrev pub is_nothing : Option ℕ → Bool
 is_nothing None = false
 is_nothing (Some ahead) = nat_eq ahead 0

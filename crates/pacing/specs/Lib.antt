@@ -1,3 +1,3 @@
 pub mod Awaited
 pub mod Due
-pub mod Waiting
+pub mod Slice

@@ -1,6 +1,6 @@
 // How much is read and taken at a time.
 ghost use Rattle.std.specs.Prelude.{◌≡◌};
-ghost use Rattle.pacing.specs.Awaited.{batch, fewer, many, mean, more, next_take, piece_length};
+ghost use Rattle.pacing.specs.Awaited.{batch, fewer, many, mean, more, next_take};
 
 /// How many deliveries are taken at a time at most.
 const MOST: usize = 256;
@@ -13,9 +13,6 @@ pub const PIECE: usize = 4096;
 
 /// How many bytes the shortest message takes, a PUB with a subject of one byte and no payload.
 const LEAST_MESSAGE: usize = 11;
-
-/// How many bytes are read at a time at least.
-const LEAST_PIECE: usize = 16;
 
 /// What is known to wait for a connection in its outbox.
 #[derive(Clone, Copy)]
@@ -71,27 +68,12 @@ impl Awaited {
     }
 }
 
-/// How many bytes are read at a time: the messages of a piece are less than half an outbox. Where a receiver lags, a piece
-/// is an eighth of that.
-pub fn piece_length(outbox: usize, is_small: bool) -> usize
-    ensures { result ≡ piece_length outbox is_small }
-{
-    let mut length = PIECE;
-    if outbox < PIECE / 4 {
-        length = (outbox * 4).max(LEAST_PIECE);
-    }
-    if is_small {
-        length = (length / 8).max(LEAST_PIECE);
-    }
-    length
-}
-
 /// How many deliveries wait for a connection at least that is drained before another piece is read: with fewer, those of
 /// another piece leave half an outbox free.
 pub fn many(outbox: usize) -> usize
     ensures { result ≡ many outbox }
 {
-    (outbox / 2).saturating_sub(piece_length(outbox, false) / LEAST_MESSAGE)
+    (outbox / 2).saturating_sub(PIECE / LEAST_MESSAGE)
 }
 
 /// How many deliveries may have entered for a connection of another worker before that is told, while their publisher is

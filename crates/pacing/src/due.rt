@@ -1,6 +1,6 @@
 // What is due to a connection, and when.
 ghost use Rattle.std.specs.Prelude.{◌≡◌};
-ghost use Rattle.pacing.specs.Due.{counted, emptied, is_due, is_nothing, may_wait, named, next_take, nothing, taken, unnamed};
+ghost use Rattle.pacing.specs.Due.{barred, is_due, is_nothing, may_wait, named, next_take, nothing, passed, rested, taken, unnamed};
 
 use crate::awaited::Awaited;
 use crate::named::Named;
@@ -8,14 +8,13 @@ use crate::named::Named;
 /// How many deliveries are taken at a time of which nothing is known.
 const FEW: usize = 16;
 
-/// What is due to a connection: the deliveries that are known to wait in its outbox, and the answers behind them.
+/// What is due to a connection: the deliveries that are known to wait in its outbox, and what it is told behind them.
 #[derive(Clone, Copy)]
 pub struct Due {
     /// What is known to wait in its outbox.
     pub awaited: Awaited,
-    /// How many deliveries are to be taken before the answers to its latest piece are written, while Takes give as many as
-    /// they ask for: those that were known to wait when it was read; or as many as an outbox holds, where others may not
-    /// be named yet. `None` before they are counted.
+    /// How many deliveries are to be taken before it is told what waits behind them, while Takes leave some. `None` where
+    /// nothing waits behind.
     pub ahead: Option<usize>,
     /// Whether it is to be drained whatever waits.
     pub drain: bool,
@@ -44,33 +43,34 @@ impl Due {
         }
     }
 
-    /// What is due once a Take has given less than it asked for: its outbox was empty then, so answers that wait come next.
-    pub fn emptied(self) -> Due
-        ensures { result ≡ emptied self }
+    /// What is due once a Take has left so many: where it has left none, what waits behind comes next.
+    pub fn rested(self, rest: usize) -> Due
+        ensures { result ≡ rested self rest }
     {
         let ahead = match self.ahead {
             None => None,
-            Some(_) => Some(0),
+            Some(ahead) => Some(ahead.min(rest)),
         };
+        let bytes = if rest == 0 { 0 } else { self.awaited.bytes };
         Due {
-            awaited: self.awaited,
+            awaited: Awaited { count: rest, bytes },
             ahead,
             drain: self.drain,
         }
     }
 
-    /// What is due where names were lost: all that an outbox holds may wait.
-    pub fn unnamed(self, most: usize) -> Due
-        ensures { result ≡ unnamed self most }
+    /// What is due where names were lost: something may wait.
+    pub fn unnamed(self) -> Due
+        ensures { result ≡ unnamed self }
     {
         let awaited = Awaited {
-            count: self.awaited.count.max(most),
+            count: self.awaited.count.max(1),
             bytes: self.awaited.bytes,
         };
         Due {
             awaited,
             ahead: self.ahead,
-            drain: true,
+            drain: self.drain,
         }
     }
 
@@ -89,17 +89,27 @@ impl Due {
         }
     }
 
-    /// What is due once it is counted what comes before answers that wait, if that wasn't before.
-    pub fn counted(self) -> Due
-        ensures { result ≡ counted self }
+    /// What is due where the client is to have so many deliveries, which wait, before it is told what waits behind them.
+    pub fn barred(self, count: usize) -> Due
+        ensures { result ≡ barred self count }
     {
-        let ahead = match self.ahead {
-            None => Some(self.awaited.count),
-            Some(ahead) => Some(ahead),
-        };
+        Due {
+            awaited: Awaited {
+                count: self.awaited.count.max(count),
+                bytes: self.awaited.bytes,
+            },
+            ahead: Some(count),
+            drain: self.drain,
+        }
+    }
+
+    /// What is due once the client is told what waited behind deliveries.
+    pub fn passed(self) -> Due
+        ensures { result ≡ passed self }
+    {
         Due {
             awaited: self.awaited,
-            ahead,
+            ahead: None,
             drain: self.drain,
         }
     }
@@ -121,8 +131,8 @@ impl Due {
         self.awaited.next_take()
     }
 
-    /// Whether all deliveries are taken that come before the answers.
-    pub fn is_answer_next(self) -> bool
+    /// Whether all deliveries are taken that come before what waits behind them.
+    pub fn has_passed(self) -> bool
         ensures { result ≡ is_nothing self.ahead }
     {
         match self.ahead {

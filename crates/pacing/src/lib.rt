@@ -1,13 +1,12 @@
-//! How much a server reads, takes and names at a time, what is due to a connection, and how many deliveries wait for one:
-//! the numbers by which workers keep outboxes from overflowing.
+//! How much a server takes, drains and names at a time, and what is due to a connection.
 #![tactic(auto)]
 
 mod awaited;
 mod due;
 mod named;
-mod waiting;
+mod slice;
 
-pub use awaited::{Awaited, PIECE, batch, many, piece_length};
+pub use awaited::{Awaited, PIECE, batch, many};
 pub use due::Due;
 pub use named::Named;
-pub use waiting::{PATIENCE, Waiting};
+pub use slice::Slice;

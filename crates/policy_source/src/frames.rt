@@ -1,6 +1,7 @@
 use crate::{Next, Policies};
 use devices::{DeviceFailed, Source};
 use std::alloc::Global;
+use std::sync::Mutex;
 
 /// Policies as frames: one to seven decimal digits, LF, and that many bytes.
 #[derive(Drop)]
@@ -83,7 +84,7 @@ impl<S: Source + Drop> Frames<S> {
 }
 
 impl<S: Source + Drop> Policies for Frames<S> {
-    fn next(&mut self) -> Next {
+    fn next(&mut self, _descriptors: &Mutex<()>) -> Next {
         match self.size() {
             Size::Bytes(size) => self.text(size),
             Size::End => Next::End,

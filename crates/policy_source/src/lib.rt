@@ -5,6 +5,7 @@ mod frames;
 mod watched_file;
 
 pub use frames::Frames;
+use std::sync::Mutex;
 pub use watched_file::WatchedFile;
 
 /// What comes of the policies next.
@@ -24,6 +25,7 @@ pub enum Next {
 
 /// Where policies come from.
 pub trait Policies {
-    /// The next, once there is one, or after a while that there is none.
-    fn next(&mut self) -> Next;
+    /// The next, once there is one, or after a while that there is none. Whoever lets a descriptor go to have it again has
+    /// the lock `descriptors` meanwhile, and so has whoever opens others: so nobody else takes it.
+    fn next(&mut self, descriptors: &Mutex<()>) -> Next;
 }

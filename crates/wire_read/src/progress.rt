@@ -20,7 +20,7 @@ pub struct Progress {
 }
 
 /// The room for bytes up to what they wait for, where that is known.
-fn room_for(len: usize, awaited: Awaited) -> usize {
+pub fn room_for(len: usize, awaited: Awaited) -> usize {
     match awaited {
         Awaited::LineEnd => len,
         Awaited::Block(end) => end.saturating_add(2),

@@ -3,7 +3,7 @@ ghost use Rattle.std.specs.Prelude.{◌≡◌, []};
 use crate::advance::{Advance, advance_by};
 use crate::awaited::Awaited;
 use crate::buffer::Buffer;
-use crate::progress::{Progress, read_on, read_whole};
+use crate::progress::{Progress, read_on, read_whole, room_for};
 use crate::{FeedError, Frame};
 use lists::Items;
 use std::alloc::Global;
@@ -42,7 +42,7 @@ impl Model for FrameReader {
 }
 
 impl FrameReader {
-    ghost use Rattle.std.specs.Prelude.{◌≡◌, [], false};
+    ghost use Rattle.std.specs.Prelude.{◌≡◌, ◌≤◌, [], false, length};
     ghost use Rattle.wire_read.specs.Framing.{Reader, IsFed};
 
     /// A reader of a stream of which nothing came. It takes no memory.
@@ -56,6 +56,14 @@ impl FrameReader {
             failed: false,
             alloc,
         }
+    }
+
+    /// How many bytes are kept of a frame that isn't whole, or how many there is room for, if that is more.
+    pub fn holds(&self) -> usize
+        ensures { length self.now.rest ≤ result }
+    {
+        let len = self.kept.len();
+        room_for(len, self.awaited).max(len)
     }
 
     /// The frames that are whole now that the next piece of the stream came, in order.
