@@ -26,7 +26,7 @@ use Rattle.clap.specs.Lexer.{strip_byte}
 use Rattle.clap.specs.Words.{IsUnsignedIn}
 use Rattle.clap.specs.declared.builder.value_parser.Reading.TheVariants.{AsWritten}
 use Rattle.clap.specs.declared.parser.matches.ValueSource.TheVariants.{DefaultValue}
-use Rattle.command_line.specs.Options.{AreDefaults, IsOptions, IsNumberIn, default_listen, most_history}
+use Rattle.command_line.specs.Options.{AreDefaults, IsOptions, IsNumberIn, default_listen, most_connections, most_history}
 use Rattle.command_line.specs.Words.{natsd_app, kinds_of, found_in, is_mistake, IsInvokedBy, IsReading, IsRefusal, IsServeOrMemory, IsTaskOrMemory, IsUnknown, IsWrongOrMemory}
 
 simple_and_free : is_simple_and_free natsd_app ≡ true
@@ -117,7 +117,7 @@ abbrev default_row : Text → Text → Row
 default_row id value = record { id = id; values = value ∷ []; count = None; source = Some DefaultValue; reading = AsWritten }
 
 abbrev default_rows : List Row
-default_rows = default_row (codes "listen") default_listen ∷ default_row (codes "workers") (codes "2") ∷ default_row (codes "outbox") (codes "1024") ∷ default_row (codes "history") (codes "1000000") ∷ []
+default_rows = default_row (codes "listen") default_listen ∷ default_row (codes "workers") (codes "2") ∷ default_row (codes "outbox") (codes "1024") ∷ default_row (codes "history") (codes "1000000") ∷ default_row (codes "history-bytes") (codes "268435456") ∷ default_row (codes "connections") (codes "8192") ∷ []
 
 serves : (name : Text) → (kinds_of (name ∷ codes "serve" ∷ []) ≡ []) × (found_in (name ∷ codes "serve" ∷ []) ≡ Some (codes "serve", default_rows))
 unfolding clap_on_literals
@@ -131,6 +131,12 @@ thousand = search rules
 
 million : IsUnsignedIn 2 most_history (codes "1000000")
 million = search rules
+
+megabytes : IsUnsignedIn 1048576 most_history (codes "268435456")
+megabytes = search rules
+
+eight_thousand : IsUnsignedIn 1 most_connections (codes "8192")
+eight_thousand = search rules
 
 abbrev rows_in : Option (Text × List Row) → List Row
 rows_in None = []
@@ -232,6 +238,8 @@ defaults o h = record {
   workers = number_is 1 64 o.workers 2 (codes "2") h.workers two refl;
   outbox = number_is 1 65536 o.outbox 1024 (codes "1024") h.outbox thousand refl;
   history = number_is 2 most_history o.history 1000000 (codes "1000000") h.history million refl;
+  history_bytes = number_is 1048576 most_history o.history_bytes 268435456 (codes "268435456") h.history_bytes megabytes refl;
+  connections = number_is 1 most_connections o.connections 8192 (codes "8192") h.connections eight_thousand refl;
 }
 
 serve_if : (r : Result Invocation WordsFault) → IsReading [] (Some (codes "serve", default_rows)) r → IsServeOrMemory AreDefaults r

@@ -21,6 +21,9 @@ default_listen = codes "127.0.0.1:4222"
 abbrev pub most_history : ℕ
 most_history = 18446744073709551615
 
+abbrev pub most_connections : ℕ
+most_connections = 18446744073709551615
+
 abbrev pub policy_rule : Rule
 policy_rule = text_rule (codes "policy")
 
@@ -36,8 +39,14 @@ outbox_rule = number_rule (codes "outbox") 1 65536 (codes "1024")
 abbrev pub history_rule : Rule
 history_rule = number_rule (codes "history") 2 most_history (codes "1000000")
 
+abbrev pub history_bytes_rule : Rule
+history_bytes_rule = number_rule (codes "history-bytes") 1048576 most_history (codes "268435456")
+
+abbrev pub connections_rule : Rule
+connections_rule = number_rule (codes "connections") 1 most_connections (codes "8192")
+
 abbrev pub serve_app : App
-serve_app = with_rule (with_rule (with_rule (with_rule (with_rule (new_app (codes "serve")) policy_rule) listen_rule) workers_rule) outbox_rule) history_rule
+serve_app = with_rule (with_rule (with_rule (with_rule (with_rule (with_rule (with_rule (new_app (codes "serve")) policy_rule) listen_rule) workers_rule) outbox_rule) history_rule) history_bytes_rule) connections_rule
 
 -- a command that is so, and has no option that those below it have too
 abbrev pub IsLocalApp : App → Command → Type 0
@@ -57,6 +66,8 @@ pub record IsOptions (rows : List Row) (o : ServeOptions) : Type 0 where
   pub workers : IsNumberIn 1 64 (one_of (codes "workers") rows) o.workers
   pub outbox : IsNumberIn 1 65536 (one_of (codes "outbox") rows) o.outbox
   pub history : IsNumberIn 2 most_history (one_of (codes "history") rows) o.history
+  pub history_bytes : IsNumberIn 1048576 most_history (one_of (codes "history-bytes") rows) o.history_bytes
+  pub connections : IsNumberIn 1 most_connections (one_of (codes "connections") rows) o.connections
 
 -- a server can be opened with these
 pub record AreServable (o : ServeOptions) : Type 0 where
@@ -65,6 +76,8 @@ pub record AreServable (o : ServeOptions) : Type 0 where
   pub outbox : 1 ≤ o.outbox
   pub outboxes : o.outbox ≤ 65536
   pub history : 2 ≤ o.history
+  pub history_byte : 1048576 ≤ o.history_bytes
+  pub connection : 1 ≤ o.connections
 
 -- no option was given
 pub record AreDefaults (o : ServeOptions) : Type 0 where
@@ -73,3 +86,5 @@ pub record AreDefaults (o : ServeOptions) : Type 0 where
   pub workers : o.workers ≡ 2
   pub outbox : o.outbox ≡ 1024
   pub history : o.history ≡ 1000000
+  pub history_bytes : o.history_bytes ≡ 268435456
+  pub connections : o.connections ≡ 8192

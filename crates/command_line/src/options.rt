@@ -1,6 +1,6 @@
 // The options of `natsd serve` (docs/OPERATING.md, "Options").
-ghost use Rattle.std.specs.Prelude.{◌≡◌, ◌≤◌, false, IfOk, option_map, string_bytes};
-ghost use Rattle.clap.specs.Words.{first_of, found_of, one_of, rows_of, rule_of};
+ghost use Rattle.std.specs.Prelude.{◌≡◌, ◌≤◌, false, IfOk, codes, option_map, string_bytes};
+ghost use Rattle.clap.specs.Words.{first_of, found_of, new_app, one_of, rows_of, rule_of};
 ghost use Rattle.command_line.specs.Options.{listen_rule, number_rule, serve_app, text_rule, IsLocalApp, IsNumberIn, IsOptions};
 
 use clap::builder::ValueParser;
@@ -21,6 +21,10 @@ pub struct ServeOptions {
     pub outbox: u64,
     /// How many entries the history may hold, at least 2.
     pub history: u64,
+    /// How many bytes the entries of the history may keep, about, at least 1,048,576.
+    pub history_bytes: u64,
+    /// How many connections may be open, at least 1.
+    pub connections: u64,
 }
 
 const LISTEN: &str = "127.0.0.1:4222";
@@ -30,6 +34,10 @@ const MOST_WORKERS: u64 = 64;
 const MOST_OUTBOX: u64 = 65_536;
 
 const LEAST_HISTORY: u64 = 2;
+
+const LEAST_BYTES: u64 = 1_048_576;
+
+const LEAST_CONNECTIONS: u64 = 1;
 
 /// An option that takes a text.
 fn text_option<'a>(alloc: Global, id: &'a str, shown_as: &'a str, help: &'a str) -> Arg<'a>
@@ -70,13 +78,21 @@ fn number_option<'a>(
         .default_value(default)
 }
 
+/// `natsd serve` without options.
+fn bare_command<'a>(alloc: Global) -> Command<'a>
+    ensures { IsLocalApp (new_app (codes "serve")) result }
+{
+    Command::new(alloc, "serve").about(
+        "Serves clients over sockets, by a policy that may change while it runs",
+    )
+}
+
 /// What `natsd serve` takes on its command line.
 pub fn serve_command<'a>(alloc: Global) -> Result<Command<'a>, AllocError>
     ensures { IfOk result (IsLocalApp serve_app) }
 {
     // Each option is made where it is added, so that no other has to be dropped where memory lacks.
-    Command::new(alloc, "serve")
-        .about("Serves clients over sockets, by a policy that may change while it runs")
+    bare_command(alloc)
         .arg(text_option(
             alloc,
             "policy",
@@ -107,6 +123,22 @@ pub fn serve_command<'a>(alloc: Global) -> Result<Command<'a>, AllocError>
             LEAST_HISTORY,
             u64::MAX,
             "1000000",
+        ))?
+        .arg(number_option(
+            alloc,
+            "history-bytes",
+            "How many bytes its entries may keep, at least 1048576",
+            LEAST_BYTES,
+            u64::MAX,
+            "268435456",
+        ))?
+        .arg(number_option(
+            alloc,
+            "connections",
+            "How many connections may be open, at least 1",
+            LEAST_CONNECTIONS,
+            u64::MAX,
+            "8192",
         ))
 }
 
@@ -148,5 +180,7 @@ pub fn options_of(alloc: Global, matches: &ArgMatches<'_>) -> Result<ServeOption
         workers: number_in(matches, "workers", 1, MOST_WORKERS),
         outbox: number_in(matches, "outbox", 1, MOST_OUTBOX),
         history: number_in(matches, "history", LEAST_HISTORY, u64::MAX),
+        history_bytes: number_in(matches, "history-bytes", LEAST_BYTES, u64::MAX),
+        connections: number_in(matches, "connections", LEAST_CONNECTIONS, u64::MAX),
     })
 }

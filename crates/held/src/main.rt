@@ -7,14 +7,15 @@ ghost use Rattle.serving.specs.Serve.{AreServable};
 mod fault;
 mod holding;
 
-use devices::{ReadSource, WriteSink};
+use devices::ReadSource;
 use fault::HeldFault;
 use holding::{Answers, Holding};
 use policy_source::Frames;
+use server_prints::{Prints, print_all};
 use serving::{Settings, serve_clients};
 use std::process::ExitCode;
 use std::rt::Env;
-use std::{env, io};
+use std::{env, thread};
 
 /// The words of the command line: `held TURNS`. Policies come as frames on standard input, and clients are served at a
 /// free port until it ends. TURNS is how often the first worker looks whether it may go on.
@@ -29,20 +30,28 @@ fn main(rt: HostRuntime) -> ExitCode {
     let answers = Answers::new();
     let gates = Holding::new(&rt, &answers, turns);
     let mut policies = Frames::new(rt.alloc(), ReadSource::new(rt.reader()));
-    let mut sink = WriteSink::new(io::writer(&rt));
-    let status = serve_clients(&rt, settings(), &gates, &mut policies, &mut sink);
+    let prints = Prints::new(rt.alloc());
+    let mut stdout = rt.stdout();
+    let (rt, lines, writer) = (&rt, &prints, &mut stdout);
+    let ((), status) = thread::join(
+        rt,
+        || print_all(rt, rt.alloc(), lines, writer),
+        || serve_clients(rt, settings(), &gates, &mut policies, lines),
+    );
     ExitCode::from(status)
 }
 
 /// Two workers at a free port.
 fn settings() -> Settings<'static>
-    ensures { AreServable result.workers result.outbox result.history }
+    ensures { AreServable result.workers result.outbox result.history result.history_bytes result.connections }
 {
     Settings {
         listen: "127.0.0.1:0",
         workers: 2,
         outbox: 1024,
         history: 1_000_000,
+        history_bytes: 268_435_456,
+        connections: 8192,
     }
 }
 

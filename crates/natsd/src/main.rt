@@ -1,36 +1,51 @@
 //! natsd: the routing core of a multi-tenant NATS server.
 #![tactic(auto)]
 
+ghost use Rattle.command_line.specs.Options.{AreServable};
+
 mod serve;
 
 use devices::{ReadSource, WriteSink};
 use policy_source::{Frames, WatchedFile};
 use serve::serve_clients;
+use server_prints::{Prints, print_all};
 use std::hash::RandomState;
 use std::process::ExitCode;
 use std::random::RandomSource;
 use std::rt::Env;
-use std::{env, io};
+use std::{env, thread};
 use tasks::{Ran, Start, StartFault, run};
 
 fn main(rt: HostRuntime) -> ExitCode {
     let start = start(&rt);
     let mut source = ReadSource::new(rt.reader());
-    let mut sink = WriteSink::new(io::writer(&rt));
+    let mut sink = WriteSink::new(rt.stdout());
     let mut errors = WriteSink::new(rt.stderr());
     match run(rt.alloc(), &start, &mut source, &mut sink, &mut errors) {
         Ran::Ended(status) => ExitCode::from(status),
         Ran::Serve(options) => {
-            let status = match &options.policy {
-                Some(path) => {
-                    let mut policies = WatchedFile::new(&rt, path.as_str());
-                    serve_clients(&rt, &options, &mut policies, &mut sink)
-                }
-                None => {
-                    let mut policies = Frames::new(rt.alloc(), source);
-                    serve_clients(&rt, &options, &mut policies, &mut sink)
-                }
-            };
+            let prints = Prints::new(rt.alloc());
+            let mut stdout = rt.stdout();
+            let (rt, options, lines, writer) = (&rt, &options, &prints, &mut stdout);
+            // (a thread of its own prints, so nothing else waits until the lines are taken)
+            let ((), status) = thread::join(
+                rt,
+                || print_all(rt, rt.alloc(), lines, writer),
+                || -> u8
+                    requires { AreServable options.now }
+                {
+                    match &options.policy {
+                        Some(path) => {
+                            let mut policies = WatchedFile::new(rt, path.as_str(), &mut errors);
+                            serve_clients(rt, options, &mut policies, lines)
+                        }
+                        None => {
+                            let mut policies = Frames::new(rt.alloc(), source);
+                            serve_clients(rt, options, &mut policies, lines)
+                        }
+                    }
+                },
+            );
             ExitCode::from(status)
         }
     }

@@ -3,9 +3,9 @@ ghost use Rattle.std.specs.Prelude.{◌≤◌};
 ghost use Rattle.command_line.specs.Options.{AreServable};
 
 use command_line::ServeOptions;
-use devices::Sink;
 use gates::Open;
 use policy_source::Policies;
+use server_prints::Prints;
 use serving::{GateSource, Settings};
 use std::alloc::AllocGlobal;
 use std::net::Net;
@@ -28,12 +28,11 @@ impl GateSource<Open> for AllOpen {
 }
 
 /// Serves clients as the options say, by the policies that come, until they end, and answers the status: 0 at their end,
-/// 1 at a fault. What comes to pass is printed, a line each, and the last line tells why it has ended.
+/// 1 at a fault. What comes to pass is to be printed, a line each, and the last line tells why it has ended.
 pub fn serve_clients<
     R: Threads + Wait + Net + Clock + RandomSource + Sync + AllocGlobal,
     P: Policies + Send,
-    W: Sink + Send,
->(rt: &R, options: &ServeOptions, policies: &mut P, sink: &mut W) -> u8
+>(rt: &R, options: &ServeOptions, policies: &mut P, prints: &Prints) -> u8
     requires { AreServable options.now }
     ensures { result ≤ 1 }
 {
@@ -42,6 +41,8 @@ pub fn serve_clients<
         workers: options.workers,
         outbox: options.outbox,
         history: options.history,
+        history_bytes: options.history_bytes,
+        connections: options.connections,
     };
-    serving::serve_clients(rt, settings, &AllOpen, policies, sink)
+    serving::serve_clients(rt, settings, &AllOpen, policies, prints)
 }

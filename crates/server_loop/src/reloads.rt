@@ -1,16 +1,20 @@
-use devices::{Sink, write_all};
-use doors::{House, Notices};
+use doors::House;
 use events::{Answer, Command, Event, HubRefusal};
-use gates::{Gate, GatedPort, Point};
+use gates::{Gate, Point};
 use policy_source::{Next, Policies};
 use ready::Ready;
 use reload::prepare;
 use script_text::write_reload;
 use serve_fault::ServeFault;
+use server_port::ServerPort;
+use server_prints::Prints;
 use shared_hub::Run;
 use std::alloc::Global;
 use std::sync::Wait;
-use std::time::Clock;
+use std::time::{Clock, Duration};
+
+/// After how long a line that found no room is offered again, in milliseconds.
+const RETRY: u64 = 10;
 
 /// The thread that installs policies: its port to the hub, and where it prints.
 #[derive(Drop)]
@@ -18,31 +22,24 @@ pub struct Reloads<'a, L: Run, R: Wait, G: Gate + Drop> {
     pub rt: &'a R,
     pub alloc: Global,
     pub house: &'a House<'a>,
-    pub port: GatedPort<'a, L, R, G, Notices>,
-}
-
-fn say<S: Sink>(sink: &mut S, line: &[u8]) {
-    drop(write_all(sink, line));
+    pub port: ServerPort<'a, L, R, G>,
+    pub prints: &'a Prints,
 }
 
 impl<L: Run, R: Wait + Clock, G: Gate + Drop> Reloads<'_, L, R, G> {
     /// Installs policies until their input ends or the server stops.
-    pub fn run<P: Policies, S: Sink>(
-        &mut self,
-        policies: &mut P,
-        sink: &mut S,
-    ) -> Option<ServeFault> {
+    pub fn run<P: Policies>(&mut self, policies: &mut P) -> Option<ServeFault> {
         for _ in self.rt.forever() {
             if self.house.stops() {
                 return None;
             }
-            match policies.next() {
+            match policies.next(self.house.descriptors()) {
                 Next::Later => {}
                 Next::End => return None,
                 Next::Bad => return Some(ServeFault::BadFrame),
-                Next::NoMemory => say(sink, b"no memory\n"),
+                Next::NoMemory => self.say(b"no memory\n"),
                 Next::Text(text) => {
-                    if self.install(text.as_slice(), sink) {
+                    if self.install(text.as_slice()) {
                         return Some(ServeFault::TurnsSpent);
                     }
                 }
@@ -52,21 +49,21 @@ impl<L: Run, R: Wait + Clock, G: Gate + Drop> Reloads<'_, L, R, G> {
     }
 
     /// Installs a policy, or prints its first fault. Answers whether the gate has let it pass no more.
-    fn install<S: Sink>(&mut self, text: &[u8], sink: &mut S) -> bool {
+    fn install(&mut self, text: &[u8]) -> bool {
         match prepare(self.alloc, text) {
             Ok(ready) => {
                 self.port.pass(Point::Prepared);
-                self.submit(ready, sink);
+                self.submit(ready);
                 let _ = self.port.shed(usize::MAX);
                 self.port.is_spent()
             }
             Err(fault) => {
                 match fault.line(self.alloc) {
                     Ok(line) => {
-                        say(sink, line.as_slice());
-                        say(sink, b"\n");
+                        self.say(line.as_slice());
+                        self.say(b"\n");
                     }
-                    Err(_) => say(sink, b"no memory\n"),
+                    Err(_) => self.say(b"no memory\n"),
                 }
                 false
             }
@@ -74,26 +71,36 @@ impl<L: Run, R: Wait + Clock, G: Gate + Drop> Reloads<'_, L, R, G> {
     }
 
     /// Enters a reload, and prints what came of it.
-    fn submit<S: Sink>(&mut self, ready: Ready, sink: &mut S) {
+    fn submit(&mut self, ready: Ready) {
         let now = self.house.now(self.rt);
         let event = Event {
             now,
             what: Command::Reload(ready),
         };
         match self.port.enter(event) {
-            Ok(answer) => self.tell(&answer, now, sink),
-            Err((_, HubRefusal::HistoryFull)) => say(sink, b"history full\n"),
-            Err((_, _)) => say(sink, b"no memory\n"),
+            Ok(answer) => self.tell(&answer),
+            Err((_, HubRefusal::HistoryFull)) => self.say(b"history full\n"),
+            Err((_, _)) => self.say(b"no memory\n"),
         }
     }
 
-    /// Prints the lines of a reload, and tells the owners of the connections that it names.
-    fn tell<S: Sink>(&mut self, answer: &Answer, now: u64, sink: &mut S) {
-        let mut line = Vec::new(self.alloc);
-        match write_reload(&mut line, answer.get()) {
-            Ok(()) => say(sink, line.as_slice()),
-            Err(_) => say(sink, b"no memory\n"),
+    /// Tells the owners of the connections that a reload names, and then prints its lines.
+    fn tell(&mut self, answer: &Answer) {
+        self.port.notices().leave_others(self.rt, self.house.doors);
+        let mut lines = Vec::new(self.alloc);
+        match write_reload(&mut lines, answer.get()) {
+            Ok(()) => self.say(lines.as_slice()),
+            Err(_) => self.say(b"no memory\n"),
         }
-        self.port.notes().leave_all(self.rt, self.house.doors, now);
+    }
+
+    /// Has lines printed, once there is room for them. Where the server stops first they are lost.
+    fn say(&self, lines: &[u8]) {
+        for _ in self.rt.forever() {
+            if self.prints.add(self.rt, lines) || self.house.stops() {
+                return;
+            }
+            self.rt.sleep(Duration::from_millis(RETRY));
+        }
     }
 }

@@ -1,13 +1,14 @@
 use crate::reloads::Reloads;
 use crate::worker::{Start, WAKER, Worker};
 use conn::Words;
-use devices::Sink;
 use doors::{Door, Flags, House, Limits, Notices, millis, open_door};
-use gates::{Gate, GatedPort};
+use gates::Gate;
 use mio::net::TcpListener;
 use policy_source::Policies;
 use serve_fault::{ServeFault, least};
-use shared_hub::{Run, Seat, SeatPort, Shared};
+use server_port::ServerPort;
+use server_prints::Prints;
+use shared_hub::{Run, Seat, Shared};
 use std::alloc::Global;
 use std::collections::VecDeque;
 use std::net::Net;
@@ -26,11 +27,10 @@ pub struct Post<L: Run, G: Drop, W: Drop> {
 
 /// What the thread that installs policies works with, and what is lent to it.
 #[derive(Drop)]
-struct Office<'b, L: Run, G: Drop, P, S> {
+struct Office<'b, L: Run, G: Drop, P> {
     seat: Seat<L>,
     gate: G,
     policies: &'b mut P,
-    sink: &'b mut S,
 }
 
 /// What the threads of a server do. It stands for a `Place`, so that what is handed to a thread names no more than this.
@@ -52,6 +52,7 @@ struct Place<'a, L: Run, R> {
     alloc: Global,
     shared: &'a Shared<L>,
     house: &'a House<'a>,
+    prints: &'a Prints,
 }
 
 fn place_of<'a, L: Run, R>(
@@ -59,18 +60,20 @@ fn place_of<'a, L: Run, R>(
     alloc: Global,
     shared: &'a Shared<L>,
     house: &'a House<'a>,
+    prints: &'a Prints,
 ) -> Place<'a, L, R> {
     Place {
         rt,
         alloc,
         shared,
         house,
+        prints,
     }
 }
 
-impl<'a, 'b, L: Run, R: Wait + Clock, G: Gate + Drop, W: Words + Drop, P: Policies, S: Sink> Site<
+impl<'a, 'b, L: Run, R: Wait + Clock, G: Gate + Drop, W: Words + Drop, P: Policies> Site<
     Start<L, G, W>,
-    Office<'b, L, G, P, S>,
+    Office<'b, L, G, P>,
 > for Place<'a, L, R> {
     fn work(&self, start: Start<L, G, W>) -> Option<ServeFault> {
         let fault = match Worker::new(self.rt, self.alloc, self.shared, self.house, start) {
@@ -83,25 +86,28 @@ impl<'a, 'b, L: Run, R: Wait + Clock, G: Gate + Drop, W: Words + Drop, P: Polici
         fault
     }
 
-    fn reload(&self, office: Office<'b, L, G, P, S>) -> Option<ServeFault> {
+    fn reload(&self, office: Office<'b, L, G, P>) -> Option<ServeFault> {
         let Office {
             seat,
             gate,
             policies,
-            sink,
         } = office;
         let Some(notices) = Notices::new(self.alloc, self.house.doors.len(), None) else {
             self.house.stop();
             return Some(ServeFault::NoMemory);
         };
-        let port = SeatPort::new(self.rt, self.shared, seat, notices);
+        let history = self.house.limits.history;
+        let (rt, alloc, shared) = (self.rt, self.alloc, self.shared);
+        let kept = self.house.kept();
+        let port = ServerPort::new(rt, alloc, shared, seat, gate, notices, history, kept);
         let mut reloads = Reloads {
             rt: self.rt,
             alloc: self.alloc,
             house: self.house,
-            port: GatedPort::new(self.alloc, port, gate, self.house.limits.history),
+            port,
+            prints: self.prints,
         };
-        let fault = reloads.run(policies, sink);
+        let fault = reloads.run(policies);
         self.house.stop();
         fault
     }
@@ -126,7 +132,6 @@ pub fn serve<
     G: Gate + Send + Drop,
     W: Words + Send + Drop,
     P: Policies + Send,
-    S: Sink + Send,
 >(
     rt: &'x R,
     alloc: Global,
@@ -136,18 +141,17 @@ pub fn serve<
     own: (Seat<L>, G),
     limits: Limits,
     policies: &mut P,
-    sink: &mut S,
+    prints: &'x Prints,
 ) -> Result<(), ServeFault> {
-    let (doors, starts) = open_all(rt, alloc, listener, posts, limits)?;
-    let flags = Flags::new();
+    let (doors, starts) = open_all(rt, alloc, listener, posts)?;
+    let flags = Flags::new(limits);
     let house = House::new(doors.as_slice(), limits, millis(rt), &flags);
-    let place = place_of(rt, alloc, shared, &house);
+    let place = place_of(rt, alloc, shared, &house, prints);
     let (seat, gate) = own;
     let office = Office {
         seat,
         gate,
         policies,
-        sink,
     };
     match run_all(rt, &place, office, starts) {
         Some(fault) => Err(fault),
@@ -198,7 +202,6 @@ fn open_all<L: Run, R: Net, G: Drop, W: Drop>(
     alloc: Global,
     listener: TcpListener,
     posts: Vec<Post<L, G, W>>,
-    limits: Limits,
 ) -> Result<(Vec<Door>, Vec<Start<L, G, W>>), ServeFault> {
     let mut posts = VecDeque::from(posts);
     let mut listener = Some(listener);
@@ -208,7 +211,7 @@ fn open_all<L: Run, R: Net, G: Drop, W: Drop>(
         let Some(post) = posts.pop_front() else {
             break;
         };
-        let Some((door, poll)) = open_door(rt, alloc, limits, WAKER) else {
+        let Some((door, poll)) = open_door(rt, alloc, WAKER) else {
             return Err(ServeFault::PollFailed);
         };
         let start = Start {

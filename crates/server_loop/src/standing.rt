@@ -13,13 +13,23 @@ pub struct Standing {
     pub end_at: Option<u64>,
     /// Whether its socket may have more to read.
     pub readable: bool,
-    /// Until when it is read no further, since a receiver lags.
+    /// Until when its frames wait, since a receiver has no room; whether it is looked after among those; and whether they
+    /// may go on, and couldn't yet.
     pub held_until: Option<u64>,
-    /// Whether it stands among those with work, and among those to be drained.
+    pub is_held: bool,
+    pub is_let_on: bool,
+    /// Whether it stands among those with work, those that were cut short, those to be drained, and those to be drained soon.
     pub is_ready: bool,
+    pub is_cut: bool,
     pub is_dirty: bool,
+    pub is_pressing: bool,
+    /// Whether it has had what waited for it before what it is told next.
+    pub has_passed: bool,
     /// Whether its turn is over, and its session is still to be closed.
     pub is_over: bool,
+    /// Whether its socket is to linger then, and does.
+    pub is_to_linger: bool,
+    pub lingers: bool,
 }
 
 impl Standing {
@@ -32,20 +42,33 @@ impl Standing {
             end_at: None,
             readable: true,
             held_until: None,
+            is_held: false,
+            is_let_on: false,
             is_ready: false,
+            is_cut: false,
             is_dirty: false,
+            is_pressing: false,
+            has_passed: false,
             is_over: false,
+            is_to_linger: false,
+            lingers: false,
         }
     }
 
-    /// Whether answers wait, and all deliveries that come before them are taken.
-    pub fn may_answer(&self) -> bool {
-        self.client.has_answers() && (self.due.is_answer_next() || !self.is_due())
+    /// Whether it may be read, or its frames go on; or whether what it sends is to be dropped.
+    pub fn may_read(&self) -> bool {
+        self.readable && (self.lingers || !self.waits_its_turn() && !self.is_over)
     }
 
-    /// Whether it may be read.
-    pub fn may_read(&self) -> bool {
-        self.readable && self.held_until.is_none() && !self.is_over && !self.client.has_answers()
+    /// Whether it goes on elsewhere: it is held, was cut short, or is to have deliveries first.
+    fn waits_its_turn(&self) -> bool {
+        self.held_until.is_some() || self.is_cut || self.due.ahead.is_some()
+    }
+
+    /// Whether it is ended where its socket takes nothing: it is to be closed, or its frames could go on, and others may
+    /// wait for it meanwhile.
+    pub fn may_not_last(&self) -> bool {
+        self.due.drain || self.is_let_on || self.client.conn().stage().is_closed()
     }
 
     /// Whether a Take is due.

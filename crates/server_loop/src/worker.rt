@@ -1,14 +1,16 @@
+use crate::lingering::Lingering;
 use crate::server::Post;
 use crate::standing::Standing;
+use crate::unknown::Fresh;
 use conn::Words;
-use doors::{House, Left, Notices, millis};
-use gates::{Gate, GatedPort};
-use mio::event::Event;
+use doors::{House, Mail, Notices, millis};
+use gates::Gate;
 use mio::net::TcpListener;
 use mio::{Events, Interest, Poll, Token};
-use pacing::{Named, PIECE};
+use pacing::{PIECE, Slice};
 use serve_fault::ServeFault;
-use shared_hub::{Run, SeatPort, Shared};
+use server_port::ServerPort;
+use shared_hub::{Run, Shared};
 use slab::Slab;
 use std::alloc::Global;
 use std::collections::{HashMap, VecDeque};
@@ -23,13 +25,6 @@ pub const LISTENER: Token = Token(usize::MAX - 1);
 
 /// How many events of sockets one wait tells.
 const EVENTS: usize = 1024;
-
-/// How many pieces are read of all connections before each that is to be written to is drained.
-const TURNS: usize = 16;
-
-/// How many rounds without work a worker looks for some before it sleeps, some hundred microseconds: to wake it takes longer
-/// than most work takes to come.
-const LOOKS: u32 = 100;
 
 /// How many old entries of the history a worker that would sleep drops before it looks for work again.
 const SHED: usize = 1024;
@@ -46,13 +41,6 @@ pub struct Start<L: Run, G: Drop, W: Drop> {
     pub listener: Option<TcpListener>,
 }
 
-/// A publisher that is read no further for now.
-#[derive(Clone, Copy)]
-pub struct Held {
-    pub conn: u64,
-    pub until: u64,
-}
-
 /// One worker: its connections, and what is to be done about them.
 #[derive(Drop)]
 pub struct Worker<'a, L: Run, R: Wait, G: Gate + Drop, W: Words + Drop> {
@@ -65,25 +53,35 @@ pub struct Worker<'a, L: Run, R: Wait, G: Gate + Drop, W: Words + Drop> {
     pub next_conn: u64,
     /// From when on connections are to be accepted.
     pub accept_at: Option<u64>,
-    pub port: GatedPort<'a, L, R, G, Notices>,
+    /// Whether there was no room for one more, and the system is to tell whether somebody waits for it.
+    pub is_full: bool,
+    pub port: ServerPort<'a, L, R, G>,
     pub words: W,
     pub clients: Slab<Standing>,
     pub keys: HashMap<u64, usize, RandomState>,
-    /// The places of connections with something to read, to be written to, and whose turn could not be ended.
+    /// The places of connections with something to read, of those that were cut short, of those to be written to, of those
+    /// among them to be written to soon, and of those whose turn could not be ended.
     pub ready: VecDeque<usize>,
+    pub cut: VecDeque<usize>,
     pub dirty: VecDeque<usize>,
+    pub pressing: VecDeque<usize>,
     pub stalled: VecDeque<usize>,
-    /// Publishers that are read no further, the longest held first.
-    pub held: VecDeque<Held>,
-    /// What has left outboxes since the door was told.
-    pub left: Vec<Left>,
-    /// The publisher of the latest piece of a round, and whether others know that receivers are still to be named.
-    pub publisher: Option<u64>,
-    pub tells: bool,
-    /// Room for names that others leave.
-    pub room: Vec<Named>,
+    /// The places of those that wait for a receiver, and when they are looked after.
+    pub held: VecDeque<usize>,
+    pub look_at: Option<u64>,
+    /// Those that linger, the longest first, and those without an accepted CONNECT in the order of their numbers; others
+    /// among them are passed over.
+    pub lingering: VecDeque<Lingering>,
+    pub fresh: VecDeque<Fresh>,
+    /// What may still be drained before the sockets are looked at again.
+    pub slice: Slice,
+    /// Room for what others leave here, and for what one leaves oneself.
+    pub room: Mail,
+    pub own: Mail,
     pub buf: Vec<u8>,
     pub now: u64,
+    /// From when on turns that could not be ended are tried again.
+    pub try_at: u64,
     /// Whether others know that it sleeps, and will wake it.
     pub sleeps: bool,
     /// How many more rounds it looks for work before it sleeps.
@@ -109,7 +107,6 @@ impl<'a, L: Run, R: Wait + Clock, G: Gate + Drop, W: Words + Drop> Worker<'a, L,
         } = start;
         let Post { seat, gate, words } = post;
         let notices = Notices::new(alloc, house.doors.len(), Some(index))?;
-        let port = SeatPort::new(rt, shared, seat, notices);
         Some(Worker {
             rt,
             alloc,
@@ -119,20 +116,35 @@ impl<'a, L: Run, R: Wait + Clock, G: Gate + Drop, W: Words + Drop> Worker<'a, L,
             listener,
             next_conn: 1,
             accept_at: Some(0),
-            port: GatedPort::new(alloc, port, gate, house.limits.history),
+            is_full: false,
+            port: ServerPort::new(
+                rt,
+                alloc,
+                shared,
+                seat,
+                gate,
+                notices,
+                house.limits.history,
+                house.kept(),
+            ),
             words,
             clients: Slab::new(alloc),
             keys: HashMap::with_hasher(alloc, house.limits.keys),
             ready: VecDeque::new(alloc),
+            cut: VecDeque::new(alloc),
             dirty: VecDeque::new(alloc),
+            pressing: VecDeque::new(alloc),
             stalled: VecDeque::new(alloc),
             held: VecDeque::new(alloc),
-            left: Vec::new(alloc),
-            publisher: None,
-            tells: false,
-            room: Vec::new(alloc),
+            look_at: None,
+            lingering: VecDeque::new(alloc),
+            fresh: VecDeque::new(alloc),
+            slice: Slice::whole(),
+            room: Mail::new(alloc),
+            own: Mail::new(alloc),
             buf,
             now: 0,
+            try_at: 0,
             sleeps: false,
             looks: 0,
         })
@@ -171,29 +183,22 @@ impl<'a, L: Run, R: Wait + Clock, G: Gate + Drop, W: Words + Drop> Worker<'a, L,
         watched.is_ok()
     }
 
-    /// One round: what was left here, what the sockets tell, and some turns. As long as others have something to read only
-    /// connections are drained for which much waits. Answers whether the system could tell of sockets.
+    /// One round: what was left here, a slice of what is to be written, what the sockets tell, and some turns. Answers
+    /// whether the system could tell of sockets.
     fn round(&mut self, events: &mut Events) -> bool {
         self.looks = self.looks.saturating_sub(1);
         self.take_in();
-        self.drain_dirty(true);
+        self.give_way();
+        self.slice = Slice::whole();
+        self.drain_dirty();
         if !self.wait(events) {
             return false;
         }
-        self.let_on();
+        self.end_lingering();
+        self.look_after_held();
         self.try_again();
         self.accept();
-        for _ in 0..TURNS {
-            let Some(key) = self.ready.pop_front() else {
-                break;
-            };
-            self.serve_one(key);
-            self.take_in();
-            let is_last = self.ready.is_empty();
-            self.drain_dirty(is_last);
-        }
-        self.tell_others();
-        self.publisher = None;
+        self.take_turns();
         true
     }
 
@@ -204,11 +209,21 @@ impl<'a, L: Run, R: Wait + Clock, G: Gate + Drop, W: Words + Drop> Worker<'a, L,
             Duration::ZERO
         } else if !self.stalled.is_empty() {
             Duration::from_millis(10)
-        } else if !self.held.is_empty() || self.accept_at.is_some() {
-            Duration::from_millis(100)
         } else {
-            Duration::from_millis(1000)
+            let until = self.next_look();
+            Duration::from_millis(until.saturating_sub(self.now).max(1).min(1000))
         }
+    }
+
+    /// When something is to be looked at that no socket tells of.
+    fn next_look(&self) -> u64 {
+        let held = self.look_at.unwrap_or(u64::MAX);
+        let accepts = self.accept_at.unwrap_or(u64::MAX);
+        let lingers = match self.lingering.front() {
+            None => u64::MAX,
+            Some(first) => first.until,
+        };
+        held.min(accepts).min(lingers)
     }
 
     /// Waits for sockets, and notes what they tell. Answers whether the system could tell.
@@ -219,86 +234,39 @@ impl<'a, L: Run, R: Wait + Clock, G: Gate + Drop, W: Words + Drop> Worker<'a, L,
         }
         let told = self.poll.poll(events, Some(patience)).is_ok();
         self.now = self.house.now(self.rt);
-        for event in events.iter() {
-            self.note_event(event);
-        }
+        self.note_events(events);
         told
     }
 
-    fn note_event(&mut self, event: &Event) {
-        let token = event.token();
-        if token == LISTENER {
-            self.accept_at = self.accept_at.or(Some(self.now));
-        } else if token != WAKER {
-            self.note_socket(token.0, event.is_readable(), event.is_writable());
-        }
-    }
-
-    fn note_socket(&mut self, key: usize, readable: bool, writable: bool) {
-        let Some(standing) = self.clients.get_mut(key) else {
-            return;
-        };
-        standing.readable = standing.readable || readable;
-        if writable && standing.client.waits() {
-            self.make_dirty(key);
-        }
-        self.make_ready(key);
-    }
-
-    /// Puts a connection among those with work, where it may be read.
-    pub fn make_ready(&mut self, key: usize) {
-        self.looks = LOOKS;
-        if let Some(standing) = self.clients.get_mut(key) {
-            if !standing.is_ready && standing.may_read() {
-                standing.is_ready = self.ready.push_back(key).is_ok();
-            }
-        }
-    }
-
-    /// Puts a connection among those to be written to.
-    pub fn make_dirty(&mut self, key: usize) {
-        self.looks = LOOKS;
-        if let Some(standing) = self.clients.get_mut(key) {
-            if !standing.is_dirty {
-                standing.is_dirty = self.dirty.push_back(key).is_ok();
-            }
-        }
-    }
-
-    /// Has publishers go on that have been held for long enough.
-    fn let_on(&mut self) {
-        for _ in 0..self.held.len() {
-            let Some(held) = self.held.pop_front() else {
-                return;
-            };
-            if held.until > self.now {
-                drop(self.held.push_front(held));
-                return;
-            }
-            self.resume(held);
-        }
-    }
-
-    /// The end: nothing more is read, and what was accepted is written out, for two seconds at most.
+    /// The end: nothing more is read, what was accepted is written out, and then is to arrive.
     fn rest(&mut self, events: &mut Events) {
         self.house.rest();
+        self.write_out(events);
+        self.linger_all(events);
+    }
+
+    /// Writes out what was accepted, for two seconds at most.
+    fn write_out(&mut self, events: &mut Events) {
         let begin = millis(self.rt);
         for _ in self.rt.forever() {
             let all = self.house.all_rest();
             self.ready.clear();
+            self.cut.clear();
             self.take_in();
-            self.drain_dirty(true);
+            self.slice = Slice::whole();
+            self.drain_dirty();
             if all && !self.owes() {
                 return;
             }
             if millis(self.rt).saturating_sub(begin) > GRACE {
                 return;
             }
-            let patience = Duration::from_millis(5);
-            drop(self.poll.poll(events, Some(patience)));
-            for event in events.iter() {
-                self.note_event(event);
-            }
+            let patience = if self.dirty.is_empty() { 5 } else { 0 };
+            drop(
+                self.poll
+                    .poll(events, Some(Duration::from_millis(patience))),
+            );
+            self.note_events(events);
         }
     }
 

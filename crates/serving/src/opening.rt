@@ -3,7 +3,6 @@ ghost use Rattle.std.specs.Prelude.{◌≡◌, IfOk};
 ghost use Rattle.serving.specs.Serve.{AreServable};
 
 use crate::settings::Settings;
-use devices::{Sink, write_all};
 use doors::Limits;
 use hub::{Caps, Hub};
 use mio::net::TcpListener;
@@ -11,16 +10,20 @@ use policy_source::{Next, Policies};
 use ready::Ready;
 use reload::prepare;
 use serve_fault::Fault;
-use std::alloc::Global;
+use server_prints::Prints;
+use std::alloc::{AllocGlobal, Global};
 use std::hash::RandomState;
 use std::net::{Net, SocketAddr};
+use std::sync::{Mutex, Wait};
 
 /// The first policy, or `None` where the input ends before it.
 pub(crate) fn first_policy<P: Policies>(
     alloc: Global,
     policies: &mut P,
 ) -> Result<Option<Ready>, Fault> {
-    let text = match policies.next() {
+    // (nobody else opens anything yet)
+    let descriptors = Mutex::new(());
+    let text = match policies.next(&descriptors) {
         Next::Text(text) => text,
         Next::End => return Ok(None),
         Next::Later => return Err(Fault::ReadFailed),
@@ -48,17 +51,17 @@ pub(crate) fn listen<R: Net>(rt: &R, address: &str) -> Result<TcpListener, Fault
     }
 }
 
-/// Prints where the listener listens.
-pub(crate) fn tell_listening<W: Sink>(
-    alloc: Global,
+/// Has it printed where the listener listens.
+pub(crate) fn tell_listening<R: Wait + AllocGlobal>(
+    rt: &R,
     listener: &TcpListener,
-    sink: &mut W,
+    prints: &Prints,
 ) -> Result<(), Fault> {
     let Ok(address) = listener.local_addr() else {
         return Err(Fault::ListenFailed);
     };
-    let line = format!(in alloc; "listening {address}\n")?;
-    drop(write_all(sink, line.as_str().as_bytes()));
+    let line = format!(in rt.alloc(); "listening {address}\n")?;
+    let _ = prints.add(rt, line.as_str().as_bytes());
     Ok(())
 }
 
@@ -69,7 +72,7 @@ pub(crate) fn open_hub(
     ready: Ready,
     keys: RandomState,
 ) -> Result<(Hub, Limits), Fault>
-    requires { AreServable settings.workers settings.outbox settings.history }
+    requires { AreServable settings.workers settings.outbox settings.history settings.history_bytes settings.connections }
     ensures { IfOk result (λ opened. opened.0.world.number ≡ 0) }
 {
     let caps = Caps {
@@ -79,6 +82,8 @@ pub(crate) fn open_hub(
     let limits = Limits {
         outbox: caps.outbox,
         history: caps.history,
+        history_bytes: settings.history_bytes,
+        connections: settings.connections,
         keys,
     };
     match Hub::new(alloc, ready, caps, keys) {

@@ -5,7 +5,6 @@ ghost use Rattle.serving.specs.Serve.{AreServable};
 use crate::opening::{first_policy, listen, open_hub, tell_listening};
 use crate::settings::Settings;
 use conn::Words;
-use devices::{Sink, write_all};
 use doors::Limits;
 use gates::Gate;
 use hub::Hub;
@@ -16,6 +15,7 @@ use rand::rngs::SmallRng;
 use rand_core::Rng;
 use serve_fault::Fault;
 use server_loop::{Post, serve};
+use server_prints::Prints;
 use shared_hub::{Blank, Run, Seat, Shared};
 use std::alloc::{AllocGlobal, Global};
 use std::hash::RandomState;
@@ -50,28 +50,29 @@ impl Words for Drawn {
 }
 
 /// Serves clients as the settings say, by the policies that come, until they end, and answers the status: 0 at their end,
-/// 1 at a fault. What comes to pass is printed, a line each, and the last line tells why it has ended. Each thread passes
-/// a gate of its own.
+/// 1 at a fault. What comes to pass is to be printed, a line each, and the last line tells why it has ended. Each thread
+/// passes a gate of its own.
 pub fn serve_clients<
     R: Threads + Wait + Net + Clock + RandomSource + Sync + AllocGlobal,
     G: Gate + Send + Drop,
     F: GateSource<G>,
     P: Policies + Send,
-    W: Sink + Send,
->(rt: &R, settings: Settings<'_>, gates: &F, policies: &mut P, sink: &mut W) -> u8
-    requires { AreServable settings.workers settings.outbox settings.history }
+>(rt: &R, settings: Settings<'_>, gates: &F, policies: &mut P, prints: &Prints) -> u8
+    requires { AreServable settings.workers settings.outbox settings.history settings.history_bytes settings.connections }
     ensures { result ≤ 1 }
 {
-    match serve_policies(rt, settings, gates, policies, sink) {
+    let status = match serve_policies(rt, settings, gates, policies, prints) {
         Ok(()) => {
-            drop(write_all(sink, b"stopped\n"));
+            let _ = prints.add(rt, b"stopped\n");
             0
         }
         Err(fault) => {
-            drop(write_all(sink, fault.line()));
+            let _ = prints.add(rt, fault.line());
             1
         }
-    }
+    };
+    prints.end(rt);
+    status
 }
 
 /// Serves clients from the first policy to the end of the policies.
@@ -80,9 +81,8 @@ fn serve_policies<
     G: Gate + Send + Drop,
     F: GateSource<G>,
     P: Policies + Send,
-    W: Sink + Send,
->(rt: &R, settings: Settings<'_>, gates: &F, policies: &mut P, sink: &mut W) -> Result<(), Fault>
-    requires { AreServable settings.workers settings.outbox settings.history }
+>(rt: &R, settings: Settings<'_>, gates: &F, policies: &mut P, prints: &Prints) -> Result<(), Fault>
+    requires { AreServable settings.workers settings.outbox settings.history settings.history_bytes settings.connections }
 {
     let Some(ready) = first_policy(rt.alloc(), policies)? else {
         return Ok(());
@@ -93,7 +93,7 @@ fn serve_policies<
     };
     let (hub, limits) = open_hub(rt.alloc(), settings, ready, keys)?;
     let seats = settings.workers + 1;
-    serve_run::<Brand, R, G, F, P, W>(
+    serve_run::<Brand, R, G, F, P>(
         rt,
         Blank::new(seats),
         hub,
@@ -102,7 +102,7 @@ fn serve_policies<
         listener,
         gates,
         policies,
-        sink,
+        prints,
     )
 }
 
@@ -113,7 +113,6 @@ fn serve_run<
     G: Gate + Send + Drop,
     F: GateSource<G>,
     P: Policies + Send,
-    W: Sink + Send,
 >(
     rt: &R,
     blank: Blank,
@@ -123,7 +122,7 @@ fn serve_run<
     listener: TcpListener,
     gates: &F,
     policies: &mut P,
-    sink: &mut W,
+    prints: &Prints,
 ) -> Result<(), Fault>
     requires name { blank.name ≡ L.name }
     requires parts { blank.parts ≡ L.parts }
@@ -132,7 +131,9 @@ fn serve_run<
 {
     match Shared::<L>::with_seats(rt.alloc(), blank, hub, seats) {
         Ok((shared, seats)) => {
-            serve_seats(rt, &shared, seats, limits, listener, gates, policies, sink)
+            serve_seats(
+                rt, &shared, seats, limits, listener, gates, policies, prints,
+            )
         }
         Err(_) => Err(Fault::NoMemory),
     }
@@ -145,7 +146,6 @@ fn serve_seats<
     G: Gate + Send + Drop,
     F: GateSource<G>,
     P: Policies + Send,
-    W: Sink + Send,
 >(
     rt: &R,
     shared: &Shared<L>,
@@ -154,7 +154,7 @@ fn serve_seats<
     listener: TcpListener,
     gates: &F,
     policies: &mut P,
-    sink: &mut W,
+    prints: &Prints,
 ) -> Result<(), Fault> {
     let alloc = rt.alloc();
     let mut seats = seats;
@@ -162,10 +162,10 @@ fn serve_seats<
         return Err(Fault::NoMemory);
     };
     let posts = posts(rt, alloc, gates, seats)?;
-    tell_listening(alloc, &listener, sink)?;
+    tell_listening(rt, &listener, prints)?;
     let own = (seat, gates.reload_gate());
     serve(
-        rt, alloc, listener, shared, posts, own, limits, policies, sink,
+        rt, alloc, listener, shared, posts, own, limits, policies, prints,
     )?;
     Ok(())
 }

@@ -9,4 +9,8 @@ pub struct Settings<'a> {
     pub outbox: u64,
     /// How many entries the history may hold.
     pub history: u64,
+    /// How many bytes the entries of the history may keep, about.
+    pub history_bytes: u64,
+    /// How many connections may be open.
+    pub connections: u64,
 }

@@ -1,0 +1,41 @@
+// How connections end.
+use crate::worker::Worker;
+use client_io::Turn;
+use conn::Words;
+use gates::Gate;
+use shared_hub::Run;
+use std::sync::Wait;
+use std::time::Clock;
+
+impl<'a, L: Run, R: Wait + Clock, G: Gate + Drop, W: Words + Drop> Worker<'a, L, R, G, W> {
+    /// A connection's turn is over. Where the server closes it, its socket is to linger.
+    pub fn close(&mut self, key: usize, turn: Turn) {
+        if let Some(standing) = self.clients.get_mut(key) {
+            standing.is_to_linger = matches!(turn, Turn::Closed | Turn::Lost);
+        }
+        self.end(key);
+    }
+
+    /// A connection ends: its session is closed, and then its socket. Where the session can't be closed yet, it is tried
+    /// again.
+    pub fn end(&mut self, key: usize) {
+        let Some(standing) = self.clients.get_mut(key) else {
+            return;
+        };
+        let conn = standing.client.conn().number();
+        let is_to_linger = standing.is_to_linger;
+        standing.is_over = true;
+        let stall = standing.client.end(&mut self.port, self.now);
+        if stall.is_some() {
+            drop(self.stalled.push_back(key));
+            return;
+        }
+        drop(self.keys.remove(&conn));
+        if is_to_linger {
+            self.linger(key);
+        } else {
+            self.remove(key);
+        }
+        self.leave_freed();
+    }
+}
