@@ -3,9 +3,14 @@
 Each check is a script of this folder: NAME.py PROGRAM [--divide N]. It prints a line for each thing that it shows and
 last 'N passed, M failed', with status 1 where one failed. N divides the counts, for a program that was built without
 optimization. Nothing is timed, but that something happens within LIMIT seconds where it has to happen at all.
+
+A storm is a check that takes a count of workers: --workers N runs the storms alone, with N workers. --only NAME runs
+one check by its function's name, and --times N runs each N times. Storms look at times, since what they are about is
+who waits for whom; their bounds are some times what a quiet machine shows.
 """
 
 import argparse
+import concurrent.futures
 import contextlib
 import json
 import os
@@ -16,12 +21,14 @@ import selectors
 import socket
 import struct
 import subprocess
+import sys
 import tempfile
 import threading
 import time
 import traceback
 
 LIMIT = 60
+SEED = 7
 USER = {"user": "demo", "password": "demo"}
 POLICY = {"accounts": {"A": {"users": [USER]}}}
 TEXTS = {
@@ -128,13 +135,22 @@ class Server:
     def frame(self, policy):
         """Hands a policy, or a text, in as a frame."""
         text = (policy if isinstance(policy, str) else json.dumps(policy)).encode()
-        self.process.stdin.write(b"%d\n%b" % (len(text), text))
-        self.process.stdin.flush()
+        try:
+            self.process.stdin.write(b"%d\n%b" % (len(text), text))
+            self.process.stdin.flush()
+        except BrokenPipeError:
+            raise Failed(f"it reads no policy: {self.said()}") from None
 
     def seconds(self):
         """Returns how much of a processor it has used."""
         fields = pathlib.Path(f"/proc/{self.process.pid}/stat").read_text().rpartition(")")[2].split()
         return (int(fields[11]) + int(fields[12])) / os.sysconf("SC_CLK_TCK")
+
+    def scheduled(self):
+        """Returns for how long its threads have run, and have waited for a processor, in nanoseconds."""
+        files = pathlib.Path(f"/proc/{self.process.pid}/task").glob("*/schedstat")
+        times = [[*map(int, it.read_text().split()[:2])] for it in files]
+        return sum(run for run, _ in times), sum(waited for _, waited in times)
 
     def kilobytes(self):
         """Returns how much memory it has."""
@@ -170,6 +186,9 @@ class Server:
 
 class Client:
     """A connection. Unless `connect` is false, its CONNECT has been accepted."""
+
+    # Those that stay open while nobody names them.
+    kept = []
 
     def __init__(self, server, user="demo", connect=True, receive=None, **options):
         self.socket = socket.socket()
@@ -255,6 +274,10 @@ class Client:
         self.socket.setsockopt(socket.SOL_SOCKET, socket.SO_LINGER, struct.pack("ii", 1, 0))
         self.socket.close()
 
+    def keep(self):
+        self.kept.append(self)
+        return self
+
     def close(self):
         self.socket.close()
 
@@ -329,10 +352,10 @@ class Receiving:
         want(not client.got, f"before the first message: {shown(client.got)}")
         self.flood, self.client, self.got = flood, client, 0
 
-    def step(self):
-        """Reads what has come, and returns whether all has."""
+    def step(self, most=None):
+        """Reads what has come, at most so many bytes, and returns whether all has."""
         try:
-            data = self.client.socket.recv(len(self.flood.pattern))
+            data = self.client.socket.recv(most or len(self.flood.pattern))
         except BlockingIOError:
             return False
         except ConnectionResetError:
@@ -380,23 +403,76 @@ def run_floods(floods, meanwhile=None):
         it.ping()
 
 
-def run(about, *checks):
-    """Runs the checks of a script, each with the program and what divides its counts."""
+def storm(*counts):
+    """Marks a check that takes a count of workers, and says with which it runs where none is asked for; maybe none."""
+    def marked(check):
+        check.counts = counts
+        return check
+    return marked
+
+
+def asked_of(about):
+    """Returns what the command line asks of a script."""
     words = argparse.ArgumentParser(description=about, formatter_class=argparse.RawDescriptionHelpFormatter)
     words.add_argument("program")
     words.add_argument("--divide", type=int, default=1, metavar="N", help="divide the counts by N")
+    words.add_argument("--only", action="append", metavar="NAME", help="run this check alone, by its function's name")
+    words.add_argument("--workers", type=int, metavar="N", help="run the storms alone, with N workers")
+    words.add_argument("--times", type=int, default=1, metavar="N", help="run each N times")
+    words.add_argument("--seed", type=int, default=SEED, metavar="N", help="what chance begins with")
     asked = words.parse_args()
     asked.program = os.path.abspath(asked.program)
+    return asked
+
+
+def jobs_of(asked, checks):
+    """Returns each check that is to run, with its count of workers or none."""
+    chosen = [it for it in checks if not asked.only or it.__name__ in asked.only]
+    if asked.workers:
+        jobs = [(it, asked.workers) for it in chosen if hasattr(it, "counts")]
+    else:
+        jobs = [(it, count) for it in chosen for count in getattr(it, "counts", [None])]
+    return [job for job in jobs for _ in range(asked.times)]
+
+
+def outcome(asked, check, workers):
+    """Runs a check here, and returns whether it passed and the line that says so."""
+    name = (check.__doc__ or check.__name__).strip().split("\n")[0].rstrip(".")
+    name += f", {workers} worker{'s' if workers > 1 else ''}" if workers else ""
+    begin = time.monotonic()
+    try:
+        more = check(asked.program, asked.divide, workers) if workers else check(asked.program, asked.divide)
+        return True, f"passed: {name}{f': {more}' if more else ''} ({time.monotonic() - begin:.1f} s)"
+    except Exception as error:
+        why = str(error) if isinstance(error, Failed) else traceback.format_exc()
+        return False, f"FAILED: {name}: {why} ({time.monotonic() - begin:.1f} s)"
+
+
+def outcome_apart(asked, check, workers):
+    """Runs a check in a process of its own, and returns what `outcome` does."""
+    words = [sys.executable, "-B", sys.argv[0], asked.program, "--divide", str(asked.divide), "--only", check.__name__,
+             "--seed", str(asked.seed)]
+    words += ["--workers", str(workers)] if workers else []
+    it = subprocess.run(words, stdout=subprocess.PIPE, text=True, errors="backslashreplace")
+    said = it.stdout.rstrip("\n").rpartition("\n")[0]
+    return it.returncode == 0, said or f"FAILED: {check.__name__}: it ended with {it.returncode} and without a line"
+
+
+def run(about, *checks, at_once=1):
+    """Runs the checks of a script, each with the program and what divides its counts, a storm with a count of workers
+    too. So many run at once, each in a process of its own."""
+    global SEED
+    asked = asked_of(about)
+    SEED = asked.seed
+    jobs = jobs_of(asked, checks)
+    how = outcome if at_once == 1 or len(jobs) == 1 else outcome_apart
     failed = 0
-    for check in checks:
-        name = (check.__doc__ or check.__name__).strip().split("\n")[0].rstrip(".")
-        begin = time.monotonic()
-        try:
-            more = check(asked.program, asked.divide)
-            print(f"passed: {name}{f': {more}' if more else ''} ({time.monotonic() - begin:.1f} s)", flush=True)
-        except Exception as error:
-            failed += 1
-            why = str(error) if isinstance(error, Failed) else traceback.format_exc()
-            print(f"FAILED: {name}: {why}", flush=True)
-    print(f"{len(checks) - failed} passed, {failed} failed")
+    with concurrent.futures.ThreadPoolExecutor(at_once) as pool:
+        # (one that runs here is run by this thread)
+        each = pool.map if how is outcome_apart else map
+        results = each(lambda job: how(asked, *job), jobs)
+        for passed, line in results:
+            failed += not passed
+            print(line, flush=True)
+    print(f"{len(jobs) - failed} passed, {failed} failed")
     raise SystemExit(1 if failed else 0)

@@ -1,0 +1,103 @@
+#!/usr/bin/env python3
+"""How much memory the server keeps: of peers without CONNECT, and of a history of large, wide or scattered messages."""
+
+import time
+
+from clients import LIMIT, TEXTS, Client, Server, is_alive, raise_descriptors, run, shown, storm, want
+from storming import Hearing, Sending, numbered, spread
+
+# What the history and everything else may take at the defaults, in MiB.
+MOST = 600
+
+# The storms without a count of workers run where one is asked for, and not in the gate: the history isn't bounded by
+# bytes yet.
+
+
+@storm(2)
+def unknown_peers(program, divide, workers):
+    """300 peers that send half of a PUB of 1 MiB and no CONNECT: they are refused, and cost less than 20 MiB"""
+    peers, half = 300, 1 << 19
+    raise_descriptors(2 * peers)
+    with Server(program, "--workers", workers) as server:
+        is_alive(server)
+        before, most = server.kilobytes(), 0
+        clients = [Client(server, connect=False) for _ in range(peers)]
+        writing = [Sending(it, b"PUB x 1048576\r\n" + bytes(half)) for it in clients]
+        end = time.monotonic() + 3
+        while time.monotonic() < end:
+            most = max(most, server.kilobytes())
+            time.sleep(0.02)
+        want(most < before + 20 * 1024, f"the server has {(most - before) // 1024} MiB more, at most")
+        for it in clients:
+            got = it.rest()
+            want(got == TEXTS["authorization"], f"a peer got {shown(got)}")
+        for it in writing:
+            it.join("a peer isn't refused")
+        is_alive(server)
+    return f"{(most - before) // 1024} MiB more, at most"
+
+
+def watched(server, is_over, why, limit=LIMIT):
+    """Returns the most memory that the server has, in MiB, until something is over."""
+    most, end = 0, time.monotonic() + limit
+    while not is_over():
+        most = max(most, server.kilobytes())
+        want(most < MOST * 1024, f"the server has {most // 1024} MiB")
+        want(time.monotonic() < end, f"not within {limit} s: {why}")
+        time.sleep(0.02)
+    return most // 1024
+
+
+@storm(2)
+def large_messages(program, divide, workers):
+    """16,800 messages of 64 KiB to one subscriber"""
+    size, count = 1 << 16, 16_800
+    with Server(program, "--workers", workers) as server:
+        publisher, reader = spread(server, 2, workers)
+        reader.subscribe(b"large")
+        hearing = Hearing([reader])
+        Sending(publisher, *(numbered(b"large", [it], size) for it in range(8)), times=count // 8)
+        each = len(b"MSG large 1 65536\r\n\r\n") + size
+        most = watched(server, lambda: hearing.ended or hearing.bytes >= count * each, "not all came")
+        want(not hearing.ended, "the subscriber was closed")
+        hearing.end()
+    return f"at most {most} MiB"
+
+
+@storm(2)
+def scattered(program, divide, workers):
+    """One PUB in every 4 KiB of other frames, 150,000 of them by 4 clients"""
+    each, count = 4_096, 150_000
+    piece = b"PUB here 2\r\nhi\r\n"
+    # (frames that want no answer, 8 KiB of them in all at once)
+    piece += b"PONG " + b"x" * ((each - len(piece)) // 2 - 7) + b"\r\n"
+    piece += b"PONG " + b"x" * (each - len(piece) - 7) + b"\r\n"
+    with Server(program, "--workers", workers) as server:
+        clients = spread(server, 4, workers)
+        writing = [Sending(it, 16 * piece, times=count // 64) for it in clients]
+        most = watched(server, lambda: all(it.is_over() for it in writing), "not all is read")
+        for it in clients:
+            it.ping()
+    return f"at most {most} MiB"
+
+
+@storm(2)
+def wide_messages(program, divide, workers):
+    """30,000 messages to 400 receivers"""
+    count, receivers = 30_000, 400
+    raise_descriptors(2 * receivers)
+    with Server(program, "--workers", workers) as server:
+        publisher, readers = Client(server), spread(server, receivers, workers)
+        for it in readers:
+            it.subscribe(b"wide")
+        hearing = Hearing(readers)
+        Sending(publisher, b"PUB wide 2\r\nhi\r\n" * 1_000, times=count // 1_000)
+        each = len(b"MSG wide 1 2\r\nhi\r\n")
+        most = watched(server, lambda: hearing.ended or hearing.bytes >= count * receivers * each, "not all came")
+        want(not hearing.ended, f"{len(hearing.ended)} receivers were closed")
+        hearing.end()
+    return f"at most {most} MiB"
+
+
+if __name__ == "__main__":
+    run(__doc__, unknown_peers, large_messages, scattered, wide_messages)
