@@ -1,10 +1,10 @@
 /* Loads a NATS server and prints what it measured, for bench/serve: loader PORT TASK SIZE RECEIVERS COUNT WINDOW
  *
- * TASK is `all` (every receiver gets each of COUNT messages), `queue` (the receivers are one queue group) or `ask` (one
- * asks COUNT times in turn, one answers). A message has SIZE bytes. The publisher writes up to 64 KiB at once, and is
- * no more than WINDOW messages before the slowest receiver, or before the group. It prints for `all` and `queue` the
- * deliveries a second, and for `ask` the median and the 99th percentile of the microseconds from a request to its
- * answer.
+ * TASK is `all` (every receiver gets each of COUNT messages), `queue` (the receivers are one queue group), `pairs` (each
+ * receiver has a publisher and a subject of its own, and gets COUNT messages) or `ask` (one asks COUNT times in turn, one
+ * answers). A message has SIZE bytes. A publisher writes up to 64 KiB at once, and is no more than WINDOW messages before
+ * the slowest of its receivers, or before the group. It prints for `all`, `queue` and `pairs` the deliveries a second, and
+ * for `ask` the median and the 99th percentile of the microseconds from a request to its answer.
  * Each connection has a thread of its own, with blocking reads and writes. */
 #include <arpa/inet.h>
 #include <netinet/tcp.h>
@@ -179,19 +179,37 @@ static long done(void)
     return is_queue ? sum : least;
 }
 
+/* As many PUBs on a subject as are written at once, each of `length` bytes. */
+static char *publishes(const char *subject, int *each, int *length)
+{
+    char one[8192];
+    int head = snprintf(one, sizeof one, "PUB %s %d\r\n", subject, size);
+    *length = head + size + 2;
+    memset(one + head, 'x', size);
+    memcpy(one + head + size, "\r\n", 2);
+    *each = PIECE / *length;
+    if (*each > window)
+        *each = window;
+    char *piece = malloc((size_t)*each * *length);
+    for (int i = 0; i < *each; i++)
+        memcpy(piece + (size_t)i * *length, one, *length);
+    return piece;
+}
+
+static void end_receivers(pthread_t *threads)
+{
+    atomic_store(&all_received, 1);
+    for (int i = 0; i < count_of_receivers; i++)
+        shutdown(receivers[i].socket, SHUT_RDWR);
+    for (int i = 0; i < count_of_receivers; i++)
+        pthread_join(threads[i], NULL);
+}
+
 static double flood(void)
 {
     pthread_t threads[MOST];
-    char one[8192];
-    int head = snprintf(one, sizeof one, "PUB load %d\r\n", size), length = head + size + 2;
-    memset(one + head, 'x', size);
-    memcpy(one + head + size, "\r\n", 2);
-    int each = PIECE / length;
-    if (each > window)
-        each = window;
-    char *piece = malloc((size_t)each * length);
-    for (int i = 0; i < each; i++)
-        memcpy(piece + (size_t)i * length, one, length);
+    int each, length;
+    char *piece = publishes("load", &each, &length);
     for (int i = 0; i < count_of_receivers; i++) {
         receivers[i].socket = connected();
         subscribe(receivers[i].socket, is_queue ? "SUB load group 1\r\n" : "SUB load 1\r\n");
@@ -215,12 +233,53 @@ static double flood(void)
         usleep(50);
     }
     double passed = now() - begin;
-    atomic_store(&all_received, 1);
-    for (int i = 0; i < count_of_receivers; i++)
-        shutdown(receivers[i].socket, SHUT_RDWR);
-    for (int i = 0; i < count_of_receivers; i++)
-        pthread_join(threads[i], NULL);
+    end_receivers(threads);
     return count * (double)(is_queue ? 1 : count_of_receivers) / passed;
+}
+
+/* Publishes to one receiver until it has all. */
+static void *publish_to(void *closure)
+{
+    Receiver *to = closure;
+    char subject[32];
+    int each, length, publisher = connected();
+    snprintf(subject, sizeof subject, "load.%d", (int)(to - receivers));
+    char *piece = publishes(subject, &each, &length);
+    double last = now();
+    for (long sent = 0, got, before = -1; (got = atomic_load_explicit(&to->received, memory_order_relaxed)) < count; before = got) {
+        long part = count - sent < each ? count - sent : each;
+        if (got != before)
+            last = now();
+        if (now() - last > 60)
+            die("messages were lost");
+        if (part == 0 || sent + part - got > window) {
+            usleep(20);
+            continue;
+        }
+        send_all(publisher, piece, (size_t)part * length);
+        sent += part;
+    }
+    return NULL;
+}
+
+static double pairs(void)
+{
+    pthread_t readers[MOST], writers[MOST];
+    for (int i = 0; i < count_of_receivers; i++) {
+        char line[64];
+        snprintf(line, sizeof line, "SUB load.%d 1\r\n", i);
+        receivers[i].socket = connected();
+        subscribe(receivers[i].socket, line);
+        pthread_create(&readers[i], NULL, receive, &receivers[i]);
+    }
+    double begin = now();
+    for (int i = 0; i < count_of_receivers; i++)
+        pthread_create(&writers[i], NULL, publish_to, &receivers[i]);
+    for (int i = 0; i < count_of_receivers; i++)
+        pthread_join(writers[i], NULL);
+    double passed = now() - begin;
+    end_receivers(readers);
+    return count * (double)count_of_receivers / passed;
 }
 
 static void *answer(void *closure)
@@ -292,6 +351,6 @@ int main(int argc, char **argv)
     if (!strcmp(argv[2], "ask"))
         ask();
     else
-        printf("%.0f\n", flood());
+        printf("%.0f\n", strcmp(argv[2], "pairs") ? flood() : pairs());
     return 0;
 }
