@@ -357,7 +357,7 @@ class Receiving:
         try:
             data = self.client.socket.recv(most or len(self.flood.pattern))
         except BlockingIOError:
-            return False
+            return self.got == self.flood.wanted
         except ConnectionResetError:
             data = b""
         want(data, f"a receiver was closed after {self.got} of {self.flood.wanted} bytes")
