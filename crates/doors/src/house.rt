@@ -1,6 +1,6 @@
 use crate::door::Door;
-use crate::kept::Kept;
 use crate::ways::Way;
+use history_bytes::Kept;
 use mio::{Poll, Token};
 use std::alloc::Global;
 use std::hash::RandomState;

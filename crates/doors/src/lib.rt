@@ -3,12 +3,10 @@
 
 mod door;
 mod house;
-mod kept;
 mod notices;
 mod ways;
 
 pub use door::{Arrival, Door, Intake, Mail};
 pub use house::{Flags, House, Limits, millis, open_door};
-pub use kept::Kept;
 pub use notices::{Notices, owner_of};
 pub use ways::{Way, Ways};

@@ -1,5 +1,6 @@
 ghost use Rattle.std.specs.Prelude.{◌≡◌};
 ghost use Rattle.doors.specs.Owners.{owner};
+ghost use Rattle.doors.specs.Work.{work};
 
 use crate::door::{Door, Mail};
 use events::{Answer, Command, Item, Met, Outcome};
@@ -84,7 +85,9 @@ impl Notices {
 
     /// Notes whom an answer names. Answers how much of a round's share it is: one, and one for each delivery of a message.
     #[inline(always)]
-    pub fn note(&mut self, answer: &Answer) -> usize {
+    pub fn note(&mut self, answer: &Answer) -> usize
+        ensures { result ≡ work answer.now.outcome }
+    {
         let entry = answer.get();
         match &entry.outcome {
             Outcome::Published(_, met) => {

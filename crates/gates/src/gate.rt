@@ -1,3 +1,5 @@
+ghost use Rattle.std.specs.Prelude.{Bool, IsTrue, is_ok, ⊤};
+
 /// Where a thread that serves may be held.
 #[derive(Clone, Copy, Debug, PartialEq, Eq)]
 pub enum Point {
@@ -15,8 +17,14 @@ pub struct TurnsSpent;
 
 /// What a thread passes at each point. It may hold the thread there; the hub's lock is free meanwhile.
 pub trait Gate {
+    ghost use Rattle.gates.specs.declared.gate.Point.{Point};
+
+    /// A point, whether the gate lets it pass, and the gate before and after it.
+    ghost passes: { Self → Point → Bool → Self → Type 0 } = { λ _ _ _ _. ⊤ };
+
     /// Passes a point.
-    fn pass(&mut self, point: Point) -> Result<(), TurnsSpent>;
+    fn pass(&mut self, point: Point) -> Result<(), TurnsSpent>
+        ensures { passes self.old point (is_ok result) self.new };
 }
 
 /// A gate that holds nobody.
@@ -24,6 +32,8 @@ pub trait Gate {
 pub struct Open;
 
 impl Gate for Open {
+    ghost passes = { λ _ _ lets _. IsTrue lets };
+
     fn pass(&mut self, _point: Point) -> Result<(), TurnsSpent> {
         Ok(())
     }

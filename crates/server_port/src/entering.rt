@@ -1,71 +1,44 @@
 //! How a port enters events.
 ghost use Rattle.std.specs.Prelude.{◌≡◌};
 
-use crate::port::{ServerPort, Why};
+use crate::course::Why;
+use crate::port::ServerPort;
 use events::{Answer, Event, HubRefusal, Port, PublishRefusal};
 use gates::{Gate, Point};
+use history_bytes::Telling;
 use shared_hub::Run;
 use std::sync::Wait;
 
 impl<L: Run, R: Wait, G: Gate + Drop> ServerPort<'_, L, R, G> {
-    ghost use Rattle.std.specs.Prelude.{IfErr};
+    ghost use Rattle.std.specs.Prelude.{IfErr, OnErr, true};
     ghost use Rattle.events.specs.Offers.{IsOffered};
+    ghost use Rattle.events.specs.declared.refusal.HubRefusal.TheVariants.{HistoryFull};
+    ghost use Rattle.events.specs.declared.refusal.PublishRefusal.TheVariants.{By};
+    ghost use Rattle.history_bytes.specs.Bytes.{IsCounted, own};
+    ghost use Rattle.server_port.specs.Courses.{entered, followed, offered, refused};
+    ghost use Rattle.server_port.specs.Histories.{falls_due, passed, tried};
     ghost use Rattle.shared_hub.specs.Entering.{IsAnswered};
 
-    /// Hands the history out, and answers whether it could. Without memory nothing changes, and the next that meets a full
-    /// history tries it again.
-    #[inline(never)]
-    fn rotate(&mut self) -> bool
-        ensures { self.new.seat ≡ self.old.seat }
-    {
-        match self.shared.rotate_as(self.rt, &self.seat) {
-            Ok(segment) => {
-                self.rotation.keep(segment.into_entries());
-                true
-            }
-            Err(_) => false,
-        }
-    }
-
-    /// Tells others of what was counted, and hands the history out where it keeps too much.
-    #[inline(never)]
-    pub(crate) fn tell_kept(&mut self)
-        ensures { self.new.seat ≡ self.old.seat }
-    {
-        if self.rotation.tell() && !self.rotate() {
-            self.rotation.restore();
-        }
-    }
-
-    /// Notes whom an answer names, and hands the history out if that is due at its number.
+    /// Notes whom an answer names, counts what its entry keeps, and hands the history out if that is due. Answers what others
+    /// were told.
     #[inline(always)]
-    fn follow(&mut self, answer: &Answer)
-        ensures { self.new.seat ≡ self.old.seat }
+    fn follow(&mut self, answer: &Answer) -> Option<Telling>
+        ensures counted { IsCounted self.old.rotation.uncounted (own answer.now) result self.new.rotation.uncounted }
+        ensures tried { self.new.rotation.tries ≡ tried (falls_due self.old.rotation answer.now.number) (tried (passed result) self.old.rotation.tries) }
+        ensures course { self.new.course ≡ followed answer.now self.old.course }
+        ensures seat { self.new.seat ≡ self.old.seat }
     {
-        let weight = self.notices.note(answer);
-        self.share = self.share.saturating_sub(weight);
-        self.has_entered = true;
-        if self.rotation.count(answer) {
-            self.tell_kept();
-        }
-        let number = answer.get().number;
-        if self.rotation.is_near(number) {
-            self.rotate_at(number);
-        }
-    }
-
-    #[inline(never)]
-    fn rotate_at(&mut self, number: u64)
-        ensures { self.new.seat ≡ self.old.seat }
-    {
-        if self.rotation.is_due(number) {
-            let _ = self.rotate();
-        }
+        let work = self.notices.note(answer);
+        self.course.share = self.course.share.saturating_sub(work);
+        self.course.has_entered = true;
+        let told = self.count(answer);
+        told
     }
 
     /// Leaves the publishers that an event has let on among what is to be left at the doors.
     fn free(&mut self)
-        ensures { self.new.seat ≡ self.old.seat }
+        ensures seat { self.new.seat ≡ self.old.seat }
+        ensures course { self.new.course ≡ self.old.course }
     {
         for conn in self.told.freed.as_slice() {
             self.notices.free(*conn);
@@ -77,29 +50,35 @@ impl<L: Run, R: Wait, G: Gate + Drop> ServerPort<'_, L, R, G> {
     #[inline(always)]
     pub fn enter(&mut self, event: Event) -> Result<Answer, (Event, HubRefusal)>
         ensures step { IsAnswered L.opening self.old.seat.count event result self.new.seat.count }
-        ensures err { IfErr result (λ refused. refused.0 ≡ event) }
+        ensures course { self.new.course ≡ entered result self.old.course }
+        ensures full { IfErr result (λ back. back.1 ≡ HistoryFull → self.new.rotation.tries ≡ tried true self.old.rotation.tries) }
+        ensures err { IfErr result (λ back. back.0 ≡ event) }
     {
         self.rotation.drop_some();
         match self.step(event) {
             Ok(answer) => Ok(answer),
-            Err((event, HubRefusal::HistoryFull)) => {
+            Err((event, refusal)) => {
+                if refusal != HubRefusal::HistoryFull {
+                    return Err((event, refusal));
+                }
                 let _ = self.rotate();
                 let result = self.step(event);
                 result
             }
-            Err((event, refusal)) => Err((event, refusal)),
         }
     }
 
     #[inline(always)]
     fn step(&mut self, event: Event) -> Result<Answer, (Event, HubRefusal)>
         ensures step { IsAnswered L.opening self.old.seat.count event result self.new.seat.count }
-        ensures err { IfErr result (λ refused. refused.0 ≡ event) }
+        ensures course { self.new.course ≡ entered result self.old.course }
+        ensures same { OnErr result (self.new.rotation ≡ self.old.rotation) }
+        ensures err { IfErr result (λ back. back.0 ≡ event) }
     {
         let shared = self.shared;
         match shared.answer_as(self.rt, &mut self.seat, event, &mut self.told) {
             Ok(answer) => {
-                self.follow(&answer);
+                let _ = self.follow(&answer);
                 self.free();
                 Ok(answer)
             }
@@ -111,34 +90,63 @@ impl<L: Run, R: Wait, G: Gate + Drop> ServerPort<'_, L, R, G> {
     #[inline(always)]
     fn offer(&mut self, event: Event) -> Result<Answer, (Event, PublishRefusal)>
         ensures offered { IsOffered (λ old e r new. IsAnswered L.opening old.seat.count e r new.seat.count) (λ old new. new.seat.count ≡ old.seat.count) self.old event result self.new }
-        ensures err { IfErr result (λ refused. refused.0 ≡ event) }
+        ensures course { self.new.course ≡ offered result self.new.told.until self.old.course }
+        ensures full { IfErr result (λ back. back.1 ≡ By HistoryFull → self.new.rotation.tries ≡ tried true self.old.rotation.tries) }
+        ensures err { IfErr result (λ back. back.0 ≡ event) }
     {
         self.rotation.drop_some();
         match self.offer_once(event) {
             Ok(answer) => Ok(answer),
-            Err((event, PublishRefusal::By(HubRefusal::HistoryFull))) => {
-                let _ = self.rotate();
-                match self.offer_once(event) {
-                    Ok(answer) => Ok(answer),
-                    Err((event, refusal)) => match refusal {
-                        PublishRefusal::By(refusal) => Err((event, PublishRefusal::By(refusal))),
-                        PublishRefusal::Held => Err((event, PublishRefusal::Held)),
-                    },
+            Err((event, refusal)) => match refusal {
+                PublishRefusal::Held => Err((event, PublishRefusal::Held)),
+                PublishRefusal::By(refusal) => {
+                    if refusal != HubRefusal::HistoryFull {
+                        return Err((event, PublishRefusal::By(refusal)));
+                    }
+                    match self.offer_again(event) {
+                        Ok(answer) => Ok(answer),
+                        Err((event, refusal)) => match refusal {
+                            PublishRefusal::By(refusal) => Err((
+                                event,
+                                PublishRefusal::By(refusal),
+                            )),
+                            PublishRefusal::Held => Err((event, PublishRefusal::Held)),
+                        },
+                    }
                 }
-            }
-            Err((event, refusal)) => Err((event, refusal)),
+            },
+        }
+    }
+
+    /// Offers a message's event once the history was handed out, or that was tried.
+    #[inline(never)]
+    fn offer_again(&mut self, event: Event) -> Result<Answer, (Event, PublishRefusal)>
+        ensures offered { IsOffered (λ old e r new. IsAnswered L.opening old.seat.count e r new.seat.count) (λ old new. new.seat.count ≡ old.seat.count) self.old event result self.new }
+        ensures course { self.new.course ≡ offered result self.new.told.until self.old.course }
+        ensures tried { OnErr result (self.new.rotation.tries ≡ tried true self.old.rotation.tries) }
+        ensures err { IfErr result (λ back. back.0 ≡ event) }
+    {
+        let _ = self.rotate();
+        match self.offer_once(event) {
+            Ok(answer) => Ok(answer),
+            Err((event, refusal)) => match refusal {
+                PublishRefusal::By(refusal) => Err((event, PublishRefusal::By(refusal))),
+                PublishRefusal::Held => Err((event, PublishRefusal::Held)),
+            },
         }
     }
 
     #[inline(always)]
     fn offer_once(&mut self, event: Event) -> Result<Answer, (Event, PublishRefusal)>
         ensures offered { IsOffered (λ old e r new. IsAnswered L.opening old.seat.count e r new.seat.count) (λ old new. new.seat.count ≡ old.seat.count) self.old event result self.new }
-        ensures err { IfErr result (λ refused. refused.0 ≡ event) }
+        ensures course { self.new.course ≡ offered result self.new.told.until self.old.course }
+        ensures same { OnErr result (self.new.rotation ≡ self.old.rotation) }
+        ensures err { IfErr result (λ back. back.0 ≡ event) }
     {
         let shared = self.shared;
         match shared.publish_as(self.rt, &mut self.seat, event, &mut self.told) {
             Ok(answer) => {
-                self.follow(&answer);
+                let _ = self.follow(&answer);
                 Ok(answer)
             }
             Err((event, refusal)) => {
@@ -151,19 +159,30 @@ impl<L: Run, R: Wait, G: Gate + Drop> ServerPort<'_, L, R, G> {
     /// Notes why a message was held back, if it was. Such an offer is a delivery's work of the round's share.
     #[inline(never)]
     fn note_refusal(&mut self, refusal: PublishRefusal)
-        ensures { self.new.seat ≡ self.old.seat }
+        ensures course { self.new.course ≡ refused refusal self.old.told.until self.old.course }
+        ensures told { self.new.told ≡ self.old.told }
+        ensures rotation { self.new.rotation ≡ self.old.rotation }
+        ensures seat { self.new.seat ≡ self.old.seat }
     {
-        if refusal == PublishRefusal::Held {
-            self.share = self.share.saturating_sub(1);
-            self.why = Some(match self.told.until {
-                Some(until) => Why::Receiver(until),
-                None => Why::Share,
-            });
+        match refusal {
+            PublishRefusal::By(_) => {}
+            PublishRefusal::Held => {
+                self.course.share = self.course.share.saturating_sub(1);
+                self.course.why = Some(match self.told.until {
+                    Some(until) => Why::Receiver(until),
+                    None => Why::Share,
+                });
+            }
         }
     }
 }
 
 impl<L: Run, R: Wait, G: Gate + Drop> Port for ServerPort<'_, L, R, G> {
+    ghost use Rattle.std.specs.Prelude.{◌≢◌, ℕ, Err, IfErr, IsTrue, Some, false, true};
+    ghost use Rattle.events.specs.Offers.{IsOffered};
+    ghost use Rattle.events.specs.declared.refusal.PublishRefusal.TheVariants.{Held};
+    ghost use Rattle.server_port.specs.Courses.{entered, offered};
+    ghost use Rattle.server_port.specs.declared.course.Why.TheVariants.{Share};
     ghost use Rattle.shared_hub.specs.Entering.{IsAnswered};
 
     ghost place = { λ port. 0 };
@@ -173,8 +192,13 @@ impl<L: Run, R: Wait, G: Gate + Drop> Port for ServerPort<'_, L, R, G> {
     ghost holds = { λ old new. new.seat.count ≡ old.seat.count };
 
     #[inline(always)]
-    fn submit(&mut self, event: Event) -> Result<Answer, (Event, HubRefusal)> {
-        self.has_passed = false;
+    fn submit(&mut self, event: Event) -> Result<Answer, (Event, HubRefusal)>
+        ensures place { ◌≡◌ {A = ℕ} 0 0 }
+        ensures step { IsAnswered L.opening self.old.seat.count event result self.new.seat.count }
+        ensures err { IfErr result (λ back. back.0 ≡ event) }
+        ensures course { self.new.course ≡ entered result (record self.old.course { has_passed = false }) }
+    {
+        self.course.has_passed = false;
         self.pass(Point::FrameRead);
         let result = self.enter(event);
         self.pass(Point::Answered);
@@ -183,22 +207,31 @@ impl<L: Run, R: Wait, G: Gate + Drop> Port for ServerPort<'_, L, R, G> {
 
     /// Once the round's share is spent, the hub isn't asked.
     #[inline(always)]
-    fn publish(&mut self, event: Event) -> Result<Answer, (Event, PublishRefusal)> {
-        if self.share == 0 {
-            self.why = Some(Why::Share);
+    fn publish(&mut self, event: Event) -> Result<Answer, (Event, PublishRefusal)>
+        ensures place { ◌≡◌ {A = ℕ} 0 0 }
+        ensures offered { IsOffered (λ old e r new. IsAnswered L.opening old.seat.count e r new.seat.count) (λ old new. new.seat.count ≡ old.seat.count) self.old event result self.new }
+        ensures err { IfErr result (λ back. back.0 ≡ event) }
+        ensures spent { self.old.course.share ≡ 0 → (result ≡ Err (event, Held)) × (self.new.course ≡ record self.old.course { why = Some Share }) × (self.new.told ≡ self.old.told) × (self.new.rotation ≡ self.old.rotation) }
+        ensures course { self.old.course.share ≢ 0 → self.new.course ≡ offered result self.new.told.until (record self.old.course { has_passed = false }) }
+    {
+        if self.course.share == 0 {
+            self.course.why = Some(Why::Share);
             return Err((event, PublishRefusal::Held));
         }
-        self.has_passed = false;
+        self.course.has_passed = false;
         self.pass(Point::FrameRead);
         let result = self.offer(event);
-        if self.why.is_none() {
+        if self.course.why.is_none() {
             self.pass(Point::Answered);
         }
         result
     }
 
     /// Where something waits for a connection, what it is told next stands behind that, once.
-    fn must_wait(&self, conn: u64) -> bool {
-        !self.has_passed && self.shared.waiting(self.rt, conn) > 0
+    fn must_wait(&self, conn: u64) -> bool
+        ensures holds { IsTrue result → self.now.seat.count ≡ self.now.seat.count }
+        ensures passed { self.now.course.has_passed ≡ true → result ≡ false }
+    {
+        !self.course.has_passed && self.shared.waiting(self.rt, conn) > 0
     }
 }

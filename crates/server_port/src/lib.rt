@@ -3,8 +3,10 @@
 //! publishers that it lets on.
 #![tactic(auto)]
 
+mod course;
 mod entering;
+mod handing;
 mod port;
-mod rotation;
 
-pub use port::{ServerPort, Why};
+pub use course::Why;
+pub use port::ServerPort;

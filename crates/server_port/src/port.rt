@@ -1,20 +1,12 @@
 ghost use Rattle.std.specs.Prelude.{◌≡◌};
 
-use crate::rotation::Rotation;
-use doors::{Kept, Notices};
+use crate::course::{Course, Why};
+use doors::Notices;
 use gates::{Gate, Point};
+use history_bytes::{Kept, Rotation};
 use shared_hub::{Run, Seat, Shared, Told};
 use std::alloc::Global;
 use std::sync::Wait;
-
-/// Why the latest message of a turn was held back.
-#[derive(Clone, Copy, Debug, PartialEq, Eq)]
-pub enum Why {
-    /// A receiver has no room. At this moment it is out of patience, and the message may be offered again.
-    Receiver(u64),
-    /// The round's share is spent.
-    Share,
-}
 
 /// A thread's port to the hub.
 pub struct ServerPort<'a, L: Run, R: Wait, G: Gate + Drop> {
@@ -23,18 +15,13 @@ pub struct ServerPort<'a, L: Run, R: Wait, G: Gate + Drop> {
     pub(crate) seat: Seat<L>,
     pub(crate) gate: G,
     pub(crate) is_spent: bool,
-    pub(crate) rotation: Rotation<'a>,
+    pub(crate) rotation: Rotation,
+    /// What all ports have counted.
+    pub(crate) kept: &'a Kept,
     pub(crate) notices: Notices,
     /// What the hub told beside the latest answer.
     pub(crate) told: Told,
-    /// How many deliveries are left of a round's share.
-    pub(crate) share: usize,
-    /// Why the latest message of this turn was held back, if one was.
-    pub(crate) why: Option<Why>,
-    /// Whether the connection of this turn has had what waited for it, and no event of it came since.
-    pub(crate) has_passed: bool,
-    /// Whether an event has been entered in this turn.
-    pub(crate) has_entered: bool,
+    pub(crate) course: Course,
 }
 
 impl<L: Run, R: Wait, G: Gate + Drop> Drop for ServerPort<'_, L, R, G> {
@@ -46,17 +33,21 @@ impl<L: Run, R: Wait, G: Gate + Drop> Drop for ServerPort<'_, L, R, G> {
             gate: _,
             is_spent: _,
             rotation: _,
+            kept: _,
             notices: _,
             told: _,
-            share: _,
-            why: _,
-            has_passed: _,
-            has_entered: _,
+            course: _,
         } = self;
     }
 }
 
 impl<'a, L: Run, R: Wait, G: Gate + Drop> ServerPort<'a, L, R, G> {
+    ghost use Rattle.std.specs.Prelude.{◌≡◌, ◌||◌, ◌<◌, Bool, None, Option, false, max, nat_eq, not};
+    ghost use Rattle.history_bytes.specs.declared.kept.Telling.{Telling};
+    ghost use Rattle.history_bytes.specs.Bytes.{IsCounted};
+    ghost use Rattle.history_bytes.specs.Rotating.{but_last, fresh};
+    ghost use Rattle.server_port.specs.Histories.{passed, tried};
+
     /// The port of a seat behind a gate, to a hub whose history holds at most so many entries. It has no share yet.
     pub fn new(
         rt: &'a R,
@@ -68,7 +59,10 @@ impl<'a, L: Run, R: Wait, G: Gate + Drop> ServerPort<'a, L, R, G> {
         history: usize,
         kept: &'a Kept,
     ) -> ServerPort<'a, L, R, G>
-        ensures { result.seat.count ≡ seat.count }
+        ensures seat { result.seat.count ≡ seat.count }
+        ensures rotation { result.rotation ≡ fresh history }
+        ensures course { result.course ≡ record { share = 0; why = None; has_passed = false; has_entered = false } }
+        ensures spent { result.is_spent ≡ false }
     {
         ServerPort {
             rt,
@@ -76,18 +70,23 @@ impl<'a, L: Run, R: Wait, G: Gate + Drop> ServerPort<'a, L, R, G> {
             seat,
             gate,
             is_spent: false,
-            rotation: Rotation::new(alloc, history, kept),
+            rotation: Rotation::new(alloc, history),
+            kept,
             notices,
             told: Told::new(alloc),
-            share: 0,
-            why: None,
-            has_passed: false,
-            has_entered: false,
+            course: Course {
+                share: 0,
+                why: None,
+                has_passed: false,
+                has_entered: false,
+            },
         }
     }
 
     /// Whether the gate has let something pass no more.
-    pub fn is_spent(&self) -> bool {
+    pub fn is_spent(&self) -> bool
+        ensures { result ≡ self.now.is_spent }
+    {
         self.is_spent
     }
 
@@ -98,43 +97,51 @@ impl<'a, L: Run, R: Wait, G: Gate + Drop> ServerPort<'a, L, R, G> {
 
     /// A round begins, or goes on: at least so many deliveries may enter in it.
     pub fn allow(&mut self, deliveries: usize)
-        ensures { self.new.seat ≡ self.old.seat }
+        ensures course { self.new.course ≡ record self.old.course { share = max self.old.course.share deliveries } }
+        ensures seat { self.new.seat ≡ self.old.seat }
     {
-        self.share = self.share.max(deliveries);
+        self.course.share = self.course.share.max(deliveries);
     }
 
     /// Whether nothing is left of the round's share.
-    pub fn has_no_share(&self) -> bool {
-        self.share == 0
+    pub fn has_no_share(&self) -> bool
+        ensures { result ≡ nat_eq self.now.course.share 0 }
+    {
+        self.course.share == 0
     }
 
     /// A connection's turn begins. `has_passed` is whether it has had what waited for it, so that it needn't wait again.
     pub fn begin_turn(&mut self, has_passed: bool)
-        ensures { self.new.seat ≡ self.old.seat }
+        ensures course { self.new.course ≡ record { share = self.old.course.share; why = None; has_passed = has_passed; has_entered = false } }
+        ensures seat { self.new.seat ≡ self.old.seat }
     {
-        self.why = None;
-        self.has_passed = has_passed;
-        self.has_entered = false;
-        self.rotation.drop_old();
+        self.course.why = None;
+        self.course.has_passed = has_passed;
+        self.course.has_entered = false;
+        self.rotation.drop_old(self.kept);
     }
 
     /// Whether an event has been entered in this turn.
-    pub fn has_entered(&self) -> bool {
-        self.has_entered
+    pub fn has_entered(&self) -> bool
+        ensures { result ≡ self.now.course.has_entered }
+    {
+        self.course.has_entered
     }
 
     /// Counts bytes that entries keep beside their own, and hands the history out where they are too many.
     pub fn keep(&mut self, bytes: usize)
-        ensures { self.new.seat ≡ self.old.seat }
+        ensures counted { (told : Option Telling) × IsCounted self.old.rotation.uncounted bytes told self.new.rotation.uncounted × (self.new.rotation.tries ≡ tried (passed told) self.old.rotation.tries) }
+        ensures course { self.new.course ≡ self.old.course }
+        ensures seat { self.new.seat ≡ self.old.seat }
     {
-        if self.rotation.count_bytes(bytes as u64) {
-            self.tell_kept();
-        }
+        let _ = self.count_bytes(bytes as u64);
     }
 
     /// Why the latest message of the turn was held back, if one was.
-    pub fn why(&self) -> Option<Why> {
-        self.why
+    pub fn why(&self) -> Option<Why>
+        ensures { result ≡ self.now.course.why }
+    {
+        self.course.why
     }
 
     /// How many deliveries wait for a connection, as the hub has it.
@@ -144,7 +151,10 @@ impl<'a, L: Run, R: Wait, G: Gate + Drop> ServerPort<'a, L, R, G> {
 
     /// How many deliveries waited for a connection behind the latest Take, if that wasn't asked since.
     pub fn take_rest(&mut self) -> Option<usize>
-        ensures { self.new.seat ≡ self.old.seat }
+        ensures rest { result ≡ self.old.told.rest }
+        ensures none { self.new.told.rest ≡ None }
+        ensures course { self.new.course ≡ self.old.course }
+        ensures seat { self.new.seat ≡ self.old.seat }
     {
         self.told.rest.take()
     }
@@ -152,14 +162,20 @@ impl<'a, L: Run, R: Wait, G: Gate + Drop> ServerPort<'a, L, R, G> {
     /// Drops so many of the entries that were handed out, or all. Answers whether some are left. Who rests does so, since
     /// without events none would go.
     pub fn shed(&mut self, most: usize) -> bool
-        ensures { self.new.seat ≡ self.old.seat }
+        ensures left { self.new.rotation ≡ record self.old.rotation { spent = but_last most self.old.rotation.spent } }
+        ensures course { self.new.course ≡ self.old.course }
+        ensures seat { self.new.seat ≡ self.old.seat }
     {
         self.rotation.shed(most)
     }
 
-    /// Passes a point.
+    /// Passes a point. Where the gate lets it pass no more, that is noted for good.
     pub fn pass(&mut self, point: Point)
-        ensures { self.new.seat ≡ self.old.seat }
+        ensures spent { (lets : Bool) × G.passes self.old.gate point lets self.new.gate × (self.new.is_spent ≡ (self.old.is_spent || not lets)) }
+        ensures course { self.new.course ≡ self.old.course }
+        ensures rotation { self.new.rotation ≡ self.old.rotation }
+        ensures told { self.new.told ≡ self.old.told }
+        ensures seat { self.new.seat ≡ self.old.seat }
     {
         if self.gate.pass(point).is_err() {
             self.is_spent = true;

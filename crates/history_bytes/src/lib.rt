@@ -1,0 +1,10 @@
+//! How many bytes the history's entries are counted for, and when the history is handed out.
+#![tactic(auto)]
+
+mod kept;
+mod own;
+mod rotation;
+
+pub use kept::{Kept, Telling};
+pub use own::own_of;
+pub use rotation::Rotation;

@@ -1,0 +1,35 @@
+-- How far a round and a turn of it have come, and what an answer makes of that.
+use Rattle.std.specs.Prelude.{ℕ, ◌-◌, Option, None, Some, Result, Ok, Err, true}
+use Rattle.events.specs.declared.event.Event.{Event}
+use Rattle.events.specs.declared.answer.Entry.{Entry}
+use Rattle.events.specs.declared.refusal.HubRefusal.{HubRefusal}
+use Rattle.events.specs.declared.refusal.PublishRefusal.{PublishRefusal}
+use Rattle.events.specs.declared.refusal.PublishRefusal.TheVariants.{By, Held}
+use Rattle.doors.specs.Work.{work}
+use Rattle.server_port.specs.declared.course.Course.{Course}
+use Rattle.server_port.specs.declared.course.Why.{Why}
+use Rattle.server_port.specs.declared.course.Why.TheVariants.{Receiver, Share}
+
+-- an event has its answer, which is work of the round's share
+abbrev pub followed : Entry → Course → Course
+followed entry c = record c { share = c.share - work entry.outcome; has_entered = true }
+
+-- an event was entered or refused
+abbrev pub entered : Result Entry (Event × HubRefusal) → Course → Course
+entered (Ok entry) c = followed entry c
+entered (Err _) c = c
+
+-- a receiver has no room until then, as the desk told; where it told nothing, the share is spent
+abbrev pub why_of : Option ℕ → Why
+why_of (Some until) = Receiver until
+why_of None = Share
+
+-- a message was refused: to hold one back is a delivery's work
+abbrev pub refused : PublishRefusal → Option ℕ → Course → Course
+refused Held until c = record c { share = c.share - 1; why = Some (why_of until) }
+refused (By _) until c = c
+
+-- a message was offered
+abbrev pub offered : Result Entry (Event × PublishRefusal) → Option ℕ → Course → Course
+offered (Ok entry) until c = followed entry c
+offered (Err back) until c = refused back.1 until c

@@ -1,0 +1,31 @@
+-- When a port hands the history out.
+use Rattle.std.specs.Prelude.{ℕ, ◌+◌, ◌≡◌, ◌&&◌, Bool, true, false, Option, None, Some, nat_le}
+use Rattle.std.specs.Io.Iter.{u64_saturate}
+use Rattle.hub.specs.Segments.{Part, IsPart}
+use Rattle.history_bytes.specs.declared.kept.Telling.{Telling}
+use Rattle.history_bytes.specs.Bytes.{is_passed}
+use Rattle.history_bytes.specs.Rotating.{Rotating, failed, is_due, taken_over}
+
+-- It was handed out: what was handed out, a part of a history, is all that is still to be dropped. Or it could not be.
+abbrev pub IsHandedOut : Bool → Rotating → Rotating → Type 0
+IsHandedOut true before after = (p : Part) × (part : ℕ) × IsPart p × (after ≡ taken_over p.entries part before)
+IsHandedOut false before after = after ≡ failed before
+
+-- how often it was tried, once more if it was to be
+abbrev pub tried : Bool → ℕ → ℕ
+tried true n = u64_saturate (n + 1)
+tried false n = n
+
+-- whether the port that told is to hand it out
+abbrev pub passed : Option Telling → Bool
+passed None = false
+passed (Some t) = is_passed t.half t.before t.bytes t.taken
+
+-- whether it is to be handed out at a number
+abbrev pub falls_due : Rotating → ℕ → Bool
+falls_due r number = nat_le r.due number && is_due r.half number
+
+-- what a try leaves of what else a port counts
+abbrev pub IsTried : Bool → Rotating → Rotating → Type 0
+IsTried is_tried before after =
+    (after.tries ≡ tried is_tried before.tries) × (after.uncounted ≡ before.uncounted) × (after.due ≡ before.due) × (after.half ≡ before.half)

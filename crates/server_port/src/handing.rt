@@ -1,0 +1,118 @@
+//! How a port counts what entries keep, and hands the history out.
+ghost use Rattle.std.specs.Prelude.{◌≡◌};
+
+use crate::port::ServerPort;
+use events::Answer;
+use gates::Gate;
+use history_bytes::Telling;
+use hub::Segment;
+use shared_hub::Run;
+use std::sync::Wait;
+
+impl<L: Run, R: Wait, G: Gate + Drop> ServerPort<'_, L, R, G> {
+    ghost use Rattle.std.specs.Prelude.{ℕ, true};
+    ghost use Rattle.history_bytes.specs.Bytes.{IsCounted, is_passed, own};
+    ghost use Rattle.history_bytes.specs.Rotating.{is_due, taken_over};
+    ghost use Rattle.server_port.specs.Histories.{IsHandedOut, IsTried, falls_due, passed, tried};
+
+    /// Takes over a segment that was handed out: its entries are all that is still to be dropped.
+    fn take_over(&mut self, segment: Segment)
+        ensures taken { (part : ℕ) × (self.new.rotation ≡ taken_over segment.entries part self.old.rotation) }
+        ensures seat { self.new.seat ≡ self.old.seat }
+        ensures course { self.new.course ≡ self.old.course }
+    {
+        self.rotation.keep(segment.into_entries(), self.kept);
+    }
+
+    /// Hands the history out, and answers whether it could. Without memory nothing changes, and the next that meets a full
+    /// history tries it again.
+    #[inline(never)]
+    pub(crate) fn rotate(&mut self) -> bool
+        ensures handed { IsHandedOut result self.old.rotation self.new.rotation }
+        ensures tried { IsTried true self.old.rotation self.new.rotation }
+        ensures seat { self.new.seat ≡ self.old.seat }
+        ensures course { self.new.course ≡ self.old.course }
+    {
+        match self.shared.rotate_as(self.rt, &self.seat) {
+            Ok(segment) => {
+                segment.known();
+                self.take_over(segment);
+                true
+            }
+            Err(_) => {
+                self.rotation.fail();
+                false
+            }
+        }
+    }
+
+    /// Hands the history out if what was told of is too much.
+    #[inline(never)]
+    fn heed(&mut self, telling: &Telling)
+        ensures tried { IsTried (is_passed telling.now.half telling.now.before telling.now.bytes telling.now.taken) self.old.rotation self.new.rotation }
+        ensures seat { self.new.seat ≡ self.old.seat }
+        ensures course { self.new.course ≡ self.old.course }
+    {
+        if telling.is_passed() {
+            if !self.rotate() {
+                self.kept.restore();
+            }
+        }
+    }
+
+    /// Hands the history out if others were told of something, and it is too much.
+    #[inline(always)]
+    fn heed_told(&mut self, told: &Option<Telling>)
+        ensures tried { IsTried (passed told.now) self.old.rotation self.new.rotation }
+        ensures seat { self.new.seat ≡ self.old.seat }
+        ensures course { self.new.course ≡ self.old.course }
+    {
+        match told {
+            None => {}
+            Some(telling) => self.heed(telling),
+        }
+    }
+
+    /// Counts bytes that entries keep, and hands the history out where they are too many. Answers what others were told.
+    pub(crate) fn count_bytes(&mut self, bytes: u64) -> Option<Telling>
+        ensures counted { IsCounted self.old.rotation.uncounted bytes result self.new.rotation.uncounted }
+        ensures tried { self.new.rotation.tries ≡ tried (passed result) self.old.rotation.tries }
+        ensures seat { self.new.seat ≡ self.old.seat }
+        ensures course { self.new.course ≡ self.old.course }
+    {
+        let told = self.rotation.count_bytes(bytes, self.kept);
+        self.heed_told(&told);
+        told
+    }
+
+    /// Counts what the entry of an answer keeps of its own, and hands the history out where that is due at its number or they
+    /// keep too much. Answers what others were told.
+    #[inline(always)]
+    pub(crate) fn count(&mut self, answer: &Answer) -> Option<Telling>
+        ensures counted { IsCounted self.old.rotation.uncounted (own answer.now) result self.new.rotation.uncounted }
+        ensures tried { self.new.rotation.tries ≡ tried (falls_due self.old.rotation answer.now.number) (tried (passed result) self.old.rotation.tries) }
+        ensures seat { self.new.seat ≡ self.old.seat }
+        ensures course { self.new.course ≡ self.old.course }
+    {
+        let told = self.rotation.count(answer, self.kept);
+        self.heed_told(&told);
+        let number = answer.get().number;
+        if self.rotation.is_near(number) {
+            self.rotate_at(number);
+        }
+        told
+    }
+
+    /// Hands the history out if it is due at a number.
+    #[inline(never)]
+    fn rotate_at(&mut self, number: u64)
+        ensures tried { self.new.rotation.tries ≡ tried (is_due self.old.rotation.half number) self.old.rotation.tries }
+        ensures uncounted { self.new.rotation.uncounted ≡ self.old.rotation.uncounted }
+        ensures seat { self.new.seat ≡ self.old.seat }
+        ensures course { self.new.course ≡ self.old.course }
+    {
+        if self.rotation.is_due(number) {
+            let _ = self.rotate();
+        }
+    }
+}
