@@ -1,4 +1,7 @@
 // Connections whose CONNECT wasn't accepted yet: how much of theirs is kept, and who of them gives way to others.
+ghost use Rattle.std.specs.Prelude.{◌≡◌, false};
+ghost use Rattle.server_loop.specs.Unknown.{IsBounded, is_unknown};
+
 use crate::standing::Standing;
 use crate::worker::Worker;
 use client_io::{NonBlocking, Turn, Writer};
@@ -24,9 +27,18 @@ pub struct Fresh {
 }
 
 /// Whether a client hasn't shown who it is, and may still do so.
-fn is_unknown(conn: &Conn) -> bool {
+fn is_unknown(conn: &Conn) -> bool
+    ensures { result ≡ is_unknown conn.now.stage }
+{
     let stage = conn.stage();
     !stage.is_connected() && !stage.is_closed()
+}
+
+/// Whether too much may be kept of a client that hasn't shown who it is.
+fn is_beyond(conn: &Conn) -> bool
+    ensures { result ≡ false → IsBounded conn.now }
+{
+    is_unknown(conn) && conn.holds() > MOST
 }
 
 /// Tells a client, as far as its socket takes that, that it is closed since it hasn't shown who it is.
@@ -39,13 +51,18 @@ fn refuse(standing: &Standing, alloc: Global) {
 }
 
 impl<'a, L: Run, R: Wait + Clock, G: Gate + Drop, W: Words + Drop> Worker<'a, L, R, G, W> {
+    ghost use Rattle.std.specs.Prelude.{IfSome};
+    ghost use Rattle.slab.specs.Slab.{get};
+    ghost use Rattle.client_io.specs.Turns.{is_over};
+
     /// A turn of a connection, or that it closes, where too much is kept of a client that hasn't shown who it is.
-    pub fn bounded(&mut self, key: usize, turn: Turn) -> Turn {
-        let Some(standing) = self.clients.get_mut(key) else {
+    pub fn bounded(&self, key: usize, turn: Turn) -> Turn
+        ensures { is_over result ≡ false → IfSome (get self.entry.now.clients key) (λ standing. IsBounded standing.client.conn) }
+    {
+        let Some(standing) = self.clients.get(key) else {
             return turn;
         };
-        let conn = standing.client.conn();
-        if turn.is_over() || !is_unknown(conn) || conn.holds() <= MOST {
+        if turn.is_over() || !is_beyond(standing.client.conn()) {
             return turn;
         }
         refuse(standing, self.alloc);
