@@ -1,5 +1,5 @@
 //! Who waits for whom.
-ghost use Rattle.std.specs.Prelude.{◌≡◌, ◌≤◌, ◌<◌, ◌+◌, ◌++◌, ◌∷◌, ◌==◌, [], ℕ, true, None, Some, Option, OnOk, OnErr, IsTrue, if◌then◌else◌, length, slice_index, take, option_map, nat_eq, vec_len, vec_capacity, ◌/◌};
+ghost use Rattle.std.specs.Prelude.{◌≡◌, ◌≤◌, ◌<◌, ◌+◌, ◌++◌, ◌∷◌, ◌==◌, [], ℕ, true, None, Some, Option, OnOk, OnErr, if◌then◌else◌, length, slice_index, take, option_map, nat_eq, vec_len, vec_capacity, ◌/◌};
 ghost use Rattle.std.specs.List.{list_any};
 ghost use Rattle.shared_waits.specs.Patience.{rested};
 ghost use Rattle.indexmap.specs.IndexMap.{get, spare};
@@ -58,14 +58,6 @@ impl Waits {
             receivers: IndexMap::new(alloc),
             publishers: IndexMap::new(alloc),
         }
-    }
-
-    /// Whether nobody was found behind and nobody waits.
-    #[inline(always)]
-    pub fn is_empty(&self) -> bool
-        ensures { IsTrue result → self.now ≡ nobody }
-    {
-        self.receivers.is_empty() && self.publishers.is_empty()
     }
 
     /// How many publishers wait.
