@@ -264,6 +264,7 @@ impl<L: Run> Desk<L> {
         ensures settled { IfOk result (λ answer. IsSettled (waiting_in self.new.hub.world) answer.event.now answer.event.what answer.outcome self.old.waits self.new.waits) }
         ensures freed { IfOk result (λ answer. told.new.freed.items ≡ told.old.freed.items ++ freed_of (waiting_in self.new.hub.world) answer.event.what answer.outcome self.old.waits) }
         ensures rest { IfOk result (λ answer. told.new.rest ≡ rest_of (waiting_in self.new.hub.world) answer.event.what) }
+        ensures until { told.new.until ≡ told.old.until }
         ensures same { OnErr result (self.new.waits ≡ self.old.waits) }
         ensures none { OnErr result (told.new.freed.items ≡ told.old.freed.items) }
     {
@@ -286,6 +287,7 @@ impl<L: Run> Desk<L> {
         ensures settled { IsSettled (waiting_in self.old.hub.world) entry.entry.now.event.now entry.entry.now.event.what entry.entry.now.outcome self.old.waits self.new.waits }
         ensures freed { told.new.freed.items ≡ told.old.freed.items ++ freed_of (waiting_in self.old.hub.world) entry.entry.now.event.what entry.entry.now.outcome self.old.waits }
         ensures rest { told.new.rest ≡ rest_of (waiting_in self.old.hub.world) entry.entry.now.event.what }
+        ensures until { told.new.until ≡ told.old.until }
         ensures hub { self.new.hub ≡ self.old.hub }
     {
         match &entry.event.what {
@@ -330,6 +332,7 @@ impl<L: Run> Desk<L> {
         ensures waits { IsOfferedTo (waiting_in self.old.hub.world) event result self.new.held.items self.old.waits self.new.waits }
         ensures until { told.new.until ≡ until_of event result self.new.held.items self.new.waits }
         ensures freed { told.new.freed.items ≡ told.old.freed.items }
+        ensures rest { told.new.rest ≡ told.old.rest }
     {
         self.take_out(&event.what);
         told.until = None;
@@ -374,6 +377,7 @@ impl<L: Run> Desk<L> {
         ensures waits { IsHeldBack result (waiting_in self.old.hub.world) event.entry.now self.old.held.items self.old.waits self.new.waits }
         ensures until { told.old.until ≡ None → told.new.until ≡ until_if result event.entry.now.what self.old.held.items self.new.waits }
         ensures freed { told.new.freed.items ≡ told.old.freed.items }
+        ensures rest { told.new.rest ≡ told.old.rest }
         ensures due { IfBy result (IsRefusal (stepped self.old.hub event.entry.now)) }
         ensures hub { self.new.hub ≡ self.old.hub }
         ensures held { self.new.held.items ≡ self.old.held.items }

@@ -23,6 +23,10 @@ abbrev pub IsAnswered : ℕ → ℕ → Event → Result Entry (Event × HubRefu
 IsAnswered opening before e (Ok a) after = IsCounted opening e before a after × IsSteps e (Ok a)
 IsAnswered opening before e (Err refused) after = (refused.0 ≡ e) × (after ≡ before) × IsSteps e (Err refused)
 
+-- one list is another with something behind it
+abbrev pub IsLonger : List ℕ → List ℕ → Type 0
+IsLonger short long = (more : List ℕ) × (long ≡ short ++ more)
+
 -- A message's event that a seat has offered: it was submitted, or it is held back, and the seat is as before.
 abbrev pub IsOfferedBy : ℕ → ℕ → Event → Result Entry (Event × PublishRefusal) → ℕ → Type 0
 IsOfferedBy opening = IsOffered (IsAnswered opening) (λ before after. after ≡ before)

@@ -36,7 +36,7 @@ pub(crate) struct Rest<L: Run> {
 
 impl<L: Run> Shared<L> {
     ghost use Rattle.std.specs.Prelude.{◌≡◌, ◌+◌, ◌<◌, ◌≤◌, IfOk, IfErr, All, vec_len, map};
-    ghost use Rattle.shared_hub.specs.Entering.{IsSubmitted, IsAnswered, IsOfferedBy};
+    ghost use Rattle.shared_hub.specs.Entering.{IsSubmitted, IsAnswered, IsOfferedBy, IsLonger};
     ghost use Rattle.shared_hub.specs.Audits.{IsWhole, IsDue};
 
     /// A hub under its lock, with so many seats, none of which has entered anything. The blank ledger has a part for each,
@@ -150,7 +150,8 @@ impl<L: Run> Shared<L> {
         event: Event,
         told: &mut Told,
     ) -> Result<Answer, (Event, HubRefusal)>
-        ensures { IsAnswered L.opening seat.old.count event result seat.new.count }
+        ensures answered { IsAnswered L.opening seat.old.count event result seat.new.count }
+        ensures freed { IsLonger told.old.freed.items told.new.freed.items }
     {
         self.desk.lock(rt).answer(seat, event, told)
     }
@@ -166,6 +167,7 @@ impl<L: Run> Shared<L> {
     ) -> Result<Answer, (Event, PublishRefusal)>
         ensures offered { IsOfferedBy L.opening seat.old.count event result seat.new.count }
         ensures err { IfErr result (λ refused. refused.0 ≡ event) }
+        ensures freed { told.new.freed.items ≡ told.old.freed.items }
     {
         self.desk.lock(rt).publish(seat, event, told)
     }
