@@ -11,7 +11,7 @@ use Rattle.events.specs.declared.refusal.PublishRefusal.{PublishRefusal}
 use Rattle.events.specs.declared.refusal.PublishRefusal.TheVariants.{By, Held}
 use Rattle.world.specs.World.{World}
 use Rattle.world.specs.Shown.{waiting_of}
-use Rattle.shared_waits.specs.Waiting.{Waiting, patience_with, ends_at, without, IsHeld, with_room, let_on, IsRested, after_ends, freed_by, after_gone}
+use Rattle.shared_waits.specs.Waiting.{Waiting, patience_with, ends_at, without, IsHeld, let_on, IsRested, after_ends, freed_by, after_gone}
 
 -- how many deliveries wait for a connection
 abbrev pub how_many : Option (ℕ × Bool) → ℕ
@@ -103,8 +103,7 @@ pub record AreEnded (gone : List ℕ) (w after : Waiting) : Type 0 where
   pub receivers : (conn : ℕ) → patience_with after conn ≡ after_gone gone conn (patience_with w conn)
   pub publishers : after.publishers ≡ after_ends gone w.publishers
 
--- what becomes of the waits
-abbrev pub IsSettled : (ℕ → ℕ) → ℕ → Command → Outcome → Waiting → Waiting → Type 0
-IsSettled waiting now (Take conn most) o w after =
-    IsRested conn (waiting conn) now w (with_room (waiting conn) (patience_with w conn)) after
-IsSettled waiting now c o w after = AreEnded (ended_by c o) w after
+-- what becomes of the waits, where the socket took nothing for so many milliseconds before a Take
+abbrev pub IsSettled : (ℕ → ℕ) → ℕ → ℕ → Command → Outcome → Waiting → Waiting → Type 0
+IsSettled waiting refused now (Take conn most) o w after = IsRested conn (waiting conn) refused now w after
+IsSettled waiting refused now c o w after = AreEnded (ended_by c o) w after

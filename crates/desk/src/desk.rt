@@ -247,21 +247,24 @@ impl<L: Run> Desk<L> {
     }
 
     /// Answers an event that is no message: `enter` without a receipt, for a seat that is lent. It is one step of the hub,
-    /// with the routing guarantee, and the seat has one more. A Take that makes enough room lets publishers on that wait
-    /// for its connection; the end of a session lets all on that wait for it, and it waits no more. A refusal is the
-    /// step's, or want of memory for those that may be let on, and changes neither desk nor seat.
+    /// with the routing guarantee, and the seat has one more. A Take tells for how many milliseconds its connection's socket
+    /// took nothing since the Take before; of other events that says nothing. If the connection is behind, that is charged. A
+    /// Take that makes enough room lets publishers on that wait for its connection; the end of a session lets all on that
+    /// wait for it, and it waits no more. A refusal is the step's, or want of memory for those that may be let on, and
+    /// changes neither desk nor seat.
     #[inline(always)]
     pub fn answer(
         &mut self,
         seat: &mut Seat<L>,
         event: Event,
+        refused: u64,
         told: &mut Told,
     ) -> Result<Answer, (Event, HubRefusal)>
         ensures step { IsStep self.old.hub event result self.new.hub }
         ensures guarantee { KeepsGuarantee self.old.hub event result self.new.hub }
         ensures count { MatchResult result (λ _. seat.new.count ≡ seat.old.count + 1) (λ _. seat.new.count ≡ seat.old.count) }
         ensures number { IfOk result (λ answer. L.opening + seat.new.count ≤ answer.number) }
-        ensures settled { IfOk result (λ answer. IsSettled (waiting_in self.new.hub.world) answer.event.now answer.event.what answer.outcome self.old.waits self.new.waits) }
+        ensures settled { IfOk result (λ answer. IsSettled (waiting_in self.new.hub.world) refused answer.event.now answer.event.what answer.outcome self.old.waits self.new.waits) }
         ensures freed { IfOk result (λ answer. told.new.freed.items ≡ told.old.freed.items ++ freed_of (waiting_in self.new.hub.world) answer.event.what answer.outcome self.old.waits) }
         ensures rest { IfOk result (λ answer. told.new.rest ≡ rest_of (waiting_in self.new.hub.world) answer.event.what) }
         ensures until { told.new.until ≡ told.old.until }
@@ -277,14 +280,14 @@ impl<L: Run> Desk<L> {
             Ok(answer) => answer,
             Err(refused) => return Err(refused),
         };
-        self.settle(answer.get(), told);
+        self.settle(answer.get(), refused, told);
         Ok(answer)
     }
 
-    /// What an answer makes of the waits.
-    fn settle(&mut self, entry: &Entry, told: &mut Told)
+    /// What an answer makes of the waits, where its connection's socket took nothing for so long before it.
+    fn settle(&mut self, entry: &Entry, refused: u64, told: &mut Told)
         requires room { vec_len told.old.freed + length self.old.waits.publishers ≤ vec_capacity told.old.freed }
-        ensures settled { IsSettled (waiting_in self.old.hub.world) entry.entry.now.event.now entry.entry.now.event.what entry.entry.now.outcome self.old.waits self.new.waits }
+        ensures settled { IsSettled (waiting_in self.old.hub.world) refused entry.entry.now.event.now entry.entry.now.event.what entry.entry.now.outcome self.old.waits self.new.waits }
         ensures freed { told.new.freed.items ≡ told.old.freed.items ++ freed_of (waiting_in self.old.hub.world) entry.entry.now.event.what entry.entry.now.outcome self.old.waits }
         ensures rest { told.new.rest ≡ rest_of (waiting_in self.old.hub.world) entry.entry.now.event.what }
         ensures until { told.new.until ≡ told.old.until }
@@ -294,7 +297,7 @@ impl<L: Run> Desk<L> {
             Command::Take { conn, .. } => {
                 let waiting = HubOutboxes { hub: &self.hub }.waiting(*conn);
                 self.waits
-                    .rest(*conn, waiting, entry.event.now, &mut told.freed);
+                    .rest(*conn, waiting, refused, entry.event.now, &mut told.freed);
                 told.rest = Some(waiting);
             }
             Command::Close { conn } => {

@@ -85,6 +85,7 @@ impl<'a, L: Run, R: Wait + Clock, G: Gate + Drop, W: Words + Drop> Worker<'a, L,
         }
         let mut writer = NonBlocking::new(&standing.socket);
         let turn = standing.client.flush(&mut writer);
+        standing.note_written(self.now);
         if turn == Turn::Waits {
             return self.wait_for(key);
         }
@@ -114,11 +115,16 @@ impl<'a, L: Run, R: Wait + Clock, G: Gate + Drop, W: Words + Drop> Worker<'a, L,
             return Drained::Stops;
         };
         let most = standing.due.next_take();
-        let _ = self.port.take_rest();
+        self.port.begin_take(standing.refused);
         let mut writer = NonBlocking::new(&standing.socket);
         let turn = standing
             .client
             .drain(&mut self.port, &mut writer, most, self.now);
+        if turn == Turn::Waits {
+            self.now = self.house.now(self.rt);
+        }
+        standing.refused = self.port.untold();
+        standing.note_written(self.now);
         if turn == Turn::Done || turn == Turn::Waits {
             let before = standing.due.awaited;
             standing.due = standing.due.taken(most);

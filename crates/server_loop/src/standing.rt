@@ -9,6 +9,9 @@ pub struct Standing {
     pub socket: TcpStream,
     /// What is known to be due to it.
     pub due: Due,
+    /// For how many milliseconds its socket took nothing since its last Take; and since when it takes nothing, if it does.
+    pub refused: u64,
+    pub refused_at: Option<u64>,
     /// From when on it is ended, if it is to be closed and its socket takes nothing.
     pub end_at: Option<u64>,
     /// Whether its socket may have more to read.
@@ -39,6 +42,8 @@ impl Standing {
             client,
             socket,
             due: Due::nothing(),
+            refused: 0,
+            refused_at: None,
             end_at: None,
             readable: true,
             held_until: None,
@@ -52,6 +57,16 @@ impl Standing {
             is_over: false,
             is_to_linger: false,
             lingers: false,
+        }
+    }
+
+    /// Notes, after a write, whether its socket has taken all. From a write that it refuses to the one that takes the rest it
+    /// takes nothing.
+    pub fn note_written(&mut self, now: u64) {
+        if self.client.waits() {
+            self.refused_at = self.refused_at.or(Some(now));
+        } else if let Some(at) = self.refused_at.take() {
+            self.refused = self.refused.saturating_add(now.saturating_sub(at));
         }
     }
 

@@ -104,22 +104,30 @@ impl<'a, L: Run, R: Wait + Clock, G: Gate + Drop, W: Words + Drop> Worker<'a, L,
             self.now,
         );
         let read = reader.count();
-        standing.is_let_on = standing.is_let_on && turn == Turn::Waits;
-        if standing.is_let_on {
-            // (what its socket doesn't take is looked after)
-            drop(self.stalled.push_back(key));
-        }
-        let is_due = standing.is_due() && !standing.client.waits();
-        if is_due {
-            // (what its socket hadn't taken may be written now, and then nobody tells that it takes more)
-            self.make_dirty(key);
-        }
+        self.follow_writes(key, turn);
         self.keep(key, held, read);
         self.tell();
         let turn = self.bounded(key, turn);
         match turn {
             Turn::Stalled(Stall::Held) => self.follow_held(key),
             _ => self.after(key, turn),
+        }
+    }
+
+    /// What follows where a turn has written, or its socket hasn't taken all.
+    fn follow_writes(&mut self, key: usize, turn: Turn) {
+        let Some(standing) = self.clients.get_mut(key) else {
+            return;
+        };
+        standing.note_written(self.now);
+        standing.is_let_on = standing.is_let_on && turn == Turn::Waits;
+        if standing.is_let_on {
+            // (what its socket doesn't take is looked after)
+            drop(self.stalled.push_back(key));
+        }
+        if standing.is_due() && !standing.client.waits() {
+            // (what its socket hadn't taken may be written now, and then nobody tells that it takes more)
+            self.make_dirty(key);
         }
     }
 

@@ -76,9 +76,10 @@ impl<L: Run, R: Wait, G: Gate + Drop> ServerPort<'_, L, R, G> {
         ensures err { IfErr result (λ back. back.0 ≡ event) }
     {
         let shared = self.shared;
-        match shared.answer_as(self.rt, &mut self.seat, event, &mut self.told) {
+        match shared.answer_as(self.rt, &mut self.seat, event, self.refused, &mut self.told) {
             Ok(answer) => {
                 let _ = self.follow(&answer);
+                self.refused = 0;
                 self.free();
                 Ok(answer)
             }

@@ -6,6 +6,7 @@ use gates::{Gate, Point};
 use history_bytes::{Kept, Rotation};
 use shared_hub::{Run, Seat, Shared, Told};
 use std::alloc::Global;
+use std::mem;
 use std::sync::Wait;
 
 /// A thread's port to the hub.
@@ -22,6 +23,8 @@ pub struct ServerPort<'a, L: Run, R: Wait, G: Gate + Drop> {
     /// What the hub told beside the latest answer.
     pub(crate) told: Told,
     pub(crate) course: Course,
+    /// For how many milliseconds the socket took nothing whose connection's Take comes next.
+    pub(crate) refused: u64,
 }
 
 impl<L: Run, R: Wait, G: Gate + Drop> Drop for ServerPort<'_, L, R, G> {
@@ -37,6 +40,7 @@ impl<L: Run, R: Wait, G: Gate + Drop> Drop for ServerPort<'_, L, R, G> {
             notices: _,
             told: _,
             course: _,
+            refused: _,
         } = self;
     }
 }
@@ -80,6 +84,7 @@ impl<'a, L: Run, R: Wait, G: Gate + Drop> ServerPort<'a, L, R, G> {
                 has_passed: false,
                 has_entered: false,
             },
+            refused: 0,
         }
     }
 
@@ -147,6 +152,21 @@ impl<'a, L: Run, R: Wait, G: Gate + Drop> ServerPort<'a, L, R, G> {
     /// How many deliveries wait for a connection, as the hub has it.
     pub fn waiting(&self, conn: u64) -> usize {
         self.shared.waiting(self.rt, conn)
+    }
+
+    /// A Take comes next, of a connection whose socket took nothing for so many milliseconds since its last one.
+    pub fn begin_take(&mut self, refused: u64)
+        ensures { self.new.seat ≡ self.old.seat }
+    {
+        self.told.rest = None;
+        self.refused = refused;
+    }
+
+    /// How many of these milliseconds no event has told the hub.
+    pub fn untold(&mut self) -> u64
+        ensures { self.new.seat ≡ self.old.seat }
+    {
+        mem::replace(&mut self.refused, 0)
     }
 
     /// How many deliveries waited for a connection behind the latest Take, if that wasn't asked since.

@@ -77,11 +77,12 @@ impl<L: Run, R: Wait, N: Notes + Drop> Port for SeatPort<'_, L, R, N> {
 
     ghost holds = { λ old new. new.seat.count ≡ old.seat.count };
 
+    /// It knows of no sockets, so all time in which a receiver is behind is charged.
     #[inline(always)]
     fn submit(&mut self, event: Event) -> Result<Answer, (Event, HubRefusal)> {
         match self
             .shared
-            .answer_as(self.rt, &mut self.seat, event, &mut self.told)
+            .answer_as(self.rt, &mut self.seat, event, u64::MAX, &mut self.told)
         {
             Ok(answer) => {
                 self.notes.note(&answer);

@@ -141,19 +141,21 @@ impl<L: Run> Shared<L> {
     }
 
     /// `submit_as` without a receipt, so that no owner of the policy is counted while the lock is held. Publishers that
-    /// wait are let on as `Desk::answer` tells.
+    /// wait are let on, and of a Take is charged for how many milliseconds its connection's socket took nothing, as
+    /// `Desk::answer` tells.
     #[inline(always)]
     pub fn answer_as<R: Wait>(
         &self,
         rt: &R,
         seat: &mut Seat<L>,
         event: Event,
+        refused: u64,
         told: &mut Told,
     ) -> Result<Answer, (Event, HubRefusal)>
         ensures answered { IsAnswered L.opening seat.old.count event result seat.new.count }
         ensures freed { IsLonger told.old.freed.items told.new.freed.items }
     {
-        self.desk.lock(rt).answer(seat, event, told)
+        self.desk.lock(rt).answer(seat, event, refused, told)
     }
 
     /// Offers a message's event while the lock is held: it is answered, or held back, as `Desk::publish` tells.

@@ -1,12 +1,12 @@
 -- Lists of publishers with their receivers, and of receivers with the patience with them.
-use Rattle.std.proofs.Common.{◌≡◌, ◌∙◌, ◌==◌, ◌+◌, ◌-◌, ◌<◌, ◌≤◌, ◌++◌, ◌∷◌, ◌||◌, [], ℕ, suc, zero, List, Bool, true, false, Option, None, Some, cond, refl, sym, ap, subst, filter, map, not, take, drop, length, is_some, nat_eq, arith, true≢false, get_or, add-one, append_assoc, option_map, ◌/◌}
+use Rattle.std.proofs.Common.{◌≡◌, ◌∙◌, ◌==◌, ◌+◌, ◌-◌, ◌<◌, ◌≤◌, ◌++◌, ◌∷◌, ◌||◌, [], ℕ, suc, zero, List, Bool, true, false, Option, None, Some, cond, refl, sym, ap, subst, filter, map, not, take, drop, length, is_some, nat_eq, arith, true≢false, get_or, add-one, append_assoc, ◌/◌}
 use Rattle.std.specs.List.{list_any}
 use Rattle.std.specs.Map.{lookup}
 use Rattle.std.proofs.lemmas.Bool.{eqb-true, eq-eqb, ne_eqb}
 use Rattle.shared_waits.specs.declared.patience.Patience.{Patience}
 use Rattle.std.proofs.Math.Seq.{drop-cons}
-use Rattle.shared_waits.specs.Patience.{begun, left_at, rested}
-use Rattle.shared_waits.specs.Waiting.{Waiting, patience_with, elsewhere, all_but, under, found, after_found, after_gone, after_end, IsRested}
+use Rattle.shared_waits.specs.Patience.{begun, begun_by}
+use Rattle.shared_waits.specs.Waiting.{Waiting, patience_with, elsewhere, all_but, under, stay, has_room, after_taken, IsRested, found, after_found, after_gone, after_end}
 
 -- a key that isn't there leaves all
 pub absent_stays : {X : Type 0} (p : ℕ) (ws : List (ℕ × X)) → lookup (nat_eq p) ws ≡ None → ws ≡ filter (λ w. not (p == w.0)) ws
@@ -83,15 +83,17 @@ noted_next freed n p receiver other rest all some e h =
     ∙ h
 
 -- the first that wait are let on where something still waits
-pub rested_by : (r : Patience) (room : Option Patience) (receiver waiting now : ℕ) (w after : Waiting) → Some r ≡ option_map (rested now) room → (waiting == 0) ≡ false
+pub rested_by : (receiver waiting refused now : ℕ) (w after : Waiting) → has_room waiting (patience_with w receiver) ≡ true → (waiting == 0) ≡ false
     → after.publishers ≡ all_but receiver (take 64 (under receiver w.publishers)) w.publishers
-    → ((conn : ℕ) → patience_with after conn ≡ cond (receiver == conn) (Some r) (patience_with w conn))
-    → IsRested receiver waiting now w room after
-rested_by r None receiver waiting now w after e some left put = cc
-rested_by r (Some p) receiver waiting now w after e some left put = (
-  left ∙ sym (ap (λ b. cond b (elsewhere receiver w.publishers) (all_but receiver (take 64 (under receiver w.publishers)) w.publishers)) some),
-  λ conn. put conn ∙ ap (λ (q : Option Patience). cond (receiver == conn) q (patience_with w conn)) e,
-)
+    → ((conn : ℕ) → patience_with after conn ≡ after_taken receiver waiting refused now conn (patience_with w conn))
+    → IsRested receiver waiting refused now w after
+rested_by receiver waiting refused now w after room some left put = record {
+  receivers = put;
+  publishers =
+      left
+      ∙ sym (ap (λ b. cond b (elsewhere receiver w.publishers) (all_but receiver (take 64 (under receiver w.publishers)) w.publishers)) some)
+      ∙ sym (ap (λ b. cond b (stay receiver waiting w.publishers) w.publishers) room);
+}
 
 -- nobody is there whom a look-up doesn't find
 pub none_found : {X : Type 0} (o : Option X) → is_some o ≡ false → o ≡ None
@@ -107,12 +109,11 @@ other b x y e = ap (λ c. cond c x y) e
 -- who is found behind twice at a moment is found so once
 pub found_twice : (now most : ℕ) (before : Option Patience) → found now most (Some (found now most before)) ≡ found now most before
 found_twice now most None = refl
-found_twice now most (Some p) = by p.is_behind refl
+found_twice now most (Some p) = by p.since refl
   where
-    by : (b : Bool) → p.is_behind ≡ b → begun now most (begun now most p) ≡ begun now most p
-    by true e = ap (begun now most) (chosen p.is_behind _ _ e)
-    by false e = let h : begun now most p ≡ record { left = left_at now p; since = now; is_behind = true; most = most } = other p.is_behind _ _ e in
-        ap (begun now most) h ∙ sym h
+    by : (s : Option ℕ) → p.since ≡ s → begun now most (begun_by s now most p) ≡ begun_by s now most p
+    by None e = refl
+    by (Some since) e = ap (λ (x : Option ℕ). begun_by x now most p) e
 
 -- what is left of a list
 pub drop_next : (i : ℕ) (xs : List ℕ) → i < length xs → drop i xs ≡ get_or xs i 0 ∷ drop (i + 1) xs

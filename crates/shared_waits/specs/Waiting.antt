@@ -3,7 +3,7 @@ use Rattle.std.specs.Prelude.{◌≡◌, ◌==◌, ◌&&◌, ◌∷◌, ◌++◌
 use Rattle.std.specs.List.{list_any}
 use Rattle.std.specs.Map.{lookup}
 use Rattle.shared_waits.specs.declared.patience.Patience.{Patience}
-use Rattle.shared_waits.specs.Patience.{is_out, out_at, fresh, begun, lowered, rested}
+use Rattle.shared_waits.specs.Patience.{is_out, out_at, fresh, begun, lowered, taken}
 
 pub record Waiting : Type 0 where
   -- the receivers that were found behind, and the patience with each
@@ -77,36 +77,35 @@ pub record IsHeld (waiting : ℕ → ℕ) (now publisher first : ℕ) (held : Li
 
 -- ---- room
 
--- the patience with a receiver that has room once so many wait for it
-abbrev pub with_room : ℕ → Option Patience → Option Patience
-with_room waiting None = None
-with_room waiting (Some p) = if nat_le waiting p.most then Some p else None
+-- the patience with one once a receiver's Take has left so many, before which its socket took nothing for so long
+abbrev pub after_taken : ℕ → ℕ → ℕ → ℕ → ℕ → Option Patience → Option Patience
+after_taken receiver waiting refused now conn None = None
+after_taken receiver waiting refused now conn (Some p) =
+    if receiver == conn then Some (taken waiting refused now p) else Some p
+
+-- whether publishers are let on whose receiver has so many waiting
+abbrev pub has_room : ℕ → Option Patience → Bool
+has_room waiting None = false
+has_room waiting (Some p) = nat_le waiting p.most
 
 -- who is let on of those that wait for a receiver: all once nothing waits for it, else the first 64
 abbrev pub first_of : ℕ → List ℕ → List ℕ
 first_of waiting ps = if waiting == 0 then ps else take 64 ps
 
--- who is let on where the receiver has room
-abbrev pub if_room : Option Patience → List ℕ → List ℕ
-if_room None ps = []
-if_room (Some p) ps = ps
-
 -- who is let on once so many wait for a receiver
 abbrev pub let_on : ℕ → ℕ → Waiting → List ℕ
 let_on receiver waiting w =
-    if_room (with_room waiting (patience_with w receiver)) (first_of waiting (under receiver w.publishers))
+    if has_room waiting (patience_with w receiver) then first_of waiting (under receiver w.publishers) else []
 
 -- who waits then
 abbrev pub stay : ℕ → ℕ → List (ℕ × ℕ) → List (ℕ × ℕ)
 stay receiver waiting ws = if waiting == 0 then elsewhere receiver ws else all_but receiver (take 64 (under receiver ws)) ws
 
--- What a Take leaves that leaves a receiver so many: with room it is behind no more, and publishers are let on; else all
--- stays as it is.
-abbrev pub IsRested : ℕ → ℕ → ℕ → Waiting → Option Patience → Waiting → Type 0
-IsRested receiver waiting now w None after = after ≡ w
-IsRested receiver waiting now w (Some p) after =
-    (after.publishers ≡ stay receiver waiting w.publishers)
-    × ((conn : ℕ) → patience_with after conn ≡ (if receiver == conn then Some (rested now p) else patience_with w conn))
+-- What a Take leaves that leaves a receiver so many, and before which its socket took nothing for so long: if it is behind,
+-- that is charged; with room it is behind no more, and publishers are let on.
+pub record IsRested (receiver waiting refused now : ℕ) (w after : Waiting) : Type 0 where
+  pub receivers : (conn : ℕ) → patience_with after conn ≡ after_taken receiver waiting refused now conn (patience_with w conn)
+  pub publishers : after.publishers ≡ (if has_room waiting (patience_with w receiver) then stay receiver waiting w.publishers else w.publishers)
 
 -- ---- the ends of connections
 

@@ -1,32 +1,34 @@
 //! For how long publishers wait for a receiver that is behind.
 ghost use Rattle.std.specs.Prelude.{◌≡◌};
 
-/// For how long a receiver may be behind at once, in milliseconds.
+/// For how long a receiver may be behind at once without a Take that makes room, in milliseconds.
 pub const AT_ONCE: u64 = 2_000;
 
-/// For how long in all, where it has saved as much as may be.
-pub const SAVED: u64 = 10_000;
+/// How much patience may be saved, in tenths of a millisecond: ten seconds.
+pub const SAVED: u64 = 100_000;
 
-/// While it isn't behind it saves a millisecond in so many.
-const REFILL: u64 = 10;
+/// What a millisecond takes in which a receiver's socket takes nothing. One in which it isn't behind gives a tenth of that
+/// back.
+const TAKEN: u64 = 10;
 
-/// The patience with one receiver. Time in which it is behind is taken from what is left, `AT_ONCE` at most at a time;
-/// time in which it isn't gives a tenth of it back, up to `SAVED`.
+/// The patience with one receiver, in tenths of a millisecond. Each millisecond in which it isn't behind gives one back, up to
+/// `SAVED`. A Take while it is behind takes ten for each in which its socket took nothing: what the server itself needs to
+/// hand messages over isn't charged. Until such a Take tells, all time in which it is behind counts as charged.
 #[derive(Clone, Copy, Debug)]
 pub struct Patience {
-    /// What was left at the latest change.
+    /// What was left at the latest change of it.
     left: u64,
     /// When that was.
-    since: u64,
-    /// Whether it has been behind since then.
-    is_behind: bool,
+    at: u64,
+    /// Since when the receiver is behind, if it is.
+    since: Option<u64>,
     /// With so many deliveries waiting for it, or fewer, its publishers are let on.
     most: usize,
 }
 
 impl Patience {
     ghost use Rattle.std.specs.Prelude.{nat_le};
-    ghost use Rattle.shared_waits.specs.Patience.{left_at, is_out, out_at, fresh, begun, lowered, rested};
+    ghost use Rattle.shared_waits.specs.Patience.{left_at, is_out, out_at, fresh, begun, lowered, taken};
 
     /// The patience with a receiver that is found behind for the first time.
     pub(crate) fn new(now: u64, most: usize) -> Patience
@@ -34,21 +36,20 @@ impl Patience {
     {
         Patience {
             left: SAVED,
-            since: now,
-            is_behind: true,
+            at: now,
+            since: Some(now),
             most,
         }
     }
 
-    /// What is left at a moment.
+    /// What is left at a moment, if no Take tells otherwise.
     fn left_at(&self, now: u64) -> u64
         ensures { result ≡ left_at now self.now }
     {
-        let passed = now.saturating_sub(self.since);
-        if self.is_behind {
-            self.left.saturating_sub(passed.min(AT_ONCE))
-        } else {
-            self.left.saturating_add(passed / REFILL).min(SAVED)
+        let passed = now.saturating_sub(self.at);
+        match self.since {
+            None => self.left.saturating_add(passed).min(SAVED),
+            Some(_) => self.left.saturating_sub(passed.saturating_mul(TAKEN)),
         }
     }
 
@@ -56,28 +57,38 @@ impl Patience {
     pub fn is_out(&self, now: u64) -> bool
         ensures { result ≡ is_out now self.now }
     {
-        let too_long = self.is_behind && now.saturating_sub(self.since) >= AT_ONCE;
+        let too_long = match self.since {
+            None => false,
+            Some(since) => now.saturating_sub(since) >= AT_ONCE,
+        };
         too_long || self.left_at(now) == 0
     }
 
-    /// When it is used up, if the receiver stays behind.
+    /// When it is used up, if the receiver stays behind and no Take tells otherwise.
     pub(crate) fn out_at(&self) -> u64
         ensures { result ≡ out_at self.now }
     {
-        self.since.saturating_add(self.left.min(AT_ONCE))
+        match self.since {
+            None => u64::MAX,
+            Some(since) => {
+                let spent = self.left / TAKEN + 1;
+                let spent_at = self.at.saturating_add(spent);
+                since.saturating_add(AT_ONCE).min(spent_at)
+            }
+        }
     }
 
     /// The receiver is found behind. Where it is behind already, nothing changes.
     pub(crate) fn begin(self, now: u64, most: usize) -> Patience
         ensures { result ≡ begun now most self }
     {
-        if self.is_behind {
+        if self.since.is_some() {
             return self;
         }
         Patience {
             left: self.left_at(now),
-            since: now,
-            is_behind: true,
+            at: self.at.max(now),
+            since: Some(now),
             most,
         }
     }
@@ -92,17 +103,24 @@ impl Patience {
         }
     }
 
-    /// The receiver has made room: it is behind no more, and the time in which it was is taken from what is left.
-    pub(crate) fn rest(self, now: u64) -> Patience
-        ensures { result ≡ rested now self }
+    /// A Take has left so many waiting, before which the receiver's socket took nothing for so many milliseconds. If it is
+    /// behind, that time is charged, as far as it has passed since the latest change; with few enough waiting it is behind no
+    /// more.
+    pub(crate) fn take(self, waiting: usize, refused: u64, now: u64) -> Patience
+        ensures { result ≡ taken waiting refused now self }
     {
-        if !self.is_behind {
+        let Some(since) = self.since else {
             return self;
-        }
+        };
+        let charged = refused.min(now.saturating_sub(self.at));
         Patience {
-            left: self.left_at(now),
-            since: now,
-            is_behind: false,
+            left: self.left.saturating_sub(charged.saturating_mul(TAKEN)),
+            at: self.at.max(now),
+            since: if self.has_room(waiting) {
+                None
+            } else {
+                Some(since)
+            },
             most: self.most,
         }
     }

@@ -1,9 +1,8 @@
 //! Who waits for whom.
-ghost use Rattle.std.specs.Prelude.{◌≡◌, ◌≤◌, ◌<◌, ◌+◌, ◌++◌, ◌∷◌, ◌==◌, [], ℕ, true, None, Some, Option, OnOk, OnErr, if◌then◌else◌, length, slice_index, take, option_map, nat_eq, vec_len, vec_capacity, ◌/◌};
+ghost use Rattle.std.specs.Prelude.{◌≡◌, ◌≤◌, ◌<◌, ◌+◌, ◌++◌, ◌∷◌, ◌==◌, [], ℕ, true, None, Some, Option, OnOk, OnErr, if◌then◌else◌, length, slice_index, take, nat_eq, vec_len, vec_capacity, ◌/◌};
 ghost use Rattle.std.specs.List.{list_any};
-ghost use Rattle.shared_waits.specs.Patience.{rested};
 ghost use Rattle.indexmap.specs.IndexMap.{get, spare};
-ghost use Rattle.shared_waits.specs.Waiting.{patience_with, nobody, is_out_with, ends_at, without, under, elsewhere, all_but, found, after_found, after_lowered, IsHeld, with_room, let_on, IsRested, after_end, after_ends, freed_by, after_gone};
+ghost use Rattle.shared_waits.specs.Waiting.{patience_with, nobody, is_out_with, ends_at, without, under, elsewhere, all_but, found, after_found, after_lowered, IsHeld, after_taken, has_room, let_on, IsRested, after_end, after_ends, freed_by, after_gone};
 
 use crate::Patience;
 use indexmap::IndexMap;
@@ -121,17 +120,17 @@ impl Waits {
         Ok(())
     }
 
-    /// A receiver has taken some of its deliveries, and so many still wait for it. Where that is few enough, it is behind no
-    /// more, and publishers that wait for it are let on: all where nothing waits, else the first 64 of them.
-    pub fn rest(&mut self, conn: u64, waiting: usize, now: u64, freed: &mut Vec<u64>)
+    /// A receiver has taken some of its deliveries, and so many still wait for it; since its last Take its socket took nothing
+    /// for so many milliseconds, which are charged if it is behind. Where few enough wait, it is behind no more, and publishers
+    /// that wait for it are let on: all where nothing waits, else the first 64 of them.
+    pub fn rest(&mut self, conn: u64, waiting: usize, refused: u64, now: u64, freed: &mut Vec<u64>)
         requires room { vec_len freed.old + length self.old.publishers ≤ vec_capacity freed.old }
         ensures freed { freed.new.items ≡ freed.old.items ++ let_on conn waiting self.old }
-        ensures rested { IsRested conn waiting now self.old (with_room waiting (patience_with self.old conn)) self.new }
+        ensures rested { IsRested conn waiting refused now self.old self.new }
     {
-        let Some(rested) = self.rested(conn, waiting, now) else {
+        if !charge(&mut self.receivers, conn, waiting, refused, now) {
             return;
-        };
-        put(&mut self.receivers, conn, rested);
+        }
         if waiting == 0 {
             note_all(&self.publishers, conn, freed);
             leave_all(&mut self.publishers, conn);
@@ -164,22 +163,6 @@ impl Waits {
         note_all(&self.publishers, conn, freed);
         leave_all(&mut self.publishers, conn);
         leave(&mut self.publishers, conn);
-    }
-
-    /// The patience with a receiver that has room once so many wait for it.
-    fn rested(&self, conn: u64, waiting: usize, now: u64) -> Option<Patience>
-        ensures { result ≡ option_map (rested now) (with_room waiting (patience_with self.now conn)) }
-    {
-        match self.receivers.get(&conn) {
-            None => None,
-            Some(patience) => {
-                if patience.has_room(waiting) {
-                    Some(patience.rest(now))
-                } else {
-                    None
-                }
-            }
-        }
     }
 }
 
@@ -303,6 +286,22 @@ fn lower(receivers: &mut Receivers, receiver: u64, most: usize)
         Some(patience) => {
             let lowered = patience.lower(most);
             put(receivers, receiver, lowered);
+        }
+    }
+}
+
+/// A receiver's Take has left so many. What is due is charged; answers whether its publishers are let on.
+fn charge(receivers: &mut Receivers, receiver: u64, waiting: usize, refused: u64, now: u64) -> bool
+    ensures receivers { (conn : ℕ) → get nat_eq receivers.new conn ≡ after_taken receiver waiting refused now conn (get nat_eq receivers.old conn) }
+    ensures room { result ≡ has_room waiting (get nat_eq receivers.old receiver) }
+{
+    match receivers.get(&receiver) {
+        None => false,
+        Some(patience) => {
+            let has_room = patience.has_room(waiting);
+            let taken = patience.take(waiting, refused, now);
+            put(receivers, receiver, taken);
+            has_room
         }
     }
 }
