@@ -8,6 +8,8 @@ from storming import Hearing, Sending, deaf, fill_sockets, is_closed_within, num
 
 # How long a receiver that doesn't read is waited for at once, in seconds, and what a busy machine may add.
 PATIENCE, MORE = 2, 4
+# For how many seconds those are sent messages who read as fast as they can.
+FLOOD = 45
 SIZE = 512
 
 
@@ -151,6 +153,27 @@ def receive(client, most):
         return 0
 
 
+@storm()
+def outbox_of_one(program, divide, workers):
+    """Receivers on all workers that read as fast as they can, with an outbox of 1, get all of a flood of 45 s"""
+    with Server(program, "--workers", workers, "--outbox", 1) as server:
+        publisher, *receivers = spread(server, workers + 1, workers)
+        for it in receivers:
+            it.subscribe(b"flood")
+        hearing = Hearing(receivers)
+        sending = Sending(publisher, numbered(b"flood", range(100)), times=1 << 30)
+        time.sleep(FLOOD)
+        want(not hearing.ended, f"{len(hearing.ended)} receivers were closed")
+        sending.stop = True
+        sending.join()
+        wanted = 100 * sending.sent * len(receivers) * (len(b"MSG flood 1 16\r\n\r\n") + 16)
+        hearing.wait(wanted, "all is to arrive")
+        want(hearing.bytes == wanted, f"{hearing.bytes} bytes came in place of {wanted}")
+        hearing.end()
+        is_alive(server)
+    return f"{100 * sending.sent} messages to each of {len(receivers)}"
+
+
 @storm(1, 2)
 def reads_a_little(program, divide, workers):
     """A Slow Consumer that reads a little once it has missed messages, and then no more, is closed"""
@@ -214,5 +237,5 @@ def more_than_an_outbox(program, divide, workers):
 
 
 if __name__ == "__main__":
-    run(__doc__, hundred_deaf, killed, revoked, end_while_held, trickler, reads_a_little, deaf_pair,
+    run(__doc__, hundred_deaf, killed, revoked, end_while_held, trickler, outbox_of_one, reads_a_little, deaf_pair,
         more_than_an_outbox, at_once=4)
