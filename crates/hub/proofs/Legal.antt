@@ -11,6 +11,7 @@ use Rattle.events.specs.declared.refusal.HubRefusal.{HubRefusal}
 use Rattle.events.specs.declared.refusal.HubRefusal.TheVariants.{HistoryFull}
 use Rattle.events.specs.declared.refusal.PublishRefusal.{PublishRefusal}
 use Rattle.events.specs.declared.refusal.PublishRefusal.TheVariants.{By, Held}
+use Rattle.leniency.specs.Held.{Terms, to_all}
 use Rattle.world.specs.World.{World}
 use Rattle.world.specs.Transition.{transition, entry_of, IsReasoned, IsRefusal}
 use Rattle.world.specs.Holding.{IsAppliedIf}
@@ -120,9 +121,9 @@ refused-guaranteed opening w most es e refusal after entries sound room is same_
 
 -- ---- a step that is refused or held back
 
-module _ (lets : ℕ → Bool) (opening : World) (w : World) (most : ℕ) (es : List Entry) (e : Event) where
+module _ (t : Terms) (opening : World) (w : World) (most : ℕ) (es : List Entry) (e : Event) where
   pub unmade-step : (refusal : PublishRefusal) (held : List ℕ) (after : World) (entries : List Entry) → is_history_full (state_of opening w most es) ≡ false →
-      IsAppliedIf lets w e (Err refusal) held after → entries ≡ es → IsStepIf lets (state_of opening w most es) e (Err (e, refusal)) held (state_of opening after most entries)
+      IsAppliedIf t w e (Err refusal) held after → entries ≡ es → IsStepIf t (state_of opening w most es) e (Err (e, refusal)) held (state_of opening after most entries)
   unmade-step (By refusal) held after entries room is same = refused-step opening w most es e refusal after entries room is.1 is.0 same
   unmade-step Held held after entries room is same = (
     refl,
@@ -133,12 +134,12 @@ module _ (lets : ℕ → Bool) (opening : World) (w : World) (most : ℕ) (es : 
   )
 
   pub unmade-guaranteed : (refusal : PublishRefusal) (held : List ℕ) (after : World) (entries : List Entry) → IsSound w → is_history_full (state_of opening w most es) ≡ false →
-      IsAppliedIf lets w e (Err refusal) held after → entries ≡ es →
+      IsAppliedIf t w e (Err refusal) held after → entries ≡ es →
       IsOffered KeepsGuarantee (λ s next. next ≡ s) (state_of opening w most es) e (Err (e, refusal)) (state_of opening after most entries)
   unmade-guaranteed (By refusal) held after entries sound room is same = refused-guaranteed opening w most es e refusal after entries sound room is.1 is.0 same
   unmade-guaranteed Held held after entries sound room is same =
       ap (λ (v : World). state_of opening v most entries) is.0 ∙ ap (λ (l : List Entry). state_of opening w most l) same
 
 -- a caller that is lenient to all is never told that an event is held back
-pub never-held : (s after : State) (e back : Event) (held : List ℕ) → IsStepIf (λ conn. true) s e (Err (back, Held)) held after → ⊥
+pub never-held : (s after : State) (e back : Event) (held : List ℕ) → IsStepIf to_all s e (Err (back, Held)) held after → ⊥
 never-held s after e back held h = h.3 (h.4 ∙ none_holds_back s.world.sessions (transition s.world e))

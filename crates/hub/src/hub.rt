@@ -156,9 +156,10 @@ impl Hub {
     }
 
     /// One event as `step` takes it, unless somebody holds it back: its answer would tell of a full outbox, of a connection
-    /// to which the caller isn't lenient and for which something waits. Then nothing changes, the event is handed back with
-    /// `Held`, and these connections are in `held`, once for each item. So each full outbox of which an answer tells is
-    /// of a connection to which the caller is lenient, or was empty before the message. What is refused isn't held back.
+    /// to which the caller isn't lenient and for which something waits; or its message would enter for a connection for
+    /// which more waits than may by the caller's terms. Then nothing changes, the event is handed back with `Held`, and
+    /// these connections are in `held`, once for each item. So each full outbox of which an answer tells is of a connection
+    /// to which the caller is lenient, or was empty before the message. What is refused isn't held back.
     #[inline(always)]
     pub fn step_if<T: Lenient>(
         &mut self,
@@ -167,7 +168,7 @@ impl Hub {
         held: &mut Vec<u64>,
     ) -> Result<Answer, (Event, PublishRefusal)>
         requires none { held.old.items ≡ [] }
-        ensures transition { IsStepIf (T.lets lenient.now) self.old event result held.new.items self.new }
+        ensures transition { IsStepIf (T.terms lenient.now) self.old event result held.new.items self.new }
         ensures guarantee { IsOffered KeepsGuarantee (λ s after. after ≡ s) self.old event result self.new }
     {
         if self.is_full() {
@@ -335,6 +336,14 @@ impl Hub {
         ensures { result ≡ waiting_of self.now.world conn }
     {
         self.world.waiting(conn)
+    }
+
+    /// How many deliveries may wait for a session.
+    #[inline(always)]
+    pub fn capacity(&self) -> usize
+        ensures { result ≡ self.now.world.capacity }
+    {
+        self.world.capacity()
     }
 }
 

@@ -6,6 +6,7 @@ ghost use Rattle.sessions.specs.Sessions.{session_of};
 ghost use Rattle.leniency.specs.Held.{is_full, has_nothing, holds_back, held_among};
 
 use crate::Lenient;
+use crate::weight::is_over;
 use events::Item;
 use lists::NoMemory;
 use sessions::{Session, Sessions};
@@ -36,7 +37,7 @@ fn has_nothing(session: Option<&Session>) -> bool
 
 /// Whether a connection with a full outbox holds the message back.
 fn holds_back<T: Lenient>(lenient: &T, sessions: &Sessions, conn: u64) -> bool
-    ensures { result ≡ holds_back (T.lets lenient.now) sessions.now conn }
+    ensures { result ≡ holds_back (T.terms lenient.now).lets sessions.now conn }
 {
     !(lenient.lets(conn) || has_nothing(sessions.find(conn)))
 }
@@ -48,10 +49,15 @@ fn note_if_held<T: Lenient>(
     item: &Item,
     held: &mut Vec<u64>,
 ) -> Result<(), NoMemory>
-    ensures { OnOk result (held.new.items ≡ held.old.items ++ held_among (T.lets lenient.now) sessions.now (item.now ∷ [])) }
+    ensures { OnOk result (held.new.items ≡ held.old.items ++ held_among (T.terms lenient.now) sessions.now (item.now ∷ [])) }
 {
     match item {
-        Item::Entered { .. } => Ok(()),
+        Item::Entered { conn, .. } => {
+            if is_over(lenient.room(), sessions.find(*conn))? {
+                held.push(*conn)?;
+            }
+            Ok(())
+        }
         Item::Full { conn, .. } => {
             if holds_back(lenient, sessions, *conn) {
                 held.push(*conn)?;
@@ -61,7 +67,8 @@ fn note_if_held<T: Lenient>(
     }
 }
 
-/// Appends who holds a message back that is to meet these items. Apart, since hardly a message meets a full outbox.
+/// Appends who holds a message back that is to meet these items. Apart, since hardly a message meets a full outbox, and few
+/// are so large that it counts how much waits.
 #[inline(never)]
 fn note_each<T: Lenient>(
     lenient: &T,
@@ -69,7 +76,7 @@ fn note_each<T: Lenient>(
     items: &[Item],
     held: &mut Vec<u64>,
 ) -> Result<(), NoMemory>
-    ensures { OnOk result (held.new.items ≡ held.old.items ++ held_among (T.lets lenient.now) sessions.now items.now) }
+    ensures { OnOk result (held.new.items ≡ held.old.items ++ held_among (T.terms lenient.now) sessions.now items.now) }
 {
     for item in items {
         note_if_held(lenient, sessions, item, held)?;
@@ -78,8 +85,8 @@ fn note_each<T: Lenient>(
 }
 
 /// Appends who holds a message back that is to meet these items: the connections with a full outbox to which the caller
-/// isn't lenient, once for each item. One whose outbox is empty doesn't, since nothing that leaves it could make room.
-/// `NoMemory` where memory could not be had: then some are appended.
+/// isn't lenient, and those that it would enter for which more waits than may; once for each item. One whose outbox is empty
+/// doesn't, since nothing that leaves it could make room. `NoMemory` where memory could not be had: then some are appended.
 #[inline(always)]
 pub fn note_held<T: Lenient>(
     lenient: &T,
@@ -87,9 +94,9 @@ pub fn note_held<T: Lenient>(
     items: &[Item],
     held: &mut Vec<u64>,
 ) -> Result<(), NoMemory>
-    ensures { OnOk result (held.new.items ≡ held.old.items ++ held_among (T.lets lenient.now) sessions.now items.now) }
+    ensures { OnOk result (held.new.items ≡ held.old.items ++ held_among (T.terms lenient.now) sessions.now items.now) }
 {
-    if is_any_full(items) {
+    if is_any_full(items) || lenient.room().is_some() {
         note_each(lenient, sessions, items, held)?;
     }
     Ok(())

@@ -1,5 +1,5 @@
 -- A step whose number has risen, or that is not made.
-use Rattle.std.proofs.Common.{◌≡◌, ◌∙◌, ◌+◌, ◌++◌, ℕ, Bool, true, List, [], Result, Ok, Err, ap, sym, refl}
+use Rattle.std.proofs.Common.{◌≡◌, ◌∙◌, ◌+◌, ◌++◌, ℕ, List, [], Result, Ok, Err, ap, sym, refl}
 use Rattle.events.specs.declared.event.Event.{Event}
 use Rattle.events.specs.declared.event.Command.{Command}
 use Rattle.events.specs.declared.event.Command.TheVariants.{Connect, Sub, Unsub, Pub, Take, Close, Reload}
@@ -10,7 +10,7 @@ use Rattle.events.specs.declared.answer.Outcome.TheVariants.{Connected, AuthViol
 use Rattle.events.specs.declared.refusal.HubRefusal.{HubRefusal}
 use Rattle.events.specs.declared.refusal.PublishRefusal.TheVariants.{Held}
 use Rattle.sessions.specs.declared.session.Session.{Session}
-use Rattle.leniency.specs.Held.{held_among}
+use Rattle.leniency.specs.Held.{Terms, to_all, held_among}
 use Rattle.leniency.proofs.Kept.{none_holds}
 use Rattle.world.specs.World.{World, advanced}
 use Rattle.world.specs.Transition.{numbered, transition, IsMoved, IsApplied, IsReasoned}
@@ -22,9 +22,9 @@ pub applied_is : (w after : World) (e : Event) (both : Entry × Entry) → IsMov
 applied_is w after e both h = (ap (numbered (w.number + 1)) h.0, h.1, h.2)
 
 -- the same of one that nobody held back
-pub applied_if_is : (lets : ℕ → Bool) (w after : World) (e : Event) (both : Entry × Entry) (held : List ℕ) → IsMovedIf lets (advanced w e.now) e (Ok both) held after →
-    IsAppliedIf lets w e (Ok both) held (record after { number = w.number + 1 })
-applied_if_is lets w after e both held h = (applied_is w after e both h.0, h.1)
+pub applied_if_is : (t : Terms) (w after : World) (e : Event) (both : Entry × Entry) (held : List ℕ) → IsMovedIf t (advanced w e.now) e (Ok both) held after →
+    IsAppliedIf t w e (Ok both) held (record after { number = w.number + 1 })
+applied_if_is t w after e both held h = (applied_is w after e both h.0, h.1)
 
 -- what an outcome's reason is, whenever it is
 pub same_reason : (w : World) (moment : ℕ) (c : Command) (o : Outcome) → IsReasoned (record w { moment = moment }) c o → IsReasoned w c o
@@ -47,15 +47,15 @@ same_reason w moment (Reload doc) Closed h = h
 same_reason w moment (Reload doc) (Reloaded gone removed) h = h
 
 -- an outcome of whose items none was noted
-pub noted_none : (lets : ℕ → Bool) (zs : List Session) (o : Outcome) (items : List Item) (before after : List ℕ) → items ≡ items_in o → before ≡ [] →
-    after ≡ before ++ held_among lets zs items → after ≡ [] → held_in lets zs o ≡ []
-noted_none lets zs o items before after is empty noted none =
-    sym (ap (λ (all : List Item). held_among lets zs all) is) ∙ sym (noted ∙ ap (λ (conns : List ℕ). conns ++ held_among lets zs items) empty) ∙ none
+pub noted_none : (t : Terms) (zs : List Session) (o : Outcome) (items : List Item) (before after : List ℕ) → items ≡ items_in o → before ≡ [] →
+    after ≡ before ++ held_among t zs items → after ≡ [] → held_in t zs o ≡ []
+noted_none t zs o items before after is empty noted none =
+    sym (ap (λ (all : List Item). held_among t zs all) is) ∙ sym (noted ∙ ap (λ (conns : List ℕ). conns ++ held_among t zs items) empty) ∙ none
 
 -- nobody holds an event back from a caller that is lenient to all
-pub none_holds_back : (zs : List Session) (t : Result (Outcome × World) HubRefusal) → holders (λ conn. true) zs t ≡ []
+pub none_holds_back : (zs : List Session) (r : Result (Outcome × World) HubRefusal) → holders to_all zs r ≡ []
 none_holds_back zs (Ok r) = none_holds zs (items_in r.0)
 none_holds_back zs (Err refusal) = refl
 
-pub never_held : (w after : World) (e : Event) (held : List ℕ) → IsAppliedIf (λ conn. true) w e (Err Held) held after → ⊥
+pub never_held : (w after : World) (e : Event) (held : List ℕ) → IsAppliedIf to_all w e (Err Held) held after → ⊥
 never_held w after e held h = h.1 (h.2 ∙ none_holds_back w.sessions (transition w e))

@@ -119,8 +119,9 @@ impl World {
     }
 
     /// Applies one event as `apply` does, unless somebody holds it back: its outcome would tell of a full outbox, of a
-    /// connection to which the caller isn't lenient and for which something waits. Then nothing changes, `Held` is
-    /// answered, and these connections are in `held`, once for each item.
+    /// connection to which the caller isn't lenient and for which something waits; or its message would enter for a
+    /// connection for which more waits than may by the caller's terms. Then nothing changes, `Held` is answered, and these
+    /// connections are in `held`, once for each item.
     pub fn apply_if<T: Lenient>(
         &mut self,
         event: &Event,
@@ -131,7 +132,7 @@ impl World {
         requires epoch { self.old.epoch ≤ self.old.number + 1 }
         requires ids { All (λ (s : Subscription). s.id ≤ self.old.number) self.old.subscriptions }
         requires none { held.old.items ≡ [] }
-        ensures step { IsAppliedIf (T.lets lenient.now) self.old event.entry.now result held.new.items self.new }
+        ensures step { IsAppliedIf (T.terms lenient.now) self.old event.entry.now result held.new.items self.new }
         ensures reason { IfOk result (λ both. IsReasoned self.old event.entry.now.what both.0.outcome) }
     {
         let next = self.number + 1;
@@ -162,7 +163,7 @@ impl World {
         requires epoch { self.old.epoch ≤ self.old.number + 1 }
         requires ids { All (λ (s : Subscription). s.id ≤ self.old.number) self.old.subscriptions }
         requires none { held.old.items ≡ [] }
-        ensures step { IsMovedIf (T.lets lenient.now) self.old event.entry.now result held.new.items self.new }
+        ensures step { IsMovedIf (T.terms lenient.now) self.old event.entry.now result held.new.items self.new }
         ensures reason { IfOk result (λ both. IsReasoned self.old event.entry.now.what both.0.outcome) }
     {
         let decided = match self.decide(&event.what) {
@@ -245,6 +246,14 @@ impl World {
         ensures { result ≡ self.now.number }
     {
         self.number
+    }
+
+    /// How many deliveries may wait for a session.
+    #[inline(always)]
+    pub fn capacity(&self) -> usize
+        ensures { result ≡ self.now.capacity }
+    {
+        self.capacity
     }
 
     /// The policy in force, made ready.

@@ -7,10 +7,10 @@ use Rattle.leniency.proofs.held.note_each.Goals as goal
 
 pub loop-item-preserved : goal.loop-item-preserved
 loop-item-preserved g c =
-    let lets = g.T.Lenient.lets c.args.lenient.now in
+    let t = g.T.Lenient.terms c.args.lenient.now in
     let zs = c.args.sessions.now in
     let item = c.item-item.result in
     c.in_ok-note_if_held.ensures
-    ∙ ap (λ (conns : List ℕ). conns ++ held_among lets zs (item ∷ [])) c.loop-item.invariant
+    ∙ ap (λ (conns : List ℕ). conns ++ held_among t zs (item ∷ [])) c.loop-item.invariant
     ∙ append_assoc c.args.held.now.items _ _
-    ∙ ap (λ (conns : List ℕ). c.args.held.now.items ++ conns) (sym (filter_map_more (held_conn lets zs) c.args.items.now c.loop-item.item-index item c.loop-item-test.true c.item-item.is))
+    ∙ ap (λ (conns : List ℕ). c.args.held.now.items ++ conns) (sym (filter_map_more (held_conn t zs) c.args.items.now c.loop-item.item-index item c.loop-item-test.true c.item-item.is))

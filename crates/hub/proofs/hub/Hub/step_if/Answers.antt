@@ -33,10 +33,10 @@ invariant_of-self-in-Ok g c = kept-step _ _ _ _ _ _ _ _ (is_entered g c)
 
 pub returns-in-Ok-clause-transition : goal.returns-in-Ok-clause-transition
 returns-in-Ok-clause-transition g c =
-    let lets = g.T.Lenient.lets c.args.lenient.now in
+    let t = g.T.Lenient.terms c.args.lenient.now in
     let after = state_of c.self.inside.opening c.apply_if.new.self c.self.inside.most c.enter.new.entries.items in
-    let P : State → Type 0 = λ s. IsStepIf lets s c.args.event (Ok c.enter.result) c.apply_if.new.held.items after in
-    let letting = ap (λ (a : Entry). held_in lets c.self.inside.world.sessions a.outcome) c.enter.ensures.answer ∙ c.in-Ok.ensures.step.1 in
+    let P : State → Type 0 = λ s. IsStepIf t s c.args.event (Ok c.enter.result) c.apply_if.new.held.items after in
+    let letting = ap (λ (a : Entry). held_in t c.self.inside.world.sessions a.outcome) c.enter.ensures.answer ∙ c.in-Ok.ensures.step.1 in
     subst P c.self.view_is (entered-step _ _ _ _ _ _ _ _ (is_entered g c), letting)
 
 pub returns-in-Ok-clause-guarantee : goal.returns-in-Ok-clause-guarantee
@@ -57,12 +57,12 @@ returns-in-Err-clause-guarantee g c =
     let room : is_history_full c.args.self.now ≡ false = sym c.is_full.ensures ∙ c.if-is_full.false in
     let P : State → Type 0 = λ s. is_history_full s ≡ false in
     let Q : State → Type 0 = λ s. IsOffered KeepsGuarantee (λ s next. next ≡ s) s c.args.event (Err (c.args.event, c.in-Err.refusal)) (state_of c.self.inside.opening c.apply_if.new.self c.self.inside.most c.reserve.new.self.items) in
-    subst Q c.self.view_is (unmade-guaranteed (g.T.Lenient.lets c.args.lenient.now) _ _ _ _ _ _ c.apply_if.new.held.items _ _ c.self.invariant.0 (subst P (sym c.self.view_is) room) c.in-Err.ensures.step c.reserve.ensures.items)
+    subst Q c.self.view_is (unmade-guaranteed (g.T.Lenient.terms c.args.lenient.now) _ _ _ _ _ _ c.apply_if.new.held.items _ _ c.self.invariant.0 (subst P (sym c.self.view_is) room) c.in-Err.ensures.step c.reserve.ensures.items)
 
 pub returns-in-Err-clause-transition : goal.returns-in-Err-clause-transition
 returns-in-Err-clause-transition g c =
-    let lets = g.T.Lenient.lets c.args.lenient.now in
+    let t = g.T.Lenient.terms c.args.lenient.now in
     let room : is_history_full c.args.self.now ≡ false = sym c.is_full.ensures ∙ c.if-is_full.false in
     let P : State → Type 0 = λ s. is_history_full s ≡ false in
-    let Q : State → Type 0 = λ s. IsStepIf lets s c.args.event (Err (c.args.event, c.in-Err.refusal)) c.apply_if.new.held.items (state_of c.self.inside.opening c.apply_if.new.self c.self.inside.most c.reserve.new.self.items) in
-    subst Q c.self.view_is (unmade-step lets _ _ _ _ _ _ c.apply_if.new.held.items _ _ (subst P (sym c.self.view_is) room) c.in-Err.ensures.step c.reserve.ensures.items)
+    let Q : State → Type 0 = λ s. IsStepIf t s c.args.event (Err (c.args.event, c.in-Err.refusal)) c.apply_if.new.held.items (state_of c.self.inside.opening c.apply_if.new.self c.self.inside.most c.reserve.new.self.items) in
+    subst Q c.self.view_is (unmade-step t _ _ _ _ _ _ c.apply_if.new.held.items _ _ (subst P (sym c.self.view_is) room) c.in-Err.ensures.step c.reserve.ensures.items)

@@ -13,12 +13,12 @@ returns-in-Ok-clause-step g c =
     let before : World = record { capacity = h.capacity; policy = h.ready; epoch = h.epoch; moment = h.moment; sessions = h.sessions; subscriptions = h.subscriptions; number = h.number } in
     let after : World = record { capacity = k.capacity; policy = k.ready; epoch = k.epoch; moment = k.moment; sessions = k.sessions; subscriptions = k.subscriptions; number = k.number } in
     let e = c.args.event.now in
-    let lets = g.T.Lenient.lets c.args.lenient.now in
+    let t = g.T.Lenient.terms c.args.lenient.now in
     let held = c.enter_if.new.held.items in
-    let Moved : World → Type 0 = λ w. IsMovedIf lets (advanced before e.now) e (Ok c.in-Ok.both) held w in
-    let At : ℕ → Type 0 = λ n. IsMovedIf lets (record before { moment = n }) e (Ok c.in-Ok.both) held c.enter_if.new.self in
-    let P : World → Type 0 = λ w. IsAppliedIf lets w e (Ok c.in-Ok.both) held (record after { number = h.number + 1 }) in
-    subst P c.self.view_is (applied_if_is lets before after e c.in-Ok.both held (subst Moved (sym c.self-2.view_is) (subst At c.max-self-inside.ensures c.in-Ok.ensures.step)))
+    let Moved : World → Type 0 = λ w. IsMovedIf t (advanced before e.now) e (Ok c.in-Ok.both) held w in
+    let At : ℕ → Type 0 = λ n. IsMovedIf t (record before { moment = n }) e (Ok c.in-Ok.both) held c.enter_if.new.self in
+    let P : World → Type 0 = λ w. IsAppliedIf t w e (Ok c.in-Ok.both) held (record after { number = h.number + 1 }) in
+    subst P c.self.view_is (applied_if_is t before after e c.in-Ok.both held (subst Moved (sym c.self-2.view_is) (subst At c.max-self-inside.ensures c.in-Ok.ensures.step)))
 
 pub returns-in-Ok-clause-reason : goal.returns-in-Ok-clause-reason
 returns-in-Ok-clause-reason g c =
