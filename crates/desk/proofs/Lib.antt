@@ -1,2 +1,3 @@
 mod Verdicts
 mod Offering
+mod Weights

@@ -1,5 +1,5 @@
 -- What events make of the waits (docs/GUARANTEE.md, "A message that is held back").
-use Rattle.std.specs.Prelude.{◌≡◌, ◌∷◌, ℕ, List, [], Option, Some, None, Bool, Result, Ok, Err, slice_index}
+use Rattle.std.specs.Prelude.{◌≡◌, ◌∷◌, ℕ, List, [], Option, Some, None, Bool, Result, Ok, Err, if◌then◌else◌, slice_index}
 use Rattle.events.specs.declared.event.Event.{Event}
 use Rattle.events.specs.declared.event.Command.{Command}
 use Rattle.events.specs.declared.event.Command.TheVariants.{Connect, Sub, Unsub, Pub, Take, Close, Reload}
@@ -11,7 +11,7 @@ use Rattle.events.specs.declared.refusal.PublishRefusal.{PublishRefusal}
 use Rattle.events.specs.declared.refusal.PublishRefusal.TheVariants.{By, Held}
 use Rattle.world.specs.World.{World}
 use Rattle.world.specs.Shown.{waiting_of}
-use Rattle.shared_waits.specs.Waiting.{Waiting, patience_with, ends_at, without, IsHeld, let_on, IsRested, after_ends, freed_by, after_gone}
+use Rattle.shared_waits.specs.Waiting.{Waiting, patience_with, is_out_with, ends_at, without, IsHeld, let_on, IsRested, after_ends, freed_by, after_gone}
 
 -- how many deliveries wait for a connection
 abbrev pub how_many : Option (ℕ × Bool) → ℕ
@@ -69,6 +69,22 @@ until_if Held c held after = until_by (publisher_of c) held after
 abbrev pub until_of : Event → Result Entry (Event × PublishRefusal) → List ℕ → Waiting → Option ℕ
 until_of e (Ok a) held after = None
 until_of e (Err refused) held after = until_if refused.1 e.what held after
+
+-- who has no room though the patience with it is used up
+abbrev pub slow_with : ℕ → ℕ → Waiting → Option ℕ
+slow_with receiver now after = if is_out_with after now receiver then Some receiver else None
+
+abbrev pub slow_by : Option ℕ → ℕ → List ℕ → Waiting → Option ℕ
+slow_by None now held after = None
+slow_by (Some publisher) now held after = slow_with (slice_index held 0) now after
+
+abbrev pub slow_if : PublishRefusal → Event → List ℕ → Waiting → Option ℕ
+slow_if (By refusal) e held after = None
+slow_if Held e held after = slow_by (publisher_of e.what) e.now held after
+
+abbrev pub slow_of : Event → Result Entry (Event × PublishRefusal) → List ℕ → Waiting → Option ℕ
+slow_of e (Ok a) held after = None
+slow_of e (Err refused) held after = slow_if refused.1 e held after
 
 -- where a cause is the step's
 abbrev pub IfBy : PublishRefusal → (HubRefusal → Type 0) → Type 0

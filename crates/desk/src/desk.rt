@@ -2,6 +2,7 @@
 ghost use Rattle.std.specs.Prelude.{◌≡◌, ◌+◌, ◌≤◌, ℕ};
 
 use crate::audit::Audit;
+use crate::bounds::{room_beside, size_of};
 use crate::told::Told;
 use crate::views::{AtMoment, HubOutboxes};
 use hub::{
@@ -86,7 +87,8 @@ impl<L: Run> Desk<L> {
     ghost use Rattle.shared_waits.specs.Waiting.{nobody, is_out_with};
     ghost use Rattle.world.specs.Transition.{IsRefusal};
     ghost use Rattle.hub.specs.History.{stepped};
-    ghost use Rattle.desk.specs.Waits.{waiting_in, offered, IsHeldBack, until_if, IfBy, IsOfferedTo, until_of, freed_of, rest_of, IsSettled};
+    ghost use Rattle.desk.specs.Bounds.{terms_at, size_of};
+    ghost use Rattle.desk.specs.Waits.{waiting_in, offered, IsHeldBack, until_if, slow_if, IfBy, IsOfferedTo, until_of, slow_of, freed_of, rest_of, IsSettled};
 
     /// The desk of a hub, with a share of every part, which counts nothing yet. Nobody waits.
     pub fn open(alloc: Global, blank: Blank, hub: Hub) -> (Desk<L>, Share<L>)
@@ -315,12 +317,14 @@ impl<L: Run> Desk<L> {
         }
     }
 
-    /// Offers a message's event: it is one step of the hub, as `answer` tells, unless receivers have no room for it with
-    /// which there is patience still, by the waits at its moment. Then it is held back and nothing has changed, but that
-    /// its publisher is laid down under the first of them and that they are behind since this moment, if they weren't
-    /// before. So each full outbox of which an answer tells was empty before the message, or is of a receiver with which
-    /// the patience was used up at that moment. The publisher is taken out of where it stood before. A refusal is the
-    /// step's, or want of memory for the waits.
+    /// Offers a message's event: it is one step of the hub, as `answer` tells, unless receivers have no room for it: their
+    /// outboxes are full, and there is patience with them still by the waits at its moment; or it is large, and with it
+    /// more than 64 MiB would wait for them. Then it is held back and nothing has changed, but that its publisher is laid
+    /// down under the first of them and that they are behind since this moment, if they weren't before. So each full outbox
+    /// of which an answer tells was empty before the message, or is of a receiver with which the patience was used up at
+    /// that moment. Where the patience with the first of them is used up, so that the message waits for bytes of it, that
+    /// is told: it is to be closed, since this message never enters for it before. The publisher is taken out of where it
+    /// stood before. A refusal is the step's, or want of memory for the waits.
     #[inline(always)]
     pub fn publish(
         &mut self,
@@ -328,21 +332,26 @@ impl<L: Run> Desk<L> {
         event: Event,
         told: &mut Told,
     ) -> Result<Answer, (Event, PublishRefusal)>
-        ensures step { IsStepIf (is_out_with self.old.waits event.now) self.old.hub event result self.new.held.items self.new.hub }
+        ensures step { IsStepIf (terms_at self.old.waits self.old.hub event) self.old.hub event result self.new.held.items self.new.hub }
         ensures guarantee { IsOffered KeepsGuarantee (λ s after. after ≡ s) self.old.hub event result self.new.hub }
         ensures count { MatchResult result (λ _. seat.new.count ≡ seat.old.count + 1) (λ _. seat.new.count ≡ seat.old.count) }
         ensures number { IfOk result (λ answer. L.opening + seat.new.count ≤ answer.number) }
         ensures waits { IsOfferedTo (waiting_in self.old.hub.world) event result self.new.held.items self.old.waits self.new.waits }
         ensures until { told.new.until ≡ until_of event result self.new.held.items self.new.waits }
+        ensures slow { told.new.slow ≡ slow_of event result self.new.held.items self.new.waits }
+        ensures size { told.new.size ≡ size_of event.what }
         ensures freed { told.new.freed.items ≡ told.old.freed.items }
         ensures rest { told.new.rest ≡ told.old.rest }
     {
         self.take_out(&event.what);
         told.until = None;
+        told.slow = None;
+        told.size = size_of(&event.what);
         self.held.clear();
         let at = AtMoment {
             waits: &self.waits,
             moment: event.now,
+            room: room_beside(self.hub.capacity(), told.size),
         };
         match self.hub.step_if(event, &at, &mut self.held) {
             Ok(answer) => {
@@ -371,7 +380,7 @@ impl<L: Run> Desk<L> {
         }
     }
 
-    /// Lays the publisher of a message down that is held back, and tells until when. Apart, so that what each message
+    /// Lays the publisher of a message down that is held back, and tells until when or for whom. Apart, so that what each message
     /// passes stays small. Without memory the message is refused.
     #[inline(never)]
     fn hold(&mut self, event: &Event, told: &mut Told) -> PublishRefusal
@@ -379,6 +388,8 @@ impl<L: Run> Desk<L> {
         ensures sound { IsSound self.old.hub.world }
         ensures waits { IsHeldBack result (waiting_in self.old.hub.world) event.entry.now self.old.held.items self.old.waits self.new.waits }
         ensures until { told.old.until ≡ None → told.new.until ≡ until_if result event.entry.now.what self.old.held.items self.new.waits }
+        ensures slow { told.old.slow ≡ None → told.new.slow ≡ slow_if result event.entry.now self.old.held.items self.new.waits }
+        ensures size { told.new.size ≡ told.old.size }
         ensures freed { told.new.freed.items ≡ told.old.freed.items }
         ensures rest { told.new.rest ≡ told.old.rest }
         ensures due { IfBy result (IsRefusal (stepped self.old.hub event.entry.now)) }
@@ -401,6 +412,9 @@ impl<L: Run> Desk<L> {
             return PublishRefusal::By(refusal);
         }
         told.until = self.waits.until(first);
+        if self.waits.is_out(first, event.now) {
+            told.slow = Some(first);
+        }
         PublishRefusal::Held
     }
 }

@@ -3,11 +3,15 @@
 #![tactic(auto)]
 
 mod audit;
+mod bounds;
 mod desk;
+mod laws;
 mod told;
 mod views;
 
 pub use audit::Audit;
+pub use bounds::MOST_BYTES;
 pub use desk::{Desk, Run, Seat};
+pub use laws::bounded;
 pub use std::sync::ledger::Blank;
 pub use told::Told;

@@ -9,6 +9,10 @@ pub struct Told {
     pub freed: Vec<u64>,
     /// When the patience is used up that holds the message back that was offered last, if it is held back.
     pub until: Option<u64>,
+    /// Who has no room for that message though the patience with it is used up, if it holds the message back.
+    pub slow: Option<u64>,
+    /// How many bytes that message has.
+    pub size: usize,
     /// How many deliveries wait for the connection once its Take is answered, if that was the last event that isn't a
     /// message.
     pub rest: Option<usize>,
@@ -19,11 +23,14 @@ impl Told {
     pub fn new(alloc: Global) -> Told
         ensures freed { result.freed.items ≡ [] }
         ensures until { result.until ≡ None }
+        ensures slow { result.slow ≡ None }
         ensures rest { result.rest ≡ None }
     {
         Told {
             freed: Vec::new(alloc),
             until: None,
+            slow: None,
+            size: 0,
             rest: None,
         }
     }

@@ -23,20 +23,27 @@ impl Outboxes for HubOutboxes<'_> {
     }
 }
 
-/// The waits at a moment: a step may tell of a full outbox where the patience with its connection is used up then.
+/// The terms of a step at a moment: it may tell of a full outbox where the patience with its connection is used up then, and
+/// so many bytes may wait where its message enters.
 #[derive(Drop)]
 pub(crate) struct AtMoment<'a> {
     pub waits: &'a Waits,
     pub moment: u64,
+    pub room: Option<usize>,
 }
 
 impl Lenient for AtMoment<'_> {
     ghost use Rattle.shared_waits.specs.Waiting.{is_out_with};
 
-    ghost lets = { λ at conn. is_out_with at.waits.now at.moment conn };
+    ghost terms = { λ at. record { lets = is_out_with at.waits.now at.moment; room = at.room } };
 
     #[inline(always)]
     fn lets(&self, conn: u64) -> bool {
         self.waits.is_out(conn, self.moment)
+    }
+
+    #[inline(always)]
+    fn room(&self) -> Option<usize> {
+        self.room
     }
 }

@@ -156,7 +156,10 @@ impl<'a, L: Run, R: Wait, G: Gate + Drop> ServerPort<'a, L, R, G> {
 
     /// A Take comes next, of a connection whose socket took nothing for so many milliseconds since its last one.
     pub fn begin_take(&mut self, refused: u64)
-        ensures { self.new.seat ≡ self.old.seat }
+        ensures refused { self.new.refused ≡ refused }
+        ensures none { self.new.told.rest ≡ None }
+        ensures course { self.new.course ≡ self.old.course }
+        ensures seat { self.new.seat ≡ self.old.seat }
     {
         self.told.rest = None;
         self.refused = refused;
@@ -164,7 +167,10 @@ impl<'a, L: Run, R: Wait, G: Gate + Drop> ServerPort<'a, L, R, G> {
 
     /// How many of these milliseconds no event has told the hub.
     pub fn untold(&mut self) -> u64
-        ensures { self.new.seat ≡ self.old.seat }
+        ensures refused { result ≡ self.old.refused }
+        ensures none { self.new.refused ≡ 0 }
+        ensures course { self.new.course ≡ self.old.course }
+        ensures seat { self.new.seat ≡ self.old.seat }
     {
         mem::replace(&mut self.refused, 0)
     }
