@@ -29,6 +29,8 @@ pub struct Mail {
 pub struct Intake {
     pub arrivals: Vec<Arrival>,
     pub mail: Mail,
+    /// Connections that are to be closed, since too much waits for them.
+    pub slow: Vec<u64>,
     /// Whether nothing was left, and the worker is noted to sleep.
     pub sleeps: bool,
 }
@@ -89,11 +91,17 @@ impl Hall {
     /// All that was left, and none after it. Where nothing was left and the worker has nothing else to do, it is noted
     /// to sleep. The next mail stands in the room that is given.
     fn take(&mut self, is_idle: bool, room: Mail) -> Intake {
-        let arrivals = &self.intake.arrivals;
-        let sleeps = is_idle && arrivals.is_empty() && self.intake.mail.is_empty();
+        let Intake {
+            arrivals,
+            mail,
+            slow,
+            sleeps: _,
+        } = &self.intake;
+        let sleeps = is_idle && arrivals.is_empty() && mail.is_empty() && slow.is_empty();
         let empty = Intake {
             arrivals: Vec::new(self.alloc),
             mail: room,
+            slow: Vec::new(self.alloc),
             sleeps,
         };
         let mut taken = mem::replace(&mut self.intake, empty);
@@ -109,6 +117,7 @@ impl Door {
         let intake = Intake {
             arrivals: Vec::new(alloc),
             mail: Mail::new(alloc),
+            slow: Vec::new(alloc),
             sleeps: false,
         };
         Ok(Door {
@@ -145,6 +154,17 @@ impl Door {
     pub fn leave_mail<R: Wait>(&self, rt: &R, mail: &Mail) {
         let mut hall = self.hall.lock(rt);
         hall.intake.mail.add(mail);
+        let sleeps = mem::replace(&mut hall.intake.sleeps, false);
+        drop(hall);
+        if sleeps {
+            self.wake();
+        }
+    }
+
+    /// Has a connection closed for which too much waits. Without memory it is lost.
+    pub fn leave_slow<R: Wait>(&self, rt: &R, conn: u64) {
+        let mut hall = self.hall.lock(rt);
+        drop(hall.intake.slow.push(conn));
         let sleeps = mem::replace(&mut hall.intake.sleeps, false);
         drop(hall);
         if sleeps {

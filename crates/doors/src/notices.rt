@@ -3,7 +3,7 @@ ghost use Rattle.doors.specs.Owners.{owner};
 ghost use Rattle.doors.specs.Work.{work};
 
 use crate::door::{Door, Mail};
-use events::{Answer, Command, Item, Met, Outcome};
+use events::{Answer, Item, Met, Outcome};
 use pacing::Named;
 use std::alloc::Global;
 use std::mem;
@@ -54,16 +54,6 @@ pub fn owner_of(conn: u64, workers: usize) -> usize
     (conn.saturating_sub(1) % workers as u64) as usize
 }
 
-/// How many bytes a published message has, beside its subject.
-fn size_of(command: &Command) -> usize {
-    match command {
-        Command::Pub { message, .. } => {
-            message.head().len().saturating_add(message.payload().len())
-        }
-        _ => 0,
-    }
-}
-
 impl Notices {
     /// None, for so many workers, gathered by one of them or by none. Without memory there are no notices.
     pub fn new(alloc: Global, workers: usize, own: Option<usize>) -> Option<Notices> {
@@ -83,15 +73,15 @@ impl Notices {
         })
     }
 
-    /// Notes whom an answer names. Answers how much of a round's share it is: one, and one for each delivery of a message.
+    /// Notes whom an answer names, with the size of its message, if it is one of a message. Answers how much of a round's
+    /// share it is: one, and one for each delivery of a message.
     #[inline(always)]
-    pub fn note(&mut self, answer: &Answer) -> usize
+    pub fn note(&mut self, answer: &Answer, size: usize) -> usize
         ensures { result ≡ work answer.now.outcome }
     {
-        let entry = answer.get();
-        match &entry.outcome {
+        match &answer.get().outcome {
             Outcome::Published(_, met) => {
-                self.note_met(met, size_of(&entry.event.what));
+                self.note_met(met, size);
                 met.as_slice().len().saturating_add(1)
             }
             Outcome::Taken(_, _) => 0,

@@ -8,7 +8,7 @@ use Rattle.events.specs.declared.refusal.PublishRefusal.TheVariants.{By, Held}
 use Rattle.doors.specs.Work.{work}
 use Rattle.server_port.specs.declared.course.Course.{Course}
 use Rattle.server_port.specs.declared.course.Why.{Why}
-use Rattle.server_port.specs.declared.course.Why.TheVariants.{Receiver, Share}
+use Rattle.server_port.specs.declared.course.Why.TheVariants.{Receiver, Slow, Share}
 
 -- an event has its answer, which is work of the round's share
 abbrev pub followed : Entry → Course → Course
@@ -19,17 +19,18 @@ abbrev pub entered : Result Entry (Event × HubRefusal) → Course → Course
 entered (Ok entry) c = followed entry c
 entered (Err _) c = c
 
--- a receiver has no room until then, as the desk told; where it told nothing, the share is spent
-abbrev pub why_of : Option ℕ → Why
-why_of (Some until) = Receiver until
-why_of None = Share
+-- too much waits for this receiver, or one has no room until then, as the desk told; where it told nothing, the share is spent
+abbrev pub why_of : Option ℕ → Option ℕ → Why
+why_of (Some conn) until = Slow conn
+why_of None (Some until) = Receiver until
+why_of None None = Share
 
 -- a message was refused: to hold one back is a delivery's work
-abbrev pub refused : PublishRefusal → Option ℕ → Course → Course
-refused Held until c = record c { share = c.share - 1; why = Some (why_of until) }
-refused (By _) until c = c
+abbrev pub refused : PublishRefusal → Option ℕ → Option ℕ → Course → Course
+refused Held slow until c = record c { share = c.share - 1; why = Some (why_of slow until) }
+refused (By _) slow until c = c
 
 -- a message was offered
-abbrev pub offered : Result Entry (Event × PublishRefusal) → Option ℕ → Course → Course
-offered (Ok entry) until c = followed entry c
-offered (Err back) until c = refused back.1 until c
+abbrev pub offered : Result Entry (Event × PublishRefusal) → Option ℕ → Option ℕ → Course → Course
+offered (Ok entry) slow until c = followed entry c
+offered (Err back) slow until c = refused back.1 slow until c

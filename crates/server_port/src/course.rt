@@ -3,6 +3,9 @@
 pub enum Why {
     /// A receiver has no room. At this moment it is out of patience, and the message may be offered again.
     Receiver(u64),
+    /// Too much waits for this receiver, with which there is no patience any more: once it is closed, the message may be
+    /// offered again.
+    Slow(u64),
     /// The round's share is spent.
     Share,
 }

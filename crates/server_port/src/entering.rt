@@ -19,16 +19,16 @@ impl<L: Run, R: Wait, G: Gate + Drop> ServerPort<'_, L, R, G> {
     ghost use Rattle.server_port.specs.Histories.{falls_due, passed, tried};
     ghost use Rattle.shared_hub.specs.Entering.{IsAnswered};
 
-    /// Notes whom an answer names, counts what its entry keeps, and hands the history out if that is due. Answers what others
-    /// were told.
+    /// Notes whom an answer names, with the size of its message, counts what its entry keeps, and hands the history out if
+    /// that is due. Answers what others were told.
     #[inline(always)]
-    fn follow(&mut self, answer: &Answer) -> Option<Telling>
+    fn follow(&mut self, answer: &Answer, size: usize) -> Option<Telling>
         ensures counted { IsCounted self.old.rotation.uncounted (own answer.now) result self.new.rotation.uncounted }
         ensures tried { self.new.rotation.tries ≡ tried (falls_due self.old.rotation answer.now.number) (tried (passed result) self.old.rotation.tries) }
         ensures course { self.new.course ≡ followed answer.now self.old.course }
         ensures seat { self.new.seat ≡ self.old.seat }
     {
-        let work = self.notices.note(answer);
+        let work = self.notices.note(answer, size);
         self.course.share = self.course.share.saturating_sub(work);
         self.course.has_entered = true;
         let told = self.count(answer);
@@ -78,8 +78,8 @@ impl<L: Run, R: Wait, G: Gate + Drop> ServerPort<'_, L, R, G> {
         let shared = self.shared;
         match shared.answer_as(self.rt, &mut self.seat, event, self.refused, &mut self.told) {
             Ok(answer) => {
-                let _ = self.follow(&answer);
                 self.refused = 0;
+                let _ = self.follow(&answer, 0);
                 self.free();
                 Ok(answer)
             }
@@ -91,7 +91,7 @@ impl<L: Run, R: Wait, G: Gate + Drop> ServerPort<'_, L, R, G> {
     #[inline(always)]
     fn offer(&mut self, event: Event) -> Result<Answer, (Event, PublishRefusal)>
         ensures offered { IsOffered (λ old e r new. IsAnswered L.opening old.seat.count e r new.seat.count) (λ old new. new.seat.count ≡ old.seat.count) self.old event result self.new }
-        ensures course { self.new.course ≡ offered result self.new.told.until self.old.course }
+        ensures course { self.new.course ≡ offered result self.new.told.slow self.new.told.until self.old.course }
         ensures full { IfErr result (λ back. back.1 ≡ By HistoryFull → self.new.rotation.tries ≡ tried true self.old.rotation.tries) }
         ensures err { IfErr result (λ back. back.0 ≡ event) }
     {
@@ -123,7 +123,7 @@ impl<L: Run, R: Wait, G: Gate + Drop> ServerPort<'_, L, R, G> {
     #[inline(never)]
     fn offer_again(&mut self, event: Event) -> Result<Answer, (Event, PublishRefusal)>
         ensures offered { IsOffered (λ old e r new. IsAnswered L.opening old.seat.count e r new.seat.count) (λ old new. new.seat.count ≡ old.seat.count) self.old event result self.new }
-        ensures course { self.new.course ≡ offered result self.new.told.until self.old.course }
+        ensures course { self.new.course ≡ offered result self.new.told.slow self.new.told.until self.old.course }
         ensures tried { OnErr result (self.new.rotation.tries ≡ tried true self.old.rotation.tries) }
         ensures err { IfErr result (λ back. back.0 ≡ event) }
     {
@@ -140,14 +140,14 @@ impl<L: Run, R: Wait, G: Gate + Drop> ServerPort<'_, L, R, G> {
     #[inline(always)]
     fn offer_once(&mut self, event: Event) -> Result<Answer, (Event, PublishRefusal)>
         ensures offered { IsOffered (λ old e r new. IsAnswered L.opening old.seat.count e r new.seat.count) (λ old new. new.seat.count ≡ old.seat.count) self.old event result self.new }
-        ensures course { self.new.course ≡ offered result self.new.told.until self.old.course }
+        ensures course { self.new.course ≡ offered result self.new.told.slow self.new.told.until self.old.course }
         ensures same { OnErr result (self.new.rotation ≡ self.old.rotation) }
         ensures err { IfErr result (λ back. back.0 ≡ event) }
     {
         let shared = self.shared;
         match shared.publish_as(self.rt, &mut self.seat, event, &mut self.told) {
             Ok(answer) => {
-                let _ = self.follow(&answer);
+                let _ = self.follow(&answer, self.told.size);
                 Ok(answer)
             }
             Err((event, refusal)) => {
@@ -160,7 +160,7 @@ impl<L: Run, R: Wait, G: Gate + Drop> ServerPort<'_, L, R, G> {
     /// Notes why a message was held back, if it was. Such an offer is a delivery's work of the round's share.
     #[inline(never)]
     fn note_refusal(&mut self, refusal: PublishRefusal)
-        ensures course { self.new.course ≡ refused refusal self.old.told.until self.old.course }
+        ensures course { self.new.course ≡ refused refusal self.old.told.slow self.old.told.until self.old.course }
         ensures told { self.new.told ≡ self.old.told }
         ensures rotation { self.new.rotation ≡ self.old.rotation }
         ensures seat { self.new.seat ≡ self.old.seat }
@@ -169,9 +169,10 @@ impl<L: Run, R: Wait, G: Gate + Drop> ServerPort<'_, L, R, G> {
             PublishRefusal::By(_) => {}
             PublishRefusal::Held => {
                 self.course.share = self.course.share.saturating_sub(1);
-                self.course.why = Some(match self.told.until {
-                    Some(until) => Why::Receiver(until),
-                    None => Why::Share,
+                self.course.why = Some(match (self.told.slow, self.told.until) {
+                    (Some(conn), _) => Why::Slow(conn),
+                    (None, Some(until)) => Why::Receiver(until),
+                    (None, None) => Why::Share,
                 });
             }
         }
@@ -213,7 +214,7 @@ impl<L: Run, R: Wait, G: Gate + Drop> Port for ServerPort<'_, L, R, G> {
         ensures offered { IsOffered (λ old e r new. IsAnswered L.opening old.seat.count e r new.seat.count) (λ old new. new.seat.count ≡ old.seat.count) self.old event result self.new }
         ensures err { IfErr result (λ back. back.0 ≡ event) }
         ensures spent { self.old.course.share ≡ 0 → (result ≡ Err (event, Held)) × (self.new.course ≡ record self.old.course { why = Some Share }) × (self.new.told ≡ self.old.told) × (self.new.rotation ≡ self.old.rotation) }
-        ensures course { self.old.course.share ≢ 0 → self.new.course ≡ offered result self.new.told.until (record self.old.course { has_passed = false }) }
+        ensures course { self.old.course.share ≢ 0 → self.new.course ≡ offered result self.new.told.slow self.new.told.until (record self.old.course { has_passed = false }) }
     {
         if self.course.share == 0 {
             self.course.why = Some(Why::Share);
