@@ -1,7 +1,7 @@
 // What workers leave for each other.
 use crate::worker::Worker;
 use conn::Words;
-use doors::{Intake, Mail};
+use doors::{Intake, Mail, owner_of};
 use gates::Gate;
 use pacing::Named;
 use shared_hub::Run;
@@ -23,10 +23,14 @@ impl<'a, L: Run, R: Wait + Clock, G: Gate + Drop, W: Words + Drop> Worker<'a, L,
         let Intake {
             arrivals,
             mail,
+            slow,
             sleeps,
         } = door.take_in(self.rt, is_idle, room);
         self.sleeps = sleeps;
         self.room = self.follow(mail);
+        for conn in slow {
+            self.end_slow(conn);
+        }
         for arrival in arrivals {
             self.open(arrival.conn, arrival.socket);
         }
@@ -65,6 +69,14 @@ impl<'a, L: Run, R: Wait + Clock, G: Gate + Drop, W: Words + Drop> Worker<'a, L,
     pub fn tell_others(&mut self) {
         let doors = self.house.doors;
         self.port.notices().leave_others(self.rt, doors);
+    }
+
+    /// Has the worker of a connection close it, since too much waits for it.
+    pub fn leave_slow(&mut self, conn: u64) {
+        let doors = self.house.doors;
+        if let Some(door) = doors.get(owner_of(conn, doors.len())) {
+            door.leave_slow(self.rt, conn);
+        }
     }
 
     /// Leaves the publishers that were let on, if there are some.

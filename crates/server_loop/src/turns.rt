@@ -21,6 +21,9 @@ const SHARE: usize = 4096;
 
 const LEAST: usize = 1024;
 
+/// After how long a message is offered again whose receiver is to be closed, in milliseconds, if that isn't told before.
+const CLOSING: u64 = 100;
+
 /// After how long a turn that could not be ended is tried again, in milliseconds.
 const RETRY: u64 = 10;
 
@@ -157,6 +160,7 @@ impl<'a, L: Run, R: Wait + Clock, G: Gate + Drop, W: Words + Drop> Worker<'a, L,
     fn follow_held(&mut self, key: usize) {
         match self.port.why() {
             Some(Why::Receiver(until)) => self.hold(key, until),
+            Some(Why::Slow(conn)) => self.hold_for(key, conn),
             Some(Why::Share) => self.make_cut(key),
             None => self.bar(key),
         }
@@ -178,6 +182,12 @@ impl<'a, L: Run, R: Wait + Clock, G: Gate + Drop, W: Words + Drop> Worker<'a, L,
             return;
         }
         self.look_at = Some(self.look_at.unwrap_or(until).min(until));
+    }
+
+    /// A connection's frames wait until a receiver is closed for which too much waits.
+    fn hold_for(&mut self, key: usize, receiver: u64) {
+        self.leave_slow(receiver);
+        self.hold(key, self.now.saturating_add(CLOSING));
     }
 
     /// Has a connection's frames go on, if they wait for a receiver.

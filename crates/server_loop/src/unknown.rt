@@ -2,16 +2,15 @@
 ghost use Rattle.std.specs.Prelude.{◌≡◌, false};
 ghost use Rattle.server_loop.specs.Unknown.{IsBounded, is_unknown};
 
-use crate::standing::Standing;
+use crate::ending::tell_last;
 use crate::worker::Worker;
-use client_io::{NonBlocking, Turn, Writer};
+use client_io::Turn;
 use conn::{Conn, Words};
 use gates::Gate;
 use shared_hub::Run;
-use std::alloc::Global;
 use std::sync::Wait;
 use std::time::Clock;
-use wire_write::{ServerError, write_err};
+use wire_write::ServerError;
 
 /// How many bytes of such a client are kept at most.
 const MOST: usize = 8192;
@@ -41,15 +40,6 @@ fn is_beyond(conn: &Conn) -> bool
     is_unknown(conn) && conn.holds() > MOST
 }
 
-/// Tells a client, as far as its socket takes that, that it is closed since it hasn't shown who it is.
-fn refuse(standing: &Standing, alloc: Global) {
-    let mut text = Vec::new(alloc);
-    if standing.client.waits() || write_err(&mut text, ServerError::Authorization).is_err() {
-        return;
-    }
-    drop(NonBlocking::new(&standing.socket).write(text.as_slice()));
-}
-
 impl<'a, L: Run, R: Wait + Clock, G: Gate + Drop, W: Words + Drop> Worker<'a, L, R, G, W> {
     ghost use Rattle.std.specs.Prelude.{IfSome};
     ghost use Rattle.slab.specs.Slab.{get};
@@ -65,7 +55,8 @@ impl<'a, L: Run, R: Wait + Clock, G: Gate + Drop, W: Words + Drop> Worker<'a, L,
         if turn.is_over() || !is_beyond(standing.client.conn()) {
             return turn;
         }
-        refuse(standing, self.alloc);
+        // (since it hasn't shown who it is)
+        tell_last(standing, self.alloc, ServerError::Authorization);
         Turn::Closed
     }
 
