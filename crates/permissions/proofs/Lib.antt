@@ -1,2 +1,4 @@
 pub mod Least
 pub mod One
+pub mod Reason
+pub mod Texts

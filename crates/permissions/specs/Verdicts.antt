@@ -196,3 +196,9 @@ HasOneSubscribeVerdict = (pattern : List Token) (queue : Queue) (rules : Rules) 
 abbrev pub HasOneDeliveryVerdict : Type 0
 HasOneDeliveryVerdict = (subject : List Token) (queue : Queue) (rules : Rules) (v w : Verdict) →
     IsJustifiedDelivery subject queue rules v → IsJustifiedDelivery subject queue rules w → v ≡ w
+
+-- ---- a reason for each
+
+-- The verdict on a subscription to the pattern has its reason, whatever the lists are.
+abbrev pub HasSubscribeReason : List Token → Type 0
+HasSubscribeReason pattern = (queue : Queue) (rules : Rules) → IsJustifiedSubscribe pattern queue rules (subscribe_by rules pattern queue)

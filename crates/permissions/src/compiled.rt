@@ -1,4 +1,5 @@
 use crate::decision::{Among, first_entry, on_publish, on_subscribe};
+use crate::same::{are_same_lists, has_no_list};
 use crate::{By, Verdict};
 use lists::{Copying, Items, NoMemory};
 use policy_doc::{PermDoc, Terms, UserDoc};
@@ -31,6 +32,7 @@ impl Model for Compiled {
 
 impl Compiled {
     ghost use Rattle.std.specs.Prelude.{◌≡◌, IfOk};
+    ghost use Rattle.std.specs.Bool.{Decides};
     ghost use Rattle.std.specs.Option.{option_copied};
     ghost use Rattle.permissions.specs.Lists.{lists_of, lists_of_permissions};
     ghost use Rattle.permissions.specs.Verdicts.{publish_verdict, subscribe_verdict, delivery_verdict, IsJustifiedPublish, IsJustifiedSubscribe, IsJustifiedDelivery};
@@ -98,6 +100,18 @@ impl Compiled {
         match &self.permissions {
             None => Verdict::Allowed(By::All),
             Some(permissions) => on_subscribe(&permissions.subscribe, pattern, queue),
+        }
+    }
+
+    /// Whether these subscribe lists are those of another user. Then its verdict on every subscription is the same.
+    pub fn has_same_subscribe(&self, other: &Compiled) -> bool
+        ensures { Decides result (self.now.subscribe ≡ other.now.subscribe) }
+    {
+        match (&self.permissions, &other.permissions) {
+            (None, None) => true,
+            (None, Some(other)) => has_no_list(&other.subscribe),
+            (Some(one), None) => has_no_list(&one.subscribe),
+            (Some(one), Some(other)) => are_same_lists(&one.subscribe, &other.subscribe),
         }
     }
 

@@ -4,9 +4,10 @@
 mod compiled;
 mod decision;
 mod laws;
+mod same;
 mod subject_set;
 mod verdict;
 
 pub use compiled::Compiled;
-pub use laws::one_verdict;
+pub use laws::{each_has_reason, one_verdict};
 pub use verdict::{By, Verdict};

@@ -1,0 +1,43 @@
+-- Patterns are equal exactly where their texts are.
+use Rattle.std.proofs.Common.{◌≡◌, ◌∙◌, ◌&&◌, ◌==◌, ◌∷◌, ℕ, Bool, true, false, not, Decides, List, [], length, ap, sym, refl}
+use Rattle.std.specs.Prelude.{All, nat_eq, nat_le}
+use Rattle.std.specs.List.{list_all}
+use Rattle.std.specs.Cmp.Lexicographic.{pointwise}
+use Rattle.std.proofs.lemmas.Bool.{and_parts, not-true}
+use Rattle.std.proofs.lemmas.List.Elements.{All-nil, All-cons}
+use Rattle.std.proofs.lemmas.List.Splits.{slice_split_none, slice_split_at}
+use Rattle.std.proofs.lemmas.Slice.Eq.{bytes_eq-Decides}
+use Rattle.subjects.specs.Subject.{Token, IsPattern, is_text_byte, is_token_byte, is_token, tail_is_last, text_of, tokens_of}
+
+-- no byte of a token is a dot
+abbrev HasNoDot : Token → Type 0
+HasNoDot t = All (λ b. (b == 46) ≡ false) t
+
+no_dot : (bs : List ℕ) → list_all is_token_byte bs ≡ true → HasNoDot bs
+no_dot [] h = All-nil (λ b. (b == 46) ≡ false)
+no_dot (b ∷ bs) h =
+    let parts = and_parts (is_token_byte b) (list_all is_token_byte bs) h in
+    All-cons (λ b. (b == 46) ≡ false) b bs (not-true (b == 46) (and_parts (is_text_byte b) (not (b == 46)) parts.0).1) (no_dot bs parts.1)
+
+token : (t : Token) → is_token t ≡ true → HasNoDot t
+token [] h = absurd (cc)
+token (b ∷ bs) h = no_dot (b ∷ bs) h
+
+cut : (t : Token) (ts : List Token) → list_all is_token (t ∷ ts) ≡ true → tokens_of (text_of (t ∷ ts)) ≡ t ∷ ts
+cut t [] h = slice_split_none (λ b. b == 46) t (token t (and_parts (is_token t) true h).0)
+cut t (u ∷ ts) h =
+    let parts = and_parts (is_token t) (list_all is_token (u ∷ ts)) h in
+    slice_split_at (λ b. b == 46) t 46 (text_of (u ∷ ts)) (token t parts.0) refl ∙ ap (λ us. t ∷ us) (cut u ts parts.1)
+
+-- the text of a pattern has its tokens
+again : (p : List Token) → IsPattern p → tokens_of (text_of p) ≡ p
+again [] h = absurd (cc)
+again (t ∷ ts) h =
+    let first = and_parts (list_all is_token (t ∷ ts) && tail_is_last (t ∷ ts)) (nat_le (length (t ∷ ts)) 512) h in
+    cut t ts (and_parts (list_all is_token (t ∷ ts)) (tail_is_last (t ∷ ts)) first.0).0
+
+pub same_texts : (b : Bool) (p q : List Token) (t u : List ℕ) → IsPattern p → IsPattern q → t ≡ text_of p → u ≡ text_of q → b ≡ pointwise nat_eq t u → Decides b (p ≡ q)
+same_texts b p q t u hp hq tp uq is = (
+  (λ yes. sym (again p hp) ∙ ap tokens_of (sym tp ∙ (bytes_eq-Decides t u).0 (sym is ∙ yes) ∙ uq) ∙ again q hq),
+  (λ e. is ∙ (bytes_eq-Decides t u).1 (tp ∙ ap text_of e ∙ sym uq)),
+)
