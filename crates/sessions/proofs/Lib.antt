@@ -6,3 +6,4 @@ pub mod Plans
 pub mod Remaining
 pub mod Ascending
 pub mod Text
+pub mod Beside

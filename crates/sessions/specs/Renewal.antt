@@ -1,5 +1,6 @@
 -- What becomes of the sessions when another policy comes into force (docs/GUARANTEE.md, "A reload").
-use Rattle.std.specs.Prelude.{◌∷◌, ℕ, List, [], Bool, Option, Some, None, if◌then◌else◌, filter, map, not, is_some, nat_le}
+use Rattle.std.specs.Prelude.{◌≡◌, ◌<◌, ◌∷◌, ℕ, List, [], Bool, false, Option, Some, None, if◌then◌else◌, filter, map, not, is_some, nat_le, length, slice_index_or, IsSomeAnd}
+use Rattle.std.specs.Bool.{Decides}
 use Rattle.policy_doc.specs.declared.document.PolicyDoc.{PolicyDoc}
 use Rattle.reply_grants.specs.Replies.{judged}
 use Rattle.ready.specs.Users.{user_again}
@@ -51,3 +52,24 @@ goes doc z = not (stays doc z)
 -- the connections of the sessions that go, ascending
 abbrev pub closed_conns : PolicyDoc → List Session → List ℕ
 closed_conns doc zs = ascending (map connection_of (filter (goes doc) zs))
+
+-- the policy has the session's user again, with the subscribe lists that it has now
+abbrev pub HasSameLists : PolicyDoc → Session → Type 0
+HasSameLists doc z = IsSomeAnd (user_again_of doc z) (λ (u : User). u.rules.subscribe ≡ z.user.rules.subscribe)
+
+-- an answer beside each of the first sessions: whether it is so
+abbrev pub AreSameSoFar : PolicyDoc → List Session → List Bool → Type 0
+AreSameSoFar doc zs same =
+    (i : ℕ) (d : Session) → i < length same → Decides (slice_index_or same i false) (HasSameLists doc (slice_index_or zs i d))
+
+-- and beside each
+abbrev pub AreSameLists : PolicyDoc → List Session → List Bool → Type 0
+AreSameLists doc zs same = (length same ≡ length zs) × AreSameSoFar doc zs same
+
+-- two sessions whose users have one name act for one user
+abbrev pub HaveOneUser : Session → Session → Type 0
+HaveOneUser y z = y.user.user ≡ z.user.user → y.user ≡ z.user
+
+-- and so do each of the first and another
+abbrev pub IsOfEarlier : List Session → List Bool → Session → Type 0
+IsOfEarlier zs same z = (i : ℕ) (d : Session) → i < length same → HaveOneUser (slice_index_or zs i d) z

@@ -4,6 +4,7 @@
 mod noting;
 mod plan;
 mod renewal;
+mod same_lists;
 mod session;
 mod sessions;
 

@@ -1,4 +1,5 @@
 use crate::plan::{place_in, plan_all, plan_one};
+use crate::same_lists::same_lists;
 use crate::{Session, renewal};
 use connection_order::Connections;
 use events::{Addressed, Delivery, Met};
@@ -35,13 +36,15 @@ impl Model for Sessions {
 }
 
 impl Sessions {
-    ghost use Rattle.std.specs.Prelude.{◌≡◌, ◌==◌, ◌++◌, ◌∷◌, [], ℕ, None, Some, AllPairs, IfOk, OnOk, OnErr, MatchOption, length, filter, map, not, is_some};
+    ghost use Rattle.std.specs.Prelude.{◌≡◌, ◌==◌, ◌++◌, ◌∷◌, [], ℕ, None, Some, AllPairs, IfOk, IsSomeAnd, OnOk, OnErr, MatchOption, length, filter, map, not, is_some};
+    ghost use Rattle.std.specs.Bool.{Decides};
     ghost use Rattle.std.specs.List.{filter_map};
     ghost use Rattle.std.specs.Option.{option_copied};
     ghost use Rattle.sessions.specs.Sessions.{session_of, with_session, drained, front_of, IsApart, IsNowhere, IsPlace};
     ghost use Rattle.sessions.specs.Delivered.{delivered, after_offer};
     ghost use Rattle.sessions.specs.Replying.{with_note, answering, ending};
-    ghost use Rattle.sessions.specs.Renewal.{user_again_of, closed_conns, remaining};
+    ghost use Rattle.sessions.specs.Renewal.{user_again_of, closed_conns, remaining, HasSameLists, HaveOneUser, AreSameLists};
+    ghost use Rattle.policy_doc.specs.declared.document.PolicyDoc.{PolicyDoc};
 
     /// No session.
     pub fn new(alloc: Global) -> Sessions
@@ -250,6 +253,30 @@ impl Sessions {
     {
         let gone = renewal::closed(self.alloc, ready, self.list.as_slice())?;
         Ok(gone)
+    }
+
+    /// Beside each session, whether a policy has its user again with the subscribe lists that it has now. `NoMemory`
+    /// where memory could not be had. Each user's lists are compared once, so sessions of one name must act for one user.
+    pub fn same_lists(&self, ready: &Ready) -> Result<Vec<bool>, NoMemory>
+        requires { AllPairs HaveOneUser self.now }
+        ensures { IfOk result (λ same. AreSameLists ready.now self.now same.items) }
+    {
+        let same = same_lists(self.alloc, ready, self.list.as_slice())?;
+        Ok(same)
+    }
+
+    /// Whether a connection has a session whose user has the same subscribe lists under a policy, by what `same_lists`
+    /// gave for it.
+    pub fn has_same_lists(&self, same: &[bool], conn: u64) -> bool
+        ensures { (doc : PolicyDoc) → AreSameLists doc self.now same.now → Decides result (IsSomeAnd (session_of self.now conn) (HasSameLists doc)) }
+    {
+        match self.place_of(conn) {
+            None => false,
+            Some(place) => match same.get(place) {
+                None => false,
+                Some(answer) => *answer,
+            },
+        }
     }
 
     /// Removes the sessions that don't stay under a policy, with their outboxes, and gives each of the others its
