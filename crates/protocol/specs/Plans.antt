@@ -44,14 +44,19 @@ abbrev pub connect_plan : ℕ → Read ConnectOpts → Plan
 connect_plan conn (Ok o) = Asks (command.Connect conn o.user o.password o.echo) (stage.Connected o.verbose o.headers)
 connect_plan conn (Err _) = error_plan error.ParserError stage.Fresh
 
--- the message of a frame, if it is a PUB
-abbrev pub message_in : Frame → Option Message
-message_in (frame.Pub texts) = message_of texts
-message_in _ = None
+-- the message of a header block and a payload, which only a client that declared headers may send
+abbrev pub message_if : Bool → Texts → Option Message
+message_if headers texts = if headers then message_of texts else None
 
--- the message that a frame publishes, if it is a PUB of a client whose CONNECT was accepted
+-- the message of a frame, if it is a PUB or such an HPUB
+abbrev pub message_in : Bool → Frame → Option Message
+message_in headers (frame.Pub texts) = message_of texts
+message_in headers (frame.Hpub texts) = message_if headers texts
+message_in headers _ = None
+
+-- the message that a frame publishes, if its client's CONNECT was accepted
 abbrev pub published_by : Stage → Frame → Option Message
-published_by (stage.Connected _ _) f = message_in f
+published_by (stage.Connected verbose headers) f = message_in headers f
 published_by _ _ = None
 
 -- a message, if its subjects are subjects

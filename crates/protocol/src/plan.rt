@@ -1,11 +1,11 @@
 // What a frame comes to before the hub is asked.
-ghost use Rattle.std.specs.Prelude.{◌≡◌, ℕ, Bool, IfOk, IfSome};
+ghost use Rattle.std.specs.Prelude.{◌≡◌, ℕ, IfOk, IfSome};
 ghost use Rattle.connect_opts.specs.Opts.{opts_of};
 ghost use Rattle.protocol.specs.declared.stage.Stage.{Stage};
 ghost use Rattle.protocol.specs.declared.plan.Plan.TheVariants.{Publishes};
 ghost use Rattle.subjects.specs.Fault.{subject_if, pattern_if};
 ghost use Rattle.events.specs.Messages as read;
-ghost use Rattle.protocol.specs.Plans.{plan_of, fresh_plan, connected_plan, connect_plan, message_in, published_by, publish_plan, headed_plan, subscribe_plan, error_plan, named_if};
+ghost use Rattle.protocol.specs.Plans.{plan_of, fresh_plan, connected_plan, connect_plan, message_in, message_if, published_by, publish_plan, headed_plan, subscribe_plan, error_plan, named_if};
 
 use crate::reply::{Reply, fault_text, reply_of_error, reply_of_text};
 use crate::stage::Stage;
@@ -127,6 +127,19 @@ fn message_of_text(text: &MessageText) -> Result<Option<Message>, NoMemory>
     Ok(message)
 }
 
+/// The message of an HPUB, if its client declared headers and its subjects are subjects. It is apart, so that a PUB doesn't
+/// have to make place for it.
+#[inline(never)]
+fn message_if(headers: bool, text: &MessageText) -> Result<Option<Message>, NoMemory>
+    ensures { IfOk result (λ message. message ≡ message_if headers text.now) }
+{
+    if headers {
+        message_of_text(text)
+    } else {
+        Ok(None)
+    }
+}
+
 /// A message of a client whose CONNECT was accepted.
 fn plan_publish(stage: Stage, text: &MessageText) -> Result<Plan, NoMemory>
     ensures { IfOk result (λ plan. plan ≡ publish_plan stage text.now) }
@@ -178,17 +191,17 @@ fn plan_subscribe(
     }
 }
 
-/// The message of a PUB, if its subjects are subjects.
-fn message_of_pub(frame: &Frame) -> Result<Option<Message>, NoMemory>
-    ensures message { IfOk result (λ published. published ≡ message_in frame.now) }
-    ensures plan { IfOk result (λ published. IfSome published (λ message. (conn : ℕ) (stage : Stage) (headers : Bool) → connected_plan conn stage headers frame.now ≡ Publishes message)) }
+/// The message of a PUB, or of an HPUB of a client that declared headers, if its subjects are subjects.
+fn message_in(headers: bool, frame: &Frame) -> Result<Option<Message>, NoMemory>
+    ensures message { IfOk result (λ published. published ≡ message_in headers frame.now) }
+    ensures plan { IfOk result (λ published. IfSome published (λ message. (conn : ℕ) (stage : Stage) → connected_plan conn stage headers frame.now ≡ Publishes message)) }
 {
     match frame {
         Frame::Pub(text) => {
             let message = message_of_text(text)?;
             Ok(message)
         }
-        Frame::Hpub(_) => Ok(None),
+        Frame::Hpub(text) => message_if(headers, text),
         Frame::Connect(_) => Ok(None),
         Frame::Sub { .. } => Ok(None),
         Frame::Unsub { .. } => Ok(None),
@@ -267,15 +280,15 @@ pub fn plan_of(alloc: Global, conn: u64, stage: Stage, frame: &Frame) -> Result<
     }
 }
 
-/// The message that a PUB of a client publishes whose CONNECT was accepted. Where it gives none, the frame's plan tells
-/// what it comes to.
+/// The message that a PUB or an HPUB of a client publishes whose CONNECT was accepted. Where it gives none, the frame's plan
+/// tells what it comes to.
 pub fn message_of(stage: Stage, frame: &Frame) -> Result<Option<Message>, NoMemory>
     ensures message { IfOk result (λ published. published ≡ published_by stage frame.now) }
     ensures plan { IfOk result (λ published. IfSome published (λ message. (conn : ℕ) → plan_of conn stage frame.now ≡ Publishes message)) }
 {
     match stage {
         Stage::Fresh => Ok(None),
-        Stage::Connected { .. } => message_of_pub(frame),
+        Stage::Connected { headers, .. } => message_in(headers, frame),
         Stage::Closed { .. } => Ok(None),
     }
 }
