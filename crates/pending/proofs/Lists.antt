@@ -43,6 +43,11 @@ pub drop_one_behind : {X : Type 0} (xs ys : List X) (i : ℕ) → i < length xs 
 drop_one_behind xs ys i some =
     ap (λ l. l ++ ys) (drop_one_more xs i) ∙ sym (drop-append-le 1 (drop i xs) ys (omega (arith, length-drop i xs)))
 
+pub drop_many_behind : {X : Type 0} (xs ys : List X) (i n : ℕ) → i + n < length xs → drop (i + n) xs ++ ys ≡ drop n (drop i xs ++ ys)
+drop_many_behind xs ys i n some =
+    let apart : drop (i + n) xs ≡ drop n (drop i xs) = ap (λ k. drop k xs) (omega arith) ∙ sym (drop-drop n i xs) in
+    ap (λ l. l ++ ys) apart ∙ sym (drop-append-le n (drop i xs) ys (omega (arith, length-drop i xs)))
+
 pub last_behind : {X : Type 0} (xs ys : List X) (i : ℕ) → length xs ≤ i + 1 → (length xs ≤ i → ys ≡ []) → ys ≡ drop 1 (drop i xs ++ ys)
 last_behind xs ys i few all =
     ⊎_elim

@@ -1,5 +1,7 @@
 // The frames that wait for their turn.
-ghost use Rattle.std.specs.Prelude.{◌≡◌, ◌++◌, ◌∷◌, ◌≤◌, [], drop, length, OnOk, OnErr, MatchOption};
+ghost use Rattle.std.specs.Prelude.{◌≡◌, ◌++◌, ◌∷◌, ◌≤◌, [], drop, length, OnOk, OnErr, MatchOption, List};
+ghost use Rattle.std.specs.Bool.{Decides};
+ghost use Rattle.wire_read.specs.declared.frame.Frame.{Frame};
 ghost use Rattle.pending.specs.Reading.{frames_after, reader_after};
 
 use lists::NoMemory;
@@ -74,6 +76,20 @@ impl Frames {
         }
     }
 
+    /// Whether none waits.
+    pub fn is_empty(&self) -> bool
+        ensures { Decides result (self.now ≡ []) }
+    {
+        self.first().is_none()
+    }
+
+    /// The frames whose turn is next, or the first of them.
+    pub fn front(&self) -> &[Frame]
+        ensures { (rest : List Frame) × (self.now ≡ result.now ++ rest) }
+    {
+        &self.front[self.done..]
+    }
+
     /// Drops the frame whose turn it was.
     #[inline(always)]
     pub fn drop_first(&mut self)
@@ -86,6 +102,20 @@ impl Frames {
         self.front.clear();
         self.done = 0;
         swap(&mut self.front, &mut self.back);
+    }
+
+    /// Drops so many of the first frames.
+    #[tactic(auto, using(crate::proofs::Lists::drop_one_more, crate::proofs::Lists::drop_many_behind))]
+    pub fn drop_many(&mut self, count: usize)
+        ensures { self.new ≡ drop count self.old }
+    {
+        if count < self.front.len() - self.done {
+            self.done += count;
+            return;
+        }
+        for _next in 0..count {
+            self.drop_first();
+        }
     }
 
     /// Drops all of them.
