@@ -1,3 +1,6 @@
+mod Finished
+mod Gathered
+mod Posted
 mod Reading
 mod Runs
 mod Told

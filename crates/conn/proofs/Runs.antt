@@ -1,5 +1,5 @@
 -- How the turns of frames go on.
-use Rattle.std.proofs.Common.{◌≡◌, ◌∷◌, ◌++◌, [], ℕ, List, Bool, Option, Some, None, true, false, refl, sym, subst}
+use Rattle.std.proofs.Common.{◌≡◌, ◌∷◌, ◌++◌, [], ℕ, List, Bool, Option, Some, None, true, false, drop, refl, sym, subst, ◌∙◌, ap}
 use Rattle.std.proofs.lemmas.List.{append_assoc, append-nil}
 use Rattle.wire_read.specs.declared.frame.Frame.{Frame}
 use Rattle.protocol.specs.declared.stage.Stage.{Stage}
@@ -8,11 +8,7 @@ use Rattle.conn.specs.declared.turn.FrameTurn.TheVariants as turn
 use Rattle.protocol.specs.Replies.{Told, told_text, is_closed}
 use Rattle.conn.specs.Turns.{Steps, Draws, Turned, Goes, Stalls, IsFrameTurn, IsFrameTurned}
 use Rattle.conn.specs.Serving.{Spot, spot, Served, served, rests, behind, UnlessClosed, IsFollowed, Serves}
-
--- what is left, once it has had its turns, completes the whole
-abbrev pub Completes : {P W : Type 0} → Steps P → Draws W → ℕ → ℕ → List Frame → Spot P W → List ℕ → List Frame → Spot P W → Type 0
-Completes {P} {W} steps draws now conn all start text left at =
-    (r : Served P W) → Serves steps draws now conn left at r → Serves steps draws now conn all start (behind text r)
+use Rattle.conn.specs.Running.{Completes, Went}
 
 -- nothing had its turn yet
 pub completes_start : {P W : Type 0} (steps : Steps P) (draws : Draws W) (now conn : ℕ) (all : List Frame) (at : Spot P W) →
@@ -129,3 +125,48 @@ completes_end steps draws now conn all start text at left is done =
     subst (λ (x : List Frame). Serves steps draws now conn all start (served text x None at)) (sym is)
     (rested steps draws now conn all start text at
     (none_left steps draws now conn all start text at (subst (λ (x : List Frame). Completes steps draws now conn all start text x at) is done)))
+
+-- ---- some turns, and then the others
+
+-- one turn, by what the code answers
+pub went_goes : {P W : Type 0} (steps : Steps P) (draws : Draws W) (now conn : ℕ) (left : List Frame) (at : Spot P W) (f : Frame) (fs : List Frame) (s : Stage)
+    (before after : List ℕ) (p : P) (w : W) → left ≡ f ∷ drop 1 left → fs ≡ drop 1 left → is_closed at.stage ≡ false →
+    IsFrameTurned (λ t. IsFrameTurn steps draws now conn at.stage at.word f at.port at.words t p w) (turn.Goes s) before after →
+    Went steps draws now conn left at (turn.Goes s) before after fs p w
+went_goes steps draws now conn left at f fs s before after p w is rest still (told, goes, written) = (
+  told,
+  written,
+  subst (λ (x : List Frame). Completes steps draws now conn left at told x (spot p w s None)) (sym rest)
+      (completes_goes steps draws now conn left at [] at left f (drop 1 left) (told_text told s) p w is (completes_start steps draws now conn left at) still goes),
+)
+
+pub went_stalls : {P W : Type 0} (steps : Steps P) (draws : Draws W) (now conn : ℕ) (left : List Frame) (at : Spot P W) (f : Frame) (stall : Stall) (word : Option ℕ)
+    (before after : List ℕ) (p : P) (w : W) → left ≡ f ∷ drop 1 left → is_closed at.stage ≡ false →
+    IsFrameTurned (λ t. IsFrameTurn steps draws now conn at.stage at.word f at.port at.words t p w) (turn.Stalls stall word) before after →
+    Went steps draws now conn left at (turn.Stalls stall word) before after left p w
+went_stalls steps draws now conn left at f stall word before after p w is still (stalls, same) =
+    ([], same ∙ sym (append-nil before), completes_stalls steps draws now conn left at [] at left f (drop 1 left) stall word p w is (completes_start steps draws now conn left at) still stalls)
+
+-- further turns behind those that had been
+pub went_on : {P W : Type 0} (steps : Steps P) (draws : Draws W) (now conn : ℕ) (all : List Frame) (start : Spot P W) (text : List ℕ) (left : List Frame) (at : Spot P W)
+    (s : Stage) (after : List ℕ) (new : List Frame) (p : P) (w : W) → Completes steps draws now conn all start text left at →
+    Went steps draws now conn left at (turn.Goes s) text after new p w → Completes steps draws now conn all start after new (spot p w s None)
+went_on steps draws now conn all start text left at s after new p w done (told, is, more) r h =
+    subst (λ (x : List ℕ). Serves steps draws now conn all start (served x r.frames r.stall r.at)) (sym (append_assoc text told r.text) ∙ sym (ap (λ (x : List ℕ). x ++ r.text) is))
+    (done (behind told r) (more r h))
+
+pub went_off : {P W : Type 0} (steps : Steps P) (draws : Draws W) (now conn : ℕ) (all : List Frame) (start : Spot P W) (text : List ℕ) (left : List Frame) (at : Spot P W)
+    (stall : Stall) (word : Option ℕ) (after : List ℕ) (new : List Frame) (p : P) (w : W) → Completes steps draws now conn all start text left at →
+    Went steps draws now conn left at (turn.Stalls stall word) text after new p w →
+    Serves steps draws now conn all start (served after new (Some stall) (spot p w at.stage word))
+went_off steps draws now conn all start text left at stall word after new p w done (told, is, more) =
+    subst (λ (x : List ℕ). Serves steps draws now conn all start (served x new (Some stall) (spot p w at.stage word))) (sym is)
+    (done (served told new (Some stall) (spot p w at.stage word)) more)
+
+-- the connection has closed, whatever is left
+pub closed_at : {P W : Type 0} (steps : Steps P) (draws : Draws W) (now conn : ℕ) (all : List Frame) (start : Spot P W) (text : List ℕ) (left : List Frame) (at : Spot P W) →
+    Completes steps draws now conn all start text left at → is_closed at.stage ≡ true → Serves steps draws now conn all start (served text [] None at)
+closed_at steps draws now conn all start text [] at done closed =
+    rested steps draws now conn all start text at (none_left steps draws now conn all start text at done)
+closed_at steps draws now conn all start text (f ∷ fs) at done closed =
+    rested steps draws now conn all start text at (closed_with steps draws now conn all start text at f fs done closed)

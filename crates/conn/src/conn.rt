@@ -1,10 +1,9 @@
 use crate::drain::drain;
 use crate::output::{Output, Stall};
+use crate::serve::serve;
 use crate::submit::submit;
-use crate::turn::serve;
-use crate::words::Words;
 use connect_opts::info_text;
-use events::{Answer, Command, Event, HubRefusal, Port};
+use events::{Answer, Command, Event, HubRefusal, Port, Words};
 use lists::NoMemory;
 use pending::{Frames, Owed};
 use protocol::Stage;

@@ -5,10 +5,11 @@
 mod conn;
 mod drain;
 mod output;
+mod run;
+mod serve;
 mod submit;
 mod turn;
-mod words;
 
 pub use conn::Conn;
+pub use events::Words;
 pub use output::{Output, Stall};
-pub use words::Words;

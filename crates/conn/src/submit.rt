@@ -25,7 +25,7 @@ pub fn offer<P: Port>(port: &mut P, event: Event) -> Option<Result<Answer, HubRe
     ensures place { P.place port.new ≡ P.place port.old }
     ensures offered { MatchOption result (P.holds port.old port.new) (λ answer. IsAnswered P.steps port.old event (outcome_of answer) port.new) }
 {
-    match port.publish(event) {
+    match port.offer(event) {
         Ok(answer) => Some(Ok(answer)),
         Err((event, refusal)) => {
             drop(event);

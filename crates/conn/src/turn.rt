@@ -6,13 +6,10 @@ ghost use Rattle.conn.specs.Turns.{port_of, turn_after, outcome_of, is_verbose, 
 ghost use Rattle.protocol.specs.declared.plan.Plan.TheVariants.{Publishes};
 ghost use Rattle.protocol.specs.Plans.{plan_of};
 ghost use Rattle.protocol.specs.Replies.{text_line, room_of};
-ghost use Rattle.conn.specs.Serving.{spot, served, Serves};
 
 use crate::output::Stall;
 use crate::submit::{offer, submit};
-use crate::words::Words;
-use events::{Answer, Command, Event, HubRefusal, Message, Outcome, Port};
-use pending::Frames;
+use events::{Answer, Command, Event, HubRefusal, Message, Outcome, Port, Words};
 use protocol::{
     Plan, Reply, Stage, make_room, message_of, plan_of, put_text, reply_to_outcome,
     reply_to_refusal,
@@ -41,7 +38,7 @@ fn tell(out: &mut Vec<u8>, reply: Reply<'_>) -> FrameTurn
 
 /// What a frame's turn comes to, once the hub has answered. There is room for any text about the frame.
 #[inline(always)]
-fn turn_of_answer(
+pub fn turn_of_answer(
     stage: Stage,
     accepted: Stage,
     frame: &Frame,
@@ -80,7 +77,7 @@ fn word_of<W: Words>(words: &mut W, drawn: Option<u64>) -> u64
 }
 
 /// Whether each accepted message of the client is answered.
-fn is_verbose(stage: Stage) -> bool
+pub fn is_verbose(stage: Stage) -> bool
     ensures { result ≡ is_verbose stage }
 {
     match stage {
@@ -143,7 +140,7 @@ fn publish<P: Port, W: Words>(
 
 /// A frame's turn. A PUB is published without a plan. Room for what is told is made before the hub is asked, so that
 /// what it answers is told. What is told without asking the hub waits for what the port has for the client.
-fn take_turn<P: Port, W: Words>(
+pub fn take_turn<P: Port, W: Words>(
     alloc: Global,
     conn: u64,
     now: u64,
@@ -186,72 +183,4 @@ fn take_turn<P: Port, W: Words>(
             conn, now, port, words, stage, word, frame, message, out,
         ),
     }
-}
-
-/// What the turns of frames came to.
-#[derive(Drop)]
-pub struct Served {
-    /// What is written to the client.
-    pub bytes: Vec<u8>,
-    /// Where the connection is then.
-    pub stage: Stage,
-    /// The word of the first frame that is left, where it has drawn one.
-    pub word: Option<u64>,
-    /// What stopped the turns, if something did.
-    pub stall: Option<Stall>,
-}
-
-impl Served {
-    ghost use Rattle.std.specs.Prelude.{◌≡◌};
-
-    /// Turns that write this, leave the connection at this stage, and the next frame with this word.
-    fn new(bytes: Vec<u8>, stage: Stage, word: Option<u64>, stall: Option<Stall>) -> Served
-        ensures { result ≡ record { bytes = bytes; stage = stage; word = word; stall = stall } }
-    {
-        Served {
-            bytes,
-            stage,
-            word,
-            stall,
-        }
-    }
-}
-
-/// Frames in order, until one stalls or closes the connection. What stalls is left, with the frames behind it;
-/// after a closing text the rest is dropped.
-pub fn serve<P: Port, W: Words>(
-    alloc: Global,
-    conn: u64,
-    now: u64,
-    port: &mut P,
-    words: &mut W,
-    stage: Stage,
-    word: Option<u64>,
-    frames: &mut Frames,
-) -> Served
-    ensures place { P.place port.new ≡ P.place port.old }
-    ensures served { Serves (port_of P.steps P.holds) W.draws now conn frames.old (spot port.old words.old stage word) (served result.bytes.items frames.new result.stall (spot port.new words.new result.stage result.word)) }
-{
-    let mut bytes = Vec::new(alloc);
-    let mut stage = stage;
-    let mut word = word;
-    while let Some(frame) = frames.first() {
-        if stage.is_closed() {
-            frames.clear();
-            return Served::new(bytes, stage, word, None);
-        }
-        match take_turn(
-            alloc, conn, now, port, words, stage, word, frame, &mut bytes,
-        ) {
-            FrameTurn::Stalls(stall, kept) => {
-                return Served::new(bytes, stage, kept, Some(stall));
-            }
-            FrameTurn::Goes(after) => {
-                stage = after;
-                word = None;
-            }
-        }
-        frames.drop_first();
-    }
-    Served::new(bytes, stage, word, None)
 }

@@ -2,3 +2,4 @@ pub mod Messages
 pub mod Met
 pub mod Offers
 pub mod Refusals
+pub mod Runs

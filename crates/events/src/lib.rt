@@ -7,9 +7,13 @@ mod event;
 mod message;
 mod port;
 mod refusal;
+mod run;
+mod words;
 
 pub use answer::{Addressed, Answer, Delivery, Entry, Item, Met, Outcome, Removed};
 pub use event::{Command, Event, Sid};
 pub use message::Message;
 pub use port::Port;
 pub use refusal::{HubRefusal, PublishRefusal};
+pub use run::RunEnd;
+pub use words::Words;

@@ -3,8 +3,11 @@ ghost use Rattle.events.specs.declared.event.Event.{Event};
 ghost use Rattle.events.specs.declared.answer.Entry.{Entry};
 ghost use Rattle.events.specs.declared.refusal.HubRefusal.{HubRefusal};
 ghost use Rattle.events.specs.Offers.{IsOffered};
+ghost use Rattle.events.specs.Runs.{IsPosted};
 
-use crate::{Answer, Event, HubRefusal, PublishRefusal};
+use crate::run::was_published;
+use crate::{Answer, Command, Event, HubRefusal, Message, PublishRefusal, RunEnd, Words};
+use std::collections::VecDeque;
 
 /// Where a connection's events go. Others may submit events of their own between two of this one, so what an
 /// answer and the state after it are is a relation.
@@ -26,7 +29,7 @@ pub trait Port {
 
     /// Offers a message's event: it is submitted, once, or held back until its receivers have room. A refusal hands it back.
     #[inline(always)]
-    fn publish(&mut self, event: Event) -> Result<Answer, (Event, PublishRefusal)>
+    fn offer(&mut self, event: Event) -> Result<Answer, (Event, PublishRefusal)>
         ensures place { place self.new ≡ place self.old }
         ensures offered { IsOffered steps holds self.old event result self.new }
         ensures err { IfErr result (λ refused. refused.0 ≡ event) }
@@ -35,6 +38,40 @@ pub trait Port {
             Ok(answer) => Ok(answer),
             Err((event, refusal)) => Err((event, PublishRefusal::By(refusal))),
         }
+    }
+
+    /// Offers the messages of a connection in order, each with a word that is drawn for it. The first that isn't published
+    /// ends the run, and those behind it are left. A port may also end it behind any that was answered.
+    fn publish<W: Words>(
+        &mut self,
+        conn: u64,
+        now: u64,
+        messages: &mut VecDeque<Message>,
+        words: &mut W,
+    ) -> RunEnd
+        ensures place { place self.new ≡ place self.old }
+        ensures posted { IsPosted steps holds W.draws conn now messages.old.items self.old words.old result messages.new.items self.new words.new }
+    {
+        while let Some(message) = messages.pop_front() {
+            let word = words.next();
+            let what = Command::Pub {
+                conn,
+                message,
+                word,
+            };
+            match self.offer(Event { now, what }) {
+                Ok(answer) => {
+                    if !was_published(&answer) {
+                        return RunEnd::Answered(answer);
+                    }
+                }
+                Err((event, refusal)) => {
+                    drop(event);
+                    return RunEnd::Stopped(word, refusal);
+                }
+            }
+        }
+        RunEnd::Published
     }
 
     /// Whether what a connection is told next is held back until it has what waits for it.

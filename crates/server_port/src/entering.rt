@@ -89,7 +89,7 @@ impl<L: Run, R: Wait, G: Gate + Drop> ServerPort<'_, L, R, G> {
 
     /// Offers a message's event, once more where the history was full.
     #[inline(always)]
-    fn offer(&mut self, event: Event) -> Result<Answer, (Event, PublishRefusal)>
+    fn enter_message(&mut self, event: Event) -> Result<Answer, (Event, PublishRefusal)>
         ensures offered { IsOffered (λ old e r new. IsAnswered L.opening old.seat.count e r new.seat.count) (λ old new. new.seat.count ≡ old.seat.count) self.old event result self.new }
         ensures course { self.new.course ≡ offered result self.new.told.slow self.new.told.until self.old.course }
         ensures full { IfErr result (λ back. back.1 ≡ By HistoryFull → self.new.rotation.tries ≡ tried true self.old.rotation.tries) }
@@ -209,7 +209,7 @@ impl<L: Run, R: Wait, G: Gate + Drop> Port for ServerPort<'_, L, R, G> {
 
     /// Once the round's share is spent, the hub isn't asked.
     #[inline(always)]
-    fn publish(&mut self, event: Event) -> Result<Answer, (Event, PublishRefusal)>
+    fn offer(&mut self, event: Event) -> Result<Answer, (Event, PublishRefusal)>
         ensures place { ◌≡◌ {A = ℕ} 0 0 }
         ensures offered { IsOffered (λ old e r new. IsAnswered L.opening old.seat.count e r new.seat.count) (λ old new. new.seat.count ≡ old.seat.count) self.old event result self.new }
         ensures err { IfErr result (λ back. back.0 ≡ event) }
@@ -222,7 +222,7 @@ impl<L: Run, R: Wait, G: Gate + Drop> Port for ServerPort<'_, L, R, G> {
         }
         self.course.has_passed = false;
         self.pass(Point::FrameRead);
-        let result = self.offer(event);
+        let result = self.enter_message(event);
         if self.course.why.is_none() {
             self.pass(Point::Answered);
         }

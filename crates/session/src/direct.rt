@@ -32,7 +32,7 @@ impl Port for Direct<'_> {
 
     // (as the trait's own body, whose hint on inlining isn't followed)
     #[inline(always)]
-    fn publish(&mut self, event: Event) -> Result<Answer, (Event, PublishRefusal)> {
+    fn offer(&mut self, event: Event) -> Result<Answer, (Event, PublishRefusal)> {
         match self.submit(event) {
             Ok(answer) => Ok(answer),
             Err((event, refusal)) => Err((event, PublishRefusal::By(refusal))),

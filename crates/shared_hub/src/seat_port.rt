@@ -93,7 +93,7 @@ impl<L: Run, R: Wait, N: Notes + Drop> Port for SeatPort<'_, L, R, N> {
     }
 
     #[inline(always)]
-    fn publish(&mut self, event: Event) -> Result<Answer, (Event, PublishRefusal)> {
+    fn offer(&mut self, event: Event) -> Result<Answer, (Event, PublishRefusal)> {
         match self
             .shared
             .publish_as(self.rt, &mut self.seat, event, &mut self.told)

@@ -2,7 +2,7 @@ use Rattle.std.proofs.Common.{subst, Ok}
 use Rattle.shared_hub.specs.Entering.{IsAnswered}
 use Rattle.server_port.specs.declared.port.ServerPort.{ServerPort}
 use Rattle.server_port.proofs.Offers.{same_count}
-use Rattle.server_port.proofs.port.ServerPort.offer.Goals as goal
+use Rattle.server_port.proofs.port.ServerPort.enter_message.Goals as goal
 
 pub returns-in-Ok-offer_again-clause-offered : goal.returns-in-Ok-offer_again-clause-offered
 returns-in-Ok-offer_again-clause-offered g c =
