@@ -1,6 +1,6 @@
 -- What every hub keeps is kept by each kind of change.
 use Rattle.std.proofs.Common.{◌≡◌, ◌∙◌, ◌==◌, ◌&&◌, ℕ, ◌+◌, ◌<◌, ◌≤◌, Bool, true, false, not, cond, List, [], ◌∷◌, ◌++◌, map, filter, length, get_or, Option, Some, None, ap, sym, refl, subst, arith, max}
-use Rattle.std.specs.Prelude.{All, ◌≢◌, nat_le, nat_lt, nat_eq}
+use Rattle.std.specs.Prelude.{All, AllPairs, ◌≢◌, nat_le, nat_lt, nat_eq}
 use Rattle.std.specs.Option.{option_map, option_or}
 use Rattle.std.specs.Cmp.Lexicographic.{pointwise}
 use Rattle.std.proofs.Math.Bool.{not-not}
@@ -16,11 +16,13 @@ use Rattle.policy_doc.specs.declared.document.PolicyDoc.{PolicyDoc}
 use Rattle.ready.specs.Users.{user_named}
 use Rattle.ready.specs.declared.ready.User.{User}
 use Rattle.sessions.specs.Sessions.{session_of, new_session}
+use Rattle.sessions.specs.Renewal.{HaveOneUser}
 use Rattle.sessions.specs.declared.session.Session.{Session}
 use Rattle.subscriptions.specs.Subscriptions.{subscription_of, stands, of_connection, has_all}
 use Rattle.subscriptions.specs.Limit.{is_reached, has_ended, unended}
 use Rattle.subscription_rows.specs.declared.subscription.Subscription.{Subscription}
 use Rattle.world.specs.World.{World}
+use Rattle.world.specs.Reload.{user_before, verdict_for, may_stand, AreEntitled}
 use Rattle.hub.specs.Kept.{IsKeptTable}
 use Rattle.hub.specs.Sound.{IsSound, has_same_sid, user_behind, user_at, account_of, may_subscribe, HasAllowance, is_below, is_to_receive}
 use Rattle.hub.proofs.Lists.{length-filter_twice, length-filter_map}
@@ -65,6 +67,22 @@ HasQuotas subs = (conn : ℕ) → length (of_connection conn subs) ≤ 4096
 pub user_at-session : (w : World) → IsSound w → (conn : ℕ) (z : Session) → session_of w.sessions conn ≡ Some z → user_at w conn ≡ Some z.user
 user_at-session w sound conn z e =
     ap (user_behind w.policy) e ∙ find-All (IsOfPolicy w.policy) (λ y. y.conn == conn) w.sessions z sound.users e
+
+-- so sessions of one user's name act for one user, who may have each of their subscriptions
+pub entitled : (w : World) → IsSound w → AreEntitled w.sessions w.subscriptions
+entitled w sound = (one_user, λ k d h. by_session (get_or w.subscriptions k d) (session_of w.sessions (get_or w.subscriptions k d).conn) refl (sound.subscriptions k d h))
+  where
+    some_is : (u v : User) → Some u ≡ Some v → u ≡ v
+    some_is u v e = cc
+
+    one_user : AllPairs HaveOneUser w.sessions
+    one_user i j d below within same =
+        some_is _ _ (sym (sound.users i d (omega (arith, below, within))) ∙ ap (user_named w.policy) same ∙ sound.users j d within)
+
+    by_session : (s : Subscription) (o : Option Session) → session_of w.sessions s.conn ≡ o → may_subscribe (user_behind w.policy o) s.subject s.queue ≡ true → may_stand (verdict_for (user_before o) s) ≡ true
+    by_session s None e may = may
+    by_session s (Some z) e may =
+        sym (ap (λ u. may_subscribe u s.subject s.queue) (find-All (IsOfPolicy w.policy) (λ y. y.conn == s.conn) w.sessions z sound.users e)) ∙ may
 
 -- the numbers are at most the next
 numbers-next : (w : World) → IsSound w → All (λ (s : Subscription). s.id ≤ w.number + 1) w.subscriptions

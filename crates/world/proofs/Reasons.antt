@@ -1,8 +1,8 @@
 -- A verdict of a user has its reason, by whatever name its subject goes.
-use Rattle.std.proofs.Common.{◌≡◌, List, Option, Some, subst}
+use Rattle.std.proofs.Common.{◌≡◌, List, Option, Some, None, subst}
 use Rattle.std.specs.Prelude.{IfSome}
 use Rattle.subjects.specs.Subject.{Token}
-use Rattle.permissions.specs.Verdicts.{publish_verdict, subscribe_verdict, IsJustifiedPublish, IsJustifiedSubscribe}
+use Rattle.permissions.specs.Verdicts.{publish_verdict, subscribe_verdict, IsJustifiedPublish, IsJustifiedSubscribe, HasSubscribeReason}
 use Rattle.permissions.specs.declared.verdict.Verdict.{Verdict}
 use Rattle.ready.specs.declared.ready.User.{User}
 use Rattle.sessions.specs.declared.session.Session.{Session}
@@ -23,10 +23,7 @@ publish_reason o z s t v is same which h =
     let R : Verdict → Type 0 = λ x. IsJustifiedPublish s z.user.rules.publish x in
     subst P is (subst Q same (subst R which h))
 
-pub verdict_reason : (o : Option User) (u : User) (p p' : List Token) (q : Option (List Token)) (v : Verdict) → Some u ≡ o → p ≡ p' → v ≡ subscribe_verdict u.rules p q →
-    IsJustifiedSubscribe p q u.rules.subscribe v → IfSome o (λ (u : User). IsJustifiedSubscribe p' q u.rules.subscribe (subscribe_verdict u.rules p' q))
-verdict_reason o u p p' q v is same-p which h =
-    let P : Option User → Type 0 = λ o. IfSome o (λ (u : User). IsJustifiedSubscribe p' q u.rules.subscribe (subscribe_verdict u.rules p' q)) in
-    let Q : List Token → Type 0 = λ t. IsJustifiedSubscribe t q u.rules.subscribe (subscribe_verdict u.rules t q) in
-    let R : Verdict → Type 0 = λ x. IsJustifiedSubscribe p q u.rules.subscribe x in
-    subst P is (subst Q same-p (subst R which h))
+pub any_reason : (p p' : List Token) (q : Option (List Token)) (o : Option User) → p ≡ p' → HasSubscribeReason p →
+    IfSome o (λ (u : User). IsJustifiedSubscribe p' q u.rules.subscribe (subscribe_verdict u.rules p' q))
+any_reason p p' q None same has = tt
+any_reason p p' q (Some u) same has = subst (λ t. IsJustifiedSubscribe t q u.rules.subscribe (subscribe_verdict u.rules t q)) same (has q u.rules.subscribe)

@@ -1,6 +1,6 @@
 -- A reload: what becomes of the sessions and the subscriptions when another policy comes into force
 -- (docs/GUARANTEE.md, "A reload").
-use Rattle.std.specs.Prelude.{◌+◌, List, Bool, false, Option, Some, None, if◌then◌else◌, filter, All, IfSome}
+use Rattle.std.specs.Prelude.{◌≡◌, ◌+◌, List, Bool, true, false, Option, Some, None, if◌then◌else◌, filter, All, AllPairs, IfSome}
 use Rattle.std.specs.List.{filter_map}
 use Rattle.policy_doc.specs.Document.{IsValidPolicy}
 use Rattle.policy_doc.specs.declared.document.PolicyDoc.{PolicyDoc}
@@ -11,7 +11,7 @@ use Rattle.events.specs.declared.answer.Removed.{Removed}
 use Rattle.events.specs.declared.answer.Outcome.{Outcome}
 use Rattle.events.specs.declared.answer.Outcome.TheVariants.{Reloaded}
 use Rattle.sessions.specs.Sessions.{session_of}
-use Rattle.sessions.specs.Renewal.{user_again_of, remaining, closed_conns}
+use Rattle.sessions.specs.Renewal.{user_again_of, remaining, closed_conns, HaveOneUser}
 use Rattle.sessions.specs.declared.session.Session.{Session}
 use Rattle.subscription_rows.specs.declared.subscription.Subscription.{Subscription}
 use Rattle.world.specs.World.{World}
@@ -37,6 +37,22 @@ may_stand (Some v) = is_allowed v
 
 abbrev pub stands_on : PolicyDoc → List Session → Subscription → Bool
 stands_on doc zs sub = may_stand (verdict_after doc zs sub)
+
+-- whom a session acts for, and what the policy in force says of one of its subscriptions
+abbrev pub user_before : Option Session → Option User
+user_before None = None
+user_before (Some z) = Some z.user
+
+abbrev pub verdict_before : List Session → Subscription → Option Verdict
+verdict_before zs sub = verdict_for (user_before (session_of zs sub.conn)) sub
+
+-- the policy in force refuses none of these subscriptions
+abbrev pub AllMayStand : List Session → List Subscription → Type 0
+AllMayStand zs subs = All (λ (sub : Subscription). may_stand (verdict_before zs sub) ≡ true) subs
+
+-- what a reload takes for granted: sessions of one user's name act for one user, who may have their subscriptions
+abbrev pub AreEntitled : List Session → List Subscription → Type 0
+AreEntitled zs subs = AllPairs HaveOneUser zs × AllMayStand zs subs
 
 -- a subscription that a session has lost by this verdict
 abbrev pub removed_by : Subscription → Verdict → Removed

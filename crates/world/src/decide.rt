@@ -2,7 +2,7 @@
 ghost use Rattle.std.specs.Prelude.{◌≡◌, IfOk, IfErr};
 
 use crate::change::{Answered, Change, Decided};
-use crate::reload::{Lost, Prepared, prepare};
+use crate::reload::{Lost, lost_by};
 use crate::verdict::{on_publish, on_subscription};
 use crate::world::World;
 use bytes::Bytes;
@@ -106,9 +106,11 @@ impl World {
     ghost use Rattle.sessions.specs.Replying.{with_note};
     ghost use Rattle.world.specs.Transition.{moved, IsReasoned};
     ghost use Rattle.world.specs.Changes.{IsDecided};
+    ghost use Rattle.world.specs.Reload.{AreEntitled};
 
     /// What a command comes to: what is told, and what is to be done; or why it is refused. Nothing has changed yet.
     pub(crate) fn decide(&mut self, command: &Command) -> Result<Decided, HubRefusal>
+        requires sound { AreEntitled self.old.sessions self.old.subscriptions }
         ensures decided { IsDecided self.old (moved self.old command.now) result }
         ensures reason { IfOk result (λ d. IsReasoned self.old command.now d.outcome) }
         ensures same { self.new ≡ self.old }
@@ -323,16 +325,14 @@ impl World {
 
     /// Another policy: whose sessions stay, and which subscriptions they lose.
     fn reload(&self, ready: &Ready) -> Result<Decided, HubRefusal>
+        requires sound { AreEntitled self.now.sessions self.now.subscriptions }
         ensures decided { IsDecided self.now (moved self.now (command.Reload ready.now)) result }
         ensures reason { IfOk result (λ d. IsReasoned self.now (command.Reload ready.now) d.outcome) }
     {
-        let prepared = prepare(self.alloc, ready, &self.sessions, &self.subscriptions)?;
-        let Prepared {
-            ready,
-            users,
-            gone,
-            lost,
-        } = prepared;
+        let users = self.sessions.users_again(ready)?;
+        let gone = self.sessions.closed(ready)?;
+        let lost = lost_by(self.alloc, ready, &self.sessions, &self.subscriptions)?;
+        let ready = ready.copy(self.alloc)?;
         let Lost { removed, ids } = lost;
         Ok(Decided {
             outcome: Outcome::Reloaded {

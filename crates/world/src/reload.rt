@@ -1,35 +1,21 @@
 //! Another policy comes into force: what may stand on, and what is reported.
-ghost use Rattle.std.specs.Prelude.{◌≡◌, ◌∷◌, ◌++◌, [], List, IfOk, OnOk, filter, All};
+ghost use Rattle.std.specs.Prelude.{◌≡◌, ◌∷◌, ◌++◌, [], List, IfOk, OnOk, filter, All, true};
 ghost use Rattle.std.specs.List.{filter_map};
 ghost use Rattle.std.specs.Option.{option_copied};
-ghost use Rattle.sessions.specs.Renewal.{user_again_of, closed_conns};
+ghost use Rattle.sessions.specs.Renewal.{AreSameLists};
 ghost use Rattle.policy_doc.specs.declared.document.PolicyDoc.{PolicyDoc};
 ghost use Rattle.sessions.specs.declared.session.Session.{Session};
 ghost use Rattle.world.specs.Changes.{lost_id};
-ghost use Rattle.world.specs.Reload.{user_after, verdict_after, stands_on, removal_after, IsReasonedVerdict, IsReasonedReload};
+ghost use Rattle.world.specs.Reload.{user_after, verdict_after, verdict_before, may_stand, stands_on, removal_after, AreEntitled, IsReasonedVerdict};
 
 use crate::verdict::on_subscription;
 use events::Removed;
-use lists::{Copying, NoMemory};
-use permissions::Verdict;
+use lists::NoMemory;
+use permissions::{Verdict, each_has_reason};
 use ready::{Ready, User};
 use sessions::{Session, Sessions};
 use std::alloc::Global;
-use std::collections::VecDeque;
 use subscriptions::{SharedSubscription, Subscriptions};
-
-/// A reload with all the memory that it takes. Nothing of it is in force yet.
-#[derive(Drop)]
-pub(crate) struct Prepared {
-    /// The policy.
-    pub ready: Ready,
-    /// The users of the sessions that stay, session by session.
-    pub users: VecDeque<User>,
-    /// The connections of the sessions that go, ascending.
-    pub gone: Vec<u64>,
-    /// What is reported of the subscriptions that don't stand on.
-    pub lost: Lost,
-}
 
 /// The subscriptions that don't stand on.
 #[derive(Drop)]
@@ -38,32 +24,6 @@ pub(crate) struct Lost {
     pub removed: Vec<Removed>,
     /// The ids of these and of those of sessions that go, oldest first.
     pub ids: Vec<u64>,
-}
-
-/// Makes a reload ready. The policy stays with the caller.
-pub(crate) fn prepare(
-    alloc: Global,
-    ready: &Ready,
-    sessions: &Sessions,
-    subscriptions: &Subscriptions,
-) -> Result<Prepared, NoMemory>
-    ensures ready { IfOk result (λ prepared. prepared.ready ≡ ready.now) }
-    ensures users { IfOk result (λ prepared. prepared.users.items ≡ filter_map (user_again_of ready.now) sessions.now) }
-    ensures gone { IfOk result (λ prepared. prepared.gone.items ≡ closed_conns ready.now sessions.now) }
-    ensures removed { IfOk result (λ prepared. prepared.lost.removed.items ≡ filter_map (removal_after ready.now sessions.now) subscriptions.now) }
-    ensures ids { IfOk result (λ prepared. prepared.lost.ids.items ≡ filter_map (lost_id ready.now sessions.now) subscriptions.now) }
-    ensures reason { OnOk result (IsReasonedReload ready.now sessions.now subscriptions.now) }
-{
-    let users = sessions.users_again(ready)?;
-    let gone = sessions.closed(ready)?;
-    let lost = lost_by(alloc, ready, sessions, subscriptions)?;
-    let ready = ready.copy(alloc)?;
-    Ok(Prepared {
-        ready,
-        users,
-        gone,
-        lost,
-    })
 }
 
 /// Whom a session that stays acts for.
@@ -82,8 +42,7 @@ fn verdict_on(
     sessions: &Sessions,
     subscription: &SharedSubscription,
 ) -> Option<Verdict>
-    ensures verdict { result ≡ verdict_after ready.now sessions.now subscription.now }
-    ensures reason { IsReasonedVerdict ready.now sessions.now subscription.now }
+    ensures { result ≡ verdict_after ready.now sessions.now subscription.now }
 {
     match user_for(ready, sessions.find(subscription.conn())) {
         None => None,
@@ -95,19 +54,24 @@ fn verdict_on(
     }
 }
 
-/// Adds a subscription, if it doesn't stand on.
+/// Adds a subscription, if it doesn't stand on. Where its session has the same lists beside it, it does.
 fn add_if_lost(
     lost: &mut Lost,
     ready: &Ready,
     sessions: &Sessions,
+    same: &[bool],
     subscription: &SharedSubscription,
 ) -> Result<(), NoMemory>
+    requires same { AreSameLists ready.now sessions.now same.now }
+    requires sound { may_stand (verdict_before sessions.now subscription.now) ≡ true }
     ensures removed { OnOk result (lost.new.removed.items ≡ lost.old.removed.items
         ++ filter_map (removal_after ready.now sessions.now) (subscription.now ∷ [])) }
     ensures ids { OnOk result (lost.new.ids.items ≡ lost.old.ids.items
         ++ filter_map (lost_id ready.now sessions.now) (subscription.now ∷ [])) }
-    ensures reason { IsReasonedVerdict ready.now sessions.now subscription.now }
 {
+    if sessions.has_same_lists(same, subscription.conn()) {
+        return Ok(());
+    }
     match verdict_on(ready, sessions, subscription) {
         None => {
             lost.ids.push(subscription.id())?;
@@ -128,14 +92,23 @@ fn add_if_lost(
     }
 }
 
-/// The subscriptions that don't stand on. Each is judged once, here.
+/// The verdict of any policy on a subscription has its reason. It does nothing when it runs.
+fn has_reason(subscription: &SharedSubscription)
+    ensures { (doc : PolicyDoc) (zs : List Session) → IsReasonedVerdict doc zs subscription.now }
+{
+    each_has_reason(subscription.subject().get());
+}
+
+/// The subscriptions that don't stand on. Only those of users whose subscribe lists change are judged: the others may stand
+/// as they are.
 #[tactic(auto, using(queue_groups::proofs::Lists::filter_map_first))]
-fn lost_by(
+pub(crate) fn lost_by(
     alloc: Global,
     ready: &Ready,
     sessions: &Sessions,
     subscriptions: &Subscriptions,
 ) -> Result<Lost, NoMemory>
+    requires sound { AreEntitled sessions.now subscriptions.now }
     ensures removed { IfOk result (λ lost. lost.removed.items ≡ filter_map (removal_after ready.now sessions.now) subscriptions.now) }
     ensures ids { IfOk result (λ lost. lost.ids.items ≡ filter_map (lost_id ready.now sessions.now) subscriptions.now) }
     ensures reason { OnOk result (All (IsReasonedVerdict ready.now sessions.now) subscriptions.now) }
@@ -144,8 +117,10 @@ fn lost_by(
         removed: Vec::new(alloc),
         ids: Vec::new(alloc),
     };
+    let same = sessions.same_lists(ready)?;
     for subscription in subscriptions.values() {
-        add_if_lost(&mut lost, ready, sessions, subscription)?;
+        has_reason(subscription);
+        add_if_lost(&mut lost, ready, sessions, same.as_slice(), subscription)?;
     }
     Ok(lost)
 }

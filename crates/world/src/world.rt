@@ -6,7 +6,6 @@ use crate::standing::{Standing, standing_all};
 use events::{Addressed, Answer, Command, Entry, Event, HubRefusal, Outcome, PublishRefusal};
 use leniency::{Lenient, LenientToAll, note_held};
 use lists::{Copying, Items, NoMemory, Shared};
-use policy_doc::Policy;
 use ready::Ready;
 use receivers::Known;
 use sessions::Sessions;
@@ -67,6 +66,7 @@ impl World {
     ghost use Rattle.world.specs.Transition.{IsApplied, IsReasoned, IsRefusal, IsMoved, transition, moved, refusal_in, in_session, in_new_session};
     ghost use Rattle.world.specs.Changes.{IsDecided};
     ghost use Rattle.world.specs.Holding.{IsAppliedIf, IsMovedIf};
+    ghost use Rattle.world.specs.Reload.{AreEntitled};
     ghost use Rattle.world.specs.Shown.{standing_of, waiting_of};
 
     /// The tables over a policy, with nobody connected. `outbox` is how many deliveries may wait for a session. Clients
@@ -101,11 +101,14 @@ impl World {
     /// One event, which stays with the caller. The outcome and the world after it are the transition's. What is told
     /// of it comes twice, once for the answer and once for the history: two owners of one entry. A refusal changes
     /// nothing: `SessionTaken` to a Connect of a connection with a session, `NoSession` to any other command of one
-    /// without, `SessionLimit` to a Connect while 4,096 sessions stand, `NoMemory` where memory could not be had.
+    /// without, `SessionLimit` to a Connect while 4,096 sessions stand, `NoMemory` where memory could not be had. No
+    /// standing subscription may be one that its session's user may not have: so a reload judges only those of users whose
+    /// subscribe lists change.
     pub fn apply(&mut self, event: &Event) -> Result<(Answer, Answer), HubRefusal>
         requires fresh { (self.old.number == 18446744073709551615) ≡ false }
         requires epoch { self.old.epoch ≤ self.old.number + 1 }
         requires ids { All (λ (s : Subscription). s.id ≤ self.old.number) self.old.subscriptions }
+        requires sound { AreEntitled self.old.sessions self.old.subscriptions }
         ensures step { IsApplied self.old event.entry.now result self.new }
         ensures reason { IfOk result (λ both. IsReasoned self.old event.entry.now.what both.0.outcome) }
     {
@@ -131,6 +134,7 @@ impl World {
         requires fresh { (self.old.number == 18446744073709551615) ≡ false }
         requires epoch { self.old.epoch ≤ self.old.number + 1 }
         requires ids { All (λ (s : Subscription). s.id ≤ self.old.number) self.old.subscriptions }
+        requires sound { AreEntitled self.old.sessions self.old.subscriptions }
         requires none { held.old.items ≡ [] }
         ensures step { IsAppliedIf (T.terms lenient.now) self.old event.entry.now result held.new.items self.new }
         ensures reason { IfOk result (λ both. IsReasoned self.old event.entry.now.what both.0.outcome) }
@@ -162,6 +166,7 @@ impl World {
         requires fresh { self.old.number < 18446744073709551615 }
         requires epoch { self.old.epoch ≤ self.old.number + 1 }
         requires ids { All (λ (s : Subscription). s.id ≤ self.old.number) self.old.subscriptions }
+        requires sound { AreEntitled self.old.sessions self.old.subscriptions }
         requires none { held.old.items ≡ [] }
         ensures step { IsMovedIf (T.terms lenient.now) self.old event.entry.now result held.new.items self.new }
         ensures reason { IfOk result (λ both. IsReasoned self.old event.entry.now.what both.0.outcome) }
@@ -261,13 +266,6 @@ impl World {
         ensures { result.now ≡ self.now.policy }
     {
         &self.ready
-    }
-
-    /// The policy in force.
-    pub fn policy(&self) -> &Policy
-        ensures { result.now ≡ self.now.policy }
-    {
-        self.ready.policy()
     }
 
     /// The epoch in force: which policy it is, counted from 1.

@@ -7,8 +7,13 @@ use Rattle.hub.specs.History.{State, is_history_full}
 use Rattle.hub.specs.Holding.{IsStepIf}
 use Rattle.hub.specs.Guarantee.{KeepsGuarantee}
 use Rattle.hub.proofs.Legal.{state_of, IsEntered, kept-step, entered-step, entered-guaranteed, refused-guaranteed, unmade-step, unmade-guaranteed}
+use Rattle.hub.proofs.Soundness.{entitled}
 use Rattle.hub.proofs.hub.Hub.step_if.Given as given
 use Rattle.hub.proofs.hub.Hub.step_if.Goals as goal
+
+-- each session's user may have its subscriptions
+pub apply_if-requires-clause-sound : goal.apply_if-requires-clause-sound
+apply_if-requires-clause-sound g c = entitled c.self.inside.world c.self.invariant.0
 
 -- what the calls ensure
 is_entered : (g : given.Over) (c : goal.After-enter g) → IsEntered c.self.inside.opening c.self.inside.world c.self.inside.most c.self.inside.entries.items c.args.event c.enter.result c.apply_if.new.self c.enter.new.entries.items
