@@ -1,10 +1,11 @@
 #!/usr/bin/env python3
-"""How much memory the server keeps: of peers without CONNECT, and of a history of large, wide or scattered messages."""
+"""How much memory the server keeps: of peers without CONNECT, of a history of large, wide or scattered messages, and of large
+messages for a subscriber that doesn't read."""
 
 import time
 
 from clients import LIMIT, TEXTS, Client, Server, is_alive, raise_descriptors, run, shown, storm, want
-from storming import Hearing, Sending, numbered, spread
+from storming import Hearing, Sending, deaf, numbered, spread
 
 # What the history and everything else may take at the defaults, in MiB.
 MOST = 600
@@ -37,13 +38,13 @@ def unknown_peers(program, divide, workers):
     return f"{(most - before) // 1024} MiB more, at most"
 
 
-def watched(server, is_over, why, limit=LIMIT):
+def watched(server, is_over, why, bound=MOST):
     """Returns the most memory that the server has, in MiB, until something is over."""
-    most, end = 0, time.monotonic() + limit
+    most, end = 0, time.monotonic() + LIMIT
     while not is_over():
         most = max(most, server.kilobytes())
-        want(most < MOST * 1024, f"the server has {most // 1024} MiB")
-        want(time.monotonic() < end, f"not within {limit} s: {why}")
+        want(most < bound * 1024, f"the server has {most // 1024} MiB")
+        want(time.monotonic() < end, f"not within {LIMIT} s: {why}")
         time.sleep(0.02)
     return most // 1024
 
@@ -99,5 +100,43 @@ def wide_messages(program, divide, workers):
     return f"at most {most} MiB"
 
 
+@storm(2)
+def deaf_to_large(program, divide, workers):
+    """1,200 messages of 1 MiB to a subscriber that reads and one that doesn't, which is closed: less than 200 MiB"""
+    size, count = 1 << 20, 1_200
+    with Server(program, "--workers", workers, "--history-bytes", 1 << 24) as server:
+        publisher, reader = spread(server, 2, workers)
+        reader.subscribe(b"large")
+        sleeper = deaf(server, b"large", workers - 1, workers)
+        hearing = Hearing([reader])
+        Sending(publisher, numbered(b"large", [7], size), times=count)
+        each = len(b"MSG large 1 1048576\r\n\r\n") + size
+        most = watched(server, lambda: hearing.ended or hearing.bytes >= count * each, "not all came", 200)
+        want(not hearing.ended, "the subscriber that reads was closed")
+        hearing.end()
+        got = len(sleeper.rest())
+        want(got < count * each, "all has come to the one that doesn't read")
+        is_alive(server)
+    return f"at most {most} MiB"
+
+
+@storm(2)
+def pause_of_large(program, divide, workers):
+    """200 messages of 1 MiB to a subscriber that reads nothing for a second: it gets all, and less than 200 MiB"""
+    size, count = 1 << 20, 200
+    with Server(program, "--workers", workers, "--history-bytes", 1 << 24) as server:
+        publisher, reader = Client(server), deaf(server, b"large", workers - 1, workers)
+        writing = Sending(publisher, *(numbered(b"large", [it], size) for it in range(count)))
+        end = time.monotonic() + 1
+        most = watched(server, lambda: time.monotonic() > end, "a second", 200)
+        want(not writing.is_over(), "the publisher isn't held")
+        for it in range(count):
+            _, _, _, payload = reader.message()
+            want(int(payload[-9:]) == it, f"message {shown(payload[-9:])} in place of {it}")
+        writing.join()
+        is_alive(server)
+    return f"at most {most} MiB"
+
+
 if __name__ == "__main__":
-    run(__doc__, unknown_peers, large_messages, scattered, wide_messages)
+    run(__doc__, unknown_peers, large_messages, scattered, wide_messages, deaf_to_large, pause_of_large)
