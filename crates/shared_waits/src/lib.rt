@@ -5,8 +5,10 @@
 //! takes one out of where it stands, walks over those that wait.
 #![tactic(auto)]
 
+mod laws;
 mod patience;
 mod waits;
 
+pub use laws::charges_bounded;
 pub use patience::{AT_ONCE, Patience, SAVED};
 pub use waits::{Outboxes, TOGETHER, Waits};
