@@ -1,5 +1,5 @@
 -- What is left behind a run.
-use Rattle.std.proofs.Common.{◌≡◌, ◌∙◌, ◌∷◌, ◌++◌, ◌+◌, ◌-◌, ◌<◌, ◌≤◌, [], ℕ, List, Bool, Option, Some, None, Result, Ok, Err, true, false, drop, length, length-drop, if◌then◌else◌, arith, refl, sym, subst, ap}
+use Rattle.std.proofs.Common.{◌≡◌, ◌∙◌, ◌∷◌, ◌+◌, ◌-◌, ◌<◌, ◌≤◌, [], ℕ, List, Bool, Option, Some, None, Result, Ok, Err, true, false, drop, length, length-drop, if◌then◌else◌, arith, refl, sym, subst, ap}
 use Rattle.std.proofs.lemmas.List.{append-nil}
 use Rattle.wire_read.specs.declared.frame.Frame.{Frame}
 use Rattle.wire_write.specs.Errors.{closes_after}
@@ -17,11 +17,11 @@ use Rattle.events.specs.declared.run.RunEnd.{RunEnd}
 use Rattle.events.specs.declared.run.RunEnd.TheVariants as run
 use Rattle.protocol.specs.declared.stage.Stage.{Stage}
 use Rattle.protocol.specs.declared.stage.Stage.TheVariants as stage
-use Rattle.protocol.specs.Replies.{told_text, room_of, is_closed, closed_from, after_error}
+use Rattle.protocol.specs.Replies.{told_text, is_closed, closed_from, after_error}
 use Rattle.conn.specs.declared.turn.FrameTurn.{FrameTurn}
 use Rattle.conn.specs.declared.turn.FrameTurn.TheVariants as turn
 use Rattle.conn.specs.Turns.{Steps, Draws, Turned, Goes, Stalls, turn_after, IsFrameTurn, IsFrameTurned}
-use Rattle.conn.specs.Serving.{Spot, spot, Served, served, Serves}
+use Rattle.conn.specs.Serving.{Spot, spot, served, Serves}
 use Rattle.conn.specs.Running.{Completes, IsAhead, IsAheadAfter, IsNearer, IsLastTold, IsToldFirst, HasRoomFirst, left_after, Went}
 use Rattle.conn.proofs.Runs.{completes_goes, completes_stalls}
 use Rattle.conn.proofs.Told.{turned_so}

@@ -1,5 +1,5 @@
 -- Messages that are gathered before they are offered.
-use Rattle.std.proofs.Common.{◌≡◌, ◌∷◌, ◌++◌, ◌+◌, ◌<◌, ◌≤◌, [], ℕ, List, Bool, Option, Some, Result, Ok, true, false, IfOk, IfSome, drop, length, arith, sym, subst, ap, ◌∙◌}
+use Rattle.std.proofs.Common.{◌≡◌, ◌∷◌, ◌++◌, ◌+◌, ◌≤◌, [], ℕ, List, Bool, Option, Result, true, false, IfOk, IfSome, drop, arith, sym, subst, ap, ◌∙◌}
 use Rattle.std.proofs.lemmas.List.{append_assoc, append-nil}
 use Rattle.lists.specs.declared.no_memory.NoMemory.{NoMemory}
 use Rattle.wire_read.specs.declared.frame.Frame.{Frame}

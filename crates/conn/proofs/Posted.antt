@@ -1,5 +1,5 @@
 -- The turns of frames whose messages were offered together.
-use Rattle.std.proofs.Common.{◌≡◌, ◌∙◌, ◌∷◌, ◌++◌, ◌+◌, ◌≤◌, ◌&&◌, [], ℕ, suc, List, Bool, Option, Some, None, Result, Ok, Err, true, false, not, drop, length, arith, refl, sym, subst, ap, inl, inr}
+use Rattle.std.proofs.Common.{◌≡◌, ◌∙◌, ◌∷◌, ◌+◌, ◌≤◌, ◌&&◌, [], ℕ, suc, List, Bool, Some, None, Ok, Err, true, false, not, drop, length, arith, refl, sym, subst, ap, inl, inr}
 use Rattle.std.proofs.lemmas.List.{append-nil}
 use Rattle.wire_read.specs.declared.frame.Frame.{Frame}
 use Rattle.events.specs.Messages.{Message}
@@ -7,17 +7,14 @@ use Rattle.events.specs.Runs.{IsPosted, EndsRun, post, was_published}
 use Rattle.events.specs.declared.answer.Entry.{Entry}
 use Rattle.events.specs.declared.answer.Outcome.{Outcome}
 use Rattle.events.specs.declared.answer.Outcome.TheVariants as outcome
-use Rattle.events.specs.declared.refusal.HubRefusal.{HubRefusal}
 use Rattle.events.specs.declared.refusal.PublishRefusal.TheVariants.{By, Held}
 use Rattle.events.specs.declared.run.RunEnd.{RunEnd}
 use Rattle.events.specs.declared.run.RunEnd.TheVariants as run
 use Rattle.protocol.specs.declared.stage.Stage.{Stage}
 use Rattle.protocol.specs.declared.plan.Plan.{Plan}
-use Rattle.protocol.specs.declared.plan.Plan.TheVariants.{Publishes}
-use Rattle.protocol.specs.Plans.{plan_of}
 use Rattle.protocol.specs.Replies.{told_text, room_of, is_closed}
 use Rattle.conn.specs.declared.output.Stall.TheVariants as stall
-use Rattle.conn.specs.Turns.{Steps, Draws, Turned, Goes, Stalls, turn_after, is_verbose, is_published, is_quiet, IsPlanned, IsHeldBack, IsFrameTurn}
+use Rattle.conn.specs.Turns.{Steps, Draws, Turned, Goes, Stalls, turn_after, is_verbose, is_published, IsPlanned, IsHeldBack, IsFrameTurn}
 use Rattle.conn.specs.Serving.{Spot, spot}
 use Rattle.conn.specs.Running.{Completes, IsMessageOf, IsAhead, IsLastTold}
 use Rattle.conn.proofs.Told.{told_nothing}

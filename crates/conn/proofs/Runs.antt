@@ -1,5 +1,5 @@
 -- How the turns of frames go on.
-use Rattle.std.proofs.Common.{◌≡◌, ◌∷◌, ◌++◌, [], ℕ, List, Bool, Option, Some, None, true, false, drop, refl, sym, subst, ◌∙◌, ap}
+use Rattle.std.proofs.Common.{◌≡◌, ◌∷◌, ◌++◌, [], ℕ, List, Bool, Option, Some, None, true, false, drop, length, ◌<◌, arith, refl, sym, subst, ◌∙◌, ap}
 use Rattle.std.proofs.lemmas.List.{append_assoc, append-nil}
 use Rattle.wire_read.specs.declared.frame.Frame.{Frame}
 use Rattle.protocol.specs.declared.stage.Stage.{Stage}
@@ -170,3 +170,8 @@ closed_at steps draws now conn all start text [] at done closed =
     rested steps draws now conn all start text at (none_left steps draws now conn all start text at done)
 closed_at steps draws now conn all start text (f ∷ fs) at done closed =
     rested steps draws now conn all start text at (closed_with steps draws now conn all start text at f fs done closed)
+
+-- nothing is left below one
+pub empty_of : (fs : List Frame) → length fs < 1 → fs ≡ []
+empty_of [] few = refl
+empty_of (f ∷ fs) few = absurd (omega (arith, few))

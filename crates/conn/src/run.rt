@@ -102,6 +102,16 @@ impl Ahead {
         }
     }
 
+    /// Drops them.
+    #[inline(always)]
+    pub fn clear(&mut self)
+        ensures { self.new.messages.items ≡ [] }
+    {
+        if !self.messages.is_empty() {
+            self.messages.clear();
+        }
+    }
+
     /// Gathers messages where none are at hand. None are of a client that has an answer for each, nor where a single frame
     /// waits.
     fn fill(&mut self, stage: Stage, frames: &Frames)

@@ -1,5 +1,5 @@
 // The turns of all frames that wait.
-ghost use Rattle.std.specs.Prelude.{◌≡◌, ◌<◌, length, false};
+ghost use Rattle.std.specs.Prelude.{◌≡◌, ◌<◌, ◌≤◌, length, false};
 ghost use Rattle.conn.specs.Turns.{port_of};
 ghost use Rattle.conn.specs.Serving.{spot, served, Serves};
 ghost use Rattle.conn.specs.Running.{IsAhead, IsAheadAfter, IsNearer, Went};
@@ -43,6 +43,7 @@ impl Served {
 }
 
 /// The turn of the first frame alone.
+#[inline(always)]
 fn take_one<P: Port, W: Words>(
     alloc: Global,
     conn: u64,
@@ -96,13 +97,45 @@ fn take_turns<P: Port, W: Words>(
     if ahead.is_ready(stage, word, frames, out) {
         return take_run(conn, now, port, words, stage, frames, ahead, out);
     }
-    ahead.messages.clear();
+    ahead.clear();
     take_one(alloc, conn, now, port, words, stage, word, frames, out)
 }
 
-/// Frames in order, until one stalls or closes the connection. What stalls is left, with the frames behind it;
-/// after a closing text the rest is dropped.
-pub fn serve<P: Port, W: Words>(
+/// The turn of the single frame that waits, if one does.
+#[inline(always)]
+fn serve_one<P: Port, W: Words>(
+    alloc: Global,
+    conn: u64,
+    now: u64,
+    port: &mut P,
+    words: &mut W,
+    stage: Stage,
+    word: Option<u64>,
+    frames: &mut Frames,
+) -> Served
+    requires few { length frames.old ≤ 1 }
+    ensures place { P.place port.new ≡ P.place port.old }
+    ensures served { Serves (port_of P.steps P.holds) W.draws now conn frames.old (spot port.old words.old stage word) (served result.bytes.items frames.new result.stall (spot port.new words.new result.stage result.word)) }
+{
+    let mut bytes = Vec::new(alloc);
+    if frames.is_empty() {
+        return Served::new(bytes, stage, word, None);
+    }
+    if stage.is_closed() {
+        frames.clear();
+        return Served::new(bytes, stage, word, None);
+    }
+    match take_one(
+        alloc, conn, now, port, words, stage, word, frames, &mut bytes,
+    ) {
+        FrameTurn::Stalls(stall, kept) => Served::new(bytes, stage, kept, Some(stall)),
+        FrameTurn::Goes(after) => Served::new(bytes, after, None, None),
+    }
+}
+
+/// The turns of several frames. It is apart, so that the turn of a single one doesn't have to make place for it.
+#[inline(never)]
+fn serve_all<P: Port, W: Words>(
     alloc: Global,
     conn: u64,
     now: u64,
@@ -137,4 +170,27 @@ pub fn serve<P: Port, W: Words>(
         }
     }
     Served::new(bytes, stage, word, None)
+}
+
+/// Frames in order, until one stalls or closes the connection. What stalls is left, with the frames behind it;
+/// after a closing text the rest is dropped.
+#[inline(always)]
+pub fn serve<P: Port, W: Words>(
+    alloc: Global,
+    conn: u64,
+    now: u64,
+    port: &mut P,
+    words: &mut W,
+    stage: Stage,
+    word: Option<u64>,
+    frames: &mut Frames,
+) -> Served
+    ensures place { P.place port.new ≡ P.place port.old }
+    ensures served { Serves (port_of P.steps P.holds) W.draws now conn frames.old (spot port.old words.old stage word) (served result.bytes.items frames.new result.stall (spot port.new words.new result.stage result.word)) }
+{
+    if frames.are_few() {
+        serve_one(alloc, conn, now, port, words, stage, word, frames)
+    } else {
+        serve_all(alloc, conn, now, port, words, stage, word, frames)
+    }
 }

@@ -140,6 +140,7 @@ fn publish<P: Port, W: Words>(
 
 /// A frame's turn. A PUB is published without a plan. Room for what is told is made before the hub is asked, so that
 /// what it answers is told. What is told without asking the hub waits for what the port has for the client.
+#[inline(always)]
 pub fn take_turn<P: Port, W: Words>(
     alloc: Global,
     conn: u64,

@@ -1,5 +1,5 @@
 -- The elements of a list behind the first so many.
-use Rattle.std.proofs.Common.{◌≡◌, ℕ, zero, suc, ◌+◌, ◌<◌, ◌≤◌, List, [], ◌∷◌, ◌++◌, drop, length, Some, None, slice_get, arith, refl, sym, ap, ◌∙◌, ⊎_elim, length-drop}
+use Rattle.std.proofs.Common.{◌≡◌, ℕ, zero, suc, ◌+◌, ◌-◌, ◌<◌, ◌≤◌, List, [], ◌∷◌, ◌++◌, drop, length, Some, None, slice_get, arith, refl, sym, ap, ◌∙◌, ⊎_elim, length-drop, append-nil}
 use Rattle.std.proofs.lemmas.Bool.{cases_lt}
 use Rattle.std.proofs.lemmas.List.{drop-drop, drop-append-le, drop_all}
 
@@ -55,3 +55,6 @@ last_behind xs ys i few all =
     sym (drop-append-le 1 (drop i xs) ys (omega (arith, length-drop i xs)) ∙ ap (λ l. l ++ ys) (drop_all 1 (drop i xs) (omega (arith, length-drop i xs)))))
     (λ (none : length xs ≤ i). let nothing = all none in rw (drop_all i xs none, nothing) refl)
     (cases_lt i (length xs))
+
+pub few_behind : {X : Type 0} (xs ys : List X) (i : ℕ) → ys ≡ [] → length xs - i ≤ 1 → length (drop i xs ++ ys) ≤ 1
+few_behind xs ys i none few = rw (none, append-nil (drop i xs), length-drop i xs) few

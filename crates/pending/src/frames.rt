@@ -1,5 +1,5 @@
 // The frames that wait for their turn.
-ghost use Rattle.std.specs.Prelude.{◌≡◌, ◌++◌, ◌∷◌, ◌≤◌, [], drop, length, OnOk, OnErr, MatchOption, List};
+ghost use Rattle.std.specs.Prelude.{◌≡◌, ◌++◌, ◌∷◌, ◌≤◌, [], drop, length, OnOk, OnErr, MatchOption, List, IsTrue};
 ghost use Rattle.std.specs.Bool.{Decides};
 ghost use Rattle.wire_read.specs.declared.frame.Frame.{Frame};
 ghost use Rattle.pending.specs.Reading.{frames_after, reader_after};
@@ -81,6 +81,19 @@ impl Frames {
         ensures { Decides result (self.now ≡ []) }
     {
         self.first().is_none()
+    }
+
+    /// Whether a single frame waits, or none. It may also answer no.
+    #[inline(always)]
+    #[tactic(auto, using(crate::proofs::Lists::few_behind))]
+    pub fn are_few(&self) -> bool
+        ensures { IsTrue result → length self.now ≤ 1 }
+    {
+        if self.back.is_empty() {
+            self.front.len() - self.done <= 1
+        } else {
+            false
+        }
     }
 
     /// The frames whose turn is next, or the first of them.

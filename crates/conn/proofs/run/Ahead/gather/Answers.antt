@@ -1,8 +1,7 @@
 -- one message more, up to a frame that has none
-use Rattle.std.proofs.Common.{◌∷◌, ◌+◌, ◌∙◌, List, Bool, false, drop, sym, subst, ap}
+use Rattle.std.proofs.Common.{◌∷◌, ◌+◌, ◌∙◌, drop, sym, ap}
 use Rattle.std.proofs.lemmas.List.{drop_more}
 use Rattle.wire_read.specs.declared.frame.Frame.{Frame}
-use Rattle.conn.specs.Running.{IsAdded}
 use Rattle.conn.proofs.Gathered.{none_gathered, gathered_more, gathered_all, same_added}
 use Rattle.conn.proofs.run.Ahead.gather.Goals as goal
 

@@ -4,7 +4,7 @@ use Rattle.protocol.specs.Replies.{is_closed}
 use Rattle.conn.specs.Turns.{port_of}
 use Rattle.conn.specs.Serving.{spot}
 use Rattle.conn.specs.Running.{Completes, IsAhead}
-use Rattle.conn.proofs.serve.serve.Given as goal
+use Rattle.conn.proofs.serve.serve_all.Given as goal
 
 abbrev pub invariant-loop-alloc : goal.invariant-loop-alloc
 invariant-loop-alloc g l =

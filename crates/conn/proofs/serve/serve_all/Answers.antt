@@ -1,13 +1,13 @@
 -- the turns go on to the next, or end them all
-use Rattle.std.proofs.Common.{◌∙◌, ◌++◌, ◌∷◌, [], ℕ, None, List, drop, refl, sym, subst}
+use Rattle.std.proofs.Common.{◌∙◌, ℕ, None, List, refl, sym, subst}
 use Rattle.wire_read.specs.declared.frame.Frame.{Frame}
 use Rattle.conn.specs.declared.serve.Served.{Served}
 use Rattle.conn.specs.Turns.{port_of}
 use Rattle.conn.specs.Serving.{spot, served, Serves}
 use Rattle.conn.specs.Running.{Completes}
-use Rattle.conn.proofs.Runs.{completes_start, closed_at, completes_end, went_on, went_off}
+use Rattle.conn.proofs.Runs.{completes_start, closed_at, completes_end, went_on}
 use Rattle.conn.proofs.Gathered.{none_ahead}
-use Rattle.conn.proofs.serve.serve.Goals as goal
+use Rattle.conn.proofs.serve.serve_all.Goals as goal
 
 pub loop-alloc-init : goal.loop-alloc-init
 loop-alloc-init g c =
