@@ -118,23 +118,24 @@ def entries(first):
     return [f"s{it}.*" for it in range(first, first + 300)]
 
 
-def large_policy(users, first, others=1):
-    """Returns a policy with so many users, whose entries begin with this number."""
-    named = [{"user": f"u{it}", "password": f"u{it}", "permissions": {"subscribe": {"allow": entries(first)}}}
-             for it in range(users)]
+def large_policy(users, first, others=1, first_of_one=None):
+    """Returns a policy with so many users, whose entries begin with this number, those of one of them with another."""
+    firsts = [first_of_one or first, *[first] * (users - 1)]
+    named = [{"user": f"u{it}", "password": f"u{it}", "permissions": {"subscribe": {"allow": entries(its)}}}
+             for it, its in enumerate(firsts)]
     other = [{"user": f"o{it}", "password": f"o{it}"} for it in range(others)]
     return {"accounts": {"A": {"users": named}, "B": {"users": [OTHER, *other]}}}
 
 
 @storm(2)
 def large_reload(program, divide, workers):
-    """Reloads with 20,000 subscriptions of users with 300 entries: all as it was, and all changed"""
+    """Reloads with 20,000 subscriptions of users with 300 entries: all as it was, one user changed, and all changed"""
     return beside_reloads(program, workers, 400)
 
 
 @storm()
 def very_large_reload(program, divide, workers):
-    """Reloads with 200,000 subscriptions of users with 300 entries: all as it was, and all changed"""
+    """Reloads with 200,000 subscriptions of users with 300 entries: all as it was, one user changed, and all changed"""
     return beside_reloads(program, workers, 4_000)
 
 
@@ -149,6 +150,7 @@ def beside_reloads(program, workers, each):
         for it in clients:
             it.line(b"PONG")
         texts = {"as it was": [large_policy(users, 0, others) for others in (2, 3, 4)],
+                 "one user changed": [large_policy(users, 0, 4, first) for first in (1, None, 1)],
                  "changed": [large_policy(users, first, 4) for first in (1, 0, 1)]}
         found, epoch = [], 1
         for kind, policies in texts.items():
