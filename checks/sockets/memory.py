@@ -1,6 +1,6 @@
 #!/usr/bin/env python3
-"""How much memory the server keeps: of peers without CONNECT, of a history of large, wide or scattered messages, and of large
-messages for a subscriber that doesn't read."""
+"""How much memory the server keeps: of peers without CONNECT, of a history of large, wide or scattered messages, of header
+blocks, of subscriptions that come and go, and of large messages for a subscriber that doesn't read."""
 
 import time
 
@@ -9,9 +9,6 @@ from storming import Hearing, Sending, deaf, numbered, spread
 
 # What the history and everything else may take at the defaults, in MiB.
 MOST = 600
-
-# The storms without a count of workers run where one is asked for, and not in the gate: the history isn't bounded by
-# bytes yet.
 
 
 @storm(2)
@@ -62,6 +59,38 @@ def large_messages(program, divide, workers):
         most = watched(server, lambda: hearing.ended or hearing.bytes >= count * each, "not all came")
         want(not hearing.ended, "the subscriber was closed")
         hearing.end()
+    return f"at most {most} MiB"
+
+
+@storm(2)
+def header_blocks(program, divide, workers):
+    """16,800 messages with a header block of 64 KiB to one subscriber"""
+    size, count = 1 << 16, 16_800
+    block = b"NATS/1.0\r\nX: %b\r\n\r\n" % (b"x" * (size - 17))
+    message = b"HPUB headed %d %d\r\n%b\r\n" % (size, size, block)
+    with Server(program, "--workers", workers) as server:
+        publisher, reader = spread(server, 2, workers, headers=True)
+        reader.subscribe(b"headed")
+        hearing = Hearing([reader])
+        Sending(publisher, message, times=count)
+        each = len(b"HMSG headed 1 65536 65536\r\n\r\n") + size
+        most = watched(server, lambda: hearing.ended or hearing.bytes >= count * each, "not all came")
+        want(not hearing.ended, "the subscriber was closed")
+        hearing.end()
+    return f"at most {most} MiB"
+
+
+@storm(2)
+def subscriptions_come_and_go(program, divide, workers):
+    """1,000,000 SUBs and as many UNSUBs by 4 clients"""
+    each, count = 500, 1_000_000
+    with Server(program, "--workers", workers) as server:
+        clients = spread(server, 4, workers)
+        piece = b"".join(b"SUB some.%d.> %d\r\nUNSUB %d\r\n" % (it, it, it) for it in range(each))
+        writing = [Sending(it, piece, times=count // each // 4) for it in clients]
+        most = watched(server, lambda: all(it.is_over() for it in writing), "not all is read")
+        for it in clients:
+            it.ping()
     return f"at most {most} MiB"
 
 
@@ -139,4 +168,5 @@ def pause_of_large(program, divide, workers):
 
 
 if __name__ == "__main__":
-    run(__doc__, unknown_peers, large_messages, scattered, wide_messages, deaf_to_large, pause_of_large)
+    run(__doc__, unknown_peers, large_messages, header_blocks, subscriptions_come_and_go, scattered, wide_messages,
+        deaf_to_large, pause_of_large)
