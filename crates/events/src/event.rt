@@ -148,6 +148,7 @@ fn sub(
 }
 
 impl Copying for Event {
+    #[inline(always)]
     fn copy(&self, alloc: Global) -> Result<Event, NoMemory> {
         Ok(Event {
             now: self.now,

@@ -46,6 +46,7 @@ impl<T> Shared<T> {
 
 impl<T: Drop> Shared<T> {
     /// The first owner of a value. `NoMemory` where memory could not be had.
+    #[inline(always)]
     pub fn new(alloc: Global, value: T) -> Result<Shared<T>, NoMemory>
         ensures { IfOk result (λ shared. shared ≡ value) }
     {

@@ -119,6 +119,7 @@ impl Known {
 
     /// Puts the deliveries of a publisher's message in the place of what was in `all`, where it is known whom it is for.
     /// Answers whether it is.
+    #[inline(always)]
     pub(crate) fn address(
         &self,
         conn: u64,

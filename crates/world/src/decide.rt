@@ -109,6 +109,7 @@ impl World {
     ghost use Rattle.world.specs.Reload.{AreEntitled};
 
     /// What a command comes to: what is told, and what is to be done; or why it is refused. Nothing has changed yet.
+    #[inline(always)]
     pub(crate) fn decide(&mut self, command: &Command) -> Result<Decided, HubRefusal>
         requires sound { AreEntitled self.old.sessions self.old.subscriptions }
         ensures decided { IsDecided self.old (moved self.old command.now) result }

@@ -171,18 +171,18 @@ impl World {
         ensures step { IsMovedIf (T.terms lenient.now) self.old event.entry.now result held.new.items self.new }
         ensures reason { IfOk result (λ both. IsReasoned self.old event.entry.now.what both.0.outcome) }
     {
-        let decided = match self.decide(&event.what) {
+        let Decided { outcome, change } = match self.decide(&event.what) {
             Ok(decided) => decided,
             Err(refusal) => return Err(PublishRefusal::By(refusal)),
         };
-        match note_held(lenient, &self.sessions, items_in(&decided.outcome), held) {
+        match note_held(lenient, &self.sessions, items_in(&outcome), held) {
             Ok(()) => {}
             Err(_) => return Err(PublishRefusal::By(HubRefusal::NoMemory)),
         }
         if !held.is_empty() {
             return Err(PublishRefusal::Held);
         }
-        match self.enter(event, decided) {
+        match self.enter(event, outcome, change) {
             Ok(both) => Ok(both),
             Err(refusal) => Err(PublishRefusal::By(refusal)),
         }
@@ -190,15 +190,19 @@ impl World {
 
     /// Makes the event's entry, and then does what was decided.
     #[inline(always)]
-    fn enter(&mut self, event: &Event, decided: Decided) -> Result<(Answer, Answer), HubRefusal>
+    fn enter(
+        &mut self,
+        event: &Event,
+        outcome: Outcome,
+        change: Change,
+    ) -> Result<(Answer, Answer), HubRefusal>
         requires fresh { self.old.number < 18446744073709551615 }
         requires epoch { self.old.epoch ≤ self.old.number + 1 }
         requires ids { All (λ (s : Subscription). s.id ≤ self.old.number) self.old.subscriptions }
-        requires decided { IsDecided self.old (moved self.old event.now.what) (Ok decided) }
+        requires decided { IsDecided self.old (moved self.old event.now.what) (Ok (record { outcome = outcome; change = change })) }
         ensures step { IsMoved self.old event.entry.now result self.new }
-        ensures told { IfOk result (λ both. both.0.outcome ≡ decided.outcome) }
+        ensures told { IfOk result (λ both. both.0.outcome ≡ outcome) }
     {
-        let Decided { outcome, change } = decided;
         let epoch = epoch_after(self.epoch, &change);
         let (told, kept) = entry_twice(self.alloc, self.number + 1, epoch, outcome, event)?;
         self.carry_out(change, &told.get().outcome)?;
@@ -311,6 +315,7 @@ fn epoch_after(epoch: u128, change: &Change) -> u128
 }
 
 /// The entry of an event, twice: two owners of one. The event is not copied: what it holds has one more owner.
+#[inline(always)]
 fn entry_twice(
     alloc: Global,
     number: u64,
