@@ -44,6 +44,10 @@ is_due half number = not (nat_eq half 0) && nat_eq (number % half) 0
 abbrev pub next_due : ℕ → ℕ → ℕ
 next_due half number = cond (nat_eq half 0) number (u64_saturate ((number - number % half) + half))
 
--- it was looked at a number: nothing is due before the next multiple. Where it isn't due there, what is left is dropped
+-- it was looked at a number: nothing is due before the next multiple
 abbrev pub looked : ℕ → Rotating → Rotating
-looked number r = record r { due = next_due r.half number; spent = cond (is_due r.half number) r.spent [] }
+looked number r = record r { due = next_due r.half number }
+
+-- whether the history was not handed out between two looks, by how often it was
+abbrev pub is_same : ℕ → ℕ → Bool
+is_same parts before = nat_eq parts before

@@ -1,5 +1,6 @@
 ghost use Rattle.std.specs.Prelude.{◌≡◌, ◌/◌};
 ghost use Rattle.history_bytes.specs.Bytes.{is_passed};
+ghost use Rattle.history_bytes.specs.Rotating.{is_same};
 
 use std::sync::atomic::{AtomicU64, Ordering};
 
@@ -9,6 +10,8 @@ pub struct Kept {
     half: u64,
     bytes: AtomicU64,
     parts: AtomicU64,
+    /// How often it had been handed out once the latest look at it was over.
+    looked: AtomicU64,
 }
 
 /// That bytes were told of. `Kept::tell` alone makes it, so who has one has told of its bytes. What else stood there when
@@ -34,6 +37,23 @@ impl Telling {
     }
 }
 
+/// How often the history had been handed out when a port looked, and once the look before was over. `Kept::look` alone makes
+/// it; no clause says that the atomics gave what stood there.
+#[derive(Clone, Copy, Debug)]
+pub struct Look {
+    parts: u64,
+    before: u64,
+}
+
+impl Look {
+    /// Whether it was not handed out between the two looks.
+    pub fn is_same(&self) -> bool
+        ensures { result ≡ is_same self.now.parts self.now.before }
+    {
+        self.parts == self.before
+    }
+}
+
 impl Kept {
     /// None, of a history that may keep so many bytes: those that it holds and those that were handed out last.
     pub fn new(most: u64) -> Kept
@@ -43,6 +63,7 @@ impl Kept {
             half: most / 2,
             bytes: AtomicU64::new(0),
             parts: AtomicU64::new(0),
+            looked: AtomicU64::new(0),
         }
     }
 
@@ -75,6 +96,17 @@ impl Kept {
     pub(crate) fn note_part(&self) -> u64 {
         self.bytes.store(0, Ordering::SeqCst);
         self.parts.fetch_add(1, Ordering::SeqCst).saturating_add(1)
+    }
+
+    /// Looks whether the history was handed out since the look before. If it wasn't, whoever looks hands it out, and the next
+    /// look is after that.
+    pub(crate) fn look(&self) -> Look {
+        let parts = self.parts.load(Ordering::SeqCst);
+        let before = self.looked.swap(parts, Ordering::SeqCst);
+        if parts == before {
+            self.looked.store(parts.saturating_add(1), Ordering::SeqCst);
+        }
+        Look { parts, before }
     }
 
     /// How often the history was handed out.

@@ -5,6 +5,6 @@ mod kept;
 mod own;
 mod rotation;
 
-pub use kept::{Kept, Telling};
+pub use kept::{Kept, Look, Telling};
 pub use own::own_of;
 pub use rotation::Rotation;

@@ -1,6 +1,6 @@
 ghost use Rattle.std.specs.Prelude.{◌≡◌};
 
-use crate::kept::{Kept, Telling};
+use crate::kept::{Kept, Look, Telling};
 use crate::own::own_of;
 use events::{Answer, Outcome};
 use std::alloc::Global;
@@ -70,7 +70,7 @@ impl Model for Rotation {
 }
 
 impl Rotation {
-    ghost use Rattle.std.specs.Prelude.{◌≡◌, ◌<◌, ◌-◌, ℕ, [], cond, length, nat_le, nat_lt};
+    ghost use Rattle.std.specs.Prelude.{◌≡◌, ◌<◌, ◌-◌, ℕ, [], cond, is_some, length, nat_le, nat_lt};
     ghost use Rattle.history_bytes.specs.Bytes.{IsCounted, own};
     ghost use Rattle.history_bytes.specs.Rotating.{but_last, dropped, failed, fresh, is_due, looked, taken_over};
 
@@ -167,25 +167,19 @@ impl Rotation {
         self.due <= number
     }
 
-    /// Whether the history is due at a number, a multiple of half of what it holds at most; and notes at which number it is
-    /// next. Where it isn't due here, what is left of a part that was handed out is dropped, so that no port keeps one
-    /// longer than that.
-    pub fn is_due(&mut self, number: u64) -> bool
-        ensures due { result ≡ is_due self.old.half number }
+    /// Looks where the history is due at a number, a multiple of half of what it holds at most; and notes at which number it
+    /// is next.
+    pub fn look(&mut self, number: u64, kept: &Kept) -> Option<Look>
+        ensures due { is_some result ≡ is_due self.old.half number }
         ensures looked { self.new ≡ looked number self.old }
     {
         if self.half == 0 {
             self.due = number;
-            self.spent.clear();
-            return false;
+            return None;
         }
         let past = number % self.half;
         self.due = (number - past).saturating_add(self.half);
-        if past == 0 {
-            return true;
-        }
-        self.spent.clear();
-        false
+        if past == 0 { Some(kept.look()) } else { None }
     }
 
     /// Drops some of what was handed out, where new entries have had the blocks of those before.

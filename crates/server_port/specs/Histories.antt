@@ -2,9 +2,10 @@
 use Rattle.std.specs.Prelude.{ℕ, ◌+◌, ◌≡◌, ◌&&◌, Bool, true, false, Option, None, Some, nat_le}
 use Rattle.std.specs.Io.Iter.{u64_saturate}
 use Rattle.hub.specs.Segments.{Part, IsPart}
+use Rattle.history_bytes.specs.declared.kept.Look.{Look}
 use Rattle.history_bytes.specs.declared.kept.Telling.{Telling}
 use Rattle.history_bytes.specs.Bytes.{is_passed}
-use Rattle.history_bytes.specs.Rotating.{Rotating, failed, is_due, taken_over}
+use Rattle.history_bytes.specs.Rotating.{Rotating, failed, is_due, is_same, taken_over}
 
 -- It was handed out: what was handed out, a part of a history, is all that is still to be dropped. Or it could not be.
 abbrev pub IsHandedOut : Bool → Rotating → Rotating → Type 0
@@ -21,9 +22,14 @@ abbrev pub passed : Option Telling → Bool
 passed None = false
 passed (Some t) = is_passed t.half t.before t.bytes t.taken
 
--- whether it is to be handed out at a number
+-- whether a port looks at a number whether it is to be handed out
 abbrev pub falls_due : Rotating → ℕ → Bool
 falls_due r number = nat_le r.due number && is_due r.half number
+
+-- whether the port that looked is to hand it out: nobody has since the look before
+abbrev pub was_same : Option Look → Bool
+was_same None = false
+was_same (Some look) = is_same look.parts look.before
 
 -- what a try leaves of what else a port counts
 abbrev pub IsTried : Bool → Rotating → Rotating → Type 0

@@ -5,26 +5,27 @@ use crate::course::Why;
 use crate::port::ServerPort;
 use events::{Answer, Event, HubRefusal, Port, PublishRefusal};
 use gates::{Gate, Point};
-use history_bytes::Telling;
+use history_bytes::{Look, Telling};
 use shared_hub::Run;
 use std::sync::Wait;
 
 impl<L: Run, R: Wait, G: Gate + Drop> ServerPort<'_, L, R, G> {
-    ghost use Rattle.std.specs.Prelude.{IfErr, OnErr, true};
+    ghost use Rattle.std.specs.Prelude.{IfErr, OnErr, is_some, true};
     ghost use Rattle.events.specs.Offers.{IsOffered};
     ghost use Rattle.events.specs.declared.refusal.HubRefusal.TheVariants.{HistoryFull};
     ghost use Rattle.events.specs.declared.refusal.PublishRefusal.TheVariants.{By};
     ghost use Rattle.history_bytes.specs.Bytes.{IsCounted, own};
     ghost use Rattle.server_port.specs.Courses.{entered, followed, offered, refused};
-    ghost use Rattle.server_port.specs.Histories.{falls_due, passed, tried};
+    ghost use Rattle.server_port.specs.Histories.{falls_due, passed, tried, was_same};
     ghost use Rattle.shared_hub.specs.Entering.{IsAnswered};
 
     /// Notes whom an answer names, with the size of its message, counts what its entry keeps, and hands the history out if
-    /// that is due. Answers what others were told.
+    /// that is due. Answers what others were told, and what it saw where the history is due.
     #[inline(always)]
-    fn follow(&mut self, answer: &Answer, size: usize) -> Option<Telling>
-        ensures counted { IsCounted self.old.rotation.uncounted (own answer.now) result self.new.rotation.uncounted }
-        ensures tried { self.new.rotation.tries ≡ tried (falls_due self.old.rotation answer.now.number) (tried (passed result) self.old.rotation.tries) }
+    fn follow(&mut self, answer: &Answer, size: usize) -> (Option<Telling>, Option<Look>)
+        ensures counted { IsCounted self.old.rotation.uncounted (own answer.now) result.0 self.new.rotation.uncounted }
+        ensures looked { is_some result.1 ≡ falls_due self.old.rotation answer.now.number }
+        ensures tried { self.new.rotation.tries ≡ tried (was_same result.1) (tried (passed result.0) self.old.rotation.tries) }
         ensures course { self.new.course ≡ followed answer.now self.old.course }
         ensures seat { self.new.seat ≡ self.old.seat }
     {

@@ -4,16 +4,16 @@ ghost use Rattle.std.specs.Prelude.{◌≡◌};
 use crate::port::ServerPort;
 use events::Answer;
 use gates::Gate;
-use history_bytes::Telling;
+use history_bytes::{Look, Telling};
 use hub::Segment;
 use shared_hub::Run;
 use std::sync::Wait;
 
 impl<L: Run, R: Wait, G: Gate + Drop> ServerPort<'_, L, R, G> {
-    ghost use Rattle.std.specs.Prelude.{ℕ, true};
+    ghost use Rattle.std.specs.Prelude.{ℕ, is_some, true};
     ghost use Rattle.history_bytes.specs.Bytes.{IsCounted, is_passed, own};
     ghost use Rattle.history_bytes.specs.Rotating.{is_due, taken_over};
-    ghost use Rattle.server_port.specs.Histories.{IsHandedOut, IsTried, falls_due, passed, tried};
+    ghost use Rattle.server_port.specs.Histories.{IsHandedOut, IsTried, falls_due, passed, tried, was_same};
 
     /// Takes over a segment that was handed out: its entries are all that is still to be dropped.
     fn take_over(&mut self, segment: Segment)
@@ -86,33 +86,41 @@ impl<L: Run, R: Wait, G: Gate + Drop> ServerPort<'_, L, R, G> {
     }
 
     /// Counts what the entry of an answer keeps of its own, and hands the history out where that is due at its number or they
-    /// keep too much. Answers what others were told.
+    /// keep too much. Answers what others were told, and what it saw where the history is due.
     #[inline(always)]
-    pub(crate) fn count(&mut self, answer: &Answer) -> Option<Telling>
-        ensures counted { IsCounted self.old.rotation.uncounted (own answer.now) result self.new.rotation.uncounted }
-        ensures tried { self.new.rotation.tries ≡ tried (falls_due self.old.rotation answer.now.number) (tried (passed result) self.old.rotation.tries) }
+    pub(crate) fn count(&mut self, answer: &Answer) -> (Option<Telling>, Option<Look>)
+        ensures counted { IsCounted self.old.rotation.uncounted (own answer.now) result.0 self.new.rotation.uncounted }
+        ensures looked { is_some result.1 ≡ falls_due self.old.rotation answer.now.number }
+        ensures tried { self.new.rotation.tries ≡ tried (was_same result.1) (tried (passed result.0) self.old.rotation.tries) }
         ensures seat { self.new.seat ≡ self.old.seat }
         ensures course { self.new.course ≡ self.old.course }
     {
         let told = self.rotation.count(answer, self.kept);
         self.heed_told(&told);
         let number = answer.get().number;
-        if self.rotation.is_near(number) {
-            self.rotate_at(number);
-        }
-        told
+        let seen = if self.rotation.is_near(number) {
+            self.rotate_at(number)
+        } else {
+            None
+        };
+        (told, seen)
     }
 
-    /// Hands the history out if it is due at a number.
+    /// Hands the history out where it is due at a number, unless somebody has done so since it was due before.
     #[inline(never)]
-    fn rotate_at(&mut self, number: u64)
-        ensures tried { self.new.rotation.tries ≡ tried (is_due self.old.rotation.half number) self.old.rotation.tries }
+    fn rotate_at(&mut self, number: u64) -> Option<Look>
+        ensures looked { is_some result ≡ is_due self.old.rotation.half number }
+        ensures tried { self.new.rotation.tries ≡ tried (was_same result) self.old.rotation.tries }
         ensures uncounted { self.new.rotation.uncounted ≡ self.old.rotation.uncounted }
         ensures seat { self.new.seat ≡ self.old.seat }
         ensures course { self.new.course ≡ self.old.course }
     {
-        if self.rotation.is_due(number) {
-            let _ = self.rotate();
+        let seen = self.rotation.look(number, self.kept);
+        if let Some(look) = &seen {
+            if look.is_same() {
+                let _ = self.rotate();
+            }
         }
+        seen
     }
 }
