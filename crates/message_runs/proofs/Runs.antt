@@ -1,5 +1,5 @@
 -- Runs of messages: how they go on, what they are of another state, and how two are one.
-use Rattle.std.proofs.Common.{◌≡◌, ◌∷◌, ◌++◌, ◌≤◌, [], ℕ, List, Option, Some, None, Result, Ok, Err, true, ap, refl, inl, inr, subst, sym, length, append-nil, append_assoc, arith}
+use Rattle.std.proofs.Common.{◌≡◌, ◌∷◌, ◌++◌, ◌≤◌, ◌<◌, [], ℕ, List, Option, Some, None, Result, Ok, Err, true, ap, refl, inl, inr, subst, sym, length, append-nil, append_assoc, arith}
 use Rattle.events.specs.Messages.{Message}
 use Rattle.events.specs.Runs.{IsPosted, EndsRun, post, was_published}
 use Rattle.events.specs.Offers.{IsOffered}
@@ -25,7 +25,7 @@ run_along f offered gives draws conn now each (m ∷ ms) p w answers end left p'
     (word, next, drawn, inr (r, each p _ r p' step, back, none, is, gone, words))
 
 -- what was offered last may have led elsewhere: to what it leads to, any offer that led there does
-pub run_to : {P W : Type 0} (offered : Offers P) (draws : Draws W) (conn now : ℕ) (p' q' : P)
+run_to : {P W : Type 0} (offered : Offers P) (draws : Draws W) (conn now : ℕ) (p' q' : P)
     → ((p : P) (e : Event) (r : Came) → offered p e r p' → offered p e r q')
     → (m : Message) (ms : List Message) (p : P) (w : W) (answers : List Entry) (end : Option Came) (left : List Message) (w' : W)
     → IsRun offered draws conn now (m ∷ ms) p w answers end left p' w' → IsRun offered draws conn now (m ∷ ms) p w answers end left q' w'
@@ -37,6 +37,13 @@ run_to offered draws conn now p' q' each m (n ∷ ms) p w answers end left w' (w
     (word, next, drawn, inl (entry, mid, rest, step, published, is, run_to offered draws conn now p' q' each n ms mid next rest end left w' more))
 run_to offered draws conn now p' q' each m ms p w answers end left w' (word, next, drawn, inr (r, step, back, none, is, gone, words)) =
     (word, next, drawn, inr (r, each p _ r step, back, none, is, gone, words))
+
+pub run_to_last : {P W : Type 0} (offered : Offers P) (draws : Draws W) (conn now : ℕ) (p' q' : P)
+    → ((p : P) (e : Event) (r : Came) → offered p e r p' → offered p e r q')
+    → (ms : List Message) (p : P) (w : W) (answers : List Entry) (end : Option Came) (left : List Message) (w' : W) → 0 < length ms
+    → IsRun offered draws conn now ms p w answers end left p' w' → IsRun offered draws conn now ms p w answers end left q' w'
+run_to_last offered draws conn now p' q' each [] p w answers end left w' some h = absurd (omega (arith, some))
+run_to_last offered draws conn now p' q' each (m ∷ ms) p w answers end left w' some h = run_to offered draws conn now p' q' each m ms p w answers end left w' h
 
 -- what was offered last is offered once more
 pub run_again : {P W : Type 0} (offered : Offers P) (draws : Draws W) (conn now : ℕ) (p' q' : P) (r s : Came)
@@ -102,16 +109,54 @@ joined_all steps holds draws conn now (m ∷ ms) p w left q v end rest p' w' (wo
 joined_all steps holds draws conn now (m ∷ ms) p w left q v end rest p' w' (word, next, drawn, inr (ends, gone, words)) h = absurd ends
 
 -- fewer are left of a run of some
-pub nearer : {P W : Type 0} (steps : P → Event → Result Entry (Event × HubRefusal) → P → Type 0) (holds : P → P → Type 0) (draws : Draws W) (conn now : ℕ)
+fewer : {P W : Type 0} (steps : P → Event → Result Entry (Event × HubRefusal) → P → Type 0) (holds : P → P → Type 0) (draws : Draws W) (conn now : ℕ)
     (m : Message) (ms : List Message) (p : P) (w : W) (end : RunEnd) (left : List Message) (p' : P) (w' : W)
     → IsPosted steps holds draws conn now (m ∷ ms) p w end left p' w' → length left ≤ length ms
 unfolding IsPosted
-nearer steps holds draws conn now m [] p w end left p' w' (word, next, drawn, inl (first, mid, step, was, (is, gone, same, words))) =
+fewer steps holds draws conn now m [] p w end left p' w' (word, next, drawn, inl (first, mid, step, was, (is, gone, same, words))) =
     let none = ap (λ (l : List Message). length l) gone in omega (arith, none)
-nearer steps holds draws conn now m (n ∷ ms) p w end left p' w' (word, next, drawn, inl (first, mid, step, was, more)) =
-    let less = nearer steps holds draws conn now n ms mid next end left p' w' more in omega (arith, less)
-nearer steps holds draws conn now m ms p w end left p' w' (word, next, drawn, inr (ends, gone, words)) =
+fewer steps holds draws conn now m (n ∷ ms) p w end left p' w' (word, next, drawn, inl (first, mid, step, was, more)) =
+    let less = fewer steps holds draws conn now n ms mid next end left p' w' more in omega (arith, less)
+fewer steps holds draws conn now m ms p w end left p' w' (word, next, drawn, inr (ends, gone, words)) =
     let same = ap (λ (l : List Message). length l) gone in omega (arith, same)
+
+pub nearer : {P W : Type 0} (steps : P → Event → Result Entry (Event × HubRefusal) → P → Type 0) (holds : P → P → Type 0) (draws : Draws W) (conn now : ℕ)
+    (ms : List Message) (p : P) (w : W) (end : RunEnd) (left : List Message) (p' : P) (w' : W) → 0 < length ms
+    → IsPosted steps holds draws conn now ms p w end left p' w' → length left < length ms
+nearer steps holds draws conn now [] p w end left p' w' some h = absurd (omega (arith, some))
+nearer steps holds draws conn now (m ∷ ms) p w end left p' w' some h = let less = fewer steps holds draws conn now m ms p w end left p' w' h in omega (arith, less)
+
+-- what is left, once it is posted, completes what was posted before
+abbrev pub Completes : {P W : Type 0} → (P → Event → Result Entry (Event × HubRefusal) → P → Type 0) → (P → P → Type 0) → Draws W
+    → ℕ → ℕ → List Message → P → W → List Message → P → W → Type 0
+Completes {P} {W} steps holds draws conn now all p w left q v =
+    (end : RunEnd) (rest : List Message) (p' : P) (w' : W) → IsPosted steps holds draws conn now left q v end rest p' w' → IsPosted steps holds draws conn now all p w end rest p' w'
+
+pub completes_answered : {P W : Type 0} (steps : P → Event → Result Entry (Event × HubRefusal) → P → Type 0) (holds : P → P → Type 0) (draws : Draws W) (conn now : ℕ)
+    (all : List Message) (p : P) (w : W) (ms : List Message) (q : P) (v : W) (entry : Entry) (left : List Message) (q' : P) (v' : W)
+    → Completes steps holds draws conn now all p w ms q v → was_published entry.outcome ≡ true → IsPosted steps holds draws conn now ms q v (run.Answered entry) left q' v'
+    → Completes steps holds draws conn now all p w left q' v'
+completes_answered steps holds draws conn now all p w ms q v entry left q' v' done published posted end rest p' w' h =
+    done end rest p' w' (joined steps holds draws conn now ms q v entry left q' v' end rest p' w' published posted h)
+
+pub completes_published : {P W : Type 0} (steps : P → Event → Result Entry (Event × HubRefusal) → P → Type 0) (holds : P → P → Type 0) (draws : Draws W) (conn now : ℕ)
+    (all : List Message) (p : P) (w : W) (ms : List Message) (q : P) (v : W) (left : List Message) (q' : P) (v' : W)
+    → Completes steps holds draws conn now all p w ms q v → IsPosted steps holds draws conn now ms q v run.Published left q' v'
+    → Completes steps holds draws conn now all p w left q' v'
+completes_published steps holds draws conn now all p w ms q v left q' v' done posted end rest p' w' h =
+    done end rest p' w' (joined_all steps holds draws conn now ms q v left q' v' end rest p' w' posted h)
+
+none_posted : {P W : Type 0} (steps : P → Event → Result Entry (Event × HubRefusal) → P → Type 0) (holds : P → P → Type 0) (draws : Draws W) (conn now : ℕ) (q : P) (v : W)
+    → IsPosted steps holds draws conn now [] q v run.Published [] q v
+unfolding IsPosted
+none_posted steps holds draws conn now q v = (refl, refl, refl, refl)
+
+pub completes_none : {P W : Type 0} (steps : P → Event → Result Entry (Event × HubRefusal) → P → Type 0) (holds : P → P → Type 0) (draws : Draws W) (conn now : ℕ)
+    (all : List Message) (p : P) (w : W) (left : List Message) (q : P) (v : W) → left ≡ [] → Completes steps holds draws conn now all p w left q v
+    → IsPosted steps holds draws conn now all p w run.Published left q v
+completes_none steps holds draws conn now all p w left q v none done =
+    let L : List Message → Type 0 = λ l. IsPosted steps holds draws conn now l q v run.Published l q v in
+    done run.Published left q v (subst L (sym none) (none_posted steps holds draws conn now q v))
 
 -- ---- as a loop offers them
 
@@ -122,30 +167,57 @@ Continues {P} {W} offered draws conn now all p w answers left q v =
     → IsRun offered draws conn now left q v more end rest p' w' → IsRun offered draws conn now all p w (answers ++ more) end rest p' w'
 
 -- one more was published
-run_more : {P W : Type 0} (offered : Offers P) (draws : Draws W) (conn now : ℕ)
+one_more : {P W : Type 0} (offered : Offers P) (draws : Draws W) (conn now : ℕ)
     (all : List Message) (p : P) (w : W) (answers : List Entry) (m : Message) (ms : List Message) (q : P) (v : W) (word : ℕ) (v' : W) (entry : Entry) (q' : P) →
     Continues offered draws conn now all p w answers (m ∷ ms) q v → draws v word v' → offered q (post conn now m word) (Ok entry) q' → was_published entry.outcome ≡ true →
     Continues offered draws conn now all p w (answers ++ entry ∷ []) ms q' v'
 unfolding IsRun
-run_more {P} {W} offered draws conn now all p w answers m ms q v word v' entry q' done drawn step published more end rest p' w' h =
+one_more {P} {W} offered draws conn now all p w answers m ms q v word v' entry q' done drawn step published more end rest p' w' h =
     let A : List Entry → Type 0 = λ l. IsRun offered draws conn now all p w l end rest p' w' in
     subst A (sym (append_assoc answers (entry ∷ []) more))
     (done (entry ∷ more) end rest p' w' (word, v', drawn, inl (entry, q', more, step, published, refl, h)))
 
 -- the next one ended it
-run_ended : {P W : Type 0} (offered : Offers P) (draws : Draws W) (conn now : ℕ)
+ended_here : {P W : Type 0} (offered : Offers P) (draws : Draws W) (conn now : ℕ)
     (all : List Message) (p : P) (w : W) (answers : List Entry) (m : Message) (ms : List Message) (q : P) (v : W) (word : ℕ) (v' : W) (r : Came) (q' : P) →
     Continues offered draws conn now all p w answers (m ∷ ms) q v → draws v word v' → offered q (post conn now m word) r q' → IsBack (post conn now m word) r →
     IsRun offered draws conn now all p w answers (Some r) ms q' v'
 unfolding IsRun
-run_ended offered draws conn now all p w answers m ms q v word v' r q' done drawn step back =
+ended_here offered draws conn now all p w answers m ms q v word v' r q' done drawn step back =
     let A : List Entry → Type 0 = λ l. IsRun offered draws conn now all p w l (Some r) ms q' v' in
     subst A (append-nil answers) (done [] (Some r) ms q' v' (word, v', drawn, inr (r, step, back, refl, refl, refl, refl)))
 
 -- none is left
-run_all : {P W : Type 0} (offered : Offers P) (draws : Draws W) (conn now : ℕ) (all : List Message) (p : P) (w : W) (answers : List Entry) (q : P) (v : W) →
+none_left : {P W : Type 0} (offered : Offers P) (draws : Draws W) (conn now : ℕ) (all : List Message) (p : P) (w : W) (answers : List Entry) (q : P) (v : W) →
     Continues offered draws conn now all p w answers [] q v → IsRun offered draws conn now all p w answers None [] q v
 unfolding IsRun
-run_all offered draws conn now all p w answers q v done =
+none_left offered draws conn now all p w answers q v done =
     let A : List Entry → Type 0 = λ l. IsRun offered draws conn now all p w l None [] q v in
     subst A (append-nil answers) (done [] None [] q v (refl, refl, refl, refl, refl))
+
+-- the same of the first of those that are left, and of its event
+pub run_more : {P W : Type 0} (offered : Offers P) (draws : Draws W) (conn now : ℕ)
+    (all : List Message) (p : P) (w : W) (answers : List Entry) (left : List Message) (m : Message) (ms : List Message) (q : P) (v : W) (word : ℕ) (v' : W) (e : Event) (entry : Entry) (q' : P) →
+    left ≡ m ∷ ms → e ≡ post conn now m word → Continues offered draws conn now all p w answers left q v → draws v word v' → offered q e (Ok entry) q' → was_published entry.outcome ≡ true →
+    Continues offered draws conn now all p w (answers ++ entry ∷ []) ms q' v'
+run_more offered draws conn now all p w answers left m ms q v word v' e entry q' is of done drawn step published =
+    let L : List Message → Type 0 = λ l. Continues offered draws conn now all p w answers l q v in
+    let E : Event → Type 0 = λ x. offered q x (Ok entry) q' in
+    one_more offered draws conn now all p w answers m ms q v word v' entry q' (subst L is done) drawn (subst E of step) published
+
+pub run_ended : {P W : Type 0} (offered : Offers P) (draws : Draws W) (conn now : ℕ)
+    (all : List Message) (p : P) (w : W) (answers : List Entry) (left : List Message) (m : Message) (ms : List Message) (q : P) (v : W) (word : ℕ) (v' : W) (e : Event) (r : Came) (q' : P) →
+    left ≡ m ∷ ms → e ≡ post conn now m word → Continues offered draws conn now all p w answers left q v → draws v word v' → offered q e r q' → IsBack e r →
+    IsRun offered draws conn now all p w answers (Some r) ms q' v'
+run_ended offered draws conn now all p w answers left m ms q v word v' e r q' is of done drawn step back =
+    let L : List Message → Type 0 = λ l. Continues offered draws conn now all p w answers l q v in
+    let E : Event → Type 0 = λ x. offered q x r q' × IsBack x r in
+    let known = subst E of (step, back) in
+    ended_here offered draws conn now all p w answers m ms q v word v' r q' (subst L is done) drawn known.0 known.1
+
+pub run_all : {P W : Type 0} (offered : Offers P) (draws : Draws W) (conn now : ℕ) (all : List Message) (p : P) (w : W) (answers : List Entry) (left rest : List Message) (q : P) (v : W) →
+    left ≡ [] → rest ≡ [] → Continues offered draws conn now all p w answers left q v → IsRun offered draws conn now all p w answers None rest q v
+run_all offered draws conn now all p w answers left rest q v none gone done =
+    let L : List Message → Type 0 = λ l. Continues offered draws conn now all p w answers l q v in
+    let R : List Message → Type 0 = λ l. IsRun offered draws conn now all p w answers None l q v in
+    subst R (sym gone) (none_left offered draws conn now all p w answers q v (subst L none done))
