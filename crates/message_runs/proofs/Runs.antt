@@ -6,6 +6,7 @@ use Rattle.events.specs.Offers.{IsOffered}
 use Rattle.events.specs.declared.event.Event.{Event}
 use Rattle.events.specs.declared.answer.Entry.{Entry}
 use Rattle.events.specs.declared.refusal.HubRefusal.{HubRefusal}
+use Rattle.events.specs.declared.refusal.PublishRefusal.TheVariants.{Held}
 use Rattle.events.specs.declared.run.RunEnd.{RunEnd}
 use Rattle.events.specs.declared.run.RunEnd.TheVariants as run
 use Rattle.message_runs.specs.Runs.{Came, Offers, Draws, IsBack, IsRun, told_end, word_of}
@@ -24,26 +25,41 @@ run_along f offered gives draws conn now each (m ∷ ms) p w answers end left p'
 run_along f offered gives draws conn now each (m ∷ ms) p w answers end left p' w' (word, next, drawn, inr (r, step, back, none, is, gone, words)) =
     (word, next, drawn, inr (r, each p _ r p' step, back, none, is, gone, words))
 
--- what was offered last may have led elsewhere: to what it leads to, any offer that led there does
-run_to : {P W : Type 0} (offered : Offers P) (draws : Draws W) (conn now : ℕ) (p' q' : P)
-    → ((p : P) (e : Event) (r : Came) → offered p e r p' → offered p e r q')
-    → (m : Message) (ms : List Message) (p : P) (w : W) (answers : List Entry) (end : Option Came) (left : List Message) (w' : W)
-    → IsRun offered draws conn now (m ∷ ms) p w answers end left p' w' → IsRun offered draws conn now (m ∷ ms) p w answers end left q' w'
+-- A run of a part is a run of the whole, between any wholes that have the part: each step of the part is one of the wholes, and
+-- some whole has the part wherever it comes to.
+part : {P S W : Type 0} (has : S → P → Type 0) (put : S → P) (offered : Offers S) (gives : Offers P) (draws : Draws W) (conn now : ℕ)
+    → ((s : S) → has s (put s))
+    → ((a : S) (p : P) (e : Event) (r : Came) (b : S) (q : P) → has a p → has b q → offered a e r b → gives p e r q)
+    → (m : Message) (ms : List Message) (s : S) (p : P) (w : W) (answers : List Entry) (end : Option Came) (left : List Message) (s' : S) (p' : P) (w' : W)
+    → has s p → has s' p' → IsRun offered draws conn now (m ∷ ms) s w answers end left s' w' → IsRun gives draws conn now (m ∷ ms) p w answers end left p' w'
 unfolding IsRun
-run_to offered draws conn now p' q' each m [] p w answers end left w' (word, next, drawn, inl (entry, mid, rest, step, published, is, (none, ended, gone, same, words))) =
-    let last = each p _ _ (subst (offered p (post conn now m word) (Ok entry)) (sym same) step) in
-    (word, next, drawn, inl (entry, q', rest, last, published, is, (none, ended, gone, refl, words)))
-run_to offered draws conn now p' q' each m (n ∷ ms) p w answers end left w' (word, next, drawn, inl (entry, mid, rest, step, published, is, more)) =
-    (word, next, drawn, inl (entry, mid, rest, step, published, is, run_to offered draws conn now p' q' each n ms mid next rest end left w' more))
-run_to offered draws conn now p' q' each m ms p w answers end left w' (word, next, drawn, inr (r, step, back, none, is, gone, words)) =
-    (word, next, drawn, inr (r, each p _ r step, back, none, is, gone, words))
+part has put offered gives draws conn now there each m [] s p w answers end left s' p' w' first last (word, next, drawn, inl (entry, mid, rest, step, published, is, (none, ended, gone, same, words))) =
+    (word, next, drawn, inl (entry, p', rest, each s p _ _ mid p' first (subst (λ x. has x p') same last) step, published, is, (none, ended, gone, refl, words)))
+part has put offered gives draws conn now there each m (n ∷ ms) s p w answers end left s' p' w' first last (word, next, drawn, inl (entry, mid, rest, step, published, is, more)) = (
+  word,
+  next,
+  drawn,
+  inl (
+    entry,
+    put mid,
+    rest,
+    each s p _ _ mid (put mid) first (there mid) step,
+    published,
+    is,
+    part has put offered gives draws conn now there each n ms mid (put mid) next rest end left s' p' w' (there mid) last more,
+  ),
+)
+part has put offered gives draws conn now there each m ms s p w answers end left s' p' w' first last (word, next, drawn, inr (r, step, back, none, is, gone, words)) =
+    (word, next, drawn, inr (r, each s p _ r s' p' first last step, back, none, is, gone, words))
 
-pub run_to_last : {P W : Type 0} (offered : Offers P) (draws : Draws W) (conn now : ℕ) (p' q' : P)
-    → ((p : P) (e : Event) (r : Came) → offered p e r p' → offered p e r q')
-    → (ms : List Message) (p : P) (w : W) (answers : List Entry) (end : Option Came) (left : List Message) (w' : W) → 0 < length ms
-    → IsRun offered draws conn now ms p w answers end left p' w' → IsRun offered draws conn now ms p w answers end left q' w'
-run_to_last offered draws conn now p' q' each [] p w answers end left w' some h = absurd (omega (arith, some))
-run_to_last offered draws conn now p' q' each (m ∷ ms) p w answers end left w' some h = run_to offered draws conn now p' q' each m ms p w answers end left w' h
+pub run_of_part : {P S W : Type 0} (has : S → P → Type 0) (put : S → P) (offered : Offers S) (gives : Offers P) (draws : Draws W) (conn now : ℕ)
+    → ((s : S) → has s (put s))
+    → ((a : S) (p : P) (e : Event) (r : Came) (b : S) (q : P) → has a p → has b q → offered a e r b → gives p e r q)
+    → (ms : List Message) (s : S) (p : P) (w : W) (answers : List Entry) (end : Option Came) (left : List Message) (s' : S) (p' : P) (w' : W)
+    → 0 < length ms → has s p → has s' p' → IsRun offered draws conn now ms s w answers end left s' w' → IsRun gives draws conn now ms p w answers end left p' w'
+run_of_part has put offered gives draws conn now there each [] s p w answers end left s' p' w' some first last h = absurd (omega (arith, some))
+run_of_part has put offered gives draws conn now there each (m ∷ ms) s p w answers end left s' p' w' some first last h =
+    part has put offered gives draws conn now there each m ms s p w answers end left s' p' w' first last h
 
 -- what was offered last is offered once more
 pub run_again : {P W : Type 0} (offered : Offers P) (draws : Draws W) (conn now : ℕ) (p' q' : P) (r s : Came)
@@ -76,6 +92,20 @@ posted_run steps holds draws conn now (m ∷ ms) p w answers end left p' w' (wor
 posted_run steps holds draws conn now (m ∷ ms) p w answers end left p' w' (word, next, drawn, inr (Err refused, step, back, none, is, gone, words)) =
     let E : RunEnd → Type 0 = λ x. EndsRun steps holds p (post conn now m word) word x p' in
     (word, next, drawn, inr (subst E (sym (ap told_end is)) (ap (λ (e : Event). word_of e.what) back, (refused.0, step)), gone, words))
+
+-- the first was held back, and nothing was submitted
+first_held : {P W : Type 0} (steps : P → Event → Result Entry (Event × HubRefusal) → P → Type 0) (holds : P → P → Type 0) (draws : Draws W) (conn now : ℕ)
+    (m : Message) (ms : List Message) (p : P) (w : W) (word : ℕ) (p' : P) (w' : W)
+    → draws w word w' → holds p p' → IsPosted steps holds draws conn now (m ∷ ms) p w (run.Stopped word Held) ms p' w'
+unfolding IsPosted
+first_held steps holds draws conn now m ms p w word p' w' drawn held = (word, w', drawn, inr ((refl, (post conn now m word, held)), refl, refl))
+
+pub posted_held : {P W : Type 0} (steps : P → Event → Result Entry (Event × HubRefusal) → P → Type 0) (holds : P → P → Type 0) (draws : Draws W) (conn now : ℕ)
+    (all : List Message) (m : Message) (ms : List Message) (p : P) (w : W) (word : ℕ) (p' : P) (w' : W)
+    → all ≡ m ∷ ms → draws w word w' → holds p p' → IsPosted steps holds draws conn now all p w (run.Stopped word Held) ms p' w'
+posted_held steps holds draws conn now all m ms p w word p' w' is drawn held =
+    subst (λ (l : List Message). IsPosted steps holds draws conn now l p w (run.Stopped word Held) ms p' w') (sym is)
+    (first_held steps holds draws conn now m ms p w word p' w' drawn held)
 
 -- ---- one behind another
 
