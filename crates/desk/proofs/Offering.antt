@@ -34,3 +34,8 @@ held_step t s after new e back held list (By r) h hub same due =
 held_step t s after new e back held list Held h hub same due =
     let N : List ℕ → Type 0 = λ l. l ≢ [] in
     (h.0, hub ∙ h.1, h.2, subst N (sym same) h.3, same ∙ h.4)
+
+-- a message that isn't entered is handed back
+pub handed_back : (t : Terms) (s : State) (e : Event) (refused : Event × PublishRefusal) (held : List ℕ) (after : State) → IsStepIf t s e (Err refused) held after → refused.0 ≡ e
+handed_back t s e (back, By r) held after h = h.0
+handed_back t s e (back, Held) held after h = h.0

@@ -1,3 +1,4 @@
 pub mod Bounds
 pub mod Entering
+pub mod Publishing
 pub mod Waits

@@ -10,7 +10,7 @@ pub const MOST_BYTES: usize = 67_108_864;
 
 /// How many bytes a message has, beside its subjects; 0 of what is no message.
 #[inline(always)]
-pub(crate) fn size_of(what: &Command) -> usize
+pub fn size_of(what: &Command) -> usize
     ensures { result ≡ bounds.size_of what.now }
 {
     match what {

@@ -5,10 +5,13 @@ use crate::audit::Audit;
 use crate::bounds::{room_beside, size_of};
 use crate::told::Told;
 use crate::views::{AtMoment, HubOutboxes};
+use events::Words;
 use hub::{
-    Answer, Command, Entry, Event, Hub, HubRefusal, Outcome, PublishRefusal, Ready, Segment,
+    Answer, Command, Entry, Event, Hub, HubRefusal, Message, Outcome, PublishRefusal, Ready,
+    Segment,
 };
 use lists::{Copying, Items, NoMemory};
+use message_runs::{Hold, Posts};
 use receipts::Receipt;
 use shared_waits::{Outboxes, Waits};
 use std::alloc::Global;
@@ -61,8 +64,8 @@ impl<L: Run> Seat<L> {
 }
 
 /// What lies under the lock: the hub, the book that counts its entries since the run opened, and who waits for whom. Each
-/// desk is made of a blank ledger, and changes by `enter`, `publish`, `answer` and `rotate` alone, so nobody who holds the
-/// lock can put another in its place.
+/// desk is made of a blank ledger, and changes by `enter`, `publish`, `publish_run`, `answer` and `rotate` alone, so nobody
+/// who holds the lock can put another in its place.
 #[derive(Drop)]
 pub struct Desk<L: Run> {
     alloc: Global,
@@ -75,7 +78,7 @@ pub struct Desk<L: Run> {
 }
 
 impl<L: Run> Desk<L> {
-    ghost use Rattle.std.specs.Prelude.{◌≡◌, ◌+◌, ◌≤◌, ◌++◌, ◌∷◌, [], IfOk, OnOk, OnErr, MatchResult, map, vec_len, vec_capacity, length, ◌<◌};
+    ghost use Rattle.std.specs.Prelude.{◌≡◌, ◌+◌, ◌≤◌, ◌++◌, ◌∷◌, [], IfOk, OnOk, OnErr, MatchResult, map, vec_len, vec_capacity, length, ◌<◌, List};
     ghost use Rattle.hub.specs.History.{IsLegalRun, IsStep};
     ghost use Rattle.hub.specs.Segments.{held, rotated};
     ghost use Rattle.hub.specs.Sound.{IsSound};
@@ -88,6 +91,9 @@ impl<L: Run> Desk<L> {
     ghost use Rattle.world.specs.Transition.{IsRefusal};
     ghost use Rattle.hub.specs.History.{stepped};
     ghost use Rattle.desk.specs.Bounds.{terms_at, size_of};
+    ghost use Rattle.desk.specs.Publishing.{IsPublished, inside};
+    ghost use Rattle.message_runs.specs.Runs.{IsRun};
+    ghost use Rattle.events.specs.declared.answer.Entry.{Entry};
     ghost use Rattle.desk.specs.Waits.{waiting_in, offered, IsHeldBack, until_if, slow_if, IfBy, IsOfferedTo, until_of, slow_of, freed_of, rest_of, IsSettled};
 
     /// The desk of a hub, with a share of every part, which counts nothing yet. Nobody waits.
@@ -367,6 +373,38 @@ impl<L: Run> Desk<L> {
                 }
             },
         }
+    }
+
+    /// Offers messages of one connection in order, each with a word that is drawn for it, as `publish` tells of each. The
+    /// first that isn't published ends the run, and so does the one that fills the hold; those behind it are left, and have
+    /// drawn nothing. Answers `None` where each was published and the hold has all answers; else what came of the last that
+    /// was offered, and the hold has the answers of those before it.
+    #[inline(never)]
+    pub fn publish_run<W: Words>(
+        &mut self,
+        seat: &mut Seat<L>,
+        posts: Posts,
+        messages: &mut VecDeque<Message>,
+        words: &mut W,
+        hold: &mut Hold,
+        told: &mut Told,
+    ) -> Option<Result<Answer, (Event, PublishRefusal)>>
+        ensures run { (answers : List Entry) × (hold.new.answers.items ≡ hold.old.answers.items ++ answers) × IsRun (IsPublished (λ s. s.count) L.opening) W.draws posts.conn posts.now messages.old.items (inside self.old.hub self.old.waits self.old.held.items seat.old told.old) words.old answers result messages.new.items (inside self.new.hub self.new.waits self.new.held.items seat.new told.new) words.new }
+        ensures freed { told.new.freed.items ≡ told.old.freed.items }
+        ensures rest { told.new.rest ≡ told.old.rest }
+    {
+        while let Some(message) = messages.pop_front() {
+            let event = posts.event(message, words.next());
+            match self.publish(seat, event, told) {
+                Err(refused) => return Some(Err(refused)),
+                Ok(answer) => {
+                    if let Some(last) = hold.keep(answer) {
+                        return Some(Ok(last));
+                    }
+                }
+            }
+        }
+        None
     }
 
     /// Takes the publisher of a message out of where it stands.
