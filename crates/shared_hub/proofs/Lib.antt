@@ -1,3 +1,4 @@
 pub mod Crossing
 mod Entered
 mod Genuine
+mod Offered

@@ -9,7 +9,8 @@ mod shared;
 mod unlocked;
 
 pub use audit::AuditFault;
-pub use desk::{Audit, Blank, Desk, Run, Seat, Told};
+pub use desk::{Audit, Blank, Desk, Run, Seat, Told, size_of};
+pub use message_runs::{Hold, Posts};
 pub use port::SharedPort;
 pub use receipts::Receipt;
 pub use seat_port::{Notes, SeatPort};

@@ -4,9 +4,12 @@ ghost use Rattle.std.specs.Prelude.{◌≡◌, ◌<◌, ◌≤◌, ℕ};
 use crate::audit::AuditFault;
 use crate::unlocked::{Parts, Unlocked};
 use crate::{Audit, Desk, Receipt, Run, Seat, Told};
-use hub::{Answer, Event, Hub, HubRefusal, PublishRefusal, Segment};
+use events::Words;
+use hub::{Answer, Event, Hub, HubRefusal, Message, PublishRefusal, Segment};
 use lists::NoMemory;
+use message_runs::{Hold, Posts};
 use std::alloc::Global;
+use std::collections::VecDeque;
 use std::sync::ledger::{Blank, Share};
 use std::sync::{Mutex, Wait};
 
@@ -35,8 +38,10 @@ pub(crate) struct Rest<L: Run> {
 }
 
 impl<L: Run> Shared<L> {
-    ghost use Rattle.std.specs.Prelude.{◌≡◌, ◌+◌, ◌<◌, ◌≤◌, IfOk, IfErr, All, vec_len, map};
+    ghost use Rattle.std.specs.Prelude.{◌≡◌, ◌+◌, ◌<◌, ◌≤◌, ◌++◌, IfOk, IfErr, All, List, vec_len, map};
     ghost use Rattle.shared_hub.specs.Entering.{IsSubmitted, IsAnswered, IsOfferedBy, IsLonger};
+    ghost use Rattle.message_runs.specs.Runs.{IsRun};
+    ghost use Rattle.events.specs.declared.answer.Entry.{Entry};
     ghost use Rattle.shared_hub.specs.Audits.{IsWhole, IsDue};
 
     /// A hub under its lock, with so many seats, none of which has entered anything. The blank ledger has a part for each,
@@ -172,6 +177,27 @@ impl<L: Run> Shared<L> {
         ensures freed { told.new.freed.items ≡ told.old.freed.items }
     {
         self.desk.lock(rt).publish(seat, event, told)
+    }
+
+    /// Offers messages of one connection in one hold of the lock, as `Desk::publish_run` tells.
+    #[inline(always)]
+    pub fn publish_run_as<R: Wait, W: Words>(
+        &self,
+        rt: &R,
+        seat: &mut Seat<L>,
+        posts: Posts,
+        messages: &mut VecDeque<Message>,
+        words: &mut W,
+        hold: &mut Hold,
+        told: &mut Told,
+    ) -> Option<Result<Answer, (Event, PublishRefusal)>>
+        ensures run { (answers : List Entry) × (hold.new.answers.items ≡ hold.old.answers.items ++ answers) × IsRun (λ s e r after. IsOfferedBy L.opening s.count e r after.count) W.draws posts.conn posts.now messages.old.items seat.old words.old answers result messages.new.items seat.new words.new }
+        ensures freed { told.new.freed.items ≡ told.old.freed.items }
+        ensures rest { told.new.rest ≡ told.old.rest }
+    {
+        self.desk
+            .lock(rt)
+            .publish_run(seat, posts, messages, words, hold, told)
     }
 
     /// How many deliveries wait for a connection, 0 without a session.

@@ -1,0 +1,13 @@
+-- What a seat knows of a message's event that was offered for it under the lock.
+use Rattle.std.proofs.Common.{ℕ, Ok, Err}
+use Rattle.events.specs.declared.event.Event.{Event}
+use Rattle.events.specs.declared.refusal.PublishRefusal.TheVariants.{By, Held}
+use Rattle.message_runs.specs.Runs.{Came}
+use Rattle.desk.specs.Publishing.{Inside, IsPublished}
+use Rattle.shared_hub.specs.Entering.{IsOfferedBy}
+
+pub offered_by : {S : Type 0} (count : S → ℕ) (opening : ℕ) (x : Inside S) (e : Event) (r : Came) (y : Inside S)
+    → IsPublished count opening x e r y → IsOfferedBy opening (count x.seat) e r (count y.seat)
+offered_by count opening x e (Ok entry) y h = ((h.guarantee.event, h.counted, h.number), (x.hub, (y.hub, h.step.0)))
+offered_by count opening x e (Err (back, By refusal)) y h = (h.step.0, h.counted, (x.hub, (y.hub, h.step)))
+offered_by count opening x e (Err (back, Held)) y h = h.counted

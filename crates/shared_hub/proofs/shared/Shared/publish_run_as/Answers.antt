@@ -1,0 +1,16 @@
+-- what the desk tells of each offer, as far as the seat knows it
+use Rattle.message_runs.proofs.Runs.{run_along}
+use Rattle.desk.specs.Publishing.{IsPublished}
+use Rattle.shared_hub.specs.Entering.{IsOfferedBy}
+use Rattle.shared_hub.proofs.Offered.{offered_by}
+use Rattle.shared_hub.proofs.shared.Shared.publish_run_as.Goals as goal
+
+pub returns-clause-run : goal.returns-clause-run
+returns-clause-run g c =
+    let run = c.publish_run.ensures.run in (
+      run.0,
+      run.1,
+      run_along (λ x. x.seat) (IsPublished (λ s. s.count) g.L.Run.opening) (λ s e r after. IsOfferedBy g.L.Run.opening s.count e r after.count)
+          g.W.Words.draws c.args.posts.conn c.args.posts.now (offered_by (λ s. s.count) g.L.Run.opening) c.args.messages.now.items _ c.args.words.now run.0 c.publish_run.result
+          c.publish_run.new.messages.items _ c.publish_run.new.words run.2,
+    )
