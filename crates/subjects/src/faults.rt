@@ -7,7 +7,7 @@ ghost use Rattle.subjects.specs.Subject.{is_text_byte};
 use crate::SubjectError;
 use crate::tokens::{is_star, is_tail, tokens_in};
 
-/// What is wrong with a text as a pattern.
+/// What is wrong with a text as a pattern, in the order of `SubjectError`; never `NoMemory`. It takes no memory.
 pub fn pattern_fault(text: &[u8]) -> Option<SubjectError>
     ensures { result ≡ pattern_fault text.now }
 {

@@ -12,6 +12,7 @@ mod subject_ref;
 mod tokens;
 
 pub use error::SubjectError;
+pub use faults::pattern_fault;
 pub use pattern::Pattern;
 pub use subject::Subject;
 pub use subject_ref::SubjectRef;

@@ -34,7 +34,7 @@ impl Model for Subject {
 }
 
 impl Subject {
-    ghost use Rattle.std.specs.Prelude.{◌≡◌};
+    ghost use Rattle.std.specs.Prelude.{◌≡◌, IfOk};
     ghost use Rattle.subjects.specs.Subject.{text_of, tokens_of, IsSubject};
     ghost use Rattle.subjects.specs.Fault.{subject_fault, IsParse, AcceptsExactly};
 
@@ -50,6 +50,17 @@ impl Subject {
                 text: SharedBytes::copy_from_slice(alloc, text)?,
             }),
         }
+    }
+
+    /// The subject of a text that is known to be one. The text isn't copied. `NoMemory` where memory could not be had, or
+    /// the text has 2^32 bytes or more.
+    pub fn known(alloc: Global, text: Vec<u8>) -> Result<Subject, NoMemory>
+        requires { IsSubject (tokens_of text.items) }
+        ensures { IfOk result (λ subject. subject ≡ tokens_of text.items) }
+    {
+        Ok(Subject {
+            text: SharedBytes::from_vec(alloc, text)?,
+        })
     }
 
     /// The text that the subject was parsed from.
