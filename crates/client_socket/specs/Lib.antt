@@ -1,0 +1,4 @@
+pub mod Blocked
+pub mod Connections
+pub mod Queues
+pub mod Unknown

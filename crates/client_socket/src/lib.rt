@@ -1,0 +1,20 @@
+//! A connection of a worker: its client with its socket, what is due to it, what may be done about it next, and the queues in
+//! which it stands.
+#![tactic(auto)]
+
+mod blocked;
+mod closing;
+mod connection;
+mod counted;
+mod queue;
+mod reading;
+mod unknown;
+mod writing;
+
+pub use blocked::Blocked;
+pub use closing::Input;
+pub use connection::{Connection, Queued};
+pub use queue::Queue;
+pub use reading::Served;
+pub use unknown::is_unknown;
+pub use writing::Written;

@@ -1,0 +1,18 @@
+//! The connections of a worker: a table of them by keys that it picks, and queues of those that have some kind of work. A
+//! call takes a look-up or two, but for those that walk over a queue or over all, and say so.
+#![tactic(auto)]
+
+mod connections;
+mod drains;
+mod fresh;
+mod holding;
+mod lingering;
+mod names;
+mod turns;
+mod work;
+
+pub use connections::Connections;
+pub use drains::Drained;
+pub use fresh::Fresh;
+pub use lingering::Lingering;
+pub use turns::Reads;
