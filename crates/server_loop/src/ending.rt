@@ -1,67 +1,157 @@
-// How connections end.
-use crate::standing::Standing;
+//! How connections end, and how a worker does.
 use crate::worker::Worker;
-use client_io::{NonBlocking, Turn, Writer};
+use client_io::Turn;
 use conn::Words;
+use doors::millis;
 use gates::Gate;
+use mio::Events;
+use pacing::Slice;
 use shared_hub::Run;
-use std::alloc::Global;
 use std::sync::Wait;
-use std::time::Clock;
-use wire_write::{ServerError, write_err};
+use std::time::{Clock, Duration};
+use wire_write::ServerError;
 
-/// Tells a client why it is closed, as far as its socket takes that.
-pub fn tell_last(standing: &Standing, alloc: Global, why: ServerError) {
-    let mut text = Vec::new(alloc);
-    if standing.client.waits() || write_err(&mut text, why).is_err() {
-        return;
-    }
-    drop(NonBlocking::new(&standing.socket).write(text.as_slice()));
-}
+/// How long the end of a server may take, in milliseconds.
+const GRACE: u64 = 2000;
 
 impl<'a, L: Run, R: Wait + Clock, G: Gate + Drop, W: Words + Drop> Worker<'a, L, R, G, W> {
     /// A connection's turn is over. Where the server closes it, its socket is to linger.
-    pub fn close(&mut self, key: usize, turn: Turn) {
-        if let Some(standing) = self.clients.get_mut(key) {
-            standing.is_to_linger = matches!(turn, Turn::Closed | Turn::Lost);
+    pub(crate) fn close(&mut self, key: usize, turn: Turn) {
+        if let Some(it) = self.connections.slab.get_mut(key) {
+            it.is_to_linger = matches!(turn, Turn::Closed | Turn::Lost);
         }
         self.end(key);
     }
 
     /// Closes a connection for which too much waits, if it still stands. What waits for it is lost.
-    pub fn end_slow(&mut self, conn: u64) {
-        let Some(key) = self.keys.get(&conn).copied() else {
+    pub(crate) fn end_slow(&mut self, conn: u64) {
+        let Some(key) = self.connections.key_of(conn) else {
             return;
         };
-        let Some(standing) = self.clients.get_mut(key) else {
+        let Some(it) = self.connections.slab.get(key) else {
             return;
         };
-        if !standing.is_over {
-            tell_last(standing, self.alloc, ServerError::SlowConsumer);
+        if !it.is_over {
+            it.tell_last(self.alloc, ServerError::SlowConsumer);
             self.close(key, Turn::Closed);
         }
     }
 
     /// A connection ends: its session is closed, and then its socket. Where the session can't be closed yet, it is tried
     /// again.
-    pub fn end(&mut self, key: usize) {
-        let Some(standing) = self.clients.get_mut(key) else {
+    pub(crate) fn end(&mut self, key: usize) {
+        let Some(it) = self.connections.slab.get_mut(key) else {
             return;
         };
-        let conn = standing.client.conn().number();
-        let is_to_linger = standing.is_to_linger;
-        standing.is_over = true;
-        let stall = standing.client.end(&mut self.port, self.now);
+        let conn = it.number();
+        let is_to_linger = it.is_to_linger;
+        it.is_over = true;
+        let stall = it.client.end(&mut self.port, self.now);
         if stall.is_some() {
-            drop(self.stalled.push_back(key));
+            let _ = self.connections.stalled.add(key);
             return;
         }
-        drop(self.keys.remove(&conn));
-        if is_to_linger {
-            self.linger(key);
-        } else {
+        self.connections.forget(conn);
+        if !is_to_linger || !self.connections.linger(key, self.now) {
             self.remove(key);
         }
         self.leave_freed();
+    }
+
+    /// Lets a connection go, and its socket.
+    pub(crate) fn remove(&mut self, key: usize) {
+        if self.connections.remove(key) {
+            self.house.note_closed();
+        }
+    }
+
+    /// One turn of a connection that lingers.
+    pub(crate) fn drop_input(&mut self, key: usize) {
+        if self.connections.drop_input(key, self.buf.as_mut_slice()) {
+            self.remove(key);
+        }
+    }
+
+    /// Lets go of those that have lingered for long enough.
+    pub(crate) fn end_lingering(&mut self) {
+        for _ in 0..self.connections.lingering.len() {
+            match self.connections.has_lingered(self.now) {
+                None => return,
+                Some(key) => self.remove(key),
+            }
+        }
+    }
+
+    /// The end: nothing more is read, what was accepted is written out, and then is to arrive.
+    pub(crate) fn rest(&mut self, events: &mut Events) {
+        self.house.rest();
+        self.write_out(events);
+        self.linger_all();
+        self.see_off(events);
+    }
+
+    /// Writes out what was accepted, for two seconds at most.
+    fn write_out(&mut self, events: &mut Events) {
+        let begin = millis(self.rt);
+        for _ in self.rt.forever() {
+            let all = self.house.all_rest();
+            self.connections.read_no_more();
+            self.take_in();
+            self.slice = Slice::whole();
+            self.drain_dirty();
+            if all && !self.connections.owe() {
+                return;
+            }
+            if millis(self.rt).saturating_sub(begin) > GRACE {
+                return;
+            }
+            let may_wait = self.connections.dirty.is_empty();
+            self.look(events, may_wait);
+        }
+    }
+
+    /// Notes what sockets tell at once, or within five milliseconds.
+    fn look(&mut self, events: &mut Events, may_wait: bool) {
+        let patience = Duration::from_millis(if may_wait { 5 } else { 0 });
+        drop(self.poll.poll(events, Some(patience)));
+        self.note_events(events);
+    }
+
+    /// All connections linger: what was written to them is to arrive, for two seconds at most.
+    fn linger_all(&mut self) {
+        self.now = self.house.now(self.rt);
+        self.connections.ready.clear();
+        for key in 0..self.connections.slab.capacity() {
+            if !self.connections.shut(key, self.now) {
+                self.remove(key);
+            }
+        }
+    }
+
+    /// Waits until no connection is left that lingers.
+    fn see_off(&mut self, events: &mut Events) {
+        for _ in self.rt.forever() {
+            self.drop_inputs();
+            self.end_lingering();
+            if self.connections.slab.is_empty() {
+                return;
+            }
+            let may_wait = self.connections.ready.is_empty();
+            self.look(events, may_wait);
+            self.now = self.house.now(self.rt);
+        }
+    }
+
+    /// One turn of each that has something to read, all of which linger.
+    fn drop_inputs(&mut self) {
+        for _ in 0..self.connections.ready.len() {
+            let Some(key) = self.connections.ready.next() else {
+                return;
+            };
+            if let Some(it) = self.connections.slab.get_mut(key) {
+                it.queued.ready = false;
+            }
+            self.drop_input(key);
+        }
     }
 }

@@ -1,18 +1,12 @@
-//! The server's loop over sockets: workers, each with its own connections, and the reloads of policies.
+//! One worker of a server: it takes what others have left for it, reads from its sockets, and writes to them.
 #![tactic(auto)]
 
-mod accepting;
-mod counted;
 mod drains;
 mod ending;
-mod lingering;
 mod mail;
-mod queues;
-mod reloads;
-mod server;
-mod standing;
+mod opening;
+mod rounds;
 mod turns;
-mod unknown;
 mod worker;
 
-pub use server::{Post, serve};
+pub use worker::{Access, Start, WAKER, Worker};

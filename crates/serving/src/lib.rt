@@ -4,6 +4,7 @@
 mod opening;
 mod server;
 mod settings;
+mod threads;
 
 pub use server::{GateSource, serve_clients};
 pub use settings::Settings;

@@ -4,6 +4,7 @@ ghost use Rattle.serving.specs.Serve.{AreServable};
 
 use crate::opening::{first_policy, listen, open_hub, tell_listening};
 use crate::settings::Settings;
+use crate::threads::serve;
 use conn::Words;
 use doors::Limits;
 use gates::Gate;
@@ -14,7 +15,7 @@ use rand::make_rng;
 use rand::rngs::SmallRng;
 use rand_core::Rng;
 use serve_fault::Fault;
-use server_loop::{Post, serve};
+use server_loop::Access;
 use server_prints::Prints;
 use shared_hub::{Blank, Run, Seat, Shared};
 use std::alloc::{AllocGlobal, Global};
@@ -161,35 +162,35 @@ fn serve_seats<
     let Some(seat) = seats.pop() else {
         return Err(Fault::NoMemory);
     };
-    let posts = posts(rt, alloc, gates, seats)?;
+    let accesses = accesses(rt, alloc, gates, seats)?;
     tell_listening(rt, &listener, prints)?;
     let own = (seat, gates.reload_gate());
     serve(
-        rt, alloc, listener, shared, posts, own, limits, policies, prints,
+        rt, alloc, listener, shared, accesses, own, limits, policies, prints,
     )?;
     Ok(())
 }
 
-/// A post for each seat, with a gate and words of its own.
-fn posts<L: Run, R: RandomSource, G: Gate + Drop, F: GateSource<G>>(
+/// An access to the hub for each seat, with a gate and words of its own.
+fn accesses<L: Run, R: RandomSource, G: Gate + Drop, F: GateSource<G>>(
     rt: &R,
     alloc: Global,
     gates: &F,
     seats: Vec<Seat<L>>,
-) -> Result<Vec<Post<L, G, Drawn>>, Fault> {
-    let mut posts = Vec::with_capacity(alloc, seats.len())?;
+) -> Result<Vec<Access<L, G, Drawn>>, Fault> {
+    let mut accesses = Vec::with_capacity(alloc, seats.len())?;
     for (worker, seat) in seats.into_iter().enumerate() {
         let Ok(generator) = make_rng::<SmallRng, R>(rt) else {
             return Err(Fault::NoKeys);
         };
-        let post = Post {
+        let access = Access {
             seat,
             gate: gates.worker_gate(worker),
             words: Drawn { generator },
         };
-        if posts.push(post).is_err() {
+        if accesses.push(access).is_err() {
             return Err(Fault::NoMemory);
         }
     }
-    Ok(posts)
+    Ok(accesses)
 }

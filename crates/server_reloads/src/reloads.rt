@@ -1,4 +1,4 @@
-use doors::House;
+use doors::{House, Notices};
 use events::{Answer, Command, Event, HubRefusal};
 use gates::{Gate, Point};
 use policy_source::{Next, Policies};
@@ -8,7 +8,7 @@ use script_text::write_reload;
 use serve_fault::ServeFault;
 use server_port::ServerPort;
 use server_prints::Prints;
-use shared_hub::Run;
+use shared_hub::{Run, Seat, Shared};
 use std::alloc::Global;
 use std::sync::Wait;
 use std::time::{Clock, Duration};
@@ -17,16 +17,49 @@ use std::time::{Clock, Duration};
 const RETRY: u64 = 10;
 
 /// The thread that installs policies: its port to the hub, and where it prints.
-#[derive(Drop)]
 pub struct Reloads<'a, L: Run, R: Wait, G: Gate + Drop> {
-    pub rt: &'a R,
-    pub alloc: Global,
-    pub house: &'a House<'a>,
-    pub port: ServerPort<'a, L, R, G>,
-    pub prints: &'a Prints,
+    rt: &'a R,
+    alloc: Global,
+    house: &'a House<'a>,
+    port: ServerPort<'a, L, R, G>,
+    prints: &'a Prints,
 }
 
-impl<L: Run, R: Wait + Clock, G: Gate + Drop> Reloads<'_, L, R, G> {
+impl<L: Run, R: Wait, G: Gate + Drop> Drop for Reloads<'_, L, R, G> {
+    fn drop(self) {
+        let Self {
+            rt: _,
+            alloc: _,
+            house: _,
+            port: _,
+            prints: _,
+        } = self;
+    }
+}
+
+impl<'a, L: Run, R: Wait + Clock, G: Gate + Drop> Reloads<'a, L, R, G> {
+    /// A thread with this seat and gate. `None` without memory.
+    pub fn new(
+        rt: &'a R,
+        alloc: Global,
+        shared: &'a Shared<L>,
+        house: &'a House<'a>,
+        own: (Seat<L>, G),
+        prints: &'a Prints,
+    ) -> Option<Reloads<'a, L, R, G>> {
+        let (seat, gate) = own;
+        let notices = Notices::new(alloc, house.doors.len(), None)?;
+        let history = house.limits.history;
+        let kept = house.kept();
+        Some(Reloads {
+            rt,
+            alloc,
+            house,
+            port: ServerPort::new(rt, alloc, shared, seat, gate, notices, history, kept),
+            prints,
+        })
+    }
+
     /// Installs policies until their input ends or the server stops.
     pub fn run<P: Policies>(&mut self, policies: &mut P) -> Option<ServeFault> {
         for _ in self.rt.forever() {

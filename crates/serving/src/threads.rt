@@ -1,13 +1,13 @@
-use crate::reloads::Reloads;
-use crate::worker::{Start, WAKER, Worker};
+//! The threads of a server.
 use conn::Words;
-use doors::{Door, Flags, House, Limits, Notices, millis, open_door};
+use doors::{Door, Flags, House, Limits, millis, open_door};
 use gates::Gate;
 use mio::net::TcpListener;
 use policy_source::Policies;
 use serve_fault::{ServeFault, least};
-use server_port::ServerPort;
+use server_loop::{Access, Start, WAKER, Worker};
 use server_prints::Prints;
+use server_reloads::Reloads;
 use shared_hub::{Run, Seat, Shared};
 use std::alloc::Global;
 use std::collections::VecDeque;
@@ -17,37 +17,29 @@ use std::thread;
 use std::thread::Threads;
 use std::time::Clock;
 
-/// What a thread that serves works with: its seat, its gate, and where the words of messages come from.
+/// What the thread that installs policies begins with, and what is lent to it.
 #[derive(Drop)]
-pub struct Post<L: Run, G: Drop, W: Drop> {
-    pub seat: Seat<L>,
-    pub gate: G,
-    pub words: W,
-}
-
-/// What the thread that installs policies works with, and what is lent to it.
-#[derive(Drop)]
-struct Office<'b, L: Run, G: Drop, P> {
+struct ReloadStart<'b, L: Run, G: Drop, P> {
     seat: Seat<L>,
     gate: G,
     policies: &'b mut P,
 }
 
-/// What the threads of a server do. It stands for a `Place`, so that what is handed to a thread names no more than this.
-trait Site<J, O> {
+/// What the threads of a server do. It stands for a `Common`, so that what is handed to a thread names no more than this.
+trait Duties<J, O> {
     /// One worker, from its start to its end. Where it fails the others end too.
     fn work(&self, start: J) -> Option<ServeFault>;
 
     /// The reloads, to the end of their input. The workers end after it.
-    fn reload(&self, office: O) -> Option<ServeFault>;
+    fn reload(&self, start: O) -> Option<ServeFault>;
 
     /// Has all threads end.
     fn stop(&self);
 }
 
-/// What all threads of a server work with.
+/// What all threads of a server have in common.
 #[derive(Drop)]
-struct Place<'a, L: Run, R> {
+struct Common<'a, L: Run, R> {
     rt: &'a R,
     alloc: Global,
     shared: &'a Shared<L>,
@@ -55,14 +47,14 @@ struct Place<'a, L: Run, R> {
     prints: &'a Prints,
 }
 
-fn place_of<'a, L: Run, R>(
+fn common_of<'a, L: Run, R>(
     rt: &'a R,
     alloc: Global,
     shared: &'a Shared<L>,
     house: &'a House<'a>,
     prints: &'a Prints,
-) -> Place<'a, L, R> {
-    Place {
+) -> Common<'a, L, R> {
+    Common {
         rt,
         alloc,
         shared,
@@ -71,10 +63,10 @@ fn place_of<'a, L: Run, R>(
     }
 }
 
-impl<'a, 'b, L: Run, R: Wait + Clock, G: Gate + Drop, W: Words + Drop, P: Policies> Site<
+impl<'a, 'b, L: Run, R: Wait + Clock, G: Gate + Drop, W: Words + Drop, P: Policies> Duties<
     Start<L, G, W>,
-    Office<'b, L, G, P>,
-> for Place<'a, L, R> {
+    ReloadStart<'b, L, G, P>,
+> for Common<'a, L, R> {
     fn work(&self, start: Start<L, G, W>) -> Option<ServeFault> {
         let fault = match Worker::new(self.rt, self.alloc, self.shared, self.house, start) {
             None => Some(ServeFault::NoMemory),
@@ -86,28 +78,18 @@ impl<'a, 'b, L: Run, R: Wait + Clock, G: Gate + Drop, W: Words + Drop, P: Polici
         fault
     }
 
-    fn reload(&self, office: Office<'b, L, G, P>) -> Option<ServeFault> {
-        let Office {
+    fn reload(&self, start: ReloadStart<'b, L, G, P>) -> Option<ServeFault> {
+        let ReloadStart {
             seat,
             gate,
             policies,
-        } = office;
-        let Some(notices) = Notices::new(self.alloc, self.house.doors.len(), None) else {
-            self.house.stop();
-            return Some(ServeFault::NoMemory);
+        } = start;
+        let (shared, prints) = (self.shared, self.prints);
+        let own = (seat, gate);
+        let fault = match Reloads::new(self.rt, self.alloc, shared, self.house, own, prints) {
+            None => Some(ServeFault::NoMemory),
+            Some(mut reloads) => reloads.run(policies),
         };
-        let history = self.house.limits.history;
-        let (rt, alloc, shared) = (self.rt, self.alloc, self.shared);
-        let kept = self.house.kept();
-        let port = ServerPort::new(rt, alloc, shared, seat, gate, notices, history, kept);
-        let mut reloads = Reloads {
-            rt: self.rt,
-            alloc: self.alloc,
-            house: self.house,
-            port,
-            prints: self.prints,
-        };
-        let fault = reloads.run(policies);
         self.house.stop();
         fault
     }
@@ -117,15 +99,15 @@ impl<'a, 'b, L: Run, R: Wait + Clock, G: Gate + Drop, W: Words + Drop, P: Polici
     }
 }
 
-/// Serves clients over sockets, with a worker for each post, and installs the policies that come. The first worker
-/// accepts connections and hands them round in turn, beginning with itself. It ends where the input of the policies
+/// Serves clients over sockets, with a worker for each access to the hub, and installs the policies that come. The first
+/// worker accepts connections and hands them round in turn, beginning with itself. It ends where the input of the policies
 /// ends, once what was accepted is written out or two seconds have passed. The moment of an event is in milliseconds
 /// since it began.
 ///
 /// `PollFailed` comes where the system gives no way to wait for sockets, `BadFrame` where a frame of the policies is wrong
 /// or can't be read, `NoMemory` where a worker can't begin, `TurnsSpent` where a gate lets nothing more pass; of several
 /// the least. A fault of a socket closes that connection alone.
-pub fn serve<
+pub(crate) fn serve<
     'x,
     L: Run + Send + Sync,
     R: Threads + Wait + Net + Clock + Sync,
@@ -137,50 +119,50 @@ pub fn serve<
     alloc: Global,
     listener: TcpListener,
     shared: &'x Shared<L>,
-    posts: Vec<Post<L, G, W>>,
+    accesses: Vec<Access<L, G, W>>,
     own: (Seat<L>, G),
     limits: Limits,
     policies: &mut P,
     prints: &'x Prints,
 ) -> Result<(), ServeFault> {
-    let (doors, starts) = open_all(rt, alloc, listener, posts)?;
+    let (doors, starts) = open_all(rt, alloc, listener, accesses)?;
     let flags = Flags::new(limits);
     let house = House::new(doors.as_slice(), limits, millis(rt), &flags);
-    let place = place_of(rt, alloc, shared, &house, prints);
+    let common = common_of(rt, alloc, shared, &house, prints);
     let (seat, gate) = own;
-    let office = Office {
+    let reload = ReloadStart {
         seat,
         gate,
         policies,
     };
-    match run_all(rt, &place, office, starts) {
+    match run_all(rt, &common, reload, starts) {
         Some(fault) => Err(fault),
         None => Ok(()),
     }
 }
 
 /// The reloads in a thread of their own, beside the workers, and the least of all their faults.
-fn run_all<R: Threads + Sync, J: Send + Drop, O: Send + Drop, T: Site<J, O> + Sync>(
+fn run_all<R: Threads + Sync, J: Send + Drop, O: Send + Drop, T: Duties<J, O> + Sync>(
     rt: &R,
-    site: &T,
-    office: O,
+    duties: &T,
+    reload: O,
     starts: Vec<J>,
 ) -> Option<ServeFault> {
     let (reloads, workers) = thread::join(
         rt,
-        || -> Option<ServeFault> { site.reload(office) },
-        || -> Option<ServeFault> { work_all(rt, site, starts) },
+        || -> Option<ServeFault> { duties.reload(reload) },
+        || -> Option<ServeFault> { work_all(rt, duties, starts) },
     );
     least(reloads, workers)
 }
 
 /// All workers, each in a thread of its own, and the least of their faults.
-fn work_all<R: Threads + Sync, J: Send + Drop, O, T: Site<J, O> + Sync>(
+fn work_all<R: Threads + Sync, J: Send + Drop, O, T: Duties<J, O> + Sync>(
     rt: &R,
-    site: &T,
+    duties: &T,
     starts: Vec<J>,
 ) -> Option<ServeFault> {
-    let work = |start: J| -> Option<ServeFault> { site.work(start) };
+    let work = |start: J| -> Option<ServeFault> { duties.work(start) };
     match thread::map_vec(rt, starts, &work) {
         Ok(faults) => {
             let mut first = None;
@@ -190,7 +172,7 @@ fn work_all<R: Threads + Sync, J: Send + Drop, O, T: Site<J, O> + Sync>(
             first
         }
         Err(_) => {
-            site.stop();
+            duties.stop();
             Some(ServeFault::NoMemory)
         }
     }
@@ -201,14 +183,14 @@ fn open_all<L: Run, R: Net, G: Drop, W: Drop>(
     rt: &R,
     alloc: Global,
     listener: TcpListener,
-    posts: Vec<Post<L, G, W>>,
+    accesses: Vec<Access<L, G, W>>,
 ) -> Result<(Vec<Door>, Vec<Start<L, G, W>>), ServeFault> {
-    let mut posts = VecDeque::from(posts);
+    let mut accesses = VecDeque::from(accesses);
     let mut listener = Some(listener);
     let mut doors = Vec::new(alloc);
     let mut starts = Vec::new(alloc);
-    for index in 0..posts.len() {
-        let Some(post) = posts.pop_front() else {
+    for index in 0..accesses.len() {
+        let Some(access) = accesses.pop_front() else {
             break;
         };
         let Some((door, poll)) = open_door(rt, alloc, WAKER) else {
@@ -216,7 +198,7 @@ fn open_all<L: Run, R: Net, G: Drop, W: Drop>(
         };
         let start = Start {
             index,
-            post,
+            access,
             poll,
             listener: listener.take(),
         };

@@ -1,0 +1,75 @@
+//! How connections begin, and which of them give way to new ones.
+use crate::worker::Worker;
+use accepting::Accepted;
+use conn::Words;
+use doors::Arrival;
+use gates::Gate;
+use shared_hub::Run;
+use std::sync::Wait;
+use std::time::Clock;
+
+/// How many connections are accepted before others are looked at.
+const ARRIVALS: usize = 256;
+
+impl<'a, L: Run, R: Wait + Clock, G: Gate + Drop, W: Words + Drop> Worker<'a, L, R, G, W> {
+    /// Accepts what has come, as far as there is room, and hands the sockets round.
+    pub(crate) fn accept(&mut self) {
+        if !self.acceptor.begin(self.now) {
+            return;
+        }
+        for _ in 0..ARRIVALS {
+            let registry = self.poll.registry();
+            match self
+                .acceptor
+                .accept(self.rt, self.house, registry, self.now)
+            {
+                Accepted::Own(arrival) => self.open(arrival),
+                Accepted::Left => {}
+                Accepted::Nobody => return,
+            }
+        }
+        self.acceptor.go_on(self.now);
+    }
+
+    /// A connection begins. Without memory, or where the system refuses to watch it, its socket is closed.
+    pub(crate) fn open(&mut self, arrival: Arrival) {
+        let Arrival { conn, socket } = arrival;
+        let registry = self.poll.registry();
+        let Some(key) = self.connections.add(conn, socket, registry) else {
+            self.house.note_closed();
+            return;
+        };
+        if let Some(turn) = self.connections.open(key) {
+            self.after(key, turn);
+        }
+    }
+
+    /// Shows others who would give way here, and has the first give way where that was asked.
+    pub(crate) fn give_way(&mut self) {
+        let doors = self.house.doors;
+        let Some(door) = doors.get(self.index) else {
+            return;
+        };
+        if door.ways.is_asked() {
+            self.go_first();
+        }
+        let lingering = match self.connections.first_lingering() {
+            None => None,
+            Some(it) => Some(it.until),
+        };
+        let fresh = match self.connections.first_fresh() {
+            None => None,
+            Some(it) => Some(it.conn),
+        };
+        door.ways.show(lingering, fresh);
+    }
+
+    /// The connection goes that has lingered longest, else the one that has waited longest without an accepted CONNECT.
+    fn go_first(&mut self) {
+        if let Some(it) = self.connections.first_lingering() {
+            self.remove(it.key);
+        } else if let Some(it) = self.connections.first_fresh() {
+            self.end(it.key);
+        }
+    }
+}

@@ -1,0 +1,111 @@
+//! The rounds of a worker, from its start to its end.
+use crate::worker::{WAKER, Worker};
+use accepting::LISTENER;
+use conn::Words;
+use gates::Gate;
+use mio::Events;
+use mio::event::Event;
+use pacing::Slice;
+use serve_fault::ServeFault;
+use shared_hub::Run;
+use std::sync::Wait;
+use std::time::{Clock, Duration};
+
+/// How many events of sockets one wait tells.
+const EVENTS: usize = 1024;
+
+/// How many old entries of the history a worker that would sleep drops before it looks for work again.
+const SHED: usize = 1024;
+
+impl<'a, L: Run, R: Wait + Clock, G: Gate + Drop, W: Words + Drop> Worker<'a, L, R, G, W> {
+    /// Works until the server stops.
+    pub fn run(&mut self) -> Option<ServeFault> {
+        let Ok(mut events) = Events::with_capacity(self.alloc, EVENTS) else {
+            return Some(ServeFault::NoMemory);
+        };
+        if !self.acceptor.listen(self.poll.registry()) {
+            return Some(ServeFault::PollFailed);
+        }
+        for _ in self.rt.forever() {
+            if self.house.stops() {
+                break;
+            }
+            if !self.round(&mut events) {
+                return Some(ServeFault::PollFailed);
+            }
+            if self.port.is_spent() {
+                return Some(ServeFault::TurnsSpent);
+            }
+        }
+        self.rest(&mut events);
+        None
+    }
+
+    /// One round: what was left here, a slice of what is to be written, what the sockets tell, and some turns. Answers
+    /// whether the system could tell of sockets.
+    fn round(&mut self, events: &mut Events) -> bool {
+        self.connections.begin_round();
+        self.take_in();
+        self.give_way();
+        self.slice = Slice::whole();
+        self.drain_dirty();
+        if !self.wait(events) {
+            return false;
+        }
+        self.end_lingering();
+        self.connections.look_after_held(self.now);
+        self.try_again();
+        self.accept();
+        self.take_turns();
+        true
+    }
+
+    /// How long to wait for sockets: not at all where there is work.
+    fn patience(&self) -> Duration {
+        let accepts = matches!(self.acceptor.due_at(), Some(at) if at <= self.now);
+        if accepts || !self.sleeps {
+            Duration::ZERO
+        } else if !self.connections.stalled.is_empty() {
+            Duration::from_millis(10)
+        } else {
+            let until = self.next_look();
+            Duration::from_millis(until.saturating_sub(self.now).max(1).min(1000))
+        }
+    }
+
+    /// When something is to be looked at that no socket tells of.
+    fn next_look(&self) -> u64 {
+        let held = self.connections.next_look().unwrap_or(u64::MAX);
+        let accepts = self.acceptor.due_at().unwrap_or(u64::MAX);
+        held.min(accepts).min(self.connections.lingers_until())
+    }
+
+    /// Waits for sockets, and notes what they tell. Answers whether the system could tell.
+    fn wait(&mut self, events: &mut Events) -> bool {
+        let mut patience = self.patience();
+        if patience > Duration::ZERO && self.port.shed(SHED) {
+            patience = Duration::ZERO;
+        }
+        let told = self.poll.poll(events, Some(patience)).is_ok();
+        self.now = self.house.now(self.rt);
+        self.note_events(events);
+        told
+    }
+
+    /// Notes what the sockets told.
+    pub(crate) fn note_events(&mut self, events: &Events) {
+        for event in events.iter() {
+            self.note_event(event);
+        }
+    }
+
+    fn note_event(&mut self, event: &Event) {
+        let token = event.token();
+        if token == LISTENER {
+            self.acceptor.note_waiting(self.now);
+        } else if token != WAKER {
+            self.connections
+                .note_socket(token.0, event.is_readable(), event.is_writable());
+        }
+    }
+}

@@ -1,0 +1,6 @@
+//! The thread that installs policies.
+#![tactic(auto)]
+
+mod reloads;
+
+pub use reloads::Reloads;
