@@ -3,7 +3,7 @@ ghost use Rattle.std.specs.Prelude.{Bool, IsTrue, is_ok, ⊤};
 /// Where a thread that serves may be held.
 #[derive(Clone, Copy, Debug, PartialEq, Eq)]
 pub enum Point {
-    /// An event has been read, and is to be entered next.
+    /// An event has been read, and is to be entered next. Several messages may be read before the first of them has its answer.
     FrameRead,
     /// An event has its answer.
     Answered,

@@ -1,1 +1,3 @@
+mod Followed
 mod Offers
+mod SeatRuns

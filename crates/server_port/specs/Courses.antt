@@ -1,5 +1,5 @@
 -- How far a round and a turn of it have come, and what an answer makes of that.
-use Rattle.std.specs.Prelude.{ℕ, ◌-◌, Option, None, Some, Result, Ok, Err, true}
+use Rattle.std.specs.Prelude.{ℕ, ◌-◌, List, [], ◌∷◌, Option, None, Some, Result, Ok, Err, true}
 use Rattle.events.specs.declared.event.Event.{Event}
 use Rattle.events.specs.declared.answer.Entry.{Entry}
 use Rattle.events.specs.declared.refusal.HubRefusal.{HubRefusal}
@@ -34,3 +34,8 @@ refused (By _) slow until c = c
 abbrev pub offered : Result Entry (Event × PublishRefusal) → Option ℕ → Option ℕ → Course → Course
 offered (Ok entry) slow until c = followed entry c
 offered (Err back) slow until c = refused back.1 slow until c
+
+-- several events have their answers, in order
+unfoldable pub all_followed : List Entry → Course → Course
+all_followed [] c = c
+all_followed (entry ∷ entries) c = all_followed entries (followed entry c)

@@ -3,10 +3,13 @@ ghost use Rattle.std.specs.Prelude.{◌≡◌};
 
 use crate::course::Why;
 use crate::port::ServerPort;
-use events::{Answer, Event, HubRefusal, Port, PublishRefusal};
+use crate::runs::goes_on;
+use events::{Answer, Event, HubRefusal, Message, Port, PublishRefusal, RunEnd, Words};
 use gates::{Gate, Point};
 use history_bytes::{Look, Telling};
+use message_runs::Posts;
 use shared_hub::Run;
+use std::collections::VecDeque;
 use std::sync::Wait;
 
 impl<L: Run, R: Wait, G: Gate + Drop> ServerPort<'_, L, R, G> {
@@ -22,7 +25,7 @@ impl<L: Run, R: Wait, G: Gate + Drop> ServerPort<'_, L, R, G> {
     /// Notes whom an answer names, with the size of its message, counts what its entry keeps, and hands the history out if
     /// that is due. Answers what others were told, and what it saw where the history is due.
     #[inline(always)]
-    fn follow(&mut self, answer: &Answer, size: usize) -> (Option<Telling>, Option<Look>)
+    pub(crate) fn follow(&mut self, answer: &Answer, size: usize) -> (Option<Telling>, Option<Look>)
         ensures counted { IsCounted self.old.rotation.uncounted (own answer.now) result.0 self.new.rotation.uncounted }
         ensures looked { is_some result.1 ≡ falls_due self.old.rotation answer.now.number }
         ensures tried { self.new.rotation.tries ≡ tried (was_same result.1) (tried (passed result.0) self.old.rotation.tries) }
@@ -122,7 +125,7 @@ impl<L: Run, R: Wait, G: Gate + Drop> ServerPort<'_, L, R, G> {
 
     /// Offers a message's event once the history was handed out, or that was tried.
     #[inline(never)]
-    fn offer_again(&mut self, event: Event) -> Result<Answer, (Event, PublishRefusal)>
+    pub(crate) fn offer_again(&mut self, event: Event) -> Result<Answer, (Event, PublishRefusal)>
         ensures offered { IsOffered (λ old e r new. IsAnswered L.opening old.seat.count e r new.seat.count) (λ old new. new.seat.count ≡ old.seat.count) self.old event result self.new }
         ensures course { self.new.course ≡ offered result self.new.told.slow self.new.told.until self.old.course }
         ensures tried { OnErr result (self.new.rotation.tries ≡ tried true self.old.rotation.tries) }
@@ -160,7 +163,7 @@ impl<L: Run, R: Wait, G: Gate + Drop> ServerPort<'_, L, R, G> {
 
     /// Notes why a message was held back, if it was. Such an offer is a delivery's work of the round's share.
     #[inline(never)]
-    fn note_refusal(&mut self, refusal: PublishRefusal)
+    pub(crate) fn note_refusal(&mut self, refusal: PublishRefusal)
         ensures course { self.new.course ≡ refused refusal self.old.told.slow self.old.told.until self.old.course }
         ensures told { self.new.told ≡ self.old.told }
         ensures rotation { self.new.rotation ≡ self.old.rotation }
@@ -228,6 +231,27 @@ impl<L: Run, R: Wait, G: Gate + Drop> Port for ServerPort<'_, L, R, G> {
             self.pass(Point::Answered);
         }
         result
+    }
+
+    /// Offers the messages in holds of the hub's lock, each of which takes as many as may enter in it. Once the round's share is
+    /// spent, the hub isn't asked.
+    fn publish<W: Words>(
+        &mut self,
+        conn: u64,
+        now: u64,
+        messages: &mut VecDeque<Message>,
+        words: &mut W,
+    ) -> RunEnd {
+        let posts = Posts { conn, now };
+        let mut hold = self.hold(messages.len());
+        while !messages.is_empty() {
+            let end = self.publish_some(posts, messages, words, &mut hold);
+            if !goes_on(&end) {
+                return end;
+            }
+            drop(end);
+        }
+        RunEnd::Published
     }
 
     /// Where something waits for a connection, what it is told next stands behind that, once.

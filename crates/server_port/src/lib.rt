@@ -7,6 +7,7 @@ mod course;
 mod entering;
 mod handing;
 mod port;
+mod runs;
 
 pub use course::Why;
 pub use port::ServerPort;

@@ -12,6 +12,7 @@ use std::sync::Wait;
 /// A thread's port to the hub.
 pub struct ServerPort<'a, L: Run, R: Wait, G: Gate + Drop> {
     pub(crate) rt: &'a R,
+    pub(crate) alloc: Global,
     pub(crate) shared: &'a Shared<L>,
     pub(crate) seat: Seat<L>,
     pub(crate) gate: G,
@@ -31,6 +32,7 @@ impl<L: Run, R: Wait, G: Gate + Drop> Drop for ServerPort<'_, L, R, G> {
     fn drop(self) {
         let Self {
             rt: _,
+            alloc: _,
             shared: _,
             seat: _,
             gate: _,
@@ -70,6 +72,7 @@ impl<'a, L: Run, R: Wait, G: Gate + Drop> ServerPort<'a, L, R, G> {
     {
         ServerPort {
             rt,
+            alloc,
             shared,
             seat,
             gate,

@@ -1,0 +1,13 @@
+-- what came of the last message ends the run
+use Rattle.std.proofs.Common.{Some, ap, inl, subst, sym}
+use Rattle.message_runs.specs.Runs.{Came, told_end}
+use Rattle.server_port.specs.Ends.{IsEnded}
+use Rattle.server_port.proofs.port.ServerPort.follow_last.Goals as goal
+
+pub returns-in-Ok : goal.returns-in-Ok
+returns-in-Ok g c = inl (ap (λ (r : Came). told_end (Some r)) (sym c.in-Ok.is), ap (λ s. s.count) c.follow_message.ensures.seat)
+
+pub returns-in-Err : goal.returns-in-Err
+returns-in-Err g c =
+    let P : Came → Type 0 = λ r. IsEnded g.L.Run.opening r c.args.self.now.seat.count c.follow_refusal-end.result c.follow_refusal-end.new.self.seat.count in
+    subst P (sym c.in-Err.is) c.follow_refusal-end.ensures
