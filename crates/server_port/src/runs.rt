@@ -11,8 +11,9 @@ use shared_hub::{Run, size_of};
 use std::collections::VecDeque;
 use std::sync::Wait;
 
-/// How many messages are offered in one hold of the lock, at most.
-const MOST_MESSAGES: usize = 64;
+/// How many messages are offered in one hold of the lock, at most: as many as old entries are dropped together, so that each
+/// has the block of one of them, which malloc has at hand.
+const MOST_MESSAGES: usize = 7;
 
 /// How many messages and deliveries enter in one hold, but for the last message of it.
 const MOST_WORK: usize = 256;
