@@ -1,0 +1,6 @@
+pub mod Pairs
+pub mod Template
+pub mod Fault
+pub mod Text
+pub mod Laws
+pub mod Sides

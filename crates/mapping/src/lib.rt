@@ -1,0 +1,23 @@
+//! Subjects of one account under the names that another has for them.
+//!
+//! A mapping is made once, for an import row; `forward` and `back` are asked once a message. Each walks the subject and
+//! both patterns once or twice, and takes one block for the tokens of `*`s, where there are any, and one for the text.
+#![tactic(auto)]
+
+mod error;
+mod given;
+mod laws;
+mod lengths;
+mod making;
+mod map;
+mod part;
+mod references;
+mod side;
+mod template;
+#[cfg(test)]
+mod tests;
+mod text;
+
+pub use error::{MapError, MappingError};
+pub use laws::{back_undoes_forward, one_to_one, pairs_are_subjects};
+pub use map::Mapping;
