@@ -1,3 +1,1 @@
-pub mod Places
-pub mod Tokens
-pub mod Limits
+pub mod Maps

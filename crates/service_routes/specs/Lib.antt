@@ -1,4 +1,2 @@
 pub mod Routes
-pub mod Limit
-pub mod Names
-pub mod Slots
+pub mod Tables

@@ -1,0 +1,4 @@
+pub mod Routes
+pub mod Limit
+pub mod Names
+pub mod Slots
