@@ -10,3 +10,5 @@ mod grants;
 mod outboxes;
 #[cfg(test)]
 mod patterns;
+#[cfg(test)]
+mod response_routes;
