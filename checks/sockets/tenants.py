@@ -164,8 +164,9 @@ def beside_reloads(program, workers, each):
                     moments.append((begin, time.monotonic()))
                     time.sleep(0.05)
                 seen = pinger.stop()
-            # (a reload's own time is spent outside the lock mostly)
-            found.append(f"{kind}: {judged(pinger, seen, moments, 80 * crowd.slowed())}")
+            # (a reload's own time is spent outside the lock mostly; where all lists change, each subscription is judged under it)
+            most = 300 if kind == "changed" else 80
+            found.append(f"{kind}: {judged(pinger, seen, moments, most * crowd.slowed())}")
         for it in clients:
             it.ping()
     return "; ".join(found)
