@@ -1,7 +1,7 @@
 #!/usr/bin/env python3
 """A worker that is held between reading a PUB and entering it, while another worker serves.
 
-The program `held` holds its first worker there until its second worker has answered a CONNECT and a PUB. The hub's lock
+The program `test_held` holds its first worker there until its second worker has answered a CONNECT and a PUB. The hub's lock
 is free meanwhile.
 """
 
@@ -16,12 +16,12 @@ PUB = b"PUB here 2\r\nhi\r\n"
 
 
 class Held(Server):
-    """The program `held`, which was built beside the program that is checked. It looks so many times at most."""
+    """The program `test_held`, which was built beside the program that is checked. It looks so many times at most."""
 
     def __init__(self, program, turns):
-        held = (pathlib.Path(program).parent / "../../held/out/held").resolve()
+        held = (pathlib.Path(program).parent / "../../test_held/out/test_held").resolve()
         if not held.exists():
-            raise Failed(f"there is no {held}: 'rt run' in crates/held builds it")
+            raise Failed(f"there is no {held}: 'rt run' in crates/test_held builds it")
         super().__init__(held, turns)
 
     def command(self, program, listen, words):

@@ -5,9 +5,9 @@ use Rattle.serde_json.specs.Data.{Data, Items, no_items, item, Members, no_membe
 use Rattle.serde_json.specs.Find.{get_item, get_member}
 use Rattle.policy_doc.specs.Accounts.{with_account}
 use Rattle.policy_doc.specs.declared.document.NamedAccount.{NamedAccount}
-use Rattle.config_walk.specs.declared.fault.ConfigFault.{ConfigFault}
-use Rattle.config_walk.specs.Fault.{Read, ◌>>=◌}
-use Rattle.config_walk.specs.Path.{Path, at_key, at_index}
+use Rattle.policy_walk.specs.declared.fault.ConfigFault.{ConfigFault}
+use Rattle.policy_walk.specs.Fault.{Read, ◌>>=◌}
+use Rattle.policy_walk.specs.Path.{Path, at_key, at_index}
 use Rattle.account_config.specs.Policy.{each, accounts_from, named_account_at}
 use Rattle.account_config.specs.Place.{Place, itself, unknown, missing, under, named, IsBefore, Faults, IsFirst, IsReading}
 use Rattle.account_config.specs.Standing.{in_value, account_faults}

@@ -7,10 +7,10 @@ use Rattle.subjects.specs.declared.error.SubjectError.{SubjectError}
 use Rattle.policy_doc.specs.declared.document.PermEntry.{PermEntry}
 use Rattle.account_config.specs.declared.entry.Side.{Side}
 use Rattle.account_config.specs.declared.entry.Side.TheVariants.{Publish, Subscribe}
-use Rattle.config_walk.specs.declared.fault.ConfigFault.TheVariants.{BadSubject}
+use Rattle.policy_walk.specs.declared.fault.ConfigFault.TheVariants.{BadSubject}
 use Rattle.account_config.specs.Entry.{entry_parts, is_entry_text, is_pattern_text, is_queue_text, entry_written}
-use Rattle.config_walk.specs.Fault.{Read, ◌>>=◌}
-use Rattle.config_walk.specs.Path.{Path}
+use Rattle.policy_walk.specs.Fault.{Read, ◌>>=◌}
+use Rattle.policy_walk.specs.Path.{Path}
 use Rattle.account_config.specs.Policy.{pattern_from, parts_from, entry_from}
 
 abbrev pattern_by : Path → List ℕ → Option SubjectError → Read (List Token)

@@ -1,8 +1,8 @@
 -- The first fault of a value, part by part.
 use Rattle.std.proofs.Common.{◌≡◌, ℕ, suc, ◌<◌, ◌≤◌, List, Some, None, Ok, Err, inl, inr, ap, sym, ◌∙◌, subst, arith}
 use Rattle.std.proofs.lemmas.Bool.{cases_lt}
-use Rattle.config_walk.specs.declared.fault.ConfigFault.{ConfigFault}
-use Rattle.config_walk.specs.Fault.{Read, ◌>>=◌}
+use Rattle.policy_walk.specs.declared.fault.ConfigFault.{ConfigFault}
+use Rattle.policy_walk.specs.Fault.{Read, ◌>>=◌}
 use Rattle.account_config.specs.Place.{Place, itself, unknown, missing, under, named, IsBefore, Faults, IsFirst, IsReading}
 
 -- nothing stands before what is under key n

@@ -5,9 +5,9 @@ use Rattle.std.specs.Str.{is_utf8}
 use Rattle.serde_json.specs.Data.{Data}
 use Rattle.serde_json.specs.Read.{read}
 use Rattle.policy_doc.specs.declared.document.PolicyDoc.{PolicyDoc}
-use Rattle.config_walk.specs.declared.fault.ConfigFault.{ConfigFault}
-use Rattle.config_walk.specs.declared.fault.ConfigFault.TheVariants.{TooLarge, NotJson, NoMemory}
-use Rattle.config_walk.specs.Fault.{◌>>=◌}
+use Rattle.policy_walk.specs.declared.fault.ConfigFault.{ConfigFault}
+use Rattle.policy_walk.specs.declared.fault.ConfigFault.TheVariants.{TooLarge, NotJson, NoMemory}
+use Rattle.policy_walk.specs.Fault.{◌>>=◌}
 use Rattle.account_config.specs.Policy.{document_at, policy_of}
 use Rattle.json_text.specs.Json.{json_of}
 use Rattle.account_config.specs.Written.{IsAnswerBy, IsAnswer, IsAnsweredFor}

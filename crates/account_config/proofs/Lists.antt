@@ -3,8 +3,8 @@ use Rattle.std.proofs.Common.{◌≡◌, ℕ, suc, ◌+◌, ◌<◌, List, [], �
 use Rattle.serde_json.specs.Data.{Data, item}
 use Rattle.serde_json.specs.View.{view, items_view}
 use Rattle.serde_json.specs.declared.value.Value.{Value}
-use Rattle.config_walk.specs.Fault.{Read, ◌>>=◌}
-use Rattle.config_walk.specs.Path.{Path, at_index}
+use Rattle.policy_walk.specs.Fault.{Read, ◌>>=◌}
+use Rattle.policy_walk.specs.Path.{Path, at_index}
 use Rattle.account_config.specs.Policy.{each}
 
 -- what was read before, and what is still read

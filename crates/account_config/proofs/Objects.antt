@@ -4,11 +4,11 @@ use Rattle.std.specs.Prelude.{⊤}
 use Rattle.std.specs.Ordering.{match_ordering}
 use Rattle.serde_json.specs.Data.{Data, null, boolean, number, string, array, object, Members, no_members, member}
 use Rattle.serde_json.specs.Find.{get, get_member}
-use Rattle.config_walk.specs.declared.fault.ConfigFault.{ConfigFault}
-use Rattle.config_walk.specs.declared.fault.ConfigFault.TheVariants.{UnknownKey, WrongType}
-use Rattle.config_walk.specs.Fault.{Read, ◌>>=◌}
-use Rattle.config_walk.specs.Path.{Path, at_key}
-use Rattle.config_walk.specs.Object.{Row, is_known, unknown_key, missing_key, refuse, judged}
+use Rattle.policy_walk.specs.declared.fault.ConfigFault.{ConfigFault}
+use Rattle.policy_walk.specs.declared.fault.ConfigFault.TheVariants.{UnknownKey, WrongType}
+use Rattle.policy_walk.specs.Fault.{Read, ◌>>=◌}
+use Rattle.policy_walk.specs.Path.{Path, at_key}
+use Rattle.policy_walk.specs.Object.{Row, is_known, unknown_key, missing_key, refuse, judged}
 use Rattle.account_config.specs.Place.{Place, itself, unknown, missing, under, named, IsBefore, Faults, IsReading}
 use Rattle.account_config.specs.Standing.{Key, required, optional, spelled, unless_found, has_key, missing_at, under_at, of_key, object_faults}
 use Rattle.account_config.proofs.Order.{IsAscending, IsOrdered, above_further, absent, compared, same_key, key_is}

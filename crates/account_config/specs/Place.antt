@@ -3,8 +3,8 @@ use Rattle.std.specs.Prelude.{◌≡◌, ◌<◌, ◌⊎◌, ⊤, ℕ, List, Opt
 use Rattle.std.specs.Ordering.{nat_cmp}
 use Rattle.std.specs.declared.cmp.Ordering.TheVariants.{Less}
 use Rattle.std.specs.Cmp.Lexicographic.{slice_cmp}
-use Rattle.config_walk.specs.declared.fault.ConfigFault.{ConfigFault}
-use Rattle.config_walk.specs.Fault.{Read}
+use Rattle.policy_walk.specs.declared.fault.ConfigFault.{ConfigFault}
+use Rattle.policy_walk.specs.Fault.{Read}
 
 -- a place in a value: itself, a key that its table doesn't have, a key of the table that isn't there (by its number in
 -- the table), and a place in what stands under a key of the table (by its number), at an index of a list or under a name

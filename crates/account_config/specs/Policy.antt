@@ -8,7 +8,7 @@ use Rattle.std.specs.Str.{bytes_eq}
 use Rattle.serde_json.specs.Data.{Data, Items, no_items, item, Members, no_members, member}
 use Rattle.serde_json.specs.Find.{get, as_bool, as_str, as_object, as_number, as_i64, as_u64}
 use Rattle.json_text.specs.Json.{json_of}
-use Rattle.durations.specs.Durations.{duration_of}
+use Rattle.policy_walk.specs.Durations.{duration_of}
 use Rattle.policy_doc.specs.declared.document.Terms.{Terms}
 use Rattle.subjects.specs.Subject.{Token, tokens_of}
 use Rattle.subjects.specs.Fault.{pattern_fault}
@@ -20,14 +20,14 @@ use Rattle.policy_doc.specs.declared.document.UserDoc.{UserDoc}
 use Rattle.policy_doc.specs.declared.document.PermDoc.{PermDoc}
 use Rattle.policy_doc.specs.declared.document.Direction.{Direction}
 use Rattle.policy_doc.specs.declared.document.PermEntry.{PermEntry}
-use Rattle.config_walk.specs.declared.fault.ConfigFault.TheVariants.{TooLarge, NotJson, WrongType, BadSubject, BadDuration, BadMax, BadName, HashedPassword}
+use Rattle.policy_walk.specs.declared.fault.ConfigFault.TheVariants.{TooLarge, NotJson, WrongType, BadSubject, BadDuration, BadMax, BadName, HashedPassword}
 use Rattle.account_config.specs.declared.entry.Side.{Side}
 use Rattle.account_config.specs.declared.entry.Side.TheVariants.{Publish, Subscribe}
-use Rattle.config_walk.specs.Fault.{Read, ◌>>=◌}
-use Rattle.config_walk.specs.Path.{Path, at_key, at_index}
+use Rattle.policy_walk.specs.Fault.{Read, ◌>>=◌}
+use Rattle.policy_walk.specs.Path.{Path, at_key, at_index}
 use Rattle.account_config.specs.Entry.{entry_parts}
-use Rattle.config_walk.specs.Object.{Row, judged, members_at, required_at}
-use Rattle.config_walk.specs.Texts.{text_at, items_at, required_text_at}
+use Rattle.policy_walk.specs.Object.{Row, judged, members_at, required_at}
+use Rattle.policy_walk.specs.Texts.{text_at, items_at, required_text_at}
 
 -- ---- the tables: a key of each object, and whether it must be there
 

@@ -11,13 +11,13 @@ use Rattle.policy_doc.specs.declared.document.UserDoc.{UserDoc}
 use Rattle.policy_doc.specs.declared.document.PermDoc.{PermDoc}
 use Rattle.policy_doc.specs.declared.document.Direction.{Direction}
 use Rattle.policy_doc.specs.declared.document.PermEntry.{PermEntry}
-use Rattle.durations.specs.Durations.{duration_of}
+use Rattle.policy_walk.specs.Durations.{duration_of}
 use Rattle.policy_doc.specs.declared.document.Terms.{Terms}
-use Rattle.config_walk.specs.declared.fault.ConfigFault.TheVariants.{TooLarge, NotJson, NoMemory}
+use Rattle.policy_walk.specs.declared.fault.ConfigFault.TheVariants.{TooLarge, NotJson, NoMemory}
 use Rattle.account_config.specs.declared.entry.Side.{Side}
 use Rattle.account_config.specs.declared.entry.Side.TheVariants.{Publish, Subscribe}
 use Rattle.account_config.specs.Entry.{entry_written}
-use Rattle.config_walk.specs.Fault.{Read}
+use Rattle.policy_walk.specs.Fault.{Read}
 use Rattle.account_config.specs.Place.{IsReading}
 use Rattle.account_config.specs.Standing.{policy_faults}
 use Rattle.account_config.specs.Policy.{or_empty}

@@ -2,14 +2,14 @@
 ghost use Rattle.std.specs.Prelude.{◌≡◌, [], option_map};
 ghost use Rattle.std.specs.List.{list_all};
 ghost use Rattle.serde_json.specs.View.{view, items_view, members_view};
-ghost use Rattle.config_walk.specs.Fault.{Gives};
+ghost use Rattle.policy_walk.specs.Fault.{Gives};
 ghost use Rattle.account_config.specs.Policy.{account_at, account_name_from, accounts_at, accounts_from, each, is_account_byte, named_account_at, user_at, users_at, users_under};
 
 use crate::user::{has_name_length, user_of};
+use base::Items;
 use bytes::Bytes;
-use config_walk::{ConfigFault, Path, items_of, judge, members_of};
-use lists::Items;
 use policy_doc::{AccountDoc, Accounts, NamedAccount, UserDoc};
+use policy_walk::{ConfigFault, Path, items_of, judge, members_of};
 use serde_json::{Map, Value};
 use std::alloc::Global;
 

@@ -1,14 +1,14 @@
 //! What a user may publish or subscribe to.
 ghost use Rattle.std.specs.Prelude.{option_map};
 ghost use Rattle.serde_json.specs.View.{view, items_view};
-ghost use Rattle.config_walk.specs.Fault.{Gives};
+ghost use Rattle.policy_walk.specs.Fault.{Gives};
 ghost use Rattle.account_config.specs.Policy.{allow_at, direction_at, each, entries_at, entries_under, entry_at, lists_at, permissions_at, permissions_under, spelled_at, spelled_from};
 
 use crate::entry::{Side, entry_from};
 use crate::responses::allow_responses_of;
-use config_walk::{ConfigFault, Path, items_of, judge, text_of};
-use lists::Items;
+use base::Items;
 use policy_doc::{Direction, PermDoc, PermEntry};
+use policy_walk::{ConfigFault, Path, items_of, judge, text_of};
 use serde_json::Value;
 use std::alloc::Global;
 

@@ -1,14 +1,14 @@
 //! A policy document from its text.
 ghost use Rattle.std.specs.Prelude.{◌≡◌, option_map};
 ghost use Rattle.serde_json.specs.View.{view};
-ghost use Rattle.config_walk.specs.Fault.{Gives};
+ghost use Rattle.policy_walk.specs.Fault.{Gives};
 ghost use Rattle.account_config.specs.Policy.{document_at, is_version, json_at, json_from, policy_of, version_under};
 ghost use Rattle.account_config.specs.Written.{IsAnsweredFor};
 
 use crate::account::accounts_of;
-use config_walk::{ConfigFault, Path, judge, required_of};
 use json_text::JsonError;
 use policy_doc::PolicyDoc;
+use policy_walk::{ConfigFault, Path, judge, required_of};
 use serde_json::Value;
 use std::alloc::Global;
 

@@ -1,12 +1,11 @@
 //! The terms on which a user may answer.
 ghost use Rattle.std.specs.Prelude.{◌≡◌, option_map};
 ghost use Rattle.serde_json.specs.View.{view};
-ghost use Rattle.config_walk.specs.Fault.{Gives};
+ghost use Rattle.policy_walk.specs.Fault.{Gives};
 ghost use Rattle.account_config.specs.Policy.{allow_responses_at, duration_at, duration_from, expires_under, is_bound, max_at, max_under, responses_at, responses_under, terms_at};
 
-use config_walk::{ConfigFault, Path, judge, text_of};
-use durations::read_duration;
 use policy_doc::Terms;
+use policy_walk::{ConfigFault, Path, judge, read_duration, text_of};
 use serde_json::Value;
 use std::alloc::Global;
 

@@ -5,15 +5,15 @@ ghost use Rattle.std.specs.Option.{option_copied};
 ghost use Rattle.events.specs.declared.answer.Outcome.TheVariants.{Published, Taken, Reloaded};
 ghost use Rattle.events.specs.declared.event.Command.TheVariants.{Connect, Sub, Unsub, Pub, Take, Close, Reload};
 
+use base::{Items, Pieces, Shared, SharedText};
 use bytes::Bytes;
 use events::{Command, Delivery, Entry, Event, Item, Message, Met, Outcome, Removed};
-use lists::{Items, Pieces, Shared, SharedText};
 use outbox::Batch;
 use permissions::{By, Verdict};
 use policy_doc::{
     AccountDoc, Direction, NamedAccount, PermDoc, PermEntry, PolicyDoc, Terms, UserDoc,
 };
-use ready::Ready;
+use policy_ready::Ready;
 use reply_grants::PlainGrant;
 use subjects::{Pattern, Subject, SubjectRef};
 

@@ -1,8 +1,8 @@
 ghost use Rattle.std.specs.Prelude.{◌≡◌, IfOk};
 ghost use Rattle.connect_opts.specs.Info.{info_text};
 
+use base::NoMemory;
 use itoa::Buffer;
-use lists::NoMemory;
 use std::alloc::Global;
 
 /// What the server says of itself in the INFO of the connection with number `conn`: one JSON object.

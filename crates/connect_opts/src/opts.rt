@@ -6,8 +6,8 @@ ghost use Rattle.connect_opts.specs.Opts.{json_at, object_at};
 
 use crate::ConnectError;
 use crate::field::{text_field, truth_field};
+use base::SharedText;
 use json_text::JsonError;
-use lists::SharedText;
 use serde_json::Value;
 use std::alloc::Global;
 

@@ -3,7 +3,7 @@ use Rattle.std.specs.Prelude.{ℕ, Bool, true, ◌&&◌, List, Option, Some, Non
 use Rattle.std.specs.Option.{option_map}
 use Rattle.subjects.specs.Subject.{Token, tokens_of, IsSubject}
 use Rattle.subjects.specs.Fault.{subject_if}
-use Rattle.message_text.specs.Texts.{Texts}
+use Rattle.wire_message.specs.Texts.{Texts}
 
 -- what all that a message is for are sent alike
 pub record Message : Type 0 where

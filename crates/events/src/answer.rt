@@ -2,7 +2,7 @@ ghost use Rattle.std.specs.Prelude.{◌≡◌, IfOk};
 
 use crate::event::{Event, Sid};
 use crate::message::Message;
-use lists::{Boxed, Copying, Items, NoMemory, Shared};
+use base::{Boxed, Copying, Items, NoMemory, Shared};
 use outbox::Batch;
 use permissions::{By, Verdict};
 use reply_grants::Note;

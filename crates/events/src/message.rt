@@ -4,11 +4,11 @@ ghost use Rattle.subjects.specs.Fault.{subject_if};
 ghost use Rattle.subjects.specs.Subject.{tokens_of, IsSubject};
 ghost use Rattle.events.specs.Messages.{is_subject_if, has_subjects, IsSubjectIf, HasSubjects};
 
-use lists::{Copying, NoMemory};
-use message_text::MessageText;
+use base::{Copying, NoMemory};
 use std::alloc::Global;
 use std::marker::Model;
 use subjects::SubjectRef;
+use wire_message::MessageText;
 
 /// What is published: all that those whom it is for are sent alike. A clause sees its four parts. It is one part of what
 /// was read, so one more owner takes no memory.

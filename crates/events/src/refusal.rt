@@ -1,7 +1,7 @@
 ghost use Rattle.std.specs.Prelude.{◌≡◌};
 ghost use Rattle.events.specs.declared.refusal.HubRefusal.TheVariants.{NoMemory as out_of_memory};
 
-use lists::NoMemory;
+use base::NoMemory;
 use std::alloc::AllocFailed;
 use std::error::Error;
 use std::fmt;

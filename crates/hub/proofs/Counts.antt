@@ -16,8 +16,8 @@ use Rattle.permissions.specs.declared.verdict.Verdict.{Verdict}
 use Rattle.permissions.specs.declared.verdict.Verdict.TheVariants.{Allowed, DeniedBy, NoAllow, NoQueueAllow}
 use Rattle.policy_doc.specs.declared.document.PolicyDoc.{PolicyDoc}
 use Rattle.permissions.specs.Verdicts.{subscribe_verdict}
-use Rattle.ready.specs.Users.{user_with_password}
-use Rattle.ready.specs.declared.ready.User.{User}
+use Rattle.policy_ready.specs.Users.{user_with_password}
+use Rattle.policy_ready.specs.declared.ready.User.{User}
 use Rattle.events.specs.Messages.{Message}
 use Rattle.events.specs.declared.event.Command.{Command}
 use Rattle.events.specs.declared.event.Command.TheVariants.{Connect, Sub, Unsub, Pub, Take, Close, Reload}
@@ -28,16 +28,16 @@ use Rattle.events.specs.declared.answer.Outcome.{Outcome}
 use Rattle.events.specs.declared.answer.Outcome.TheVariants.{Connected, AuthViolation, Subscribed, SameSid, SubLimit, Denied, Taken}
 use Rattle.events.specs.declared.refusal.HubRefusal.{HubRefusal}
 use Rattle.events.specs.declared.refusal.HubRefusal.TheVariants.{SessionLimit}
-use Rattle.sessions.specs.Sessions.{session_of}
-use Rattle.sessions.specs.Delivered.{delivered}
-use Rattle.sessions.specs.Replying.{with_note}
-use Rattle.sessions.specs.declared.session.Session.{Session}
-use Rattle.subscriptions.specs.Addressing.{addressed_to}
-use Rattle.subscriptions.specs.Subscriptions.{is_under, stands, has_all, subscription_of}
-use Rattle.subscriptions.specs.Limit.{is_entry_for, has_entered, has_ended, counted, limit_of, limited}
-use Rattle.subscription_rows.specs.declared.subscription.Subscription.{Subscription}
+use Rattle.world_sessions.specs.Sessions.{session_of}
+use Rattle.world_sessions.specs.Delivered.{delivered}
+use Rattle.world_sessions.specs.Replying.{with_note}
+use Rattle.world_sessions.specs.declared.session.Session.{Session}
+use Rattle.world_subscriptions.specs.Addressing.{addressed_to}
+use Rattle.world_subscriptions.specs.Subscriptions.{is_under, stands, has_all, subscription_of}
+use Rattle.world_subscriptions.specs.Limit.{is_entry_for, has_entered, has_ended, counted, limit_of, limited}
+use Rattle.world_rows.specs.declared.subscription.Subscription.{Subscription}
 use Rattle.world.specs.World.{World, opening_world, advanced}
-use Rattle.queue_groups.specs.Served.{is_served, served}
+use Rattle.world_groups.specs.Served.{is_served, served}
 use Rattle.world.specs.Granting.{verdict_on, counted_on}
 use Rattle.world.specs.Routing.{own_view, is_admitted, admitted}
 use Rattle.world.specs.Reload.{stands_on}

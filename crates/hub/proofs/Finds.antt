@@ -5,7 +5,7 @@ use Rattle.std.specs.List.{list_any}
 use Rattle.std.specs.Option.{option_map}
 use Rattle.std.proofs.lemmas.List.{get_or-map, length-map}
 use Rattle.std.proofs.lemmas.List.Elements.{All-head, All-tail, All-cons, All-nil}
-pub use Rattle.receivers.proofs.Tests.{find-passes}
+pub use Rattle.world_receivers.proofs.Tests.{find-passes}
 
 pub find-All : {X : Type 0} (P : X → Type 0) (t : X → Bool) (xs : List X) (y : X) → All P xs → find t xs ≡ Some y → P y
 find-All P t [] y all e = absurd (cc)

@@ -15,7 +15,7 @@ use Rattle.reply_grants.specs.Grants.{Grant, is_below, is_within, is_live, is_fo
 use Rattle.reply_grants.specs.Replies.{Table, grants_of, noted, answered_in, ended_in, judged}
 use Rattle.reply_grants.specs.declared.replies.Note.{Note}
 use Rattle.hub.specs.Kept.{is_open, has_answer_left, IsAfter, AreApart, AreKept, IsKeptTable}
-use Rattle.sessions.specs.Replying.{note_of}
+use Rattle.world_sessions.specs.Replying.{note_of}
 use Rattle.hub.specs.Replies.{is_young, answers, has_grant, noted_at}
 use Rattle.hub.proofs.Finds.{AllPairs-head, AllPairs-tail, AllPairs-map}
 

@@ -10,9 +10,9 @@ use Rattle.std.proofs.lemmas.Option.{slice_get-get_or}
 use Rattle.subjects.specs.Subject.{Token, text_of}
 use Rattle.queue_choice.specs.Choices.{chosen}
 use Rattle.queue_choice.proofs.Names.{same-is}
-use Rattle.subscription_rows.specs.declared.subscription.Subscription.{Subscription}
-use Rattle.queue_groups.specs.Served.{is_named, is_member, members, is_the, is_served_by, is_served, served}
-use Rattle.queue_groups.specs.Chosen.{Rising}
+use Rattle.world_rows.specs.declared.subscription.Subscription.{Subscription}
+use Rattle.world_groups.specs.Served.{is_named, is_member, members, is_the, is_served_by, is_served, served}
+use Rattle.world_groups.specs.Chosen.{Rising}
 use Rattle.hub.specs.Guarantee.{is_plain, AreServed}
 use Rattle.hub.proofs.Finds.{AllPairs-head, AllPairs-tail}
 

@@ -12,8 +12,8 @@ use Rattle.permissions.specs.declared.verdict.By.TheVariants.{All as AllowsAll, 
 use Rattle.permissions.specs.declared.verdict.Verdict.{Verdict}
 use Rattle.permissions.specs.declared.verdict.Verdict.TheVariants.{Allowed, DeniedBy, NoAllow, NoQueueAllow}
 use Rattle.policy_doc.specs.declared.document.PolicyDoc.{PolicyDoc}
-use Rattle.ready.specs.Users.{user_with_password}
-use Rattle.ready.specs.declared.ready.User.{User}
+use Rattle.policy_ready.specs.Users.{user_with_password}
+use Rattle.policy_ready.specs.declared.ready.User.{User}
 use Rattle.events.specs.Messages.{Message}
 use Rattle.events.specs.declared.event.Event.{Event}
 use Rattle.events.specs.declared.event.Command.{Command}
@@ -25,22 +25,22 @@ use Rattle.events.specs.declared.answer.Outcome.{Outcome}
 use Rattle.events.specs.declared.answer.Outcome.TheVariants.{Connected, AuthViolation, Subscribed, SameSid, SubLimit, Denied, Unsubscribed, Published, Taken, Closed}
 use Rattle.events.specs.declared.refusal.HubRefusal.{HubRefusal}
 use Rattle.events.specs.declared.refusal.HubRefusal.TheVariants.{HistoryFull, NoSession, SessionTaken, SessionLimit, NoMemory}
-use Rattle.sessions.specs.Sessions.{session_of, with_session, new_session, drained}
+use Rattle.world_sessions.specs.Sessions.{session_of, with_session, new_session, drained}
 use Rattle.reply_grants.specs.Replies.{grants_of}
 use Rattle.reply_grants.specs.declared.replies.Note.{Note}
 use Rattle.events.specs.declared.answer.Addressed.{Addressed}
-use Rattle.sessions.specs.Delivered.{delivered}
-use Rattle.sessions.specs.Replying.{terms_of, is_granted, with_note}
-use Rattle.sessions.specs.declared.session.Session.{Session}
-use Rattle.subscriptions.specs.Subscriptions.{is_under, stands, has_all, subscription_of, of_connection}
-use Rattle.subscriptions.specs.Limit.{has_entered, unended, counted, limit_of, limited}
-use Rattle.subscription_rows.specs.declared.subscription.Subscription.{Subscription}
+use Rattle.world_sessions.specs.Delivered.{delivered}
+use Rattle.world_sessions.specs.Replying.{terms_of, is_granted, with_note}
+use Rattle.world_sessions.specs.declared.session.Session.{Session}
+use Rattle.world_subscriptions.specs.Subscriptions.{is_under, stands, has_all, subscription_of, of_connection}
+use Rattle.world_subscriptions.specs.Limit.{has_entered, unended, counted, limit_of, limited}
+use Rattle.world_rows.specs.declared.subscription.Subscription.{Subscription}
 use Rattle.world.specs.World.{World, advanced}
 use Rattle.world.specs.Granting.{or_granted, verdict_on, counted_on, ended_on}
-use Rattle.queue_groups.specs.Served.{served}
+use Rattle.world_groups.specs.Served.{served}
 use Rattle.world.specs.Routing.{own_view, is_admitted, admitted, may_hear, lets_through}
-use Rattle.queue_groups.specs.Chosen.{Rising}
-use Rattle.subscriptions.specs.Addressing.{addressed_to, delivery_to}
+use Rattle.world_groups.specs.Chosen.{Rising}
+use Rattle.world_subscriptions.specs.Addressing.{addressed_to, delivery_to}
 use Rattle.world.specs.Transition.{IsReasoned, IsRefusal, connected, subscribed, unsubscribed, published, taken, closed, in_session, in_new_session, moved, numbered, transition}
 use Rattle.hub.specs.Sound.{IsSound, user_behind, user_at, account_of, may_subscribe, HasAllowance}
 use Rattle.hub.specs.InForce.{policy_after, epoch_after}
@@ -57,7 +57,7 @@ use Rattle.hub.proofs.Soundness.{next, HasTable, KeepsSession, KeepsSubscription
 use Rattle.hub.proofs.Reasons.{delivery_justified}
 use Rattle.hub.proofs.Groups.{are_served}
 use Rattle.hub.proofs.Reloads.{in_force, sound-reload}
-use Rattle.sessions.proofs.Changes.{only, with_session-map}
+use Rattle.world_sessions.proofs.Changes.{only, with_session-map}
 use Rattle.hub.proofs.Deliveries.{receives_of, notes_of, as_sent, items_after, met, outboxes, one_each, with_room}
 
 -- where the tables turn a command away

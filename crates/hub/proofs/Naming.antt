@@ -12,8 +12,8 @@ use Rattle.policy_doc.specs.Document.{users_of as users_of_accounts, user_name, 
 use Rattle.policy_doc.specs.declared.document.PolicyDoc.{PolicyDoc}
 use Rattle.policy_doc.specs.declared.document.NamedAccount.{NamedAccount}
 use Rattle.policy_doc.specs.declared.document.UserDoc.{UserDoc}
-use Rattle.ready.specs.Users.{user_in, users_in, users_of, user_with_password, user_named}
-use Rattle.ready.specs.declared.ready.User.{User}
+use Rattle.policy_ready.specs.Users.{user_in, users_in, users_of, user_with_password, user_named}
+use Rattle.policy_ready.specs.declared.ready.User.{User}
 use Rattle.hub.proofs.Finds.{find-All}
 
 abbrev pub name_of : User → List ℕ

@@ -17,19 +17,19 @@ use Rattle.policy_doc.specs.declared.document.PolicyDoc.{PolicyDoc}
 use Rattle.permissions.specs.Verdicts.{subscribe_verdict, is_allowed, IsJustifiedSubscribe}
 use Rattle.permissions.specs.declared.verdict.Verdict.{Verdict}
 use Rattle.permissions.specs.declared.verdict.Verdict.TheVariants.{Allowed, DeniedBy, NoAllow, NoQueueAllow}
-use Rattle.ready.specs.Users.{users_of, user_named, is_same_user, user_again}
-use Rattle.ready.specs.declared.ready.User.{User}
-use Rattle.sessions.specs.Sessions.{session_of}
-use Rattle.sessions.specs.Renewal.{user_again_of, stays, goes, with_user, renewed, remaining, connection_of, closed_conns}
-use Rattle.sessions.specs.declared.session.Session.{Session}
-use Rattle.subscription_rows.specs.declared.subscription.Subscription.{Subscription}
+use Rattle.policy_ready.specs.Users.{users_of, user_named, is_same_user, user_again}
+use Rattle.policy_ready.specs.declared.ready.User.{User}
+use Rattle.world_sessions.specs.Sessions.{session_of}
+use Rattle.world_sessions.specs.Renewal.{user_again_of, stays, goes, with_user, renewed, remaining, connection_of, closed_conns}
+use Rattle.world_sessions.specs.declared.session.Session.{Session}
+use Rattle.world_rows.specs.declared.subscription.Subscription.{Subscription}
 use Rattle.world.specs.World.{World}
 use Rattle.world.specs.Reload.{user_after, verdict_for, may_stand, stands_on, removal, removal_after, IsReasonedVerdict, IsReasonedReload}
 use Rattle.hub.specs.Sound.{IsSound, has_same_sid, user_behind, account_of, may_subscribe, HasAllowance}
 use Rattle.hub.specs.InForce.{goes_on_for, goes_on, under, removal_for, IsInForce}
 use Rattle.hub.proofs.Finds.{find-map, find-passes, find-All, find-nothing, AllPairs-head, AllPairs-tail, AllPairs-map}
 use Rattle.hub.proofs.Naming.{name_of, are_named_once, unlike, named_again}
-use Rattle.sessions.proofs.Ascending.{AreApart, among-ascending, ascending-rises}
+use Rattle.world_sessions.proofs.Ascending.{AreApart, among-ascending, ascending-rises}
 use Rattle.hub.proofs.Grants.{kept_judged}
 use Rattle.hub.proofs.Soundness.{IsOfPolicy, HasBound, HasTable, IsApart, IsOwned, IsStillToReceive, quotas-filter, tables-next}
 

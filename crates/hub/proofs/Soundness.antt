@@ -13,14 +13,14 @@ use Rattle.std.proofs.lemmas.List.Kept.{AllPairs-filter}
 use Rattle.std.proofs.lemmas.List.Quantifiers.{all_pairs_push}
 use Rattle.subjects.specs.Subject.{Token}
 use Rattle.policy_doc.specs.declared.document.PolicyDoc.{PolicyDoc}
-use Rattle.ready.specs.Users.{user_named}
-use Rattle.ready.specs.declared.ready.User.{User}
-use Rattle.sessions.specs.Sessions.{session_of, new_session}
-use Rattle.sessions.specs.Renewal.{HaveOneUser}
-use Rattle.sessions.specs.declared.session.Session.{Session}
-use Rattle.subscriptions.specs.Subscriptions.{subscription_of, stands, of_connection, has_all}
-use Rattle.subscriptions.specs.Limit.{is_reached, has_ended, unended}
-use Rattle.subscription_rows.specs.declared.subscription.Subscription.{Subscription}
+use Rattle.policy_ready.specs.Users.{user_named}
+use Rattle.policy_ready.specs.declared.ready.User.{User}
+use Rattle.world_sessions.specs.Sessions.{session_of, new_session}
+use Rattle.world_sessions.specs.Renewal.{HaveOneUser}
+use Rattle.world_sessions.specs.declared.session.Session.{Session}
+use Rattle.world_subscriptions.specs.Subscriptions.{subscription_of, stands, of_connection, has_all}
+use Rattle.world_subscriptions.specs.Limit.{is_reached, has_ended, unended}
+use Rattle.world_rows.specs.declared.subscription.Subscription.{Subscription}
 use Rattle.world.specs.World.{World}
 use Rattle.world.specs.Reload.{user_before, verdict_for, may_stand, AreEntitled}
 use Rattle.hub.specs.Kept.{IsKeptTable}

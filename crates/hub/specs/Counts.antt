@@ -7,7 +7,7 @@ use Rattle.events.specs.declared.answer.Item.{Item}
 use Rattle.events.specs.declared.answer.Item.TheVariants.{Entered, Full}
 use Rattle.events.specs.declared.answer.Entry.{Entry}
 use Rattle.events.specs.declared.answer.Outcome.TheVariants.{Subscribed}
-use Rattle.subscription_rows.specs.declared.subscription.Subscription.{Subscription}
+use Rattle.world_rows.specs.declared.subscription.Subscription.{Subscription}
 use Rattle.world.specs.Changes.{items_in}
 
 -- whether an item tells that a message has entered for the connection's subscription of that id

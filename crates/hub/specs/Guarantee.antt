@@ -10,8 +10,8 @@ use Rattle.permissions.specs.declared.verdict.By.{By}
 use Rattle.permissions.specs.declared.verdict.By.TheVariants.{All as AllowsAll, Index, Grant}
 use Rattle.permissions.specs.declared.verdict.Verdict.{Verdict}
 use Rattle.permissions.specs.declared.verdict.Verdict.TheVariants.{Allowed}
-use Rattle.ready.specs.Users.{user_with_password}
-use Rattle.ready.specs.declared.ready.User.{User}
+use Rattle.policy_ready.specs.Users.{user_with_password}
+use Rattle.policy_ready.specs.declared.ready.User.{User}
 use Rattle.events.specs.Messages.{Message}
 use Rattle.events.specs.declared.event.Event.{Event}
 use Rattle.events.specs.declared.event.Command.{Command}
@@ -24,15 +24,15 @@ use Rattle.events.specs.declared.answer.Outcome.TheVariants.{Connected, AuthViol
 use Rattle.events.specs.declared.answer.Entry.{Entry}
 use Rattle.events.specs.declared.refusal.HubRefusal.{HubRefusal}
 use Rattle.events.specs.declared.refusal.HubRefusal.TheVariants.{HistoryFull, NoSession, SessionTaken, SessionLimit, NoMemory}
-use Rattle.sessions.specs.Sessions.{session_of, new_session, drained}
-use Rattle.sessions.specs.declared.session.Session.{Session}
-use Rattle.subscriptions.specs.Subscriptions.{stands, of_connection, has_all, subscription_of}
-use Rattle.subscriptions.specs.Limit.{counted, limited}
-use Rattle.subscription_rows.specs.declared.subscription.Subscription.{Subscription}
+use Rattle.world_sessions.specs.Sessions.{session_of, new_session, drained}
+use Rattle.world_sessions.specs.declared.session.Session.{Session}
+use Rattle.world_subscriptions.specs.Subscriptions.{stands, of_connection, has_all, subscription_of}
+use Rattle.world_subscriptions.specs.Limit.{counted, limited}
+use Rattle.world_rows.specs.declared.subscription.Subscription.{Subscription}
 use Rattle.queue_choice.specs.Choices.{chosen}
 use Rattle.world.specs.World.{World}
-use Rattle.queue_groups.specs.Served.{is_member, members}
-use Rattle.subscriptions.specs.Addressing.{delivery_to}
+use Rattle.world_groups.specs.Served.{is_member, members}
+use Rattle.world_subscriptions.specs.Addressing.{delivery_to}
 use Rattle.hub.specs.Sound.{IsSound, user_at, may_subscribe, HasAllowance, is_to_receive}
 use Rattle.hub.specs.Replies.{may_answer, replies_after}
 use Rattle.hub.specs.History.{State, is_history_full}

@@ -4,15 +4,15 @@ use Rattle.std.specs.List.{filter_map, list_any}
 use Rattle.std.specs.Cmp.Lexicographic.{pointwise}
 use Rattle.policy_doc.specs.declared.document.PolicyDoc.{PolicyDoc}
 use Rattle.permissions.specs.Verdicts.{subscribe_verdict, is_allowed, IsJustifiedSubscribe}
-use Rattle.ready.specs.Users.{user_named}
-use Rattle.ready.specs.declared.ready.User.{User}
+use Rattle.policy_ready.specs.Users.{user_named}
+use Rattle.policy_ready.specs.declared.ready.User.{User}
 use Rattle.events.specs.declared.event.Command.{Command}
 use Rattle.events.specs.declared.event.Command.TheVariants.{Connect, Sub, Unsub, Pub, Take, Close, Reload}
 use Rattle.events.specs.declared.answer.Removed.{Removed}
-use Rattle.sessions.specs.Sessions.{session_of}
-use Rattle.sessions.specs.Renewal.{with_user}
-use Rattle.sessions.specs.declared.session.Session.{Session}
-use Rattle.subscription_rows.specs.declared.subscription.Subscription.{Subscription}
+use Rattle.world_sessions.specs.Sessions.{session_of}
+use Rattle.world_sessions.specs.Renewal.{with_user}
+use Rattle.world_sessions.specs.declared.session.Session.{Session}
+use Rattle.world_rows.specs.declared.subscription.Subscription.{Subscription}
 use Rattle.world.specs.World.{World}
 use Rattle.world.specs.Reload.{removed_by}
 use Rattle.hub.specs.Sound.{user_at, may_subscribe}

@@ -7,12 +7,12 @@ use Rattle.policy_doc.specs.declared.document.PolicyDoc.{PolicyDoc}
 use Rattle.permissions.specs.Verdicts.{subscribe_verdict, is_allowed, IsJustifiedSubscribe}
 use Rattle.permissions.specs.declared.verdict.By.{By}
 use Rattle.permissions.specs.declared.verdict.Verdict.TheVariants.{Allowed}
-use Rattle.ready.specs.Users.{user_named}
-use Rattle.ready.specs.declared.ready.User.{User}
-use Rattle.sessions.specs.Sessions.{session_of}
-use Rattle.sessions.specs.declared.session.Session.{Session}
-use Rattle.subscriptions.specs.Subscriptions.{is_under, of_connection}
-use Rattle.subscription_rows.specs.declared.subscription.Subscription.{Subscription}
+use Rattle.policy_ready.specs.Users.{user_named}
+use Rattle.policy_ready.specs.declared.ready.User.{User}
+use Rattle.world_sessions.specs.Sessions.{session_of}
+use Rattle.world_sessions.specs.declared.session.Session.{Session}
+use Rattle.world_subscriptions.specs.Subscriptions.{is_under, of_connection}
+use Rattle.world_rows.specs.declared.subscription.Subscription.{Subscription}
 use Rattle.world.specs.World.{World}
 use Rattle.hub.specs.Kept.{IsKeptTable}
 

@@ -1,16 +1,16 @@
 //! One step of the world, which is remembered, and a run of steps.
 use crate::Segment;
+use base::{Copying, Items, NoMemory, Shared};
 use events::{Answer, Event, HubRefusal, PublishRefusal};
-use leniency::{Lenient, LenientToAll};
-use lists::{Copying, Items, NoMemory, Shared};
 use policy_doc::Policy;
-use ready::Ready;
+use policy_ready::Ready;
 use std::alloc::Global;
 use std::collections::VecDeque;
 use std::hash::RandomState;
 use std::marker::Model;
 use std::mem;
 use world::{PlainWorld, Standing, World};
+use world_leniency::{Lenient, LenientToAll};
 
 /// What a hub is given once, at its opening.
 #[derive(Clone, Copy, Debug)]

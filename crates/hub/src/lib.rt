@@ -9,7 +9,7 @@ pub use events::{
     PublishRefusal, Removed, Sid,
 };
 pub use hub::{Caps, Hub};
-pub use leniency::{Lenient, LenientToAll};
-pub use ready::{Ready, User};
+pub use policy_ready::{Ready, User};
 pub use segment::Segment;
 pub use world::{PlainWorld, Standing};
+pub use world_leniency::{Lenient, LenientToAll};

@@ -1,6 +1,6 @@
 //! A part of a history that its hub has handed out.
+use base::Shared;
 use events::Answer;
-use lists::Shared;
 use std::marker::Model;
 use world::PlainWorld;
 

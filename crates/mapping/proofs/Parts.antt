@@ -8,7 +8,7 @@ use Rattle.std.specs.Str.Parse.{digits_value}
 use Rattle.std.proofs.lemmas.Str.Parse.{numerals_by_value, tells_all_ascii_digits, digits_value_short}
 use Rattle.std.proofs.lemmas.Bool.{and_parts}
 use Rattle.std.proofs.lemmas.Bool.Decides.{nat_tests}
-use Rattle.digits.specs.Number.{is_number}
+use Rattle.base.specs.Number.{is_number}
 use Rattle.subjects.specs.Subject.{Token, is_star, is_tail, is_token, tokens_of, IsPattern}
 use Rattle.subjects.specs.Fault.{pattern_fault}
 use Rattle.subjects.proofs.Grammar.{first_fault, pattern_from_no_fault}

@@ -2,7 +2,7 @@
 use Rattle.std.specs.Prelude.{◌≡◌, ◌+◌, ◌-◌, ℕ, Bool, true, false, not, ◌&&◌, ◌||◌, List, [], ◌∷◌, Option, Some, None, length, take, drop, map, if◌then◌else◌, nat_lt, slice_range, codes}
 use Rattle.std.specs.List.{list_any, cons_option}
 use Rattle.std.specs.Str.Parse.{digits_value}
-use Rattle.digits.specs.Number.{is_number}
+use Rattle.base.specs.Number.{is_number}
 use Rattle.subjects.specs.Subject.{Token, is_star, is_tail, same_token}
 use Rattle.mapping.specs.declared.part.Part.{Part}
 use Rattle.mapping.specs.declared.template.Kinds.{Kinds}

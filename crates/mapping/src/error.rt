@@ -1,6 +1,6 @@
 ghost use Rattle.std.specs.Prelude.{◌≡◌};
 
-use lists::NoMemory;
+use base::NoMemory;
 use std::alloc::AllocError;
 use std::error::Error;
 use std::fmt;

@@ -2,7 +2,7 @@
 ghost use Rattle.std.specs.Prelude.{◌≡◌, IfOk, map};
 ghost use Rattle.mapping.specs.Pairs.{stars_of, tail_of};
 
-use lists::{NoMemory, Pieces};
+use base::{NoMemory, Pieces};
 use std::alloc::Global;
 use subjects::{Pattern, SubjectRef, is_star, is_tail};
 

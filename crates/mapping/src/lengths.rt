@@ -3,7 +3,7 @@ ghost use Rattle.std.specs.Prelude.{◌≡◌, ◌≤◌, length, nat_lt};
 ghost use Rattle.subjects.specs.Subject.{IsPattern};
 ghost use Rattle.mapping.specs.Pairs.{count_stars, has_tail};
 
-use lists::Pieces;
+use base::Pieces;
 use subjects::{Pattern, is_star, is_tail};
 
 /// Whether there are more tokens than so many.

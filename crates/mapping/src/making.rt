@@ -3,7 +3,7 @@ ghost use Rattle.std.specs.Prelude.{◌≡◌, ◌==◌, ◌≤◌, IfOk, length
 ghost use Rattle.std.specs.List.{position, position_or_len, range_with_len};
 ghost use Rattle.mapping.specs.Pairs.{inverse};
 
-use lists::NoMemory;
+use base::NoMemory;
 use std::alloc::Global;
 
 /// The numbers from 1 to `count`.

@@ -8,7 +8,7 @@ use crate::side::{Side, carry};
 use crate::template::template_fault;
 use crate::text::{local_text, push_tokens};
 use crate::{MapError, MappingError};
-use lists::{Copying, NoMemory};
+use base::{Copying, NoMemory};
 use std::alloc::Global;
 use std::marker::Model;
 use subjects::{Pattern, Subject, SubjectRef};

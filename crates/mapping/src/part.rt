@@ -2,7 +2,7 @@
 ghost use Rattle.std.specs.Prelude.{◌≡◌};
 ghost use Rattle.mapping.specs.Template.{part_of, begins_with, ends_with, is_braced, numbered_or_bad, dollar_part, braced_part};
 
-use digits::number_of;
+use base::number_of;
 use subjects::{is_star, is_tail};
 
 /// What a token of a template stands for.

@@ -5,7 +5,7 @@ ghost use Rattle.mapping.specs.Pairs.{are_within, contains, has_each, has_repeat
 ghost use Rattle.mapping.specs.Template.{number_at, number_behind, references_of};
 
 use crate::part::{Part, part_of};
-use lists::Pieces;
+use base::Pieces;
 use std::marker::Model;
 
 /// The numbers of wildcards, from 1, in the order of a template's references. They take no memory, since a template is

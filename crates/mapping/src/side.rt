@@ -9,7 +9,7 @@ use crate::MapError;
 use crate::given::Given;
 use crate::lengths::is_longer;
 use crate::text::{push_token, push_tokens};
-use lists::NoMemory;
+use base::NoMemory;
 use std::alloc::Global;
 use subjects::{Pattern, Subject, SubjectRef, is_star, is_tail};
 

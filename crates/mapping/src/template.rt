@@ -8,7 +8,7 @@ use crate::MappingError;
 use crate::lengths::{count_stars, has_tail, is_longer};
 use crate::part::part_of;
 use crate::references::{References, has_repeat, refers_to_each};
-use lists::Pieces;
+use base::Pieces;
 use subjects::{Pattern, SubjectError, pattern_fault};
 
 /// What is wrong with a text as a template for the subjects of a pattern. It takes no memory.

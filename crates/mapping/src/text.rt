@@ -5,7 +5,7 @@ ghost use Rattle.mapping.specs.Template.{local_of, local_token};
 ghost use Rattle.mapping.specs.Text.{with_token, with_tokens};
 
 use crate::part::part_of;
-use lists::{NoMemory, Pieces};
+use base::{NoMemory, Pieces};
 use std::alloc::Global;
 
 /// Appends a token, behind a dot where it isn't the first.

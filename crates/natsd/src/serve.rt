@@ -3,10 +3,10 @@ ghost use Rattle.std.specs.Prelude.{◌≤◌};
 ghost use Rattle.command_line.specs.Options.{AreServable};
 
 use command_line::ServeOptions;
-use gates::Open;
 use policy_source::Policies;
+use server::{GateSource, Settings};
+use server_gates::Open;
 use server_prints::Prints;
-use serving::{GateSource, Settings};
 use std::alloc::AllocGlobal;
 use std::net::Net;
 use std::random::RandomSource;
@@ -44,5 +44,5 @@ pub fn serve_clients<
         history_bytes: options.history_bytes,
         connections: options.connections,
     };
-    serving::serve_clients(rt, settings, &AllOpen, policies, prints)
+    server::serve_clients(rt, settings, &AllOpen, policies, prints)
 }

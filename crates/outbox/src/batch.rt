@@ -1,8 +1,8 @@
 //! Elements that leave an outbox together.
 ghost use Rattle.std.specs.Prelude.{◌≡◌, ◌≤◌, ◌++◌, length, take, drop, OnOk};
 
+use base::NoMemory;
 use circular_buffer::HeapCircularBuffer;
-use lists::NoMemory;
 use std::alloc::Global;
 use std::marker::Model;
 use std::sync::Arc;

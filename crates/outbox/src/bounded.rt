@@ -2,8 +2,8 @@ ghost use Rattle.std.specs.Prelude.{◌≡◌, ◌≤◌, ◌<◌, ◌++◌, len
 ghost use Rattle.outbox.specs.Bounded.{batched};
 
 use crate::batch::Batch;
+use base::{Copying, NoMemory};
 use circular_buffer::HeapCircularBuffer;
-use lists::{Copying, NoMemory};
 use std::alloc::Global;
 use std::marker::Model;
 

@@ -1,7 +1,7 @@
 use crate::decision::{Among, first_entry, on_publish, on_subscribe};
 use crate::same::{are_same_lists, has_no_list};
 use crate::{By, Verdict};
-use lists::{Copying, Items, NoMemory};
+use base::{Copying, Items, NoMemory};
 use policy_doc::{PermDoc, Terms, UserDoc};
 use std::alloc::Global;
 use std::marker::Model;

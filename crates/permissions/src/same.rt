@@ -3,7 +3,7 @@ ghost use Rattle.std.specs.Prelude.{◌≡◌};
 ghost use Rattle.std.specs.Bool.{Decides};
 ghost use Rattle.permissions.specs.Lists.{open_rules};
 
-use lists::Items;
+use base::Items;
 use policy_doc::{Direction, PermEntry};
 use subjects::Pattern;
 

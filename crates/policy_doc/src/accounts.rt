@@ -3,8 +3,8 @@ ghost use Rattle.std.specs.List.{list_any, prefix_len};
 ghost use Rattle.policy_doc.specs.Accounts.{has_name, is_before};
 
 use crate::{AccountDoc, NamedAccount};
+use base::{Copying, Items, NoMemory};
 use bytes::Bytes;
-use lists::{Copying, Items, NoMemory};
 use std::alloc::Global;
 use std::marker::Model;
 

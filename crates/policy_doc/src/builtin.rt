@@ -5,8 +5,8 @@ ghost use Rattle.subjects.specs.Fault.{pattern_fault};
 ghost use Rattle.policy_doc.specs.Document.{entry_of, limited_direction, limited_user, demo_user, builtin_doc};
 
 use crate::{AccountDoc, Accounts, Direction, PermDoc, PermEntry, PolicyDoc, UserDoc};
+use base::{Items, NoMemory};
 use bytes::Bytes;
-use lists::{Items, NoMemory};
 use std::alloc::Global;
 use subjects::Pattern;
 

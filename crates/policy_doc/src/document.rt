@@ -1,6 +1,6 @@
 use crate::Accounts;
+use base::{Copying, Items, NoMemory};
 use bytes::Bytes;
-use lists::{Copying, Items, NoMemory};
 use std::alloc::Global;
 use subjects::Pattern;
 

@@ -1,7 +1,7 @@
 use crate::builtin::builtin_document;
 use crate::unique::first_twin;
 use crate::{PolicyDoc, PolicyFault};
-use lists::{Copying, NoMemory};
+use base::{Copying, NoMemory};
 use std::alloc::Global;
 use std::marker::Model;
 

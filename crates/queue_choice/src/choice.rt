@@ -2,7 +2,7 @@ ghost use Rattle.std.specs.Prelude.{◌≡◌, IfOk, Some, map};
 ghost use Rattle.queue_choice.specs.Choices.{name_of, names_of, group, chosen, IsOneOfEach};
 
 use crate::groups::{Group, Groups};
-use lists::NoMemory;
+use base::NoMemory;
 use std::alloc::Global;
 use std::hash::RandomState;
 use subjects::Subject;

@@ -1,6 +1,6 @@
 use crate::choice::Member;
+use base::NoMemory;
 use indexmap::IndexSet;
-use lists::NoMemory;
 use std::alloc::Global;
 use std::hash::RandomState;
 use std::marker::Model;

@@ -4,7 +4,7 @@ use Rattle.std.specs.Str.{is_utf8}
 use Rattle.policy_doc.specs.declared.fault.PolicyFault.{PolicyFault}
 use Rattle.policy_doc.specs.declared.fault.PolicyFault.TheVariants as policy
 use Rattle.policy_doc.specs.Document as document
-use Rattle.config_walk.specs.Fault as config
+use Rattle.policy_walk.specs.Fault as config
 use Rattle.reload.specs.declared.fault.ReloadFault.{ReloadFault}
 use Rattle.reload.specs.declared.fault.ReloadFault.TheVariants.{Config, Policy}
 

@@ -5,7 +5,7 @@ use Rattle.policy_doc.specs.declared.document.PolicyDoc.{PolicyDoc}
 use Rattle.policy_doc.specs.declared.fault.PolicyFault.{PolicyFault}
 use Rattle.policy_doc.specs.declared.fault.PolicyFault.TheVariants.{DuplicateUser, NoMemory}
 use Rattle.account_config.specs.Policy.{policy_of}
-use Rattle.config_walk.specs.declared.fault.ConfigFault.{ConfigFault}
+use Rattle.policy_walk.specs.declared.fault.ConfigFault.{ConfigFault}
 use Rattle.reload.specs.Fault.{is_memory}
 use Rattle.reload.specs.declared.fault.ReloadFault.{ReloadFault}
 use Rattle.reload.specs.declared.fault.ReloadFault.TheVariants.{Config, Policy}

@@ -1,8 +1,8 @@
+use base::NoMemory;
 use bytes::Bytes;
-use config_walk::ConfigFault;
 use itoa::Buffer;
-use lists::NoMemory;
 use policy_doc::PolicyFault;
+use policy_walk::ConfigFault;
 use std::alloc::Global;
 use std::error::Error;
 use std::{fmt, str};

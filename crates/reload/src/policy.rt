@@ -8,7 +8,7 @@ use crate::ReloadFault;
 use account_config::read_policy;
 use bytes::Bytes;
 use policy_doc::{Policy, PolicyDoc, PolicyFault};
-use ready::Ready;
+use policy_ready::Ready;
 use std::alloc::Global;
 
 /// The policy of a text, made ready, or the text's first fault: what it is as a document comes first, then what the

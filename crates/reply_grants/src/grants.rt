@@ -1,7 +1,7 @@
 use crate::marks::{MOST, Mark, Marks, count_answer, drop_dead, drop_one, dropped, is_live, put};
 use crate::plain::{PlainGrant, plain_grants};
+use base::{Items, NoMemory};
 use indexmap::IndexMap;
-use lists::{Items, NoMemory};
 use policy_doc::Terms;
 use std::alloc::Global;
 use std::hash::RandomState;

@@ -3,7 +3,7 @@ ghost use Rattle.std.specs.Prelude.{◌≡◌, ◌+◌, ◌++◌, IfOk, OnOk};
 ghost use Rattle.reply_grants.specs.Window.{window};
 
 use crate::marks::Marks;
-use lists::{Copying, Items, NoMemory};
+use base::{Copying, Items, NoMemory};
 use std::alloc::Global;
 use std::marker::Model;
 use subjects::Subject;

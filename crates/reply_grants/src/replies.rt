@@ -1,5 +1,5 @@
 use crate::{Grants, PlainGrant};
-use lists::{Items, NoMemory};
+use base::{Items, NoMemory};
 use policy_doc::Terms;
 use std::alloc::Global;
 use std::hash::RandomState;

@@ -7,7 +7,7 @@ use Rattle.events.specs.declared.answer.Entry.{Entry}
 use Rattle.events.specs.declared.answer.Outcome.{Outcome}
 use Rattle.events.specs.declared.refusal.HubRefusal.{HubRefusal}
 use Rattle.events.specs.declared.refusal.HubRefusal.TheVariants as refusal
-use Rattle.conn.specs.Turns.{outcome_of, without_event}
+use Rattle.session_conn.specs.Turns.{outcome_of, without_event}
 use Rattle.script.specs.Server.{heard, by_step}
 
 -- memory lacked for the hub

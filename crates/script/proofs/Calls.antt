@@ -10,18 +10,18 @@ use Rattle.events.specs.declared.refusal.HubRefusal.{HubRefusal}
 use Rattle.events.specs.declared.refusal.HubRefusal.TheVariants as refusal
 use Rattle.wire_write.specs.Errors.{err_line}
 use Rattle.wire_write.specs.declared.error.ServerError.TheVariants as error
-use Rattle.conn.specs.declared.output.Output.{Output}
-use Rattle.conn.specs.declared.output.Stall.{Stall}
-use Rattle.protocol.specs.declared.stage.Stage.{Stage}
-use Rattle.protocol.specs.declared.stage.Stage.TheVariants as stage
+use Rattle.session_conn.specs.declared.output.Output.{Output}
+use Rattle.session_conn.specs.declared.output.Stall.{Stall}
+use Rattle.session_plan.specs.declared.stage.Stage.{Stage}
+use Rattle.session_plan.specs.declared.stage.Stage.TheVariants as stage
 use Rattle.session.specs.declared.direct.Direct.{Direct}
-use Rattle.conn.specs.declared.drain.Written.{Written}
-use Rattle.conn.specs.declared.drain.Written.TheVariants.{All, Closes, Short}
-use Rattle.conn.specs.Calls.{Connection, IsNothing, IsRead, IsServedAt, IsServed, IsDrain, IsDrainIf, IsDrainedAt, IsDrained, IsQuiet, IsClosing, IsEnded, Given, nothing, stage_closed, stall_closed, undrained, unless_closed}
-use Rattle.conn.specs.Drains.{Drain, Drains, drain_owing_nothing, texts, IsTold, IsTakeTold, stage_after, stall_after}
-use Rattle.protocol.specs.Replies.{is_closed, closed_from, takes_headers}
-use Rattle.conn.specs.Serving.{Served, spot, served, frames_after, reader_after}
-use Rattle.conn.specs.Turns.{Steps, port_of, event}
+use Rattle.session_conn.specs.declared.drain.Written.{Written}
+use Rattle.session_conn.specs.declared.drain.Written.TheVariants.{All, Closes, Short}
+use Rattle.session_conn.specs.Calls.{Connection, IsNothing, IsRead, IsServedAt, IsServed, IsDrain, IsDrainIf, IsDrainedAt, IsDrained, IsQuiet, IsClosing, IsEnded, Given, nothing, stage_closed, stall_closed, undrained, unless_closed}
+use Rattle.session_conn.specs.Drains.{Drain, Drains, drain_owing_nothing, texts, IsTold, IsTakeTold, stage_after, stall_after}
+use Rattle.session_plan.specs.Replies.{is_closed, closed_from, takes_headers}
+use Rattle.session_conn.specs.Serving.{Served, spot, served, frames_after, reader_after}
+use Rattle.session_conn.specs.Turns.{Steps, port_of, event}
 use Rattle.script.specs.Server.{Serving, heard, IsNextWord}
 use Rattle.script.specs.Session.{Here, Closing, turns, after_turns, unchanged, bytes_call, delivered, take_answered, drain_of, after_drain, drain_if, drain_call, closed_by, closing, end_call, is_memory_stall, IsCall}
 use Rattle.script.proofs.Answering.{is_memory_answer, answered_is}

@@ -4,22 +4,22 @@ use Rattle.std.specs.Prelude.{is_some}
 use Rattle.std.specs.Option.{option_map}
 use Rattle.std.proofs.lemmas.List.{length-drop}
 use Rattle.world.specs.World.{World, advanced}
-use Rattle.sessions.specs.Sessions.{session_of, with_session, drained}
+use Rattle.world_sessions.specs.Sessions.{session_of, with_session, drained}
 use Rattle.world.specs.Transition.{transition, taken, in_session, numbered}
 use Rattle.hub.specs.History.{State, is_history_full, remembered}
 use Rattle.world.specs.Shown.{waiting_in, waiting_of}
-use Rattle.sessions.specs.declared.session.Session.{Session}
+use Rattle.world_sessions.specs.declared.session.Session.{Session}
 use Rattle.events.specs.declared.event.Command.TheVariants as command
 use Rattle.events.specs.declared.answer.Outcome.{Outcome}
 use Rattle.events.specs.declared.refusal.HubRefusal.{HubRefusal}
 use Rattle.events.specs.declared.refusal.HubRefusal.TheVariants as refusal
-use Rattle.conn.specs.declared.output.Stall.{Stall}
-use Rattle.protocol.specs.declared.stage.Stage.{Stage}
-use Rattle.protocol.specs.declared.stage.Stage.TheVariants as stage
-use Rattle.conn.specs.Calls.{Connection, stage_closed, undrained}
-use Rattle.conn.specs.Drains.{Drain, texts}
-use Rattle.protocol.specs.Replies.{is_closed, is_connected, closed_from, takes_headers}
-use Rattle.conn.specs.Turns.{event}
+use Rattle.session_conn.specs.declared.output.Stall.{Stall}
+use Rattle.session_plan.specs.declared.stage.Stage.{Stage}
+use Rattle.session_plan.specs.declared.stage.Stage.TheVariants as stage
+use Rattle.session_conn.specs.Calls.{Connection, stage_closed, undrained}
+use Rattle.session_conn.specs.Drains.{Drain, texts}
+use Rattle.session_plan.specs.Replies.{is_closed, is_connected, closed_from, takes_headers}
+use Rattle.session_conn.specs.Turns.{event}
 use Rattle.script.specs.Server.{Serving, heard, by_step}
 use Rattle.script.specs.Session.{Call, unchanged, delivered, take_answered, drain_of, drain_if, drain_call, closing, end_call}
 use Rattle.script.specs.Play.{ClientEffect, goes_on, printed, printed_by, is_pending, pending_effect, takes, enough_takes, IsClientEffect}

@@ -8,13 +8,13 @@ use Rattle.events.specs.declared.answer.Entry.{Entry}
 use Rattle.events.specs.declared.answer.Outcome.{Outcome}
 use Rattle.events.specs.declared.refusal.HubRefusal.{HubRefusal}
 use Rattle.events.specs.declared.refusal.HubRefusal.TheVariants as refusal
-use Rattle.protocol.specs.declared.plan.Plan.{Plan}
-use Rattle.protocol.specs.declared.plan.Plan.TheVariants.{Tells, Asks, Publishes}
-use Rattle.protocol.specs.declared.stage.Stage.{Stage}
-use Rattle.protocol.specs.Plans.{plan_of}
-use Rattle.protocol.specs.Replies.{told, is_closed}
-use Rattle.conn.specs.Serving.{Spot, spot, Served, served, rests, behind, UnlessClosed, IsFollowed, Serves}
-use Rattle.conn.specs.Turns.{Steps, Turned, Goes, Stalls, turn_after, event, IsAnswered, IsWord, IsHeldBack, IsPlanned, IsFrameTurn}
+use Rattle.session_plan.specs.declared.plan.Plan.{Plan}
+use Rattle.session_plan.specs.declared.plan.Plan.TheVariants.{Tells, Asks, Publishes}
+use Rattle.session_plan.specs.declared.stage.Stage.{Stage}
+use Rattle.session_plan.specs.Plans.{plan_of}
+use Rattle.session_plan.specs.Replies.{told, is_closed}
+use Rattle.session_conn.specs.Serving.{Spot, spot, Served, served, rests, behind, UnlessClosed, IsFollowed, Serves}
+use Rattle.session_conn.specs.Turns.{Steps, Turned, Goes, Stalls, turn_after, event, IsAnswered, IsWord, IsHeldBack, IsPlanned, IsFrameTurn}
 use Rattle.script.specs.Server.{heard, IsNextWord}
 use Rattle.script.specs.Session.{Here, FrameTurn, frame_turn, word_of, words_after, answered_turn, planned, goes_on, turns, is_memory_stall}
 use Rattle.script.proofs.Answering.{is_memory_answer, answered_is}

@@ -1,7 +1,7 @@
 -- The meaning of a script: what `natsd play` prints and its status, line by line (docs/SCRIPT.md).
 use Rattle.std.specs.Prelude.{◌≡◌, ◌==◌, ◌+◌, ◌/◌, ◌++◌, ◌∷◌, ◌||◌, ◌&&◌, ℕ, zero, suc, Bool, true, false, not, List, [], Option, Some, None, Result, Ok, Err, length, filter, insert, if◌then◌else◌, is_some, nat_lt, nat_le, codes}
 use Rattle.std.specs.List.{list_any, position_or_len}
-use Rattle.lists.specs.Pieces.{pieces_of}
+use Rattle.base.specs.Pieces.{pieces_of}
 use Rattle.policy_doc.specs.Document.{builtin_doc}
 use Rattle.policy_doc.specs.declared.document.PolicyDoc.{PolicyDoc}
 use Rattle.wire_write.specs.Texts.{info_line}
@@ -9,9 +9,9 @@ use Rattle.connect_opts.specs.Info.{info_text}
 use Rattle.world.specs.Shown.{waiting_of}
 use Rattle.hub.specs.declared.hub.Caps.{Caps}
 use Rattle.events.specs.declared.answer.Entry.{Entry}
-use Rattle.conn.specs.declared.output.Stall.{Stall}
-use Rattle.conn.specs.Calls.{new_connection}
-use Rattle.protocol.specs.Replies.{is_closed, is_connected}
+use Rattle.session_conn.specs.declared.output.Stall.{Stall}
+use Rattle.session_conn.specs.Calls.{new_connection}
+use Rattle.session_plan.specs.Replies.{is_closed, is_connected}
 use Rattle.script.specs.Server.{Serving, opening, with_policy, with_caps, installed}
 use Rattle.script.specs.Session.{Call, bytes_call, drain_call, end_call}
 use Rattle.reload.specs.Reload.{prepared}

@@ -9,7 +9,7 @@ use Rattle.events.specs.declared.event.Command.TheVariants.{Reload}
 use Rattle.events.specs.declared.answer.Entry.{Entry}
 use Rattle.events.specs.declared.answer.Outcome.{Outcome}
 use Rattle.events.specs.declared.refusal.HubRefusal.{HubRefusal}
-use Rattle.conn.specs.Turns.{event}
+use Rattle.session_conn.specs.Turns.{event}
 
 -- the hub, what it was given at its opening, the moment of the next event, and the words that messages still take
 pub record Serving : Type 0 where

@@ -11,19 +11,19 @@ use Rattle.events.specs.declared.answer.Outcome.{Outcome}
 use Rattle.events.specs.declared.answer.Outcome.TheVariants as outcome
 use Rattle.events.specs.declared.refusal.HubRefusal.{HubRefusal}
 use Rattle.events.specs.declared.refusal.HubRefusal.TheVariants as refusal
-use Rattle.conn.specs.declared.output.Output.{Output}
-use Rattle.conn.specs.declared.output.Stall.{Stall}
-use Rattle.conn.specs.declared.output.Stall.TheVariants as stall
-use Rattle.protocol.specs.declared.plan.Plan.{Plan}
-use Rattle.protocol.specs.declared.plan.Plan.TheVariants.{Tells, Asks, Publishes}
-use Rattle.protocol.specs.declared.stage.Stage.{Stage}
-use Rattle.protocol.specs.declared.stage.Stage.TheVariants as stage
-use Rattle.conn.specs.Calls.{Connection, stage_closed, stall_closed, undrained, unless_closed}
-use Rattle.conn.specs.Drains.{Drain, drain_owing_nothing, texts}
-use Rattle.protocol.specs.Plans.{plan_of}
-use Rattle.protocol.specs.Replies.{told, is_closed, closed_from, takes_headers}
-use Rattle.conn.specs.Serving.{Spot, spot, Served, served, rests, behind, frames_after, reader_after}
-use Rattle.conn.specs.Turns.{Turned, Goes, Stalls, turn_after, event}
+use Rattle.session_conn.specs.declared.output.Output.{Output}
+use Rattle.session_conn.specs.declared.output.Stall.{Stall}
+use Rattle.session_conn.specs.declared.output.Stall.TheVariants as stall
+use Rattle.session_plan.specs.declared.plan.Plan.{Plan}
+use Rattle.session_plan.specs.declared.plan.Plan.TheVariants.{Tells, Asks, Publishes}
+use Rattle.session_plan.specs.declared.stage.Stage.{Stage}
+use Rattle.session_plan.specs.declared.stage.Stage.TheVariants as stage
+use Rattle.session_conn.specs.Calls.{Connection, stage_closed, stall_closed, undrained, unless_closed}
+use Rattle.session_conn.specs.Drains.{Drain, drain_owing_nothing, texts}
+use Rattle.session_plan.specs.Plans.{plan_of}
+use Rattle.session_plan.specs.Replies.{told, is_closed, closed_from, takes_headers}
+use Rattle.session_conn.specs.Serving.{Spot, spot, Served, served, rests, behind, frames_after, reader_after}
+use Rattle.session_conn.specs.Turns.{Turned, Goes, Stalls, turn_after, event}
 use Rattle.script.specs.Server.{Serving, heard, first_word, later_words}
 
 -- ---- frames

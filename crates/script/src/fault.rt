@@ -1,4 +1,4 @@
-use lists::NoMemory;
+use base::NoMemory;
 use std::error::Error;
 use std::fmt;
 

@@ -7,8 +7,8 @@ ghost use Rattle.script.specs.Play.{policy_effect, policy_line_effect, reload_ef
 ghost use Rattle.script.specs.Server.{installed};
 
 use crate::server::Server;
+use base::NoMemory;
 use hub::Ready;
-use lists::NoMemory;
 use reload::{ReloadFault, prepare, read_valid_policy};
 use script_text::{Part, write_full, write_refused, write_reload};
 use std::alloc::Global;

@@ -1,12 +1,12 @@
 // The server of a script: its hub, the moment of its events and the words that they take (docs/SCRIPT.md, "Lines").
 ghost use Rattle.std.specs.Prelude.{◌≡◌, ◌≤◌, ◌++◌, ◌∷◌, [], false, IfOk, OnOk};
 ghost use Rattle.world.specs.Shown.{waiting_of};
-ghost use Rattle.protocol.specs.Replies.{is_closed};
+ghost use Rattle.session_plan.specs.Replies.{is_closed};
 ghost use Rattle.script.specs.Server.{opened, opening, with_policy, with_caps, installed, IsNextWord};
 ghost use Rattle.script.specs.Session.{bytes_call, drain_call, end_call, is_memory_stall, IsCall};
 
+use base::NoMemory;
 use hub::{Answer, Caps, Command, Event, Hub, HubRefusal, Ready};
-use lists::NoMemory;
 use policy_doc::Policy;
 use session::{Conn, Direct, Output, Stall, Words};
 use std::alloc::Global;

@@ -2,7 +2,7 @@
 ghost use Rattle.std.specs.Prelude.{◌≡◌, ◌∷◌, ◌<◌, ℕ, List, IfOk, IfSome, option_map};
 ghost use Rattle.script_text.specs.Escapes.{hex_of, unescaped, after_part, after_read, IsHex, IsHexRead};
 
-use lists::NoMemory;
+use base::NoMemory;
 use std::alloc::Global;
 
 /// The bytes that a text stands for, or `None` where a `\` in it begins no escape.

@@ -3,7 +3,7 @@ ghost use Rattle.std.specs.Prelude.{◌≡◌, IfOk, position, ◌==◌};
 ghost use Rattle.script_text.specs.Lines.{is_skipped, number_of, caps_line, send_line, numbered, client_line, short_line, policy_line, line_of, part_after};
 
 use crate::escapes::unescape;
-use lists::{Items, NoMemory};
+use base::{Items, NoMemory};
 use std::alloc::Global;
 
 /// What one line of a script says.

@@ -3,8 +3,8 @@ ghost use Rattle.std.specs.Prelude.{◌≡◌, ◌+◌, ◌*◌, ◌++◌, ◌<�
 ghost use Rattle.std.specs.Vec.{vec_len, vec_capacity};
 ghost use Rattle.script_text.specs.Output.{shown_line, closed_line, refused_line, full_line, shown_byte, hex_digit};
 
+use base::NoMemory;
 use itoa::Buffer;
-use lists::NoMemory;
 
 /// Appends the line that shows the bytes that a connection was sent. `NoMemory` comes only where
 /// the buffer can't grow, and leaves it as it was.

@@ -3,9 +3,9 @@ ghost use Rattle.std.specs.Prelude.{◌≡◌, ◌++◌, flat_map, OnOk};
 ghost use Rattle.script_text.specs.Reloads.{epoch_line, gone_line, refusal_words, removed_line, reload_text};
 
 use crate::output::{append, write_bytes};
+use base::NoMemory;
 use events::{Entry, Outcome, Removed};
 use itoa::Buffer;
-use lists::NoMemory;
 use permissions::Verdict;
 
 /// Appends the lines of a reload, by its entry: its epoch, then the connections whose sessions are gone, then the

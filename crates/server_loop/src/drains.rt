@@ -1,12 +1,12 @@
 //! What is written to connections, and when.
 use crate::worker::Worker;
-use client_io::Turn;
-use conn::Words;
-use gates::Gate;
+use server_connections::Drained;
+use server_gates::Gate;
+use server_turns::Turn;
+use session_conn::Words;
 use shared_hub::Run;
 use std::sync::Wait;
 use std::time::Clock;
-use worker_connections::Drained;
 
 /// How many Takes a connection has before others are looked at.
 const TAKES: usize = 16;

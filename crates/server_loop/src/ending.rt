@@ -1,11 +1,11 @@
 //! How connections end, and how a worker does.
 use crate::worker::Worker;
-use client_io::Turn;
-use conn::Words;
-use doors::millis;
-use gates::Gate;
 use mio::Events;
-use pacing::Slice;
+use server_gates::Gate;
+use server_mail::millis;
+use server_pacing::Slice;
+use server_turns::Turn;
+use session_conn::Words;
 use shared_hub::Run;
 use std::sync::Wait;
 use std::time::{Clock, Duration};

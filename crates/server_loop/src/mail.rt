@@ -1,8 +1,8 @@
 //! What workers leave for each other.
 use crate::worker::Worker;
-use conn::Words;
-use doors::{Arrival, Intake, Mail, owner_of};
-use gates::Gate;
+use server_gates::Gate;
+use server_mail::{Arrival, Intake, Mail, owner_of};
+use session_conn::Words;
 use shared_hub::Run;
 use std::mem;
 use std::sync::Wait;

@@ -1,9 +1,9 @@
 //! How connections begin, and which of them give way to new ones.
 use crate::worker::Worker;
-use accepting::Accepted;
-use conn::Words;
-use doors::Arrival;
-use gates::Gate;
+use server_accepting::Accepted;
+use server_gates::Gate;
+use server_mail::Arrival;
+use session_conn::Words;
 use shared_hub::Run;
 use std::sync::Wait;
 use std::time::Clock;

@@ -1,12 +1,12 @@
 //! The rounds of a worker, from its start to its end.
 use crate::worker::{WAKER, Worker};
-use accepting::LISTENER;
-use conn::Words;
-use gates::Gate;
 use mio::Events;
 use mio::event::Event;
-use pacing::Slice;
-use serve_fault::ServeFault;
+use server_accepting::LISTENER;
+use server_fault::ServeFault;
+use server_gates::Gate;
+use server_pacing::Slice;
+use session_conn::Words;
 use shared_hub::Run;
 use std::sync::Wait;
 use std::time::{Clock, Duration};

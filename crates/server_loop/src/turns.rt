@@ -1,16 +1,16 @@
 //! The turns of connections: which comes next, what it gives, and where its frames wait.
 use crate::worker::Worker;
-use client_io::Turn;
-use client_socket::Served;
-use conn::{Stall, Words};
-use gates::Gate;
-use pacing::{Slice, batch};
+use server_connections::Reads;
+use server_gates::Gate;
+use server_pacing::{Slice, batch};
 use server_port::Why;
+use server_socket::Served;
+use server_turns::Turn;
+use session_conn::{Stall, Words};
 use shared_hub::Run;
 use std::mem;
 use std::sync::Wait;
 use std::time::Clock;
-use worker_connections::Reads;
 
 /// How many turns connections with something to read have in a round, and those that were cut short at most.
 const TURNS: usize = 16;

@@ -1,15 +1,15 @@
-use accepting::Acceptor;
-use conn::Words;
-use doors::{House, Mail, Notices};
-use gates::Gate;
 use mio::net::TcpListener;
 use mio::{Poll, Token};
-use pacing::{PIECE, Slice};
+use server_accepting::Acceptor;
+use server_connections::Connections;
+use server_gates::Gate;
+use server_mail::{House, Mail, Notices};
+use server_pacing::{PIECE, Slice};
 use server_port::ServerPort;
+use session_conn::Words;
 use shared_hub::{Run, Seat, Shared};
 use std::alloc::Global;
 use std::sync::Wait;
-use worker_connections::Connections;
 
 /// The token of a worker's waker. Connections have those of their keys.
 pub const WAKER: Token = Token(usize::MAX);

@@ -2,10 +2,10 @@
 use Rattle.std.specs.Prelude.{ℕ, ◌+◌, ◌≡◌, ◌&&◌, Bool, true, false, Option, None, Some, nat_le}
 use Rattle.std.specs.Io.Iter.{u64_saturate}
 use Rattle.hub.specs.Segments.{Part, IsPart}
-use Rattle.history_bytes.specs.declared.kept.Look.{Look}
-use Rattle.history_bytes.specs.declared.kept.Telling.{Telling}
-use Rattle.history_bytes.specs.Bytes.{is_passed}
-use Rattle.history_bytes.specs.Rotating.{Rotating, failed, is_due, is_same, taken_over}
+use Rattle.server_history.specs.declared.kept.Look.{Look}
+use Rattle.server_history.specs.declared.kept.Telling.{Telling}
+use Rattle.server_history.specs.Bytes.{is_passed}
+use Rattle.server_history.specs.Rotating.{Rotating, failed, is_due, is_same, taken_over}
 
 -- It was handed out: what was handed out, a part of a history, is all that is still to be dropped. Or it could not be.
 abbrev pub IsHandedOut : Bool → Rotating → Rotating → Type 0

@@ -5,10 +5,10 @@ use crate::course::Why;
 use crate::port::ServerPort;
 use crate::runs::goes_on;
 use events::{Answer, Event, HubRefusal, Message, Port, PublishRefusal, RunEnd, Words};
-use gates::{Gate, Point};
-use history_bytes::{Look, Telling};
-use message_runs::Posts;
+use server_gates::{Gate, Point};
+use server_history::{Look, Telling};
 use shared_hub::Run;
+use shared_runs::Posts;
 use std::collections::VecDeque;
 use std::sync::Wait;
 
@@ -17,7 +17,7 @@ impl<L: Run, R: Wait, G: Gate + Drop> ServerPort<'_, L, R, G> {
     ghost use Rattle.events.specs.Offers.{IsOffered};
     ghost use Rattle.events.specs.declared.refusal.HubRefusal.TheVariants.{HistoryFull};
     ghost use Rattle.events.specs.declared.refusal.PublishRefusal.TheVariants.{By};
-    ghost use Rattle.history_bytes.specs.Bytes.{IsCounted, own};
+    ghost use Rattle.server_history.specs.Bytes.{IsCounted, own};
     ghost use Rattle.server_port.specs.Courses.{entered, followed, offered, refused};
     ghost use Rattle.server_port.specs.Histories.{falls_due, passed, tried, was_same};
     ghost use Rattle.shared_hub.specs.Entering.{IsAnswered};

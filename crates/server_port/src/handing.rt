@@ -3,16 +3,16 @@ ghost use Rattle.std.specs.Prelude.{◌≡◌};
 
 use crate::port::ServerPort;
 use events::Answer;
-use gates::Gate;
-use history_bytes::{Look, Telling};
 use hub::Segment;
+use server_gates::Gate;
+use server_history::{Look, Telling};
 use shared_hub::Run;
 use std::sync::Wait;
 
 impl<L: Run, R: Wait, G: Gate + Drop> ServerPort<'_, L, R, G> {
     ghost use Rattle.std.specs.Prelude.{ℕ, is_some, true};
-    ghost use Rattle.history_bytes.specs.Bytes.{IsCounted, is_passed, own};
-    ghost use Rattle.history_bytes.specs.Rotating.{is_due, taken_over};
+    ghost use Rattle.server_history.specs.Bytes.{IsCounted, is_passed, own};
+    ghost use Rattle.server_history.specs.Rotating.{is_due, taken_over};
     ghost use Rattle.server_port.specs.Histories.{IsHandedOut, IsTried, falls_due, passed, tried, was_same};
 
     /// Takes over a segment that was handed out: its entries are all that is still to be dropped.

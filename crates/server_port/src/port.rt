@@ -1,9 +1,9 @@
 ghost use Rattle.std.specs.Prelude.{◌≡◌};
 
 use crate::course::{Course, Why};
-use doors::Notices;
-use gates::{Gate, Point};
-use history_bytes::{Kept, Rotation};
+use server_gates::{Gate, Point};
+use server_history::{Kept, Rotation};
+use server_mail::Notices;
 use shared_hub::{Run, Seat, Shared, Told};
 use std::alloc::Global;
 use std::mem;
@@ -49,9 +49,9 @@ impl<L: Run, R: Wait, G: Gate + Drop> Drop for ServerPort<'_, L, R, G> {
 
 impl<'a, L: Run, R: Wait, G: Gate + Drop> ServerPort<'a, L, R, G> {
     ghost use Rattle.std.specs.Prelude.{◌≡◌, ◌||◌, ◌<◌, Bool, None, Option, false, max, nat_eq, not};
-    ghost use Rattle.history_bytes.specs.declared.kept.Telling.{Telling};
-    ghost use Rattle.history_bytes.specs.Bytes.{IsCounted};
-    ghost use Rattle.history_bytes.specs.Rotating.{but_last, fresh};
+    ghost use Rattle.server_history.specs.declared.kept.Telling.{Telling};
+    ghost use Rattle.server_history.specs.Bytes.{IsCounted};
+    ghost use Rattle.server_history.specs.Rotating.{but_last, fresh};
     ghost use Rattle.server_port.specs.Histories.{passed, tried};
 
     /// The port of a seat behind a gate, to a hub whose history holds at most so many entries. It has no share yet.

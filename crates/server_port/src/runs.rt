@@ -5,9 +5,9 @@ ghost use Rattle.server_port.specs.Ends.{goes_on};
 use crate::course::Why;
 use crate::port::ServerPort;
 use events::{Answer, Event, HubRefusal, Message, PublishRefusal, RunEnd, Words};
-use gates::{Gate, Point};
-use message_runs::{Hold, Posts, was_published, word_of};
+use server_gates::{Gate, Point};
 use shared_hub::{Run, size_of};
+use shared_runs::{Hold, Posts, was_published, word_of};
 use std::collections::VecDeque;
 use std::sync::Wait;
 
@@ -37,7 +37,7 @@ impl<L: Run, R: Wait, G: Gate + Drop> ServerPort<'_, L, R, G> {
     ghost use Rattle.events.specs.declared.answer.Entry.{Entry};
     ghost use Rattle.events.specs.declared.refusal.PublishRefusal.TheVariants.{Held};
     ghost use Rattle.events.specs.declared.run.RunEnd.TheVariants.{Stopped};
-    ghost use Rattle.message_runs.specs.Runs.{IsRun, word_of};
+    ghost use Rattle.shared_runs.specs.Runs.{IsRun, word_of};
     ghost use Rattle.server_port.specs.Courses.{all_followed, followed};
     ghost use Rattle.server_port.specs.Ends.{IsEnded, IsOfferedAgain};
     ghost use Rattle.server_port.specs.declared.course.Why.TheVariants.{Share};

@@ -1,11 +1,11 @@
-use doors::{House, Notices};
 use events::{Answer, Command, Event, HubRefusal};
-use gates::{Gate, Point};
+use policy_ready::Ready;
 use policy_source::{Next, Policies};
-use ready::Ready;
 use reload::prepare;
 use script_text::write_reload;
-use serve_fault::ServeFault;
+use server_fault::ServeFault;
+use server_gates::{Gate, Point};
+use server_mail::{House, Notices};
 use server_port::ServerPort;
 use server_prints::Prints;
 use shared_hub::{Run, Seat, Shared};

@@ -7,10 +7,10 @@ use Rattle.std.proofs.lemmas.List.{length-map}
 use Rattle.std.specs.Option.{option_map}
 use Rattle.std.specs.Cmp.Lexicographic.{bytes_decides}
 use Rattle.indexmap.specs.IndexMap.{insert_entry, set_value_at}
-use Rattle.exporter_routes.specs.Routes.{Exporter, WithRoom, no_routes, pruned_of, with_route}
+use Rattle.service_exporter.specs.Routes.{Exporter, WithRoom, no_routes, pruned_of, with_route}
 use Rattle.service_routes.specs.Routes.{Name, changed, exporter_of, opened, pruned, same_name}
 use Rattle.service_routes.specs.Tables.{exporters_in, rooms_in, room_of, room_or, room_in, so_far}
-use Rattle.exporter_routes.specs.declared.route.Route.{Route}
+use Rattle.service_exporter.specs.declared.route.Route.{Route}
 
 -- ---- look-ups
 

@@ -5,10 +5,10 @@ use Rattle.std.specs.Map.{lookup}
 use Rattle.std.specs.Cmp.Lexicographic.{pointwise}
 use Rattle.indexmap.specs.IndexMap.{insert_entry}
 use Rattle.subjects.specs.Subject.{Token}
-use Rattle.exporter_routes.specs.Routes.{Exporter, kept_of, no_routes, pruned_of, spent_of, with_route}
-use Rattle.exporter_routes.specs.declared.route.NewRow.{NewRow}
-use Rattle.exporter_routes.specs.declared.route.Route.{Route}
-use Rattle.exporter_routes.specs.declared.route.Row.{Row}
+use Rattle.service_exporter.specs.Routes.{Exporter, kept_of, no_routes, pruned_of, spent_of, with_route}
+use Rattle.service_exporter.specs.declared.route.NewRow.{NewRow}
+use Rattle.service_exporter.specs.declared.route.Route.{Route}
+use Rattle.service_exporter.specs.declared.route.Row.{Row}
 
 -- the bytes of an account's name
 abbrev pub Name : Type 0

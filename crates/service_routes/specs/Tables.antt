@@ -1,7 +1,7 @@
 -- What is shown of the tables of exporters.
 use Rattle.std.specs.Prelude.{◌≡◌, ◌+◌, ◌++◌, ℕ, List, Option, Some, None, map, take, drop}
 use Rattle.std.specs.Map.{lookup}
-use Rattle.exporter_routes.specs.Routes.{Exporter, WithRoom}
+use Rattle.service_exporter.specs.Routes.{Exporter, WithRoom}
 use Rattle.service_routes.specs.Routes.{Name, each, same_name}
 
 -- the exporters without their room

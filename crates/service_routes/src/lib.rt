@@ -2,12 +2,12 @@
 //! other accounts, and for how long.
 //!
 //! A request that crosses into an exporting account opens a route. A response on the route's subject reaches the account
-//! that asked, on the reply of its request. `exporter_routes` has what one exporter has.
+//! that asked, on the reply of its request. `service_exporter` has what one exporter has.
 #![tactic(auto)]
 
 mod routes;
 
-pub use exporter_routes::{
+pub use routes::Routes;
+pub use service_exporter::{
     NewRow, ResponseTerms, Route, RouteError, Row, ServiceRows, route_subject,
 };
-pub use routes::Routes;

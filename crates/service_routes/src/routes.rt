@@ -3,15 +3,15 @@ ghost use Rattle.std.specs.Prelude.{◌≡◌, ◌≤◌, ◌<◌, ◌+◌, ◌+
 ghost use Rattle.std.specs.Map.{lookup};
 ghost use Rattle.std.specs.Option.{option_copied};
 ghost use Rattle.indexmap.specs.IndexMap.{spare};
-ghost use Rattle.exporter_routes.specs.Limit.{is_full, IsReserved};
-ghost use Rattle.exporter_routes.specs.Routes.{WithRoom, kept_of, no_routes, pruned_of, route_on};
+ghost use Rattle.service_exporter.specs.Limit.{is_full, IsReserved};
+ghost use Rattle.service_exporter.specs.Routes.{WithRoom, kept_of, no_routes, pruned_of, route_on};
 ghost use Rattle.service_routes.specs.Routes.{exporter_of, kept, opened, pruned, room_for, same_name, spent};
 ghost use Rattle.service_routes.specs.Tables.{exporters_in, room_in, room_of, IsChangedAt};
 
+use base::NoMemory;
 use bytes::Bytes;
-use exporter_routes::{Exporter, Route, RouteError, ServiceRows};
 use indexmap::IndexMap;
-use lists::NoMemory;
+use service_exporter::{Exporter, Route, RouteError, ServiceRows};
 use std::alloc::Global;
 use std::marker::Model;
 use subjects::SubjectRef;

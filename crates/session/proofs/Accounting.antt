@@ -6,11 +6,11 @@ use Rattle.std.proofs.lemmas.List.{append_assoc}
 use Rattle.wire_read.specs.declared.frame.Frame.{Frame}
 use Rattle.wire_read.specs.Framing.{framing, first_frames, frames_of, CutAnywhere}
 use Rattle.hub.specs.History.{State}
-use Rattle.protocol.specs.declared.stage.Stage.{Stage}
-use Rattle.protocol.specs.declared.stage.Stage.TheVariants.{Fresh}
-use Rattle.protocol.specs.Replies.{is_closed}
-use Rattle.conn.specs.Turns.{Steps, Draws}
-use Rattle.conn.specs.Calls.{Given, given, new_connection}
+use Rattle.session_plan.specs.declared.stage.Stage.{Stage}
+use Rattle.session_plan.specs.declared.stage.Stage.TheVariants.{Fresh}
+use Rattle.session_plan.specs.Replies.{is_closed}
+use Rattle.session_conn.specs.Turns.{Steps, Draws}
+use Rattle.session_conn.specs.Calls.{Given, given, new_connection}
 use Rattle.session.specs.Happenings.{Happening, Came, comes}
 use Rattle.session.specs.Accounts.{Call, Moment, moment, Made, written_by, taken_by, closes_by, IsPortTo, IsCall, AreCalls, HasParts, IsStepped, AreDrawn, IsAccounted, AccountsForCalls}
 use Rattle.session.proofs.Leading.{Leads, leads_on, idles}

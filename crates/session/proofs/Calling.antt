@@ -6,13 +6,13 @@ use Rattle.wire_read.specs.declared.frame.Frame.{Frame}
 use Rattle.wire_read.specs.Framing.{Reader, framing, frames_of}
 use Rattle.wire_write.specs.Texts.{info_line}
 use Rattle.hub.specs.History.{State}
-use Rattle.protocol.specs.declared.stage.Stage.{Stage}
-use Rattle.conn.specs.declared.output.Output.{Output}
-use Rattle.conn.specs.declared.output.Stall.{Stall}
-use Rattle.protocol.specs.Replies.{is_closed}
-use Rattle.conn.specs.Turns.{Steps, Draws}
-use Rattle.conn.specs.Drains.{Drain, Drains}
-use Rattle.conn.specs.Calls.{Connection, Given, given, undrained, IsOpenedBy, IsDrain, IsDrainIf, IsDrainedAt}
+use Rattle.session_plan.specs.declared.stage.Stage.{Stage}
+use Rattle.session_conn.specs.declared.output.Output.{Output}
+use Rattle.session_conn.specs.declared.output.Stall.{Stall}
+use Rattle.session_plan.specs.Replies.{is_closed}
+use Rattle.session_conn.specs.Turns.{Steps, Draws}
+use Rattle.session_conn.specs.Drains.{Drain, Drains}
+use Rattle.session_conn.specs.Calls.{Connection, Given, given, undrained, IsOpenedBy, IsDrain, IsDrainIf, IsDrainedAt}
 use Rattle.session.specs.Happenings.{Happening, Opened}
 use Rattle.session.specs.Accounts.{Call, Moment, IsDrawnBy, IsPortTo, taken_by, closes_by, IsPart, IsLeft}
 use Rattle.session.proofs.Leading.{Place, Leads, leads_as, stepped-nil, or_false, idles, one_happening}

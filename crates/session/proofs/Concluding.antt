@@ -9,14 +9,14 @@ use Rattle.events.specs.declared.answer.Entry.{Entry}
 use Rattle.events.specs.declared.answer.Outcome.{Outcome}
 use Rattle.events.specs.declared.refusal.HubRefusal.{HubRefusal}
 use Rattle.events.specs.declared.refusal.HubRefusal.TheVariants as refusal
-use Rattle.protocol.specs.declared.stage.Stage.{Stage}
-use Rattle.conn.specs.declared.output.Stall.{Stall}
-use Rattle.conn.specs.declared.output.Stall.TheVariants as stall
-use Rattle.protocol.specs.declared.reply.Reply.{Reply}
-use Rattle.protocol.specs.declared.plan.Plan.{Plan}
-use Rattle.protocol.specs.declared.plan.Plan.TheVariants.{Tells, Asks, Publishes}
-use Rattle.protocol.specs.Replies.{Told, reply_to}
-use Rattle.conn.specs.Turns.{Steps, Draws, Goes, Stalls, outcome_of, without_event, turn_after, IsAnswered, IsWord}
+use Rattle.session_plan.specs.declared.stage.Stage.{Stage}
+use Rattle.session_conn.specs.declared.output.Stall.{Stall}
+use Rattle.session_conn.specs.declared.output.Stall.TheVariants as stall
+use Rattle.session_plan.specs.declared.reply.Reply.{Reply}
+use Rattle.session_plan.specs.declared.plan.Plan.{Plan}
+use Rattle.session_plan.specs.declared.plan.Plan.TheVariants.{Tells, Asks, Publishes}
+use Rattle.session_plan.specs.Replies.{Told, reply_to}
+use Rattle.session_conn.specs.Turns.{Steps, Draws, Goes, Stalls, outcome_of, without_event, turn_after, IsAnswered, IsWord}
 use Rattle.session.specs.Happenings.{is_final}
 use Rattle.session.specs.Accounts.{IsPortTo, IsStepped, IsDrawn, unless_refused}
 

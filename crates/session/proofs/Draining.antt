@@ -11,15 +11,15 @@ use Rattle.events.specs.declared.answer.Outcome.{Outcome}
 use Rattle.events.specs.declared.answer.Outcome.TheVariants as outcome
 use Rattle.events.specs.declared.refusal.HubRefusal.{HubRefusal}
 use Rattle.events.specs.declared.refusal.HubRefusal.TheVariants as refusal
-use Rattle.protocol.specs.declared.stage.Stage.{Stage}
-use Rattle.protocol.specs.declared.stage.Stage.TheVariants as stage
-use Rattle.conn.specs.declared.output.Stall.{Stall}
-use Rattle.conn.specs.declared.output.Stall.TheVariants as stall
-use Rattle.conn.specs.declared.drain.Written.{Written}
-use Rattle.conn.specs.declared.drain.Written.TheVariants.{All, Closes, Short}
-use Rattle.protocol.specs.Replies.{Told, told_text, is_closed, closed_from, takes_headers}
-use Rattle.conn.specs.Turns.{Steps, event, IsAnswered}
-use Rattle.conn.specs.Drains.{Drain, delivery_text, texts, IsTold, stage_after, IsDrainEnd, drain_owing_nothing, IsTakeTold, Drains}
+use Rattle.session_plan.specs.declared.stage.Stage.{Stage}
+use Rattle.session_plan.specs.declared.stage.Stage.TheVariants as stage
+use Rattle.session_conn.specs.declared.output.Stall.{Stall}
+use Rattle.session_conn.specs.declared.output.Stall.TheVariants as stall
+use Rattle.session_conn.specs.declared.drain.Written.{Written}
+use Rattle.session_conn.specs.declared.drain.Written.TheVariants.{All, Closes, Short}
+use Rattle.session_plan.specs.Replies.{Told, told_text, is_closed, closed_from, takes_headers}
+use Rattle.session_conn.specs.Turns.{Steps, event, IsAnswered}
+use Rattle.session_conn.specs.Drains.{Drain, delivery_text, texts, IsTold, stage_after, IsDrainEnd, drain_owing_nothing, IsTakeTold, Drains}
 use Rattle.session.specs.Happenings.{Happening, Took, Sent, Slow, take_told, took, has_missed, is_final}
 use Rattle.session.specs.Accounts.{IsPortTo, IsOfDrain}
 use Rattle.session.proofs.Leading.{Place, Leads, leads_on, leads_as, stepped-nil, or_false, idles, one_happening}

@@ -9,13 +9,13 @@ use Rattle.events.specs.declared.answer.Outcome.{Outcome}
 use Rattle.events.specs.declared.answer.Outcome.TheVariants as outcome
 use Rattle.events.specs.declared.refusal.HubRefusal.{HubRefusal}
 use Rattle.events.specs.declared.refusal.HubRefusal.TheVariants as refusal
-use Rattle.protocol.specs.declared.stage.Stage.{Stage}
-use Rattle.protocol.specs.declared.stage.Stage.TheVariants as stage
-use Rattle.conn.specs.declared.output.Output.{Output}
-use Rattle.conn.specs.declared.output.Stall.{Stall}
-use Rattle.protocol.specs.Replies.{told_text, is_closed, closed_from}
-use Rattle.conn.specs.Turns.{Steps, Draws, event, IsAnswered}
-use Rattle.conn.specs.Calls.{Connection, Given, given, nothing, stage_closed, IsQuiet, IsClosing, IsEnded}
+use Rattle.session_plan.specs.declared.stage.Stage.{Stage}
+use Rattle.session_plan.specs.declared.stage.Stage.TheVariants as stage
+use Rattle.session_conn.specs.declared.output.Output.{Output}
+use Rattle.session_conn.specs.declared.output.Stall.{Stall}
+use Rattle.session_plan.specs.Replies.{told_text, is_closed, closed_from}
+use Rattle.session_conn.specs.Turns.{Steps, Draws, event, IsAnswered}
+use Rattle.session_conn.specs.Calls.{Connection, Given, given, nothing, stage_closed, IsQuiet, IsClosing, IsEnded}
 use Rattle.session.specs.Happenings.{Ended, Other, Submitted, came, come_of_end}
 use Rattle.session.specs.Accounts.{Call, Moment, IsPortTo, IsStepped, IsLeft}
 use Rattle.session.proofs.Leading.{Place, Leads, leads_as, stepped-nil, or_false, one_happening}

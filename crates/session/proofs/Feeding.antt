@@ -5,13 +5,13 @@ use Rattle.std.proofs.lemmas.Bool.{cond-true, cond-false}
 use Rattle.wire_read.specs.declared.frame.Frame.{Frame}
 use Rattle.wire_read.specs.Framing.{Reader, Framing, framing, followed, CutAnywhere}
 use Rattle.hub.specs.History.{State}
-use Rattle.protocol.specs.declared.stage.Stage.{Stage}
-use Rattle.conn.specs.declared.output.Output.{Output}
-use Rattle.conn.specs.declared.output.Stall.{Stall}
-use Rattle.protocol.specs.Replies.{is_closed}
-use Rattle.conn.specs.Turns.{Steps, Draws}
-use Rattle.conn.specs.Serving.{Spot, spot, Served, served, Serves, frames_after, reader_after}
-use Rattle.conn.specs.Calls.{Connection, Given, given, IsRead, IsServedAt}
+use Rattle.session_plan.specs.declared.stage.Stage.{Stage}
+use Rattle.session_conn.specs.declared.output.Output.{Output}
+use Rattle.session_conn.specs.declared.output.Stall.{Stall}
+use Rattle.session_plan.specs.Replies.{is_closed}
+use Rattle.session_conn.specs.Turns.{Steps, Draws}
+use Rattle.session_conn.specs.Serving.{Spot, spot, Served, served, Serves, frames_after, reader_after}
+use Rattle.session_conn.specs.Calls.{Connection, Given, given, IsRead, IsServedAt}
 use Rattle.session.specs.Happenings.{Happening}
 use Rattle.session.specs.Accounts.{Call, Moment, IsPortTo, unless_refused}
 use Rattle.session.proofs.Leading.{Place, Leads, leads_as, drawn-nil}

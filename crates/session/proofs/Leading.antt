@@ -8,9 +8,9 @@ use Rattle.std.proofs.lemmas.List.Folds.{list_any-append}
 use Rattle.wire_read.specs.declared.frame.Frame.{Frame}
 use Rattle.hub.specs.History.{State}
 use Rattle.events.specs.declared.answer.Delivery.{Delivery}
-use Rattle.protocol.specs.declared.stage.Stage.{Stage}
-use Rattle.protocol.specs.Replies.{told_text}
-use Rattle.conn.specs.Turns.{Draws}
+use Rattle.session_plan.specs.declared.stage.Stage.{Stage}
+use Rattle.session_plan.specs.Replies.{told_text}
+use Rattle.session_conn.specs.Turns.{Draws}
 use Rattle.session.specs.Happenings.{Happening, framed, sent, took, is_slow, has_missed, Submitted, Came, came, come_of, then_came, comes, may_come, IsInOrder}
 use Rattle.session.specs.Accounts.{IsStepped, IsDrawn}
 

@@ -4,12 +4,12 @@ use Rattle.std.specs.List.{AllByRecursion}
 use Rattle.wire_read.specs.declared.frame.Frame.{Frame}
 use Rattle.hub.specs.History.{State}
 use Rattle.events.specs.declared.answer.Delivery.{Delivery}
-use Rattle.protocol.specs.declared.stage.Stage.{Stage}
-use Rattle.conn.specs.declared.output.Stall.{Stall}
-use Rattle.protocol.specs.Replies.{Told, is_closed}
-use Rattle.protocol.specs.Plans.{plan_of}
-use Rattle.conn.specs.Turns.{Steps, Draws, Turned, Goes, Stalls, IsFrameTurn}
-use Rattle.conn.specs.Serving.{Spot, spot, Served, served, rests, behind, UnlessClosed, IsFollowed, Serves}
+use Rattle.session_plan.specs.declared.stage.Stage.{Stage}
+use Rattle.session_conn.specs.declared.output.Stall.{Stall}
+use Rattle.session_plan.specs.Replies.{Told, is_closed}
+use Rattle.session_plan.specs.Plans.{plan_of}
+use Rattle.session_conn.specs.Turns.{Steps, Draws, Turned, Goes, Stalls, IsFrameTurn}
+use Rattle.session_conn.specs.Serving.{Spot, spot, Served, served, rests, behind, UnlessClosed, IsFollowed, Serves}
 use Rattle.session.specs.Happenings.{Happening, Framed}
 use Rattle.session.specs.Accounts.{IsPortTo, IsFramedAt, IsLeft, IsDrawn}
 use Rattle.session.proofs.Leading.{Leads, leads_on, idles, drawn-nil, drawn-append}

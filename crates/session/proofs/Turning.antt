@@ -9,14 +9,14 @@ use Rattle.events.specs.declared.answer.Delivery.{Delivery}
 use Rattle.events.specs.declared.answer.Outcome.{Outcome}
 use Rattle.events.specs.declared.answer.Outcome.TheVariants as outcome
 use Rattle.events.specs.declared.refusal.HubRefusal.{HubRefusal}
-use Rattle.conn.specs.declared.output.Stall.{Stall}
-use Rattle.conn.specs.declared.output.Stall.TheVariants as stall
-use Rattle.protocol.specs.declared.plan.Plan.{Plan}
-use Rattle.protocol.specs.declared.plan.Plan.TheVariants.{Tells, Asks, Publishes}
-use Rattle.protocol.specs.Replies.{Told, told, is_closed}
-use Rattle.protocol.specs.Plans.{plan_of}
-use Rattle.conn.specs.Turns.{Steps, Draws, Goes, Stalls, event, IsHeldBack, IsPlanned, IsFrameTurn}
-use Rattle.conn.specs.Serving.{Spot, spot}
+use Rattle.session_conn.specs.declared.output.Stall.{Stall}
+use Rattle.session_conn.specs.declared.output.Stall.TheVariants as stall
+use Rattle.session_plan.specs.declared.plan.Plan.{Plan}
+use Rattle.session_plan.specs.declared.plan.Plan.TheVariants.{Tells, Asks, Publishes}
+use Rattle.session_plan.specs.Replies.{Told, told, is_closed}
+use Rattle.session_plan.specs.Plans.{plan_of}
+use Rattle.session_conn.specs.Turns.{Steps, Draws, Goes, Stalls, event, IsHeldBack, IsPlanned, IsFrameTurn}
+use Rattle.session_conn.specs.Serving.{Spot, spot}
 use Rattle.session.specs.Happenings.{Framed, Came, come_of_plan, is_final}
 use Rattle.session.specs.Accounts.{IsPortTo, IsStepped, IsDrawn}
 use Rattle.session.proofs.Leading.{Place, Leads, comes-one, in_order-one, stepped-nil, drawn-nil, or_false, stays}

@@ -10,14 +10,14 @@ use Rattle.events.specs.declared.event.Event.{Event}
 use Rattle.events.specs.declared.answer.Entry.{Entry}
 use Rattle.events.specs.declared.answer.Outcome.{Outcome}
 use Rattle.events.specs.declared.refusal.HubRefusal.{HubRefusal}
-use Rattle.protocol.specs.declared.stage.Stage.{Stage}
-use Rattle.protocol.specs.declared.stage.Stage.TheVariants.{Fresh}
-use Rattle.conn.specs.declared.output.Output.{Output}
-use Rattle.conn.specs.declared.output.Stall.{Stall}
-use Rattle.conn.specs.declared.output.Stall.TheVariants as stall
-use Rattle.protocol.specs.Replies.{is_closed}
-use Rattle.conn.specs.Turns.{Steps, Draws, IsAnswered}
-use Rattle.conn.specs.Calls.{Connection, new_connection, Given, given, nothing, IsOpened, IsServed, IsDrained, IsEnded}
+use Rattle.session_plan.specs.declared.stage.Stage.{Stage}
+use Rattle.session_plan.specs.declared.stage.Stage.TheVariants.{Fresh}
+use Rattle.session_conn.specs.declared.output.Output.{Output}
+use Rattle.session_conn.specs.declared.output.Stall.{Stall}
+use Rattle.session_conn.specs.declared.output.Stall.TheVariants as stall
+use Rattle.session_plan.specs.Replies.{is_closed}
+use Rattle.session_conn.specs.Turns.{Steps, Draws, IsAnswered}
+use Rattle.session_conn.specs.Calls.{Connection, new_connection, Given, given, nothing, IsOpened, IsServed, IsDrained, IsEnded}
 use Rattle.session.specs.Happenings.{Happening, Opened, Framed, Took, Sent, Slow, Ended, Other, framed, sent, took, is_slow, has_missed, Submitted, comes, IsInOrder}
 
 -- ---- calls

@@ -12,15 +12,15 @@ use Rattle.events.specs.declared.answer.Outcome.{Outcome}
 use Rattle.events.specs.declared.answer.Outcome.TheVariants as outcome
 use Rattle.events.specs.declared.refusal.HubRefusal.{HubRefusal}
 use Rattle.events.specs.declared.refusal.HubRefusal.TheVariants as refusal
-use Rattle.protocol.specs.declared.stage.Stage.{Stage}
-use Rattle.protocol.specs.declared.stage.Stage.TheVariants as stage
-use Rattle.protocol.specs.declared.plan.Plan.{Plan}
-use Rattle.protocol.specs.declared.plan.Plan.TheVariants.{Tells, Asks, Publishes}
-use Rattle.protocol.specs.Replies.{Told, told_text, told, is_closed, closed_from, takes_headers, reply_to, told_error}
-use Rattle.protocol.specs.Plans.{plan_of}
-use Rattle.conn.specs.Turns.{event}
-use Rattle.conn.specs.Drains.{delivery_text}
-use Rattle.conn.specs.Calls.{stage_closed}
+use Rattle.session_plan.specs.declared.stage.Stage.{Stage}
+use Rattle.session_plan.specs.declared.stage.Stage.TheVariants as stage
+use Rattle.session_plan.specs.declared.plan.Plan.{Plan}
+use Rattle.session_plan.specs.declared.plan.Plan.TheVariants.{Tells, Asks, Publishes}
+use Rattle.session_plan.specs.Replies.{Told, told_text, told, is_closed, closed_from, takes_headers, reply_to, told_error}
+use Rattle.session_plan.specs.Plans.{plan_of}
+use Rattle.session_conn.specs.Turns.{event}
+use Rattle.session_conn.specs.Drains.{delivery_text}
+use Rattle.session_conn.specs.Calls.{stage_closed}
 
 -- ---- what happens
 

@@ -1,9 +1,9 @@
-ghost use Rattle.conn.specs.Turns.{port_of};
+ghost use Rattle.session_conn.specs.Turns.{port_of};
 ghost use Rattle.session.specs.Accounts.{AccountsForCalls, AccountsOver};
 
 use crate::direct::Direct;
-use conn::Words;
 use events::Port;
+use session_conn::Words;
 use wire_read::cut_anywhere;
 
 /// Any calls of one connection, in any order, each over a port of its own to one hub, with whatever others do to the

@@ -5,8 +5,8 @@
 mod direct;
 mod laws;
 
-pub use conn::{Conn, Output, Stall, Words};
 pub use direct::Direct;
 pub use events::Port;
 pub use laws::{any_calls, any_calls_direct};
-pub use protocol::Stage;
+pub use session_conn::{Conn, Output, Stall, Words};
+pub use session_plan::Stage;

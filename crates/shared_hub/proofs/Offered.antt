@@ -2,8 +2,8 @@
 use Rattle.std.proofs.Common.{ℕ, Ok, Err}
 use Rattle.events.specs.declared.event.Event.{Event}
 use Rattle.events.specs.declared.refusal.PublishRefusal.TheVariants.{By, Held}
-use Rattle.message_runs.specs.Runs.{Came}
-use Rattle.desk.specs.Publishing.{Inside, IsPublished}
+use Rattle.shared_runs.specs.Runs.{Came}
+use Rattle.shared_desk.specs.Publishing.{Inside, IsPublished}
 use Rattle.shared_hub.specs.Entering.{IsOfferedBy}
 
 pub offered_by : {S : Type 0} (count : S → ℕ) (opening : ℕ) (x : Inside S) (e : Event) (r : Came) (y : Inside S)

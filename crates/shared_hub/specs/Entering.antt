@@ -6,7 +6,7 @@ use Rattle.events.specs.declared.refusal.HubRefusal.{HubRefusal}
 use Rattle.events.specs.declared.refusal.PublishRefusal.{PublishRefusal}
 use Rattle.events.specs.Offers.{IsOffered}
 use Rattle.hub.specs.History.{State, IsStep}
-use Rattle.receipts.specs.Receipts.{Receipt}
+use Rattle.shared_receipts.specs.Receipts.{Receipt}
 
 -- What a seat knows of an answered event: its entry has the event, it is one more of the seat's, and since the run opened
 -- at least as many entries were made as the seat has.

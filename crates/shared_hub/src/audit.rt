@@ -9,7 +9,7 @@ ghost use Rattle.shared_hub.specs.Audits.{Stands, HasNone, IsFound, IsJoined, Ar
 use crate::Receipt;
 use alike::Alike;
 use hub::{Answer, Hub, Segment};
-use segments::joins;
+use hub_segments::joins;
 
 /// Why a closing audit is refused.
 #[derive(Clone, Copy, Debug, PartialEq, Eq)]

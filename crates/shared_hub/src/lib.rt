@@ -9,10 +9,10 @@ mod shared;
 mod unlocked;
 
 pub use audit::AuditFault;
-pub use desk::{Audit, Blank, Desk, Run, Seat, Told, size_of};
-pub use message_runs::{Hold, Posts};
 pub use port::SharedPort;
-pub use receipts::Receipt;
 pub use seat_port::{Notes, SeatPort};
 pub use shared::Shared;
+pub use shared_desk::{Audit, Blank, Desk, Run, Seat, Told, size_of};
+pub use shared_receipts::Receipt;
+pub use shared_runs::{Hold, Posts};
 pub use unlocked::{Parts, Unlocked};

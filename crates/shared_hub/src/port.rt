@@ -1,8 +1,8 @@
 ghost use Rattle.std.specs.Prelude.{◌≡◌};
 
 use crate::{Receipt, Run, Seat, Shared};
+use base::NoMemory;
 use hub::{Answer, Event, HubRefusal, Port, Segment};
-use lists::NoMemory;
 use std::alloc::Global;
 use std::mem;
 use std::sync::Wait;

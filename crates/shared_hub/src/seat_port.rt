@@ -1,8 +1,8 @@
 ghost use Rattle.std.specs.Prelude.{◌≡◌};
 
 use crate::{Run, Seat, Shared, Told};
+use base::NoMemory;
 use hub::{Answer, Event, HubRefusal, Port, PublishRefusal, Segment};
-use lists::NoMemory;
 use std::sync::Wait;
 
 /// Who takes note of answers.

@@ -4,10 +4,10 @@ ghost use Rattle.std.specs.Prelude.{◌≡◌, ◌<◌, ◌≤◌, ℕ};
 use crate::audit::AuditFault;
 use crate::unlocked::{Parts, Unlocked};
 use crate::{Audit, Desk, Receipt, Run, Seat, Told};
+use base::NoMemory;
 use events::Words;
 use hub::{Answer, Event, Hub, HubRefusal, Message, PublishRefusal, Segment};
-use lists::NoMemory;
-use message_runs::{Hold, Posts};
+use shared_runs::{Hold, Posts};
 use std::alloc::Global;
 use std::collections::VecDeque;
 use std::sync::ledger::{Blank, Share};
@@ -40,7 +40,7 @@ pub(crate) struct Rest<L: Run> {
 impl<L: Run> Shared<L> {
     ghost use Rattle.std.specs.Prelude.{◌≡◌, ◌+◌, ◌<◌, ◌≤◌, ◌++◌, IfOk, IfErr, All, List, vec_len, map};
     ghost use Rattle.shared_hub.specs.Entering.{IsSubmitted, IsAnswered, IsOfferedBy, IsLonger};
-    ghost use Rattle.message_runs.specs.Runs.{IsRun};
+    ghost use Rattle.shared_runs.specs.Runs.{IsRun};
     ghost use Rattle.events.specs.declared.answer.Entry.{Entry};
     ghost use Rattle.shared_hub.specs.Audits.{IsWhole, IsDue};
 

@@ -5,8 +5,8 @@ ghost use Rattle.indexmap.specs.IndexMap.{get, spare};
 ghost use Rattle.shared_waits.specs.Waiting.{patience_with, nobody, is_out_with, ends_at, without, under, elsewhere, all_but, found, after_found, after_lowered, IsHeld, after_taken, has_room, let_on, IsRested, after_end, after_ends, freed_by, after_gone};
 
 use crate::Patience;
+use base::NoMemory;
 use indexmap::IndexMap;
-use lists::NoMemory;
 use std::alloc::Global;
 use std::marker::Model;
 

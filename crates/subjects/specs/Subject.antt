@@ -2,7 +2,7 @@
 -- (NATS documentation, "Subject-Based Messaging"; docs/GUARANTEE.md, "Subjects").
 use Rattle.std.specs.Prelude.{◌≡◌, ◌==◌, ℕ, Bool, true, false, not, ◌&&◌, ◌||◌, IsTrue, List, [], ◌∷◌, length, nat_eq, nat_le, nat_lt}
 use Rattle.std.specs.List.{list_all, join_with_byte}
-use Rattle.lists.specs.Pieces.{pieces_of}
+use Rattle.base.specs.Pieces.{pieces_of}
 use Rattle.std.specs.Cmp.Lexicographic.{pointwise}
 
 -- the bytes between two dots

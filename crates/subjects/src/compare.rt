@@ -2,7 +2,7 @@ ghost use Rattle.std.specs.Prelude.{◌≡◌};
 ghost use Rattle.subjects.specs.Subject.{covers, in_set, overlaps};
 
 use crate::tokens::{is_star, is_tail, same_token};
-use lists::Pieces;
+use base::Pieces;
 
 /// Whether the subject with these tokens is one of the pattern's.
 pub fn in_set(mut pattern: Pieces, mut subject: Pieces) -> bool

@@ -4,7 +4,7 @@ ghost use Rattle.subjects.specs.Subject.{Token, covers, is_wildcard};
 ghost use Rattle.subjects.specs.Mark.{with_byte, number_of, joined, IsMarkOf};
 
 use crate::tokens::{is_star, is_tail};
-use lists::Pieces;
+use base::Pieces;
 
 /// The numbers of a pattern. A wildcard has none: what begins with it is 0, and a second one counts as none.
 #[derive(Clone, Copy, Debug)]

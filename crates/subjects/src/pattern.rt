@@ -3,7 +3,7 @@ ghost use Rattle.std.specs.Prelude.{◌≡◌, ◌↔◌, IsTrue};
 use crate::mark::Mark;
 use crate::tokens::tokens_in;
 use crate::{SubjectError, SubjectRef, compare, faults};
-use lists::{Copying, NoMemory, Pieces, SharedBytes};
+use base::{Copying, NoMemory, Pieces, SharedBytes};
 use std::alloc::Global;
 use std::marker::Model;
 

@@ -3,7 +3,7 @@ ghost use Rattle.subjects.specs.Equal.{same_subject, same_subject-equiv, hashed,
 
 use crate::tokens::tokens_in;
 use crate::{SubjectError, SubjectRef, faults};
-use lists::{Copying, NoMemory, Pieces, SharedBytes};
+use base::{Copying, NoMemory, Pieces, SharedBytes};
 use std::alloc::Global;
 use std::hash::{Hash, Hasher};
 use std::marker::Model;

@@ -1,6 +1,6 @@
 use crate::bytewise;
 use crate::tokens::tokens_in;
-use lists::Pieces;
+use base::Pieces;
 use std::marker::Model;
 
 /// A subject whose text stands elsewhere, as in a message that was read. A clause sees its tokens.

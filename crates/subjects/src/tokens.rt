@@ -1,7 +1,7 @@
 ghost use Rattle.std.specs.Prelude.{◌≡◌};
 ghost use Rattle.subjects.specs.Subject.{is_star, is_tail, same_token, tokens_of};
 
-use lists::Pieces;
+use base::Pieces;
 
 /// The tokens of a text from its front, one at a time.
 pub fn tokens_in(text: &[u8]) -> Pieces<'_>

@@ -1,6 +1,6 @@
 ghost use Rattle.sublist.specs.Tree.{IsBranch, IsBranchOf};
 
-use lists::Pieces;
+use base::Pieces;
 use subjects::{is_star, is_tail};
 
 /// Where the path of a pattern leads from a node.

@@ -5,7 +5,7 @@ ghost use Rattle.subjects.specs.Subject.{Token, tail_is_last};
 ghost use Rattle.sublist.specs.Tree.{matched, ids_at, contains, IsSame, IsAdded, IsRemoved, HasOnly};
 
 use crate::branch::{Branch, next_branch};
-use lists::{NoMemory, Pieces};
+use base::{NoMemory, Pieces};
 use std::alloc::Global;
 use std::collections::HashMap;
 use std::hash::RandomState;

@@ -3,7 +3,7 @@ ghost use Rattle.sublist.specs.declared.error.InsertError.TheVariants.{Present};
 
 use crate::node::Node;
 use crate::{Absent, InsertError};
-use lists::NoMemory;
+use base::NoMemory;
 use std::alloc::Global;
 use std::hash::RandomState;
 use subjects::{Pattern, SubjectRef};

@@ -2,7 +2,7 @@
 use Rattle.std.proofs.Common.{◌≡◌, ◌<◌, ◌++◌, ℕ, List, codes, length, ap, refl, Err}
 use Rattle.std.proofs.lemmas.Bool.{lt-ltb}
 use Rattle.account_config.specs.Policy.{policy_of}
-use Rattle.config_walk.specs.declared.fault.ConfigFault.TheVariants.{TooLarge}
+use Rattle.policy_walk.specs.declared.fault.ConfigFault.TheVariants.{TooLarge}
 use Rattle.reload.specs.Fault.{fault_line}
 use Rattle.reload.specs.Reload.{judged}
 use Rattle.reload.specs.declared.fault.ReloadFault.TheVariants.{Config}

@@ -7,11 +7,11 @@ ghost use Rattle.tasks.specs.Check.{counts_line, is_read_failed, is_write_failed
 
 use crate::fault::CheckFault;
 use account_config::MOST_BYTES;
-use config_walk::ConfigFault;
+use base::{Items, NoMemory};
 use devices::{Sink, Source, read_within, write_all};
 use itoa::Buffer;
-use lists::{Items, NoMemory};
 use policy_doc::Policy;
+use policy_walk::ConfigFault;
 use reload::{ReloadFault, read_valid_policy};
 use std::alloc::Global;
 

@@ -1,5 +1,5 @@
+use base::NoMemory;
 use devices::ReadFault;
-use lists::NoMemory;
 use script::LinesFault;
 use std::error::Error;
 use std::fmt;

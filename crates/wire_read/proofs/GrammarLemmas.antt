@@ -4,7 +4,7 @@ use Rattle.std.specs.List.{before_first, position_or_len}
 use Rattle.std.proofs.lemmas.List.{get_or_append_left, get_or_at, take_at, drop_at, take_more, take-append-drop, get_or-take}
 use Rattle.std.proofs.lemmas.List.Sums.{position_or_len_is, fails_before_first, passes_at_first}
 use Rattle.std.proofs.lemmas.Bool.{eqb-true, eqb-false, ne_eqb, cond-false}
-use Rattle.message_text.specs.Texts.{texts}
+use Rattle.wire_message.specs.Texts.{texts}
 use Rattle.wire_read.specs.declared.fault.WireFault.{WireFault}
 use Rattle.wire_read.specs.declared.fault.WireFault.TheVariants.{ParserError, ControlLine}
 use Rattle.wire_read.specs.declared.frame.Frame.{Frame}
@@ -13,14 +13,14 @@ use Rattle.wire_read.specs.Command.{Announced}
 use Rattle.wire_read.specs.Command.{Command}
 use Rattle.wire_read.specs.Command.{Alone, Publish, Refused}
 use Rattle.wire_read.specs.declared.front.End.TheVariants as ends
-use Rattle.control_lines.specs.declared.line.FoundLine.{FoundLine}
-use Rattle.control_lines.specs.declared.line.FoundLine.TheVariants.{Open, TooLong, Ended}
+use Rattle.wire_lines.specs.declared.line.FoundLine.{FoundLine}
+use Rattle.wire_lines.specs.declared.line.FoundLine.TheVariants.{Open, TooLong, Ended}
 use Rattle.wire_read.specs.Front.{Front, Whole, More, Wrong, front, front_at, after_line, after_announced, published, message, ended_by}
-use Rattle.control_lines.specs.Line.{is_lf, line_of, without_cr}
+use Rattle.wire_lines.specs.Line.{is_lf, line_of, without_cr}
 use Rattle.wire_read.specs.Command.{command, announced}
 use Rattle.wire_read.specs.Framing.{Framing, framing, behind, framed_by, frames_of}
 use Rattle.wire_read.specs.Grammar.{IsLine, Announces, Says, IsMessage, IsSpelling, IsSpelled, IsRead, IsNoEnd, Shows, IsShown, IsFault, IsPartial, IsFramedBy, IsFraming, HasFraming, HasOneFraming}
-use Rattle.control_lines.proofs.LineLemmas.{line_long, line_ended, line_parts}
+use Rattle.wire_lines.proofs.LineLemmas.{line_long, line_ended, line_parts}
 use Rattle.wire_read.proofs.SaysLemmas.{says_command, command_says}
 use Rattle.wire_read.proofs.FramingLemmas.{front_len, frames_step}
 

@@ -7,15 +7,15 @@ use Rattle.std.proofs.lemmas.Bool.{cond-true, ne_eqb, ltb-true}
 use Rattle.std.proofs.lemmas.List.{get_or_at, take_at, drop_at, take-append-drop}
 use Rattle.std.proofs.lemmas.List.Elements.{All-nil, All-cons, All-append}
 use Rattle.std.proofs.lemmas.List.Splits.{slice_split_none, slice_split_at}
-use Rattle.digits.specs.Number.{is_number}
-use Rattle.lists.specs.Blanks.{is_blank}
-use Rattle.message_text.specs.Texts.{texts}
+use Rattle.base.specs.Number.{is_number}
+use Rattle.base.specs.Blanks.{is_blank}
+use Rattle.wire_message.specs.Texts.{texts}
 use Rattle.wire_read.specs.declared.fault.WireFault.TheVariants.{ParserError, Payload}
 use Rattle.wire_read.specs.declared.frame.Frame.TheVariants as frame
-use Rattle.control_lines.specs.declared.operation.Operation.TheVariants as operations
-use Rattle.control_lines.specs.Line.{is_lf, without_cr}
-use Rattle.control_lines.specs.Field.{has_byte, fields}
-use Rattle.control_lines.specs.Operation.{operation}
+use Rattle.wire_lines.specs.declared.operation.Operation.TheVariants as operations
+use Rattle.wire_lines.specs.Line.{is_lf, without_cr}
+use Rattle.wire_lines.specs.Field.{has_byte, fields}
+use Rattle.wire_lines.specs.Operation.{operation}
 use Rattle.wire_read.specs.Size.{size}
 use Rattle.wire_read.specs.Front.{Whole, front}
 use Rattle.wire_read.specs.Plain.{is_word_byte, IsPlain}

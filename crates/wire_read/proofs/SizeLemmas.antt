@@ -4,7 +4,7 @@ use Rattle.std.specs.Str.Parse.{digits_value}
 use Rattle.std.proofs.lemmas.Bool.{cond-false, ltb-false, le-ltb}
 use Rattle.wire_read.specs.declared.fault.WireFault.{WireFault}
 use Rattle.wire_read.specs.declared.fault.WireFault.TheVariants.{ParserError, Payload}
-use Rattle.digits.specs.Number.{is_number}
+use Rattle.base.specs.Number.{is_number}
 use Rattle.wire_read.specs.Size.{size, sizes, head_within}
 
 -- a size that was read is within the limit

@@ -6,16 +6,16 @@ use Rattle.wire_read.specs.declared.fault.WireFault.{WireFault}
 use Rattle.wire_read.specs.declared.fault.WireFault.TheVariants.{UnknownOperation, ParserError, ControlLine, Payload}
 use Rattle.wire_read.specs.declared.frame.Frame.{Frame}
 use Rattle.wire_read.specs.declared.frame.Frame.TheVariants as frame
-use Rattle.control_lines.specs.declared.operation.Operation.{Operation}
-use Rattle.control_lines.specs.declared.operation.Operation.TheVariants.{Connect, Pub, Hpub, Sub, Unsub, Ping, Pong}
+use Rattle.wire_lines.specs.declared.operation.Operation.{Operation}
+use Rattle.wire_lines.specs.declared.operation.Operation.TheVariants.{Connect, Pub, Hpub, Sub, Unsub, Ping, Pong}
 use Rattle.wire_read.specs.Command.{Announced}
 use Rattle.wire_read.specs.Command.{Command}
 use Rattle.wire_read.specs.Command.{Alone, Publish, Refused}
 use Rattle.wire_read.specs.Front.{Whole, Wrong, front}
-use Rattle.control_lines.specs.Line.{is_lf, without_cr}
-use Rattle.control_lines.specs.Field.{fields, trimmed, first_field, after_first_field}
-use Rattle.control_lines.specs.Operation.{operation}
-use Rattle.digits.specs.Number.{is_number}
+use Rattle.wire_lines.specs.Line.{is_lf, without_cr}
+use Rattle.wire_lines.specs.Field.{fields, trimmed, first_field, after_first_field}
+use Rattle.wire_lines.specs.Operation.{operation}
+use Rattle.base.specs.Number.{is_number}
 use Rattle.wire_read.specs.Framing.{Framing, frames_of}
 
 -- A text is this control line with its end: bytes other than LF, and a LF. One CR right before the LF is no part of the line.

@@ -1,6 +1,6 @@
 -- A PUB as most clients write it: `PUB subject size` with one space between its fields, and CR LF behind them.
 use Rattle.std.specs.Prelude.{◌≡◌, ℕ, ◌+◌, ◌≤◌, Bool, List, [], length, take, drop, None, nat_lt}
-use Rattle.message_text.specs.Texts.{texts}
+use Rattle.wire_message.specs.Texts.{texts}
 use Rattle.wire_read.specs.declared.frame.Frame.{Frame}
 use Rattle.wire_read.specs.declared.frame.Frame.TheVariants.{Pub}
 use Rattle.wire_read.specs.declared.plain.PlainAt.{PlainAt}

@@ -1,7 +1,7 @@
 -- The numbers on a control line (NATS documentation, "Client Protocol"; docs/PROTOCOL.md, "Sizes").
 use Rattle.std.specs.Prelude.{ℕ, ◌-◌, ◌^◌, not, List, nat_lt, Option, Some, None, Result, Ok, Err, if◌then◌else◌}
 use Rattle.std.specs.Str.Parse.{digits_value}
-use Rattle.digits.specs.Number.{is_number}
+use Rattle.base.specs.Number.{is_number}
 use Rattle.wire_read.specs.declared.fault.WireFault.{WireFault}
 use Rattle.wire_read.specs.declared.fault.WireFault.TheVariants.{ParserError, Payload}
 

@@ -1,7 +1,7 @@
 ghost use Rattle.std.specs.Prelude.{◌≡◌, ◌<◌, ◌++◌, [], length, take, IfOk, OnOk, OnErr};
 ghost use Rattle.std.specs.Option.{unwrap_or};
 
-use lists::SharedBytes;
+use base::SharedBytes;
 use std::alloc::{AllocError, Global};
 use std::marker::Model;
 use std::mem;

@@ -1,6 +1,6 @@
 use crate::WireFault;
-use lists::SharedBytes;
-use message_text::MessageText;
+use base::SharedBytes;
+use wire_message::MessageText;
 
 /// What a client says at once: one protocol message, or the fault that ends the stream.
 /// Its texts are the stream's bytes, and aren't judged.

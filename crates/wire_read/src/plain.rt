@@ -5,9 +5,9 @@ ghost use Rattle.wire_read.specs.Plain.{is_word_byte, plain_frame, IsPlain};
 
 use crate::Frame;
 use crate::size::size_of;
-use lists::SharedBytes;
-use message_text::{MessageText, TextsAt};
+use base::SharedBytes;
 use std::alloc::AllocError;
+use wire_message::{MessageText, TextsAt};
 
 /// The most bytes that a field of such a PUB has.
 const MAX_FIELD: usize = 2_000;

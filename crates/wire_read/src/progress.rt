@@ -7,7 +7,7 @@ use crate::advance::{Advance, advance_by};
 use crate::awaited::Awaited;
 use crate::buffer::Buffer;
 use crate::scan::{Scan, scan_frames};
-use lists::SharedBytes;
+use base::SharedBytes;
 use std::alloc::{AllocError, Global};
 
 /// What was read of a stream: its frames, the beginning of the next, and what that waits for.

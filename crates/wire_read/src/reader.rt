@@ -5,7 +5,7 @@ use crate::awaited::Awaited;
 use crate::buffer::Buffer;
 use crate::progress::{Progress, read_on, read_whole, room_for};
 use crate::{FeedError, Frame};
-use lists::Items;
+use base::Items;
 use std::alloc::Global;
 use std::marker::Model;
 

@@ -6,7 +6,7 @@ use crate::Frame;
 use crate::awaited::Awaited;
 use crate::front::{Found, read_front};
 use crate::plain::{find_plain, push_plain};
-use lists::SharedBytes;
+use base::SharedBytes;
 use std::alloc::AllocError;
 
 /// The frames of some bytes, what is left of them, and what that waits for.

@@ -2,7 +2,7 @@ ghost use Rattle.std.specs.Prelude.{◌≡◌};
 ghost use Rattle.wire_read.specs.Size.{size, sizes, count};
 
 use crate::WireFault;
-use digits::number_of;
+use base::number_of;
 
 /// The most bytes of a payload, its header block among them.
 pub const MAX_PAYLOAD: u64 = 1_048_576;

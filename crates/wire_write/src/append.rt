@@ -2,7 +2,7 @@
 ghost use Rattle.std.specs.Prelude.{◌≡◌, ◌+◌, ◌-◌, ◌++◌, ◌<◌, ◌≤◌, length, drop, codes, OnOk, OnErr};
 ghost use Rattle.std.specs.Vec.{vec_len, vec_capacity};
 
-use lists::NoMemory;
+use base::NoMemory;
 
 /// Makes room for three pieces and `more` bytes, or leaves the buffer as it is.
 #[inline(never)]

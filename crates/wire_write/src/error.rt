@@ -3,7 +3,7 @@ ghost use Rattle.std.specs.Vec.{vec_len, vec_capacity};
 ghost use Rattle.wire_write.specs.Errors.{err_line, closes_after, subscription_denied_line};
 
 use crate::append::{append, append_five};
-use lists::NoMemory;
+use base::NoMemory;
 
 /// What the server tells a client by `-ERR` (NATS documentation, "Client Protocol", "+OK/ERR").
 #[derive(Clone, Copy, Debug)]

@@ -4,8 +4,8 @@ ghost use Rattle.wire_write.specs.Texts.{info_line, address, body, reply_room, s
 
 use crate::append::{append, make_room, put, put_array, put_crlf, put_short, put_space};
 use crate::number::{digit_count, put_number, put_small};
+use base::NoMemory;
 use itoa::Buffer;
-use lists::NoMemory;
 use std::mem;
 
 /// Appends the INFO line, which the server writes at a connection's opening: `info` is its JSON.

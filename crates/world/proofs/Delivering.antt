@@ -5,17 +5,17 @@ use Rattle.events.specs.Messages.{Message}
 use Rattle.events.specs.declared.answer.Addressed.{Addressed}
 use Rattle.events.specs.declared.answer.Item.{Item}
 use Rattle.events.specs.declared.answer.Item.TheVariants.{Entered, Full}
-use Rattle.sessions.specs.Sessions.{session_of, with_session}
-use Rattle.sessions.specs.Delivered.{delivered, after_offer, has_room}
-use Rattle.sessions.specs.Replying.{with_note, answering, ending}
-use Rattle.sessions.specs.declared.session.Session.{Session}
-use Rattle.subscriptions.specs.Addressing.{addressed_to}
-use Rattle.subscriptions.specs.Limit.{unended, counted}
-use Rattle.subscriptions.specs.Turns.{Tells, TellEach, entered_ids, in_turn}
-use Rattle.subscriptions.specs.Kept.{Apart}
-use Rattle.subscription_rows.specs.declared.subscription.Subscription.{Subscription}
-use Rattle.subscriptions.proofs.Apart.{counted_for}
-use Rattle.receivers.proofs.Stays.{AreSeated, seats_with, seats_after, seats_delivered}
+use Rattle.world_sessions.specs.Sessions.{session_of, with_session}
+use Rattle.world_sessions.specs.Delivered.{delivered, after_offer, has_room}
+use Rattle.world_sessions.specs.Replying.{with_note, answering, ending}
+use Rattle.world_sessions.specs.declared.session.Session.{Session}
+use Rattle.world_subscriptions.specs.Addressing.{addressed_to}
+use Rattle.world_subscriptions.specs.Limit.{unended, counted}
+use Rattle.world_subscriptions.specs.Turns.{Tells, TellEach, entered_ids, in_turn}
+use Rattle.world_subscriptions.specs.Kept.{Apart}
+use Rattle.world_rows.specs.declared.subscription.Subscription.{Subscription}
+use Rattle.world_subscriptions.proofs.Apart.{counted_for}
+use Rattle.world_receivers.proofs.Stays.{AreSeated, seats_with, seats_after, seats_delivered}
 use Rattle.world.specs.Changes.{AreAddressed, handed_over}
 use Rattle.world.specs.declared.change.Answered.{Answered}
 

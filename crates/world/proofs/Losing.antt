@@ -8,12 +8,12 @@ use Rattle.permissions.specs.Lists.{Rules}
 use Rattle.permissions.specs.Verdicts.{subscribe_by, is_allowed}
 use Rattle.permissions.specs.declared.verdict.Verdict.{Verdict}
 use Rattle.events.specs.declared.answer.Removed.{Removed}
-use Rattle.ready.specs.declared.ready.User.{User}
-use Rattle.sessions.specs.Sessions.{session_of}
-use Rattle.sessions.specs.Renewal.{user_again_of, HasSameLists}
-use Rattle.sessions.specs.declared.session.Session.{Session}
-use Rattle.subscriptions.specs.Index.{ids_of}
-use Rattle.subscription_rows.specs.declared.subscription.Subscription.{Subscription}
+use Rattle.policy_ready.specs.declared.ready.User.{User}
+use Rattle.world_sessions.specs.Sessions.{session_of}
+use Rattle.world_sessions.specs.Renewal.{user_again_of, HasSameLists}
+use Rattle.world_sessions.specs.declared.session.Session.{Session}
+use Rattle.world_subscriptions.specs.Index.{ids_of}
+use Rattle.world_rows.specs.declared.subscription.Subscription.{Subscription}
 use Rattle.world.specs.Changes.{lost_id}
 use Rattle.world.specs.Reload.{user_before, user_after, verdict_for, verdict_before, may_stand, stands_on, removed_by, removal, removal_after}
 

@@ -9,18 +9,18 @@ use Rattle.events.specs.Messages.{Message}
 use Rattle.events.specs.declared.answer.Addressed.{Addressed}
 use Rattle.events.specs.declared.answer.Item.{Item}
 use Rattle.events.specs.declared.answer.Outcome.TheVariants.{Published}
-use Rattle.sessions.specs.Sessions.{session_of, with_session}
-use Rattle.sessions.specs.Delivered.{delivered, room_in}
-use Rattle.sessions.specs.Planned.{rooms_of, planned}
-use Rattle.sessions.specs.Replying.{with_note, answering}
-use Rattle.sessions.specs.declared.session.Session.{Session}
-use Rattle.sessions.proofs.Plans.{planned-delivered}
-use Rattle.subscriptions.specs.Addressing.{addressed_to}
-use Rattle.subscriptions.specs.Limit.{unended, counted}
-use Rattle.subscription_rows.specs.declared.subscription.Subscription.{Subscription}
+use Rattle.world_sessions.specs.Sessions.{session_of, with_session}
+use Rattle.world_sessions.specs.Delivered.{delivered, room_in}
+use Rattle.world_sessions.specs.Planned.{rooms_of, planned}
+use Rattle.world_sessions.specs.Replying.{with_note, answering}
+use Rattle.world_sessions.specs.declared.session.Session.{Session}
+use Rattle.world_sessions.proofs.Plans.{planned-delivered}
+use Rattle.world_subscriptions.specs.Addressing.{addressed_to}
+use Rattle.world_subscriptions.specs.Limit.{unended, counted}
+use Rattle.world_rows.specs.declared.subscription.Subscription.{Subscription}
 use Rattle.world.specs.World.{World}
-use Rattle.receivers.proofs.Tests.{both}
-use Rattle.queue_groups.specs.Served.{is_served}
+use Rattle.world_receivers.proofs.Tests.{both}
+use Rattle.world_groups.specs.Served.{is_served}
 use Rattle.world.specs.Granting.{verdict_on, counted_on, ended_on}
 use Rattle.world.specs.Routing.{own_view, is_admitted, admitted, deliveries}
 use Rattle.world.specs.Transition.{in_session, published}

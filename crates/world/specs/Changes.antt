@@ -8,16 +8,16 @@ use Rattle.events.specs.declared.answer.Item.{Item}
 use Rattle.events.specs.declared.answer.Outcome.{Outcome}
 use Rattle.events.specs.declared.answer.Outcome.TheVariants.{Published}
 use Rattle.events.specs.declared.refusal.HubRefusal.{HubRefusal}
-use Rattle.sessions.specs.Sessions.{session_of, with_session, drained}
-use Rattle.sessions.specs.Delivered.{delivered}
-use Rattle.sessions.specs.Replying.{with_note, answering, ending}
-use Rattle.sessions.specs.Renewal.{remaining, user_again_of}
-use Rattle.sessions.specs.declared.session.Session.{Session}
+use Rattle.world_sessions.specs.Sessions.{session_of, with_session, drained}
+use Rattle.world_sessions.specs.Delivered.{delivered}
+use Rattle.world_sessions.specs.Replying.{with_note, answering, ending}
+use Rattle.world_sessions.specs.Renewal.{remaining, user_again_of}
+use Rattle.world_sessions.specs.declared.session.Session.{Session}
 use Rattle.events.specs.declared.answer.Addressed.{Addressed}
-use Rattle.subscriptions.specs.Subscriptions.{stands, subscription_of}
-use Rattle.subscriptions.specs.Limit.{unended, counted, limited}
-use Rattle.subscriptions.specs.Addressing.{addressed_to}
-use Rattle.subscription_rows.specs.declared.subscription.Subscription.{Subscription}
+use Rattle.world_subscriptions.specs.Subscriptions.{stands, subscription_of}
+use Rattle.world_subscriptions.specs.Limit.{unended, counted, limited}
+use Rattle.world_subscriptions.specs.Addressing.{addressed_to}
+use Rattle.world_rows.specs.declared.subscription.Subscription.{Subscription}
 use Rattle.world.specs.World.{World}
 use Rattle.policy_doc.specs.declared.document.PolicyDoc.{PolicyDoc}
 use Rattle.world.specs.Reload.{stands_on}

@@ -6,14 +6,14 @@ use Rattle.policy_doc.specs.Document.{IsValidPolicy}
 use Rattle.policy_doc.specs.declared.document.PolicyDoc.{PolicyDoc}
 use Rattle.permissions.specs.Verdicts.{subscribe_verdict, is_allowed, IsJustifiedSubscribe}
 use Rattle.permissions.specs.declared.verdict.Verdict.{Verdict}
-use Rattle.ready.specs.declared.ready.User.{User}
+use Rattle.policy_ready.specs.declared.ready.User.{User}
 use Rattle.events.specs.declared.answer.Removed.{Removed}
 use Rattle.events.specs.declared.answer.Outcome.{Outcome}
 use Rattle.events.specs.declared.answer.Outcome.TheVariants.{Reloaded}
-use Rattle.sessions.specs.Sessions.{session_of}
-use Rattle.sessions.specs.Renewal.{user_again_of, remaining, closed_conns, HaveOneUser}
-use Rattle.sessions.specs.declared.session.Session.{Session}
-use Rattle.subscription_rows.specs.declared.subscription.Subscription.{Subscription}
+use Rattle.world_sessions.specs.Sessions.{session_of}
+use Rattle.world_sessions.specs.Renewal.{user_again_of, remaining, closed_conns, HaveOneUser}
+use Rattle.world_sessions.specs.declared.session.Session.{Session}
+use Rattle.world_rows.specs.declared.subscription.Subscription.{Subscription}
 use Rattle.world.specs.World.{World}
 
 -- whom a session that stays acts for

@@ -3,15 +3,15 @@ use Rattle.std.specs.Prelude.{◌&&◌, ℕ, List, Bool, filter, map}
 use Rattle.events.specs.Messages.{Message}
 use Rattle.events.specs.declared.answer.Addressed.{Addressed}
 use Rattle.events.specs.declared.answer.Item.{Item}
-use Rattle.sessions.specs.Delivered.{delivered}
-use Rattle.sessions.specs.Replying.{with_note}
-use Rattle.sessions.specs.declared.session.Session.{Session}
-use Rattle.subscriptions.specs.Subscriptions.{has_subject}
-use Rattle.subscriptions.specs.Addressing.{addressed_to}
-use Rattle.subscriptions.specs.Limit.{unended, counted}
-use Rattle.subscription_rows.specs.declared.subscription.Subscription.{Subscription}
-use Rattle.queue_groups.specs.Served.{served}
-pub use Rattle.receivers.specs.Open.{lets_through, may_hear, is_open_to, is_open}
+use Rattle.world_sessions.specs.Delivered.{delivered}
+use Rattle.world_sessions.specs.Replying.{with_note}
+use Rattle.world_sessions.specs.declared.session.Session.{Session}
+use Rattle.world_subscriptions.specs.Subscriptions.{has_subject}
+use Rattle.world_subscriptions.specs.Addressing.{addressed_to}
+use Rattle.world_subscriptions.specs.Limit.{unended, counted}
+use Rattle.world_rows.specs.declared.subscription.Subscription.{Subscription}
+use Rattle.world_groups.specs.Served.{served}
+pub use Rattle.world_receivers.specs.Open.{lets_through, may_hear, is_open_to, is_open}
 use Rattle.world.specs.World.{World}
 
 -- A message as an account sees it. A publish has one view, that of the publisher's own account.

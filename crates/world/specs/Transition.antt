@@ -4,8 +4,8 @@ use Rattle.subjects.specs.Subject.{Token}
 use Rattle.permissions.specs.Verdicts.{publish_verdict, subscribe_verdict, IsJustifiedPublish, IsJustifiedSubscribe}
 use Rattle.permissions.specs.declared.verdict.Verdict.{Verdict}
 use Rattle.permissions.specs.declared.verdict.Verdict.TheVariants.{Allowed, DeniedBy, NoAllow, NoQueueAllow}
-use Rattle.ready.specs.Users.{user_with_password}
-use Rattle.ready.specs.declared.ready.User.{User}
+use Rattle.policy_ready.specs.Users.{user_with_password}
+use Rattle.policy_ready.specs.declared.ready.User.{User}
 use Rattle.events.specs.Messages.{Message}
 use Rattle.events.specs.declared.event.Event.{Event}
 use Rattle.events.specs.declared.event.Command.{Command}
@@ -15,11 +15,11 @@ use Rattle.events.specs.declared.answer.Outcome.{Outcome}
 use Rattle.events.specs.declared.answer.Outcome.TheVariants.{Connected, AuthViolation, Subscribed, SameSid, SubLimit, Denied, Unsubscribed, Published, Taken, Closed, Reloaded}
 use Rattle.events.specs.declared.refusal.HubRefusal.{HubRefusal}
 use Rattle.events.specs.declared.refusal.HubRefusal.TheVariants.{NoSession, SessionTaken, SessionLimit, NoMemory}
-use Rattle.sessions.specs.Sessions.{session_of, with_session, new_session, drained}
-use Rattle.sessions.specs.declared.session.Session.{Session}
-use Rattle.subscriptions.specs.Subscriptions.{stands, has_all, subscription_of}
-use Rattle.subscriptions.specs.Limit.{unended, limited}
-use Rattle.subscription_rows.specs.declared.subscription.Subscription.{Subscription}
+use Rattle.world_sessions.specs.Sessions.{session_of, with_session, new_session, drained}
+use Rattle.world_sessions.specs.declared.session.Session.{Session}
+use Rattle.world_subscriptions.specs.Subscriptions.{stands, has_all, subscription_of}
+use Rattle.world_subscriptions.specs.Limit.{unended, limited}
+use Rattle.world_rows.specs.declared.subscription.Subscription.{Subscription}
 use Rattle.world.specs.World.{World, advanced}
 use Rattle.world.specs.Granting.{verdict_on, counted_on, ended_on}
 use Rattle.world.specs.Routing.{own_view, routed}

@@ -1,8 +1,8 @@
 -- The world: all that the tables hold (docs/GUARANTEE.md, "The world").
 use Rattle.std.specs.Prelude.{ℕ, List, [], max}
 use Rattle.policy_doc.specs.declared.document.PolicyDoc.{PolicyDoc}
-use Rattle.sessions.specs.declared.session.Session.{Session}
-use Rattle.subscription_rows.specs.declared.subscription.Subscription.{Subscription}
+use Rattle.world_sessions.specs.declared.session.Session.{Session}
+use Rattle.world_rows.specs.declared.subscription.Subscription.{Subscription}
 
 pub record World : Type 0 where
   -- how many deliveries may wait for a session

@@ -1,27 +1,27 @@
 //! What was decided is done.
 ghost use Rattle.std.specs.Prelude.{◌≡◌, ◌≤◌, ◌⊎◌, None, map};
-ghost use Rattle.receivers.specs.Known.{Holds};
-ghost use Rattle.sessions.specs.Delivered.{delivered};
-ghost use Rattle.subscriptions.specs.Limit.{unended, counted};
+ghost use Rattle.world_receivers.specs.Known.{Holds};
+ghost use Rattle.world_sessions.specs.Delivered.{delivered};
+ghost use Rattle.world_subscriptions.specs.Limit.{unended, counted};
 ghost use Rattle.world.specs.Changes.{AreAddressed, handed_over, items_in};
 
 use crate::change::{Answered, Change};
 use crate::reload::remove_lost;
 use crate::world::World;
+use base::NoMemory;
 use events::{Addressed, Item, Outcome};
-use lists::NoMemory;
-use ready::{Ready, User};
-use receivers::Known;
-use sessions::Sessions;
+use policy_ready::{Ready, User};
 use std::collections::VecDeque;
-use subscriptions::Subscriptions;
+use world_receivers::Known;
+use world_sessions::Sessions;
+use world_subscriptions::Subscriptions;
 
 impl World {
     ghost use Rattle.std.specs.Prelude.{◌≡◌, ◌<◌, ◌≤◌, ◌+◌, OnOk, OnErr, All};
-    ghost use Rattle.subscription_rows.specs.declared.subscription.Subscription.{Subscription};
+    ghost use Rattle.world_rows.specs.declared.subscription.Subscription.{Subscription};
     ghost use Rattle.std.specs.List.{filter_map};
     ghost use Rattle.events.specs.declared.answer.Outcome.{Outcome};
-    ghost use Rattle.sessions.specs.Renewal.{user_again_of};
+    ghost use Rattle.world_sessions.specs.Renewal.{user_again_of};
     ghost use Rattle.world.specs.Changes.{done, lost_id, IsFit};
     ghost use Rattle.world.specs.declared.change.Change.TheVariants as change;
 

@@ -1,10 +1,10 @@
 //! What a command comes to is decided first, and then done.
+use base::{Boxed, Items};
 use events::{Addressed, Message, Outcome, Sid};
-use lists::{Boxed, Items};
-use ready::{Ready, User};
-use sessions::Session;
+use policy_ready::{Ready, User};
 use std::collections::VecDeque;
-use subscriptions::NewSubscription;
+use world_sessions::Session;
+use world_subscriptions::NewSubscription;
 
 /// What is to be done for a command. All memory that it takes is had, but for the one growth of a new session or
 /// subscription, which comes first. What is large has a block of its own, since a change is handed on several times for

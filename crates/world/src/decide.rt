@@ -5,16 +5,16 @@ use crate::change::{Answered, Change, Decided};
 use crate::reload::{Lost, lost_by};
 use crate::verdict::{on_publish, on_subscription};
 use crate::world::World;
+use base::{Boxed, Copying, Items, NoMemory, Shared, SharedText};
 use bytes::Bytes;
 use events::{Addressed, Command, HubRefusal, Message, Met, Outcome, Sid};
-use lists::{Boxed, Copying, Items, NoMemory, Shared, SharedText};
 use permissions::{By, Verdict};
-use ready::Ready;
-use receivers::address_all;
-use sessions::Session;
+use policy_ready::Ready;
 use std::alloc::Global;
 use subjects::{Pattern, Subject};
-use subscriptions::NewSubscription;
+use world_receivers::address_all;
+use world_sessions::Session;
+use world_subscriptions::NewSubscription;
 
 /// How many sessions may stand.
 pub(crate) const SESSIONS: usize = 4096;
@@ -102,8 +102,8 @@ ghost use Rattle.world.specs.Changes.{answered_by};
 impl World {
     ghost use Rattle.std.specs.Prelude.{◌≡◌, ℕ, IfOk, OnOk, map};
     ghost use Rattle.events.specs.declared.event.Command.TheVariants as command;
-    ghost use Rattle.sessions.specs.Delivered.{delivered};
-    ghost use Rattle.sessions.specs.Replying.{with_note};
+    ghost use Rattle.world_sessions.specs.Delivered.{delivered};
+    ghost use Rattle.world_sessions.specs.Replying.{with_note};
     ghost use Rattle.world.specs.Transition.{moved, IsReasoned};
     ghost use Rattle.world.specs.Changes.{IsDecided};
     ghost use Rattle.world.specs.Reload.{AreEntitled};

@@ -1,10 +1,10 @@
 //! The world as it was at a moment.
 use crate::world::World;
 use alike::Alike;
-use lists::{Copying, Items, NoMemory};
-use plain_tables::{PlainSession, PlainSubscription, plain_sessions, plain_subscriptions};
-use ready::Ready;
+use base::{Copying, Items, NoMemory};
+use policy_ready::Ready;
 use std::marker::Model;
+use world_copies::{PlainSession, PlainSubscription, plain_sessions, plain_subscriptions};
 
 /// A world as it was at a moment. A clause sees the world. What the tables share it shares: texts, policies and
 /// messages have one more owner.

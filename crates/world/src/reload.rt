@@ -2,20 +2,20 @@
 ghost use Rattle.std.specs.Prelude.{◌≡◌, ◌∷◌, ◌++◌, [], List, IfOk, OnOk, filter, All, true};
 ghost use Rattle.std.specs.List.{filter_map};
 ghost use Rattle.std.specs.Option.{option_copied};
-ghost use Rattle.sessions.specs.Renewal.{AreSameLists};
+ghost use Rattle.world_sessions.specs.Renewal.{AreSameLists};
 ghost use Rattle.policy_doc.specs.declared.document.PolicyDoc.{PolicyDoc};
-ghost use Rattle.sessions.specs.declared.session.Session.{Session};
+ghost use Rattle.world_sessions.specs.declared.session.Session.{Session};
 ghost use Rattle.world.specs.Changes.{lost_id};
 ghost use Rattle.world.specs.Reload.{user_after, verdict_after, verdict_before, may_stand, stands_on, removal_after, AreEntitled, IsReasonedVerdict};
 
 use crate::verdict::on_subscription;
+use base::NoMemory;
 use events::Removed;
-use lists::NoMemory;
 use permissions::{Verdict, each_has_reason};
-use ready::{Ready, User};
-use sessions::{Session, Sessions};
+use policy_ready::{Ready, User};
 use std::alloc::Global;
-use subscriptions::{SharedSubscription, Subscriptions};
+use world_sessions::{Session, Sessions};
+use world_subscriptions::{SharedSubscription, Subscriptions};
 
 /// The subscriptions that don't stand on.
 #[derive(Drop)]
@@ -101,7 +101,7 @@ fn has_reason(subscription: &SharedSubscription)
 
 /// The subscriptions that don't stand on. Only those of users whose subscribe lists change are judged: the others may stand
 /// as they are.
-#[tactic(auto, using(queue_groups::proofs::Lists::filter_map_first))]
+#[tactic(auto, using(world_groups::proofs::Lists::filter_map_first))]
 pub(crate) fn lost_by(
     alloc: Global,
     ready: &Ready,

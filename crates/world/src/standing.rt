@@ -1,11 +1,11 @@
 ghost use Rattle.std.specs.Prelude.{◌≡◌, IfOk, map};
 ghost use Rattle.world.specs.Shown.{standing_of};
 
+use base::{Copying, Items, NoMemory, Shared};
 use events::Sid;
-use lists::{Copying, Items, NoMemory, Shared};
 use std::alloc::Global;
 use subjects::{Pattern, Subject};
-use subscriptions::{SharedSubscription, Subscriptions};
+use world_subscriptions::{SharedSubscription, Subscriptions};
 
 /// A standing subscription, as it is shown.
 #[derive(Drop)]

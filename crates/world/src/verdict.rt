@@ -4,8 +4,8 @@ ghost use Rattle.permissions.specs.Verdicts.{publish_verdict, subscribe_verdict,
 ghost use Rattle.world.specs.Granting.{verdict_on};
 
 use permissions::{By, Compiled, Verdict};
-use sessions::Session;
 use subjects::{Pattern, Subject, SubjectRef};
+use world_sessions::Session;
 
 /// The verdict on a subscription to a pattern, as a member of that queue group or of none.
 pub(crate) fn on_subscription(

@@ -3,16 +3,16 @@ use crate::carry_out::items_in;
 use crate::change::{Change, Decided};
 use crate::decide::SESSIONS;
 use crate::standing::{Standing, standing_all};
+use base::{Copying, Items, NoMemory, Shared};
 use events::{Addressed, Answer, Command, Entry, Event, HubRefusal, Outcome, PublishRefusal};
-use leniency::{Lenient, LenientToAll, note_held};
-use lists::{Copying, Items, NoMemory, Shared};
-use ready::Ready;
-use receivers::Known;
-use sessions::Sessions;
+use policy_ready::Ready;
 use std::alloc::Global;
 use std::hash::RandomState;
 use std::marker::Model;
-use subscriptions::Subscriptions;
+use world_leniency::{Lenient, LenientToAll, note_held};
+use world_receivers::Known;
+use world_sessions::Sessions;
+use world_subscriptions::Subscriptions;
 
 /// The tables: the policy in force, the sessions with their outboxes, and the standing subscriptions. A clause sees
 /// the world that they show.
@@ -37,7 +37,7 @@ pub struct World {
 
 impl Model for World {
     ghost use Rattle.std.specs.Prelude.{◌≤◌};
-    ghost use Rattle.receivers.specs.Known.{Holds};
+    ghost use Rattle.world_receivers.specs.Known.{Holds};
     ghost use Rattle.world.specs.World as worlds;
 
     ghost Value = { worlds.World };
@@ -58,9 +58,9 @@ impl Model for World {
 impl World {
     ghost use Rattle.std.specs.Prelude.{◌≡◌, ◌==◌, ◌<◌, ◌≤◌, ◌+◌, ℕ, Ok, [], false, IfOk, IfErr, All, map};
     ghost use Rattle.events.specs.declared.answer.Outcome.{Outcome};
-    ghost use Rattle.sessions.specs.Sessions.{session_of};
-    ghost use Rattle.sessions.specs.declared.session.Session.{Session};
-    ghost use Rattle.subscription_rows.specs.declared.subscription.Subscription.{Subscription};
+    ghost use Rattle.world_sessions.specs.Sessions.{session_of};
+    ghost use Rattle.world_sessions.specs.declared.session.Session.{Session};
+    ghost use Rattle.world_rows.specs.declared.subscription.Subscription.{Subscription};
     ghost use Rattle.world.specs.World as worlds;
     ghost use Rattle.world.specs.World.{opening_world, advanced};
     ghost use Rattle.world.specs.Transition.{IsApplied, IsReasoned, IsRefusal, IsMoved, transition, moved, refusal_in, in_session, in_new_session};

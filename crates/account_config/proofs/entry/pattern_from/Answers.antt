@@ -1,5 +1,5 @@
 use Rattle.std.proofs.Common.{◌∙◌, sym, ap, Err, rules}
-use Rattle.config_walk.specs.declared.fault.ConfigFault.TheVariants.{BadSubject}
+use Rattle.policy_walk.specs.declared.fault.ConfigFault.TheVariants.{BadSubject}
 use Rattle.account_config.proofs.Entries.{parsed, refused}
 use Rattle.account_config.proofs.entry.pattern_from.Goals as goal
 

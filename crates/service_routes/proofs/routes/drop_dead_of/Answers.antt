@@ -1,6 +1,6 @@
 -- what lives of the exporter stays
 use Rattle.std.proofs.Common.{◌∙◌, List, ap, sym}
-use Rattle.exporter_routes.specs.Routes.{WithRoom}
+use Rattle.service_exporter.specs.Routes.{WithRoom}
 use Rattle.service_routes.specs.Routes.{Name, pruned}
 use Rattle.service_routes.specs.Tables.{exporters_in}
 use Rattle.service_routes.proofs.Maps.{pruned-there}

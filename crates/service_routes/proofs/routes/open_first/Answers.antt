@@ -1,7 +1,7 @@
 -- what stood ready comes behind all others, with its first route
 use Rattle.std.proofs.Common.{◌≡◌, ◌∙◌, ◌≤◌, ◌+◌, ◌++◌, ◌∷◌, [], List, None, ap, sym, subst, cond, arith}
 use Rattle.std.specs.Map.{lookup}
-use Rattle.exporter_routes.specs.Routes.{WithRoom, with_route}
+use Rattle.service_exporter.specs.Routes.{WithRoom, with_route}
 use Rattle.service_routes.specs.Routes.{Name, same_name}
 use Rattle.service_routes.specs.Tables.{exporters_in, room_in}
 use Rattle.service_routes.proofs.Maps.{key_found, opened-absent, room-appended}

@@ -1,7 +1,7 @@
 -- the exporters so far are pruned
 use Rattle.std.proofs.Common.{◌≡◌, ◌≤◌, List, length}
 use Rattle.indexmap.specs.IndexMap.{spare}
-use Rattle.exporter_routes.specs.Routes.{WithRoom, pruned_of}
+use Rattle.service_exporter.specs.Routes.{WithRoom, pruned_of}
 use Rattle.service_routes.specs.Routes.{Name, pruned}
 use Rattle.service_routes.specs.Tables.{exporters_in, room_in, so_far}
 use Rattle.service_routes.proofs.routes.prune_all.Given as goal

@@ -1,7 +1,7 @@
 -- the exporter at the place is changed
 use Rattle.std.proofs.Common.{sym}
 use Rattle.indexmap.proofs.CallerLemmas.{index_map_len-with_value_at}
-use Rattle.exporter_routes.specs.Routes.{pruned_of}
+use Rattle.service_exporter.specs.Routes.{pruned_of}
 use Rattle.service_routes.proofs.Maps.{mapped-next, room-at}
 use Rattle.service_routes.proofs.routes.prune_at.Goals as goal
 

@@ -1,6 +1,6 @@
 -- the exporter's route ends, if the exporter is there
 use Rattle.std.proofs.Common.{◌≡◌, ◌∙◌, ap, refl, sym}
-use Rattle.exporter_routes.specs.Routes.{spent_of}
+use Rattle.service_exporter.specs.Routes.{spent_of}
 use Rattle.service_routes.specs.Tables.{exporters_in}
 use Rattle.service_routes.proofs.Maps.{changed-absent, changed-there}
 use Rattle.service_routes.proofs.routes.spend_of.Goals as goal

@@ -1,5 +1,5 @@
 -- what happened in any calls accounts for them
-use Rattle.conn.specs.Turns.{port_of}
+use Rattle.session_conn.specs.Turns.{port_of}
 use Rattle.session.proofs.Accounting.{accounts_for_calls}
 use Rattle.session.proofs.laws.any_calls.Goals as goal
 

@@ -1,6 +1,6 @@
 use Rattle.std.proofs.Common.{◌+◌, ◌-◌, List, ℕ, Option, ap, sym, subst, ◌∙◌, slice_range, arith}
-use Rattle.message_text.specs.Texts.{texts_at, IsSpanOf}
-use Rattle.message_text.specs.declared.places.Span.{Span}
+use Rattle.wire_message.specs.Texts.{texts_at, IsSpanOf}
+use Rattle.wire_message.specs.declared.places.Span.{Span}
 use Rattle.wire_read.proofs.TextLemmas.{reply_from, reply_is, texts_placed}
 use Rattle.wire_read.proofs.front.texts_of.Goals as goal
 

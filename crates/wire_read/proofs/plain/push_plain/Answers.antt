@@ -1,5 +1,5 @@
 use Rattle.std.proofs.Common.{None, ◌++◌, ◌∷◌, [], ap, ◌∙◌, arith}
-use Rattle.message_text.specs.Texts.{texts_at}
+use Rattle.wire_message.specs.Texts.{texts_at}
 use Rattle.wire_read.specs.declared.frame.Frame.TheVariants as frame
 use Rattle.wire_read.proofs.TextLemmas.{plain_placed}
 use Rattle.wire_read.proofs.plain.push_plain.Goals as goal

@@ -1,14 +1,14 @@
 -- those that a message has entered for count it, and it is still known whom the next is for where none of them has ended
 use Rattle.std.proofs.Common.{◌≡◌, ◌∙◌, List, Option, map, ap, sym, subst, inl, inr, arith}
 use Rattle.events.specs.declared.answer.Addressed.{Addressed}
-use Rattle.sessions.specs.declared.session.Session.{Session}
-use Rattle.subscriptions.specs.Limit.{unended, counted}
-use Rattle.subscriptions.specs.Turns.{entered_ids, in_turn}
-use Rattle.subscription_rows.specs.declared.subscription.Subscription.{Subscription}
-use Rattle.receivers.specs.Known.{IsWhomFor, Holds}
-use Rattle.receivers.specs.declared.known.Known.{Known}
-use Rattle.receivers.specs.declared.known.Whom.{Whom}
-use Rattle.receivers.proofs.Stays.{AreSeated, holds_counted}
+use Rattle.world_sessions.specs.declared.session.Session.{Session}
+use Rattle.world_subscriptions.specs.Limit.{unended, counted}
+use Rattle.world_subscriptions.specs.Turns.{entered_ids, in_turn}
+use Rattle.world_rows.specs.declared.subscription.Subscription.{Subscription}
+use Rattle.world_receivers.specs.Known.{IsWhomFor, Holds}
+use Rattle.world_receivers.specs.declared.known.Known.{Known}
+use Rattle.world_receivers.specs.declared.known.Whom.{Whom}
+use Rattle.world_receivers.proofs.Stays.{AreSeated, holds_counted}
 use Rattle.world.proofs.Delivering.{counted_left, seated_handed}
 use Rattle.world.proofs.carry_out.deliver.Goals as goal
 

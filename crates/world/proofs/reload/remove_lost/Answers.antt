@@ -1,7 +1,7 @@
 -- without the ids of those that don't stand on, the others are left
 use Rattle.std.proofs.Common.{◌∙◌, ap, List, ℕ}
 use Rattle.world.specs.Reload.{stands_on}
-use Rattle.subscriptions.proofs.BySid.{without, passing_left}
+use Rattle.world_subscriptions.proofs.BySid.{without, passing_left}
 use Rattle.world.proofs.Losing.{lost_ids}
 use Rattle.world.proofs.reload.remove_lost.Goals as goal
 

@@ -3,8 +3,8 @@ use Rattle.std.proofs.Common.{sym, subst}
 use Rattle.script.specs.contracts.server.Server.{the_view}
 use Rattle.script.specs.Server.{Serving}
 use Rattle.script.specs.Session.{drain_call, IsCall}
-use Rattle.conn.specs.Calls.{IsDrained}
-use Rattle.conn.specs.declared.output.Output.{Output}
+use Rattle.session_conn.specs.Calls.{IsDrained}
+use Rattle.session_conn.specs.declared.output.Output.{Output}
 use Rattle.script.proofs.Calls.{direct_steps, direct_open, hub_of, drained_is}
 use Rattle.script.proofs.server.Server.drain.Goals as goal
 

@@ -3,8 +3,8 @@ use Rattle.std.proofs.Common.{sym, subst}
 use Rattle.script.specs.contracts.server.Server.{the_view}
 use Rattle.script.specs.Server.{Serving, IsNextWord}
 use Rattle.script.specs.Session.{bytes_call, IsCall}
-use Rattle.conn.specs.Calls.{IsServed}
-use Rattle.conn.specs.declared.output.Output.{Output}
+use Rattle.session_conn.specs.Calls.{IsServed}
+use Rattle.session_conn.specs.declared.output.Output.{Output}
 use Rattle.script.proofs.Calls.{direct_steps, direct_open, hub_of, bytes_is}
 use Rattle.script.proofs.server.Server.on_bytes.Goals as goal
 

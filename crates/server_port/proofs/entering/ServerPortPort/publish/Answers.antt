@@ -1,7 +1,7 @@
 -- each hold goes on behind those before it
 use Rattle.std.proofs.Common.{◌≡◌, ◌∙◌, ◌<◌, [], length, sym, arith}
 use Rattle.std.proofs.lemmas.Grind.{common_steps}
-use Rattle.message_runs.proofs.Runs.{completes_none, nearer}
+use Rattle.shared_runs.proofs.Runs.{completes_none, nearer}
 use Rattle.shared_hub.specs.Entering.{IsAnswered}
 use Rattle.server_port.proofs.SeatRuns.{completes_on}
 use Rattle.server_port.proofs.entering.ServerPortPort.publish.Goals as goal

@@ -1,6 +1,6 @@
 -- what is left, once it is posted, completes the run
 use Rattle.std.proofs.Common.{◌≡◌, [], length}
-use Rattle.message_runs.proofs.Runs.{Completes}
+use Rattle.shared_runs.proofs.Runs.{Completes}
 use Rattle.shared_hub.specs.Entering.{IsAnswered}
 use Rattle.server_port.proofs.entering.ServerPortPort.publish.Given as goal
 

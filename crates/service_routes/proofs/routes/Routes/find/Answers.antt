@@ -1,6 +1,6 @@
 -- the route among the exporter's, if that is there
 use Rattle.std.proofs.Common.{◌≡◌, ◌∙◌, ap, sym}
-use Rattle.exporter_routes.specs.Routes.{Exporter, no_routes, route_on}
+use Rattle.service_exporter.specs.Routes.{Exporter, no_routes, route_on}
 use Rattle.service_routes.specs.Routes.{Table, exporter_of}
 use Rattle.service_routes.proofs.Maps.{exporter-there, exporter-absent}
 use Rattle.service_routes.proofs.routes.Routes.find.Goals as goal

@@ -1,7 +1,7 @@
 -- one route more of the exporter, for which there was room
 use Rattle.std.proofs.Common.{◌≡◌, ◌∙◌, ◌≤◌, ◌<◌, ◌+◌, ◌++◌, List, ap, sym, subst, cond, length, refl, unwrap_or}
 use Rattle.std.specs.Map.{lookup}
-use Rattle.exporter_routes.specs.Routes.{Exporter, WithRoom, living}
+use Rattle.service_exporter.specs.Routes.{Exporter, WithRoom, living}
 use Rattle.service_routes.specs.Routes.{Name, Table, exporter_of, opened, room_for, same_name}
 use Rattle.service_routes.specs.Tables.{exporters_in, rooms_in, room_in}
 use Rattle.service_routes.proofs.Maps.{exporter-there, has_number, opened-there, room-first, room-there, room-written, shown-less}

@@ -1,8 +1,8 @@
 -- the room of one exporter, which is there or stands ready
 use Rattle.std.proofs.Common.{◌≡◌, ◌∙◌, ◌≤◌, ◌++◌, List, None, Some, OnOk, ap, sym, subst, refl, unwrap_or}
 use Rattle.std.specs.Map.{lookup}
-use Rattle.exporter_routes.specs.Limit.{is_full, IsReserved}
-use Rattle.exporter_routes.specs.Routes.{Exporter, WithRoom, no_routes}
+use Rattle.service_exporter.specs.Limit.{is_full, IsReserved}
+use Rattle.service_exporter.specs.Routes.{Exporter, WithRoom, no_routes}
 use Rattle.service_routes.specs.Routes.{Name, Table, exporter_of, room_for, same_name}
 use Rattle.service_routes.specs.Tables.{exporters_in, rooms_in, room_in}
 use Rattle.service_routes.proofs.Maps.{changed-same, changed-there, exporter-absent, exporter-there, found-written, ready_more, room-first, room-kept, room-there, shown-kept}

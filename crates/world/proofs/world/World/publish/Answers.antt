@@ -4,20 +4,20 @@ use Rattle.std.proofs.lemmas.Bool.{eqb-true}
 use Rattle.events.specs.declared.answer.Addressed.{Addressed}
 use Rattle.events.specs.declared.answer.Outcome.{Outcome}
 use Rattle.events.specs.declared.answer.Outcome.TheVariants.{Published}
-use Rattle.sessions.specs.Sessions.{session_of}
-use Rattle.sessions.specs.Delivered.{delivered}
-use Rattle.sessions.specs.Replying.{with_note}
-use Rattle.sessions.specs.declared.session.Session.{Session}
+use Rattle.world_sessions.specs.Sessions.{session_of}
+use Rattle.world_sessions.specs.Delivered.{delivered}
+use Rattle.world_sessions.specs.Replying.{with_note}
+use Rattle.world_sessions.specs.declared.session.Session.{Session}
 use Rattle.world.specs.World.{World}
 use Rattle.world.specs.Granting.{verdict_on}
 use Rattle.world.specs.Routing.{own_view, deliveries}
 use Rattle.world.specs.Transition.{in_session, published}
 use Rattle.world.specs.Changes.{IsDecided}
-use Rattle.subscriptions.specs.Limit.{unended}
-use Rattle.subscription_rows.specs.declared.subscription.Subscription.{Subscription}
+use Rattle.world_subscriptions.specs.Limit.{unended}
+use Rattle.world_rows.specs.declared.subscription.Subscription.{Subscription}
 use Rattle.world.specs.declared.change.Change.{Change}
 use Rattle.world.specs.declared.change.Change.TheVariants.{Nothing, Deliver}
-use Rattle.receivers.proofs.Tests.{find-passes}
+use Rattle.world_receivers.proofs.Tests.{find-passes}
 use Rattle.world.proofs.Publishing.{published_is, nobody_is}
 use Rattle.world.proofs.Reasons.{publish_reason}
 use Rattle.world.proofs.world.World.publish.Goals as goal

@@ -1,10 +1,10 @@
 -- the session's user's verdict decides, and it has its reason, whatever is answered
 use Rattle.std.proofs.Common.{◌∙◌, Ok, ap, sym, refl}
-use Rattle.sessions.specs.Sessions.{session_of}
+use Rattle.world_sessions.specs.Sessions.{session_of}
 use Rattle.world.specs.World.{World}
 use Rattle.events.specs.declared.answer.Outcome.TheVariants.{Subscribed, SameSid, SubLimit, Denied}
 use Rattle.permissions.specs.declared.verdict.Verdict.TheVariants.{DeniedBy, NoAllow, NoQueueAllow}
-use Rattle.subscriptions.specs.Subscriptions.{stands, has_all}
+use Rattle.world_subscriptions.specs.Subscriptions.{stands, has_all}
 use Rattle.world.specs.declared.change.Change.TheVariants.{Nothing, Stand}
 use Rattle.world.proofs.Reasons.{subscribe_reason}
 use Rattle.world.proofs.Subscribing.{decided_by, asked, same_sid, sub_limit, stood}

@@ -1,8 +1,0 @@
--- the slots so far have their rows, and those that are left get theirs
-use Rattle.std.proofs.Common.{◌≡◌, ◌++◌, take, drop, map}
-use Rattle.exporter_routes.specs.Slots.{kept_slot}
-use Rattle.exporter_routes.proofs.slots.keep_each.Given as goal
-
-abbrev pub invariant-loop-slot : goal.invariant-loop-slot
-invariant-loop-slot g l =
-    take l.slot-index l.slots ++ map (kept_slot (g.S.ServiceRows.again l.rows)) (drop l.slot-index l.slots) ≡ map (kept_slot (g.S.ServiceRows.again l.rows)) l.initial.slots

@@ -1,0 +1,234 @@
+//! The least number at which segments and what a hub holds aren't one history.
+ghost use Rattle.std.specs.Prelude.{◌≡◌, ◌<◌, ◌+◌, ◌&&◌, ◌||◌, ℕ, true, OnOk, IfSome, MatchOption, All, filter, length, nat_lt};
+ghost use Rattle.std.specs.Bool.{Decides};
+ghost use Rattle.std.specs.List.{list_any};
+ghost use Rattle.hub.specs.Segments.{Part, IsPart, held};
+ghost use Rattle.hub_segments.specs.Joins.{parts_of, has_number, is_empty, place, Begins, is_judged, IsRight, IsLeastFault, AreOneHistory};
+ghost use Rattle.hub_segments.specs.Search.{lesser, is_before, IsBelow, IsInPlace, IsBegun, IsClear, IsFaultOf, AreNumbered};
+
+use crate::part::{
+    has_number, held_first_number, held_place, holds_nothing, holds_number, is_empty, is_judged,
+    place,
+};
+use hub::{Hub, Segment};
+use world::PlainWorld;
+
+/// Whether the segments, in any order, and what the hub holds are one history: `Ok` where they are. Else the least number
+/// at which something is wrong: from 1 up to the hub's last entry it doesn't stand in exactly one segment or in what the
+/// hub holds; or it is above that, and stands in a segment; or it is the first number of a part that doesn't begin in the
+/// world in which the part before it ends. What the hub holds has its first number as a segment has. Parts stand by the
+/// number of their opening world, empty ones first. A segment without entries adds nothing and isn't missed, and one that
+/// stands after held entries isn't judged. It takes no memory.
+pub fn joins(segments: &[Segment], hub: &Hub) -> Result<(), u64>
+    ensures least { IsLeastFault segments.now hub.now result }
+    ensures history { OnOk result (AreOneHistory segments.now hub.now) }
+{
+    known_parts(segments, hub);
+    match least_fault(segments, hub) {
+        None => Ok(()),
+        Some(number) => Err(number),
+    }
+}
+
+/// Tells what every part keeps.
+fn known_parts(segments: &[Segment], hub: &Hub)
+    ensures parts { All IsPart (parts_of segments.now hub.now) }
+    ensures numbers { AreNumbered (parts_of segments.now hub.now) }
+{
+    for segment in segments {
+        segment.known();
+        segment.closing().number();
+    }
+    hub.known();
+    hub.number();
+}
+
+/// The least number at which something is wrong: it is 1, or the first number of a part, or the one after its last.
+fn least_fault(segments: &[Segment], hub: &Hub) -> Option<u64>
+    requires { AreNumbered (parts_of segments.now hub.now) }
+    ensures wrong { IfSome result (λ n. IsRight segments.now hub.now n → ⊥) }
+    ensures below { MatchOption result ((n : ℕ) → IsRight segments.now hub.now n) (λ least. (n : ℕ) → n < least → IsRight segments.now hub.now n) }
+{
+    let mut least = misplaced_after(segments, hub, 0);
+    for segment in segments {
+        let fault = segment_fault(segments, hub, segment);
+        least = lesser(least, fault);
+    }
+    let fault = held_fault(segments, hub);
+    lesser(least, fault)
+}
+
+/// The lesser of two numbers, where there is one.
+fn lesser(one: Option<u64>, other: Option<u64>) -> Option<u64>
+    ensures { result ≡ lesser one other }
+{
+    match one {
+        None => other,
+        Some(one) => match other {
+            None => Some(one),
+            Some(other) => Some(one.min(other)),
+        },
+    }
+}
+
+/// The least number at which a segment shows that something is wrong.
+fn segment_fault(segments: &[Segment], hub: &Hub, segment: &Segment) -> Option<u64>
+    ensures wrong { IfSome result (IsFaultOf segments.now hub.now segment.now) }
+    ensures clear { IsClear segments.now hub.now result segment.now }
+{
+    let first = misplaced_after(segments, hub, segment.opening().number());
+    let next = misplaced_after(segments, hub, segment.closing().number());
+    let unbegun = segment_unbegun(segments, hub, segment);
+    lesser(lesser(first, next), unbegun)
+}
+
+/// The least number at which what the hub holds shows that something is wrong.
+fn held_fault(segments: &[Segment], hub: &Hub) -> Option<u64>
+    ensures wrong { IfSome result (IsFaultOf segments.now hub.now (held hub.now)) }
+    ensures clear { IsClear segments.now hub.now result (held hub.now) }
+{
+    let first = misplaced_after(segments, hub, hub.opening().number());
+    let next = misplaced_after(segments, hub, hub.number());
+    let unbegun = held_unbegun(segments, hub);
+    lesser(lesser(first, next), unbegun)
+}
+
+/// The number after this one, where it doesn't stand in as many parts as it is to.
+fn misplaced_after(segments: &[Segment], hub: &Hub, number: u64) -> Option<u64>
+    ensures wrong { IfSome result (λ n. IsInPlace segments.now hub.now n → ⊥) }
+    ensures clear { IsBelow (number + 1) result → IsInPlace segments.now hub.now (number + 1) }
+{
+    match number.checked_add(1) {
+        None => None,
+        Some(next) => {
+            if is_in_place(segments, hub, next) {
+                None
+            } else {
+                Some(next)
+            }
+        }
+    }
+}
+
+/// Whether a number stands in as many parts as it is to: in one from 1 up to the hub's last entry, and in none above.
+fn is_in_place(segments: &[Segment], hub: &Hub, number: u64) -> bool
+    ensures { Decides result (IsInPlace segments.now hub.now number) }
+{
+    let due = if holds_number(hub, number) || number < 1 || number > hub.number() {
+        0
+    } else {
+        1
+    };
+    count_of(segments, number) == due
+}
+
+/// In how many segments a number stands.
+fn count_of(segments: &[Segment], number: u64) -> usize
+    ensures { result ≡ length (filter (has_number number) segments.now) }
+{
+    segments
+        .iter()
+        .filter(|segment| has_number(segment, number))
+        .count()
+}
+
+/// The segment's first number, where it doesn't begin in the world in which the part before it ends.
+fn segment_unbegun(segments: &[Segment], hub: &Hub, segment: &Segment) -> Option<u64>
+    ensures wrong { IfSome result (λ n. IsBegun segments.now hub.now segment.now n → ⊥) }
+    ensures clear { (n : ℕ) → IsBelow n result → IsBegun segments.now hub.now segment.now n }
+{
+    if !is_judged(segment, hub) || segment_begins(segments, hub, segment) {
+        None
+    } else {
+        Some(segment.first_number())
+    }
+}
+
+/// The first number of what the hub holds, where that doesn't begin in the world in which the part before it ends.
+fn held_unbegun(segments: &[Segment], hub: &Hub) -> Option<u64>
+    ensures wrong { IfSome result (λ n. IsBegun segments.now hub.now (held hub.now) n → ⊥) }
+    ensures clear { (n : ℕ) → IsBelow n result → IsBegun segments.now hub.now (held hub.now) n }
+{
+    if held_begins(segments, hub) {
+        None
+    } else {
+        Some(held_first_number(hub))
+    }
+}
+
+/// Whether a segment that is judged begins in the world in which the part before it ends.
+fn segment_begins(segments: &[Segment], hub: &Hub, segment: &Segment) -> bool
+    requires { is_judged hub.now segment.now ≡ true }
+    ensures { Decides result (Begins (parts_of segments.now hub.now) segment.now) }
+{
+    let (at, empty) = (place(segment), is_empty(segment));
+    begins(segments, hub, segment.opening(), at, empty)
+}
+
+/// Whether what the hub holds begins in the world in which the part before it ends.
+fn held_begins(segments: &[Segment], hub: &Hub) -> bool
+    ensures { Decides result (Begins (parts_of segments.now hub.now) (held hub.now)) }
+{
+    let (at, empty) = (held_place(hub), holds_nothing(hub));
+    begins(segments, hub, hub.opening(), at, empty)
+}
+
+/// Whether a part that is judged begins in the world in which the part before it ends. What the hub holds stands before
+/// such a part only where it holds no entry, and so ends in the world in which it begins.
+fn begins(segments: &[Segment], hub: &Hub, opening: &PlainWorld, at: u128, empty: bool) -> bool
+    ensures { (q : Part) → q.opening ≡ opening.now → place q ≡ at → is_empty q ≡ empty → is_judged hub.now q ≡ true
+        → Decides result (Begins (parts_of segments.now hub.now) q) }
+{
+    // Tells the prover that what is held is a legal run.
+    hub.known();
+    let nearest = nearest_below(segments, hub, at);
+    for segment in segments {
+        if !leads_to(segment, opening, at, empty, nearest) {
+            return false;
+        }
+    }
+    held_leads_to(hub, opening, at, empty, nearest)
+}
+
+/// Whether a segment, where it may be the part before one at a place, ends in the world in which that begins.
+fn leads_to(segment: &Segment, opening: &PlainWorld, at: u128, empty: bool, nearest: u128) -> bool
+    ensures { Decides result (is_before (place segment.now) nearest at empty ≡ true → opening.now ≡ segment.now.closing) }
+{
+    !is_before(place(segment), nearest, at, empty) || opening.same(segment.closing())
+}
+
+/// Whether what the hub holds, where it may be the part before one at a place, begins in the world in which that does.
+fn held_leads_to(hub: &Hub, opening: &PlainWorld, at: u128, empty: bool, nearest: u128) -> bool
+    ensures { Decides result (is_before (place (held hub.now)) nearest at empty ≡ true → opening.now ≡ hub.now.opening) }
+{
+    !is_before(held_place(hub), nearest, at, empty) || opening.same(hub.opening())
+}
+
+/// Whether what stands at a place may be the part before one at another place, below which the nearest part is given.
+fn is_before(place: u128, nearest: u128, at: u128, empty: bool) -> bool
+    ensures { result ≡ is_before place nearest at empty }
+{
+    (place < at || (empty && place == at)) && place >= nearest
+}
+
+/// The greatest place of a part below another place, 0 without one.
+fn nearest_below(segments: &[Segment], hub: &Hub, at: u128) -> u128
+    ensures { (n : ℕ) → list_any (λ (r : Part). nat_lt n (place r) && nat_lt (place r) at) (parts_of segments.now hub.now) ≡ nat_lt n result }
+{
+    let mut nearest = 0;
+    for segment in segments {
+        nearest = nearer(nearest, place(segment), at);
+    }
+    nearer(nearest, held_place(hub), at)
+}
+
+/// The greater of two places, where the second is below another.
+fn nearer(nearest: u128, place: u128, at: u128) -> u128
+    ensures { (n : ℕ) → nat_lt n result ≡ (nat_lt n nearest || (nat_lt n place && nat_lt place at)) }
+{
+    if place < at {
+        nearest.max(place)
+    } else {
+        nearest
+    }
+}

@@ -1,0 +1,70 @@
+//! What is asked of a part of a history: of a segment, or of what a hub holds.
+ghost use Rattle.std.specs.Prelude.{◌≡◌, ◌+◌, ◌*◌, if◌then◌else◌};
+ghost use Rattle.hub.specs.Segments.{first_number, held};
+ghost use Rattle.hub_segments.specs.Joins.{has_number, is_empty, is_judged, place};
+
+use hub::{Hub, Segment};
+
+/// Whether an entry of the segment has that number.
+pub(crate) fn has_number(segment: &Segment, number: u64) -> bool
+    ensures { result ≡ has_number number segment.now }
+{
+    segment.opening().number() < number && number <= segment.closing().number()
+}
+
+/// Whether an entry that the hub holds has that number.
+pub(crate) fn holds_number(hub: &Hub, number: u64) -> bool
+    ensures { result ≡ has_number number (held hub.now) }
+{
+    hub.opening().number() < number && number <= hub.number()
+}
+
+/// Whether the segment has no entries.
+pub(crate) fn is_empty(segment: &Segment) -> bool
+    ensures { result ≡ is_empty segment.now }
+{
+    segment.entries().is_empty()
+}
+
+/// Whether the hub holds no entries.
+pub(crate) fn holds_nothing(hub: &Hub) -> bool
+    ensures { result ≡ is_empty (held hub.now) }
+{
+    hub.history().is_empty()
+}
+
+/// Where the segment stands among the parts of a history.
+pub(crate) fn place(segment: &Segment) -> u128
+    ensures { result ≡ place segment.now }
+{
+    place_of(segment.opening().number(), is_empty(segment))
+}
+
+/// Where what the hub holds stands among the parts of a history.
+pub(crate) fn held_place(hub: &Hub) -> u128
+    ensures { result ≡ place (held hub.now) }
+{
+    place_of(hub.opening().number(), holds_nothing(hub))
+}
+
+/// By the number of the opening world, empty parts first.
+fn place_of(number: u64, empty: bool) -> u128
+    ensures { result ≡ 2 * number + (if empty then 0 else 1) }
+{
+    let after = if empty { 0 } else { 1 };
+    2 * (number as u128) + after
+}
+
+/// The number of the first entry that the hub holds, as a segment has it.
+pub(crate) fn held_first_number(hub: &Hub) -> u64
+    ensures { result ≡ first_number (held hub.now) }
+{
+    hub.opening().number().saturating_add(1)
+}
+
+/// Whether the segment doesn't stand after held entries.
+pub(crate) fn is_judged(segment: &Segment, hub: &Hub) -> bool
+    ensures { result ≡ is_judged hub.now segment.now }
+{
+    holds_nothing(hub) || place(segment) <= held_place(hub)
+}

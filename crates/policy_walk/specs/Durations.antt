@@ -1,0 +1,26 @@
+-- The text of a duration (docs/POLICY.md, "Objects").
+use Rattle.std.specs.Prelude.{ℕ, ◌*◌, ◌==◌, ◌&&◌, not, List, codes, length, take, drop, nat_le, Option, Some, None, if◌then◌else◌}
+use Rattle.std.specs.Char.{is_ascii_digit}
+use Rattle.std.specs.List.{prefix_len}
+use Rattle.std.specs.Str.{bytes_eq}
+use Rattle.std.specs.Str.Parse.{digits_value}
+use Rattle.base.specs.Number.{is_number}
+
+-- the milliseconds of a unit
+abbrev pub unit_ms : List ℕ → Option ℕ
+unit_ms unit =
+    if bytes_eq unit (codes "ms") then Some 1
+    else if bytes_eq unit (codes "s") then Some 1000
+    else if bytes_eq unit (codes "m") then Some 60000
+    else if bytes_eq unit (codes "h") then Some 3600000
+    else None
+
+-- a number of at most nine digits, not 0, of a unit
+abbrev pub duration_by : List ℕ → Option ℕ → Option ℕ
+duration_by digits None = None
+duration_by digits (Some ms) =
+    if nat_le (length digits) 9 && is_number digits && not (digits_value 10 digits == 0) then Some (digits_value 10 digits * ms) else None
+
+-- the unit stands behind the digits that the text begins with
+abbrev pub duration_of : List ℕ → Option ℕ
+duration_of text = duration_by (take (prefix_len is_ascii_digit text) text) (unit_ms (drop (prefix_len is_ascii_digit text) text))

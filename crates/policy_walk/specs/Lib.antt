@@ -1,0 +1,5 @@
+pub mod Fault
+pub mod Path
+pub mod Object
+pub mod Texts
+pub mod Durations

@@ -1,7 +1,0 @@
--- the users so far are added
-use Rattle.std.proofs.Common.{◌≡◌, ◌++◌, take, map}
-use Rattle.ready.specs.Users.{user_in}
-use Rattle.ready.proofs.ready.add_users.Given as goal
-
-abbrev pub invariant-loop-user : goal.invariant-loop-user
-invariant-loop-user l = l.users.items ≡ l.initial.users.items ++ map (user_in l.account.name) (take l.user-index l.user-items)

@@ -1,0 +1,93 @@
+//! What a server begins with.
+ghost use Rattle.std.specs.Prelude.{◌≡◌, IfOk};
+ghost use Rattle.server.specs.Serve.{AreServable};
+
+use crate::settings::Settings;
+use hub::{Caps, Hub};
+use mio::net::TcpListener;
+use policy_ready::Ready;
+use policy_source::{Next, Policies};
+use reload::prepare;
+use server_fault::Fault;
+use server_mail::Limits;
+use server_prints::Prints;
+use std::alloc::{AllocGlobal, Global};
+use std::hash::RandomState;
+use std::net::{Net, SocketAddr};
+use std::sync::{Mutex, Wait};
+
+/// The first policy, or `None` where the input ends before it.
+pub(crate) fn first_policy<P: Policies>(
+    alloc: Global,
+    policies: &mut P,
+) -> Result<Option<Ready>, Fault> {
+    // (nobody else opens anything yet)
+    let descriptors = Mutex::new(());
+    let text = match policies.next(&descriptors) {
+        Next::Text(text) => text,
+        Next::End => return Ok(None),
+        Next::Later => return Err(Fault::ReadFailed),
+        Next::Bad => return Err(Fault::BadFrame),
+        Next::NoMemory => return Err(Fault::NoMemory),
+    };
+    match prepare(alloc, text.as_slice()) {
+        Ok(ready) => Ok(Some(ready)),
+        Err(fault) => {
+            let mut line = fault.line(alloc)?;
+            line.extend_from_slice(b"\n")?;
+            Err(Fault::Refused(line))
+        }
+    }
+}
+
+/// A listener at an address and port.
+pub(crate) fn listen<R: Net>(rt: &R, address: &str) -> Result<TcpListener, Fault> {
+    let Ok(address) = address.parse::<SocketAddr>() else {
+        return Err(Fault::ListenFailed);
+    };
+    match TcpListener::bind(rt, address) {
+        Ok(listener) => Ok(listener),
+        Err(_) => Err(Fault::ListenFailed),
+    }
+}
+
+/// Has it printed where the listener listens.
+pub(crate) fn tell_listening<R: Wait + AllocGlobal>(
+    rt: &R,
+    listener: &TcpListener,
+    prints: &Prints,
+) -> Result<(), Fault> {
+    let Ok(address) = listener.local_addr() else {
+        return Err(Fault::ListenFailed);
+    };
+    let line = format!(in rt.alloc(); "listening {address}\n")?;
+    let _ = prints.add(rt, line.as_str().as_bytes());
+    Ok(())
+}
+
+/// A hub by the first policy, with nobody connected, and what its server keeps to.
+pub(crate) fn open_hub(
+    alloc: Global,
+    settings: Settings<'_>,
+    ready: Ready,
+    keys: RandomState,
+) -> Result<(Hub, Limits), Fault>
+    requires { AreServable settings.workers settings.outbox settings.history settings.history_bytes settings.connections }
+    ensures { IfOk result (λ opened. opened.0.world.number ≡ 0) }
+{
+    let caps = Caps {
+        outbox: settings.outbox as usize,
+        history: settings.history as usize,
+    };
+    let limits = Limits {
+        outbox: caps.outbox,
+        history: caps.history,
+        history_bytes: settings.history_bytes,
+        connections: settings.connections,
+        keys,
+    };
+    match Hub::new(alloc, ready, caps, keys) {
+        Ok(hub) => Ok((hub, limits)),
+        Err(_) => Err(Fault::NoMemory),
+    }
+}

@@ -1,0 +1,196 @@
+//! A server with its threads (docs/OPERATING.md).
+ghost use Rattle.std.specs.Prelude.{◌≡◌, ◌≤◌, ◌+◌, ⊤};
+ghost use Rattle.server.specs.Serve.{AreServable};
+
+use crate::opening::{first_policy, listen, open_hub, tell_listening};
+use crate::settings::Settings;
+use crate::threads::serve;
+use hub::Hub;
+use mio::net::TcpListener;
+use policy_source::Policies;
+use rand::make_rng;
+use rand::rngs::SmallRng;
+use rand_core::Rng;
+use server_fault::Fault;
+use server_gates::Gate;
+use server_loop::Access;
+use server_mail::Limits;
+use server_prints::Prints;
+use session_conn::Words;
+use shared_hub::{Blank, Run, Seat, Shared};
+use std::alloc::{AllocGlobal, Global};
+use std::hash::RandomState;
+use std::marker::Brand;
+use std::net::Net;
+use std::random::RandomSource;
+use std::sync::Wait;
+use std::thread::Threads;
+use std::time::Clock;
+
+/// Where the gates of a server's threads come from.
+pub trait GateSource<G> {
+    /// The gate of a worker. The first worker is number 0.
+    fn worker_gate(&self, worker: usize) -> G;
+
+    /// The gate of the thread that installs policies.
+    fn reload_gate(&self) -> G;
+}
+
+/// The words of messages, as a generator draws them.
+#[derive(Drop)]
+struct Drawn {
+    generator: SmallRng,
+}
+
+impl Words for Drawn {
+    ghost draws = { λ old word new. ⊤ };
+
+    fn next(&mut self) -> u64 {
+        self.generator.next_u64()
+    }
+}
+
+/// Serves clients as the settings say, by the policies that come, until they end, and answers the status: 0 at their end,
+/// 1 at a fault. What comes to pass is to be printed, a line each, and the last line tells why it has ended. Each thread
+/// passes a gate of its own.
+pub fn serve_clients<
+    R: Threads + Wait + Net + Clock + RandomSource + Sync + AllocGlobal,
+    G: Gate + Send + Drop,
+    F: GateSource<G>,
+    P: Policies + Send,
+>(rt: &R, settings: Settings<'_>, gates: &F, policies: &mut P, prints: &Prints) -> u8
+    requires { AreServable settings.workers settings.outbox settings.history settings.history_bytes settings.connections }
+    ensures { result ≤ 1 }
+{
+    let status = match serve_policies(rt, settings, gates, policies, prints) {
+        Ok(()) => {
+            let _ = prints.add(rt, b"stopped\n");
+            0
+        }
+        Err(fault) => {
+            let _ = prints.add(rt, fault.line());
+            1
+        }
+    };
+    prints.end(rt);
+    status
+}
+
+/// Serves clients from the first policy to the end of the policies.
+fn serve_policies<
+    R: Threads + Wait + Net + Clock + RandomSource + Sync + AllocGlobal,
+    G: Gate + Send + Drop,
+    F: GateSource<G>,
+    P: Policies + Send,
+>(rt: &R, settings: Settings<'_>, gates: &F, policies: &mut P, prints: &Prints) -> Result<(), Fault>
+    requires { AreServable settings.workers settings.outbox settings.history settings.history_bytes settings.connections }
+{
+    let Some(ready) = first_policy(rt.alloc(), policies)? else {
+        return Ok(());
+    };
+    let listener = listen(rt, settings.listen)?;
+    let Ok(keys) = RandomState::new(rt) else {
+        return Err(Fault::NoKeys);
+    };
+    let (hub, limits) = open_hub(rt.alloc(), settings, ready, keys)?;
+    let seats = settings.workers + 1;
+    serve_run::<Brand, R, G, F, P>(
+        rt,
+        Blank::new(seats),
+        hub,
+        seats,
+        limits,
+        listener,
+        gates,
+        policies,
+        prints,
+    )
+}
+
+/// Lets threads share a hub, with so many seats, and serves.
+fn serve_run<
+    L: Run + Send + Sync,
+    R: Threads + Wait + Net + Clock + RandomSource + Sync + AllocGlobal,
+    G: Gate + Send + Drop,
+    F: GateSource<G>,
+    P: Policies + Send,
+>(
+    rt: &R,
+    blank: Blank,
+    hub: Hub,
+    seats: u64,
+    limits: Limits,
+    listener: TcpListener,
+    gates: &F,
+    policies: &mut P,
+    prints: &Prints,
+) -> Result<(), Fault>
+    requires name { blank.name ≡ L.name }
+    requires parts { blank.parts ≡ L.parts }
+    requires opening { hub.world.number ≡ L.opening }
+    requires seats { (seats ≡ L.seats) × (L.seats ≡ L.parts) }
+{
+    match Shared::<L>::with_seats(rt.alloc(), blank, hub, seats) {
+        Ok((shared, seats)) => {
+            serve_seats(
+                rt, &shared, seats, limits, listener, gates, policies, prints,
+            )
+        }
+        Err(_) => Err(Fault::NoMemory),
+    }
+}
+
+/// Serves with a worker for each seat but the last, whose thread installs policies.
+fn serve_seats<
+    L: Run + Send + Sync,
+    R: Threads + Wait + Net + Clock + RandomSource + Sync + AllocGlobal,
+    G: Gate + Send + Drop,
+    F: GateSource<G>,
+    P: Policies + Send,
+>(
+    rt: &R,
+    shared: &Shared<L>,
+    seats: Vec<Seat<L>>,
+    limits: Limits,
+    listener: TcpListener,
+    gates: &F,
+    policies: &mut P,
+    prints: &Prints,
+) -> Result<(), Fault> {
+    let alloc = rt.alloc();
+    let mut seats = seats;
+    let Some(seat) = seats.pop() else {
+        return Err(Fault::NoMemory);
+    };
+    let accesses = accesses(rt, alloc, gates, seats)?;
+    tell_listening(rt, &listener, prints)?;
+    let own = (seat, gates.reload_gate());
+    serve(
+        rt, alloc, listener, shared, accesses, own, limits, policies, prints,
+    )?;
+    Ok(())
+}
+
+/// An access to the hub for each seat, with a gate and words of its own.
+fn accesses<L: Run, R: RandomSource, G: Gate + Drop, F: GateSource<G>>(
+    rt: &R,
+    alloc: Global,
+    gates: &F,
+    seats: Vec<Seat<L>>,
+) -> Result<Vec<Access<L, G, Drawn>>, Fault> {
+    let mut accesses = Vec::with_capacity(alloc, seats.len())?;
+    for (worker, seat) in seats.into_iter().enumerate() {
+        let Ok(generator) = make_rng::<SmallRng, R>(rt) else {
+            return Err(Fault::NoKeys);
+        };
+        let access = Access {
+            seat,
+            gate: gates.worker_gate(worker),
+            words: Drawn { generator },
+        };
+        if accesses.push(access).is_err() {
+            return Err(Fault::NoMemory);
+        }
+    }
+    Ok(accesses)
+}

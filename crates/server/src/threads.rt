@@ -1,0 +1,210 @@
+//! The threads of a server.
+use mio::net::TcpListener;
+use policy_source::Policies;
+use server_fault::{ServeFault, least};
+use server_gates::Gate;
+use server_loop::{Access, Start, WAKER, Worker};
+use server_mail::{Door, Flags, House, Limits, millis, open_door};
+use server_prints::Prints;
+use server_reloads::Reloads;
+use session_conn::Words;
+use shared_hub::{Run, Seat, Shared};
+use std::alloc::Global;
+use std::collections::VecDeque;
+use std::net::Net;
+use std::sync::Wait;
+use std::thread;
+use std::thread::Threads;
+use std::time::Clock;
+
+/// What the thread that installs policies begins with, and what is lent to it.
+#[derive(Drop)]
+struct ReloadStart<'b, L: Run, G: Drop, P> {
+    seat: Seat<L>,
+    gate: G,
+    policies: &'b mut P,
+}
+
+/// What the threads of a server do. It stands for a `Common`, so that what is handed to a thread names no more than this.
+trait Duties<J, O> {
+    /// One worker, from its start to its end. Where it fails the others end too.
+    fn work(&self, start: J) -> Option<ServeFault>;
+
+    /// The reloads, to the end of their input. The workers end after it.
+    fn reload(&self, start: O) -> Option<ServeFault>;
+
+    /// Has all threads end.
+    fn stop(&self);
+}
+
+/// What all threads of a server have in common.
+#[derive(Drop)]
+struct Common<'a, L: Run, R> {
+    rt: &'a R,
+    alloc: Global,
+    shared: &'a Shared<L>,
+    house: &'a House<'a>,
+    prints: &'a Prints,
+}
+
+fn common_of<'a, L: Run, R>(
+    rt: &'a R,
+    alloc: Global,
+    shared: &'a Shared<L>,
+    house: &'a House<'a>,
+    prints: &'a Prints,
+) -> Common<'a, L, R> {
+    Common {
+        rt,
+        alloc,
+        shared,
+        house,
+        prints,
+    }
+}
+
+impl<'a, 'b, L: Run, R: Wait + Clock, G: Gate + Drop, W: Words + Drop, P: Policies> Duties<
+    Start<L, G, W>,
+    ReloadStart<'b, L, G, P>,
+> for Common<'a, L, R> {
+    fn work(&self, start: Start<L, G, W>) -> Option<ServeFault> {
+        let fault = match Worker::new(self.rt, self.alloc, self.shared, self.house, start) {
+            None => Some(ServeFault::NoMemory),
+            Some(mut worker) => worker.run(),
+        };
+        if fault.is_some() {
+            self.house.stop();
+        }
+        fault
+    }
+
+    fn reload(&self, start: ReloadStart<'b, L, G, P>) -> Option<ServeFault> {
+        let ReloadStart {
+            seat,
+            gate,
+            policies,
+        } = start;
+        let (shared, prints) = (self.shared, self.prints);
+        let own = (seat, gate);
+        let fault = match Reloads::new(self.rt, self.alloc, shared, self.house, own, prints) {
+            None => Some(ServeFault::NoMemory),
+            Some(mut reloads) => reloads.run(policies),
+        };
+        self.house.stop();
+        fault
+    }
+
+    fn stop(&self) {
+        self.house.stop();
+    }
+}
+
+/// Serves clients over sockets, with a worker for each access to the hub, and installs the policies that come. The first
+/// worker accepts connections and hands them round in turn, beginning with itself. It ends where the input of the policies
+/// ends, once what was accepted is written out or two seconds have passed. The moment of an event is in milliseconds
+/// since it began.
+///
+/// `PollFailed` comes where the system gives no way to wait for sockets, `BadFrame` where a frame of the policies is wrong
+/// or can't be read, `NoMemory` where a worker can't begin, `TurnsSpent` where a gate lets nothing more pass; of several
+/// the least. A fault of a socket closes that connection alone.
+pub(crate) fn serve<
+    'x,
+    L: Run + Send + Sync,
+    R: Threads + Wait + Net + Clock + Sync,
+    G: Gate + Send + Drop,
+    W: Words + Send + Drop,
+    P: Policies + Send,
+>(
+    rt: &'x R,
+    alloc: Global,
+    listener: TcpListener,
+    shared: &'x Shared<L>,
+    accesses: Vec<Access<L, G, W>>,
+    own: (Seat<L>, G),
+    limits: Limits,
+    policies: &mut P,
+    prints: &'x Prints,
+) -> Result<(), ServeFault> {
+    let (doors, starts) = open_all(rt, alloc, listener, accesses)?;
+    let flags = Flags::new(limits);
+    let house = House::new(doors.as_slice(), limits, millis(rt), &flags);
+    let common = common_of(rt, alloc, shared, &house, prints);
+    let (seat, gate) = own;
+    let reload = ReloadStart {
+        seat,
+        gate,
+        policies,
+    };
+    match run_all(rt, &common, reload, starts) {
+        Some(fault) => Err(fault),
+        None => Ok(()),
+    }
+}
+
+/// The reloads in a thread of their own, beside the workers, and the least of all their faults.
+fn run_all<R: Threads + Sync, J: Send + Drop, O: Send + Drop, T: Duties<J, O> + Sync>(
+    rt: &R,
+    duties: &T,
+    reload: O,
+    starts: Vec<J>,
+) -> Option<ServeFault> {
+    let (reloads, workers) = thread::join(
+        rt,
+        || -> Option<ServeFault> { duties.reload(reload) },
+        || -> Option<ServeFault> { work_all(rt, duties, starts) },
+    );
+    least(reloads, workers)
+}
+
+/// All workers, each in a thread of its own, and the least of their faults.
+fn work_all<R: Threads + Sync, J: Send + Drop, O, T: Duties<J, O> + Sync>(
+    rt: &R,
+    duties: &T,
+    starts: Vec<J>,
+) -> Option<ServeFault> {
+    let work = |start: J| -> Option<ServeFault> { duties.work(start) };
+    match thread::map_vec(rt, starts, &work) {
+        Ok(faults) => {
+            let mut first = None;
+            for fault in faults.as_slice() {
+                first = least(first, *fault);
+            }
+            first
+        }
+        Err(_) => {
+            duties.stop();
+            Some(ServeFault::NoMemory)
+        }
+    }
+}
+
+/// A door and a start for each worker. The first has the listener.
+fn open_all<L: Run, R: Net, G: Drop, W: Drop>(
+    rt: &R,
+    alloc: Global,
+    listener: TcpListener,
+    accesses: Vec<Access<L, G, W>>,
+) -> Result<(Vec<Door>, Vec<Start<L, G, W>>), ServeFault> {
+    let mut accesses = VecDeque::from(accesses);
+    let mut listener = Some(listener);
+    let mut doors = Vec::new(alloc);
+    let mut starts = Vec::new(alloc);
+    for index in 0..accesses.len() {
+        let Some(access) = accesses.pop_front() else {
+            break;
+        };
+        let Some((door, poll)) = open_door(rt, alloc, WAKER) else {
+            return Err(ServeFault::PollFailed);
+        };
+        let start = Start {
+            index,
+            access,
+            poll,
+            listener: listener.take(),
+        };
+        if doors.push(door).is_err() || starts.push(start).is_err() {
+            return Err(ServeFault::NoMemory);
+        }
+    }
+    Ok((doors, starts))
+}

@@ -1,0 +1,210 @@
+use mio::net::{TcpListener, TcpStream};
+use mio::{Interest, Registry, Token};
+use server_mail::{Arrival, House, owner_of};
+use std::io;
+use std::io::ErrorKind;
+use std::sync::Wait;
+
+/// The token of the socket that listens. Connections have those of their places.
+pub const LISTENER: Token = Token(usize::MAX - 1);
+
+/// After how long accepting is tried again where the system has refused it, in milliseconds.
+const RETRY: u64 = 100;
+
+/// After how long it is tried again where somebody was asked to give way, in milliseconds.
+const WAY: u64 = 10;
+
+/// The system's numbers of the errors by which it says that it has no descriptor left, for this process or for all.
+const EMFILE: i32 = 24;
+
+const ENFILE: i32 = 23;
+
+/// What came of an attempt to accept a connection.
+#[derive(Drop)]
+pub enum Accepted {
+    /// One of one's own.
+    Own(Arrival),
+    /// One that was left for another worker.
+    Left,
+    /// None, for now.
+    Nobody,
+}
+
+/// What the system said to an attempt to accept a connection.
+#[derive(Drop)]
+enum Said {
+    Socket(TcpStream),
+    /// Nobody waits to be accepted.
+    Nobody,
+    /// There is no room for one more.
+    Full,
+    /// It has refused it for another reason.
+    Refused,
+}
+
+/// The worker that accepts connections, and hands them round in turn; or one that doesn't.
+pub struct Acceptor {
+    /// Which worker it is.
+    index: usize,
+    listener: Option<TcpListener>,
+    next_conn: u64,
+    /// From when on connections are to be accepted.
+    accept_at: Option<u64>,
+    /// Whether there was no room for one more, and the system is to tell whether somebody waits for it.
+    is_full: bool,
+}
+
+impl Drop for Acceptor {
+    fn drop(self) {
+        let Self {
+            index: _,
+            listener: _,
+            next_conn: _,
+            accept_at: _,
+            is_full: _,
+        } = self;
+    }
+}
+
+/// Whether an error says that no descriptor is left.
+fn is_full(error: &io::Error) -> bool {
+    matches!(error.raw_os_error(), Some(EMFILE | ENFILE))
+}
+
+impl Acceptor {
+    /// The worker of this number. It accepts if it has a listener.
+    pub fn new(index: usize, listener: Option<TcpListener>) -> Acceptor {
+        Acceptor {
+            index,
+            listener,
+            next_conn: 1,
+            accept_at: Some(0),
+            is_full: false,
+        }
+    }
+
+    /// Watches the socket that listens, if there is one, and answers whether it can.
+    pub fn listen(&mut self, registry: &Registry) -> bool {
+        match &mut self.listener {
+            None => true,
+            Some(listener) => registry
+                .register(listener, LISTENER, Interest::READABLE)
+                .is_ok(),
+        }
+    }
+
+    /// Notes that somebody waits to be accepted.
+    pub fn note_waiting(&mut self, now: u64) {
+        self.accept_at = self.accept_at.or(Some(now));
+    }
+
+    /// From when on connections are to be accepted, if they are.
+    pub fn due_at(&self) -> Option<u64> {
+        self.accept_at
+    }
+
+    /// Begins to accept, if that is due at a moment, and answers whether it is.
+    pub fn begin(&mut self, now: u64) -> bool {
+        match self.accept_at {
+            Some(at) if at <= now => {
+                self.accept_at = None;
+                true
+            }
+            _ => false,
+        }
+    }
+
+    /// Accepting is to go on at a moment.
+    pub fn go_on(&mut self, at: u64) {
+        self.accept_at = Some(at);
+    }
+
+    /// Accepts a connection, as far as there is room. One of another worker is left at its door. Where none can be had, it is
+    /// settled when that is tried again.
+    pub fn accept<R: Wait>(
+        &mut self,
+        rt: &R,
+        house: &House<'_>,
+        registry: &Registry,
+        now: u64,
+    ) -> Accepted {
+        match self.accept_one(rt, house) {
+            Said::Socket(socket) => self.hand_over(rt, house, socket),
+            Said::Nobody => Accepted::Nobody,
+            Said::Full => {
+                self.make_way(house, registry, now);
+                Accepted::Nobody
+            }
+            Said::Refused => {
+                self.accept_at = Some(now.saturating_add(RETRY));
+                Accepted::Nobody
+            }
+        }
+    }
+
+    /// Accepts a connection. Nobody else opens a descriptor meanwhile.
+    fn accept_one<R: Wait>(&mut self, rt: &R, house: &House<'_>) -> Said {
+        let Some(listener) = &self.listener else {
+            return Said::Nobody;
+        };
+        if house.is_full() {
+            return Said::Full;
+        }
+        let guard = house.descriptors().lock(rt);
+        let accepted = listener.accept();
+        drop(guard);
+        match accepted {
+            Ok((socket, _)) => {
+                self.is_full = false;
+                Said::Socket(socket)
+            }
+            Err(error) if is_full(&error) => Said::Full,
+            Err(error) if error.kind() == ErrorKind::WouldBlock => Said::Nobody,
+            Err(_) => Said::Refused,
+        }
+    }
+
+    /// There is no room for one more. If somebody waits for it, another is asked to give way; else the system is to tell
+    /// once somebody does.
+    fn make_way(&mut self, house: &House<'_>, registry: &Registry, now: u64) {
+        if !self.is_full {
+            self.is_full = true;
+            self.listen_again(registry, now);
+            return;
+        }
+        self.is_full = false;
+        let wait = if house.ask_way() { WAY } else { RETRY };
+        self.accept_at = Some(now.saturating_add(wait));
+    }
+
+    /// Has the system tell whether somebody waits to be accepted. Where it can't, that is tried later.
+    fn listen_again(&mut self, registry: &Registry, now: u64) {
+        let Some(listener) = &mut self.listener else {
+            return;
+        };
+        if registry
+            .reregister(listener, LISTENER, Interest::READABLE)
+            .is_err()
+        {
+            self.accept_at = Some(now.saturating_add(RETRY));
+        }
+    }
+
+    /// Numbers a socket that was accepted, and leaves it for its owner if that is another worker.
+    fn hand_over<R: Wait>(&mut self, rt: &R, house: &House<'_>, socket: TcpStream) -> Accepted {
+        let conn = self.next_conn;
+        self.next_conn = conn.saturating_add(1);
+        house.note_open();
+        drop(socket.set_nodelay(true));
+        let owner = owner_of(conn, house.doors.len());
+        if owner == self.index {
+            return Accepted::Own(Arrival { conn, socket });
+        }
+        if let Some(door) = house.doors.get(owner) {
+            if !door.leave_socket(rt, Arrival { conn, socket }) {
+                house.note_closed();
+            }
+        }
+        Accepted::Left
+    }
+}

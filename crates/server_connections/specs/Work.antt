@@ -1,0 +1,105 @@
+-- Which connections have work, and which kind.
+use Rattle.std.specs.Option.{unwrap_or}
+use Rattle.std.specs.Prelude.{◌≡◌, ◌&&◌, ◌||◌, ℕ, List, length, Bool, true, false, not, Option, None, Some, is_some, min, nat_eq}
+use Rattle.server_socket.specs.Connections.{may_read}
+use Rattle.server_socket.specs.Queues.{IsPut}
+use Rattle.server_socket.specs.Unknown.{is_unknown}
+use Rattle.server_socket.specs.declared.connection.Connection.{Connection}
+use Rattle.server_socket.specs.declared.connection.Queued.{Queued}
+use Rattle.server_pacing.specs.Due.{barred, may_wait}
+use Rattle.server_connections.specs.declared.connections.Connections.{Connections}
+use Rattle.server_connections.specs.declared.fresh.Fresh.{Fresh}
+use Rattle.server_connections.specs.declared.lingering.Lingering.{Lingering}
+use Rattle.server_connections.specs.declared.turns.Reads.{Reads}
+use Rattle.server_connections.specs.declared.turns.Reads.TheVariants as reads
+
+-- ---- queues
+
+-- how a connection is marked as standing in a queue, or not
+abbrev pub mark_ready : Bool → Queued → Queued
+mark_ready stands q = record q { ready = stands }
+
+abbrev pub mark_cut : Bool → Queued → Queued
+mark_cut stands q = record q { cut = stands }
+
+abbrev pub mark_dirty : Bool → Queued → Queued
+mark_dirty stands q = record q { dirty = stands }
+
+abbrev pub mark_pressing : Bool → Queued → Queued
+mark_pressing stands q = record q { pressing = stands }
+
+abbrev pub marked : (Queued → Queued) → Connection → Connection
+marked mark it = record it { queued = mark it.queued }
+
+-- A connection, if it is there, is put behind the others of a queue and marked as standing there, unless it was. Without
+-- memory neither changes.
+abbrev pub IsQueued : (Queued → Bool) → (Bool → Queued → Queued) → ℕ → Option Connection → List ℕ → Option Connection → List ℕ → Type 0
+IsQueued stands mark key None queue it' queue' = (it' ≡ None) × (queue' ≡ queue)
+IsQueued stands mark key (Some it) queue it' queue' = (now : Bool) × IsPut key (stands it.queued) queue now queue' × (it' ≡ Some (marked (mark now) it))
+
+-- the same, or nothing
+abbrev pub IsQueuedIf : Bool → (Queued → Bool) → (Bool → Queued → Queued) → ℕ → Option Connection → List ℕ → Option Connection → List ℕ → Type 0
+IsQueuedIf false stands mark key it queue it' queue' = (it' ≡ it) × (queue' ≡ queue)
+IsQueuedIf true stands mark key it queue it' queue' = IsQueued stands mark key it queue it' queue'
+
+-- it is there, and may be read
+abbrev pub is_readable : Option Connection → Bool
+is_readable None = false
+is_readable (Some it) = may_read it
+
+-- it is there, and so much waits for it that it is written to soon
+abbrev pub is_pressing : ℕ → Option Connection → Bool
+is_pressing many None = false
+is_pressing many (Some it) = not (may_wait it.due many)
+
+-- it is there, and its frames wait for a receiver
+abbrev pub waits : Option Connection → Bool
+waits None = false
+waits (Some it) = is_some it.held_until
+
+-- ---- rounds and turns
+
+-- work was looked for long enough, or is tried again after a sleep; and no connection has something to be read, to go on with,
+-- or to be written
+abbrev pub are_idle : Connections → Bool
+are_idle c = (((nat_eq c.looks 0 || not (nat_eq (length c.stalled) 0)) && nat_eq (length c.ready) 0) && nat_eq (length c.cut) 0) && nat_eq (length c.dirty) 0
+
+-- what is done with what a client sends: it has its turn where it may be read, or is dropped where it lingers
+abbrev pub reads_by : Bool → Bool → Reads
+reads_by false lingers = reads.Nothing
+reads_by true true = reads.Drop
+reads_by true false = reads.Turn
+
+abbrev pub reads_of : Option Connection → Reads
+reads_of None = reads.Nothing
+reads_of (Some it) = reads_by (may_read it) it.lingers
+
+-- it was cut short, and isn't over
+abbrev pub goes_on : Option Connection → Bool
+goes_on None = false
+goes_on (Some it) = it.queued.cut && not it.is_over
+
+-- its session is still to be closed
+abbrev pub is_to_end : Option Connection → Bool
+is_to_end None = false
+is_to_end (Some it) = it.is_over && not it.lingers
+
+-- so many deliveries come before what it is told next
+abbrev pub barred_by : ℕ → Connection → Connection
+barred_by count it = record it { due = barred it.due count }
+
+-- the moment at which those that are held are looked after, where one waits until then
+abbrev pub sooner : Option ℕ → ℕ → ℕ
+sooner at until = min (unwrap_or at until) until
+
+-- ---- who gives way
+
+-- an entry is that of a connection that still lingers
+abbrev pub is_lingering : Lingering → Option Connection → Bool
+is_lingering entry None = false
+is_lingering entry (Some it) = it.lingers && nat_eq it.client.conn.conn entry.conn
+
+-- an entry is that of a connection that still hasn't shown who it is
+abbrev pub is_fresh : Fresh → Option Connection → Bool
+is_fresh entry None = false
+is_fresh entry (Some it) = nat_eq it.client.conn.conn entry.conn && is_unknown it.client.conn.stage

@@ -1,0 +1,78 @@
+// Connections whose CONNECT wasn't accepted yet: how much of theirs is kept, and which of them gives way to others.
+ghost use Rattle.std.specs.Prelude.{◌≡◌, false};
+
+use crate::connections::Connections;
+use server_socket::is_unknown;
+use server_turns::Turn;
+
+/// By how many the entries of `fresh` may be more than twice the connections.
+const SPARE: usize = 64;
+
+/// A connection without an accepted CONNECT, when it was noted.
+#[derive(Clone, Copy, Debug)]
+pub struct Fresh {
+    pub key: usize,
+    pub conn: u64,
+}
+
+impl Connections {
+    ghost use Rattle.std.specs.Prelude.{IfSome, true};
+    ghost use Rattle.slab.specs.Slab.{get};
+    ghost use Rattle.server_turns.specs.Turns.{is_over};
+    ghost use Rattle.server_socket.specs.Unknown.{IsBounded};
+    ghost use Rattle.server_connections.specs.Work.{is_fresh};
+
+    /// A turn of a connection, or that it closes, where too much is kept of a client that hasn't shown who it is.
+    pub fn bounded(&self, key: usize, turn: Turn) -> Turn
+        ensures { is_over result ≡ false → IfSome (get self.entry.now.slab key) (λ it. IsBounded it.client.conn) }
+    {
+        match self.slab.get(key) {
+            None => turn,
+            Some(it) => it.bounded(self.alloc, turn),
+        }
+    }
+
+    /// Notes a connection that begins. Without memory it never gives way.
+    pub(crate) fn note_fresh(&mut self, key: usize, conn: u64) {
+        if self.fresh.len() > self.slab.len().saturating_mul(2).saturating_add(SPARE) {
+            self.drop_known();
+        }
+        drop(self.fresh.push_back(Fresh { key, conn }));
+    }
+
+    /// Drops the entries of those that have shown who they are, or are gone.
+    fn drop_known(&mut self) {
+        for _ in 0..self.fresh.len() {
+            let Some(it) = self.fresh.pop_front() else {
+                return;
+            };
+            if self.is_fresh(it) {
+                drop(self.fresh.push_back(it));
+            }
+        }
+    }
+
+    /// Whether an entry is that of a connection that still hasn't shown who it is.
+    fn is_fresh(&self, entry: Fresh) -> bool
+        ensures { result ≡ is_fresh entry (get self.now.slab entry.key) }
+    {
+        match self.slab.get(entry.key) {
+            None => false,
+            Some(it) => it.number() == entry.conn && is_unknown(it.client.conn()),
+        }
+    }
+
+    /// The one that has waited longest without an accepted CONNECT, if there is one. Others before it are let go of.
+    pub fn first_fresh(&mut self) -> Option<Fresh>
+        ensures { IfSome result (λ entry. is_fresh entry (get self.new.slab entry.key) ≡ true) }
+    {
+        for _ in 0..self.fresh.len() {
+            let first = self.fresh.front().copied()?;
+            if self.is_fresh(first) {
+                return Some(first);
+            }
+            drop(self.fresh.pop_front());
+        }
+        None
+    }
+}

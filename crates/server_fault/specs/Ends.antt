@@ -1,0 +1,14 @@
+-- Why clients are served no further, and what is printed then (docs/OPERATING.md, "What it prints").
+use Rattle.std.specs.Prelude.{ℕ, List, codes}
+use Rattle.server_fault.specs.declared.end.Fault.{Fault}
+use Rattle.server_fault.specs.declared.end.Fault.TheVariants.{ReadFailed, BadFrame, Refused, ListenFailed, PollFailed, NoKeys, NoMemory, TurnsSpent}
+
+abbrev pub line_of : Fault → List ℕ
+line_of ReadFailed = codes "read failed\n"
+line_of BadFrame = codes "bad frame\n"
+line_of (Refused line) = line.items
+line_of ListenFailed = codes "listen failed\n"
+line_of PollFailed = codes "poll failed\n"
+line_of NoKeys = codes "no random keys\n"
+line_of NoMemory = codes "no memory\n"
+line_of TurnsSpent = codes "turns spent\n"

@@ -1,0 +1,116 @@
+ghost use Rattle.std.specs.Prelude.{◌≡◌, ◌/◌};
+ghost use Rattle.server_history.specs.Bytes.{is_passed};
+ghost use Rattle.server_history.specs.Rotating.{is_same};
+
+use std::sync::atomic::{AtomicU64, Ordering};
+
+/// What the entries keep that the history holds, in bytes, as far as it was told; and how often it was handed out.
+#[derive(Drop)]
+pub struct Kept {
+    half: u64,
+    bytes: AtomicU64,
+    parts: AtomicU64,
+    /// How often it had been handed out once the latest look at it was over.
+    looked: AtomicU64,
+}
+
+/// That bytes were told of. `Kept::tell` alone makes it, so who has one has told of its bytes. What else stood there when
+/// they were added is what the atomics gave; no clause says that they gave it.
+#[derive(Clone, Copy, Debug)]
+pub struct Telling {
+    /// How many bytes were told of.
+    bytes: u64,
+    /// Half of what may be kept.
+    half: u64,
+    /// What was counted before.
+    before: u64,
+    /// What was counted once the teller took it away, 0 where it didn't: others may have taken it away before.
+    taken: u64,
+}
+
+impl Telling {
+    /// Whether the teller is to hand the history out: half of what may be kept is passed, and nobody else took it away.
+    pub fn is_passed(&self) -> bool
+        ensures { result ≡ is_passed self.now.half self.now.before self.now.bytes self.now.taken }
+    {
+        self.before.saturating_add(self.bytes) >= self.half && self.taken >= self.half
+    }
+}
+
+/// How often the history had been handed out when a port looked, and once the look before was over. `Kept::look` alone makes
+/// it; no clause says that the atomics gave what stood there.
+#[derive(Clone, Copy, Debug)]
+pub struct Look {
+    parts: u64,
+    before: u64,
+}
+
+impl Look {
+    /// Whether it was not handed out between the two looks.
+    pub fn is_same(&self) -> bool
+        ensures { result ≡ is_same self.now.parts self.now.before }
+    {
+        self.parts == self.before
+    }
+}
+
+impl Kept {
+    /// None, of a history that may keep so many bytes: those that it holds and those that were handed out last.
+    pub fn new(most: u64) -> Kept
+        ensures { result.half ≡ most / 2 }
+    {
+        Kept {
+            half: most / 2,
+            bytes: AtomicU64::new(0),
+            parts: AtomicU64::new(0),
+            looked: AtomicU64::new(0),
+        }
+    }
+
+    /// Counts bytes more. Where half of what may be kept is passed it counts from none, so that one teller alone is to hand
+    /// the history out.
+    pub fn tell(&self, bytes: u64) -> Telling
+        ensures bytes { result.bytes ≡ bytes }
+        ensures half { result.half ≡ self.now.half }
+    {
+        let before = self.bytes.fetch_add(bytes, Ordering::SeqCst);
+        let taken = if before.saturating_add(bytes) >= self.half {
+            self.bytes.swap(0, Ordering::SeqCst)
+        } else {
+            0
+        };
+        Telling {
+            bytes,
+            half: self.half,
+            before,
+            taken,
+        }
+    }
+
+    /// Counts as passed again, since the history could not be handed out.
+    pub fn restore(&self) {
+        let _ = self.bytes.fetch_add(self.half, Ordering::SeqCst);
+    }
+
+    /// The history was handed out. Answers how often it was.
+    pub(crate) fn note_part(&self) -> u64 {
+        self.bytes.store(0, Ordering::SeqCst);
+        self.parts.fetch_add(1, Ordering::SeqCst).saturating_add(1)
+    }
+
+    /// Looks whether the history was handed out since the look before. If it wasn't, whoever looks hands it out, and the next
+    /// look is after that.
+    pub(crate) fn look(&self) -> Look {
+        let parts = self.parts.load(Ordering::SeqCst);
+        let before = self.looked.swap(parts, Ordering::SeqCst);
+        if parts == before {
+            self.looked.store(parts.saturating_add(1), Ordering::SeqCst);
+        }
+        Look { parts, before }
+    }
+
+    /// How often the history was handed out.
+    pub(crate) fn parts(&self) -> u64 {
+        self.parts.load(Ordering::SeqCst)
+    }
+}

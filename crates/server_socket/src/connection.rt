@@ -1,0 +1,186 @@
+ghost use Rattle.std.specs.Prelude.{◌≡◌, ◌≢◌};
+
+use crate::blocked::Blocked;
+use mio::net::TcpStream;
+use mio::{Interest, Registry, Token};
+use server_pacing::{Awaited, Due};
+use server_turns::Client;
+
+/// In which of its worker's queues a connection stands.
+#[derive(Clone, Copy, Debug)]
+pub struct Queued {
+    /// Among those with something to read,
+    pub ready: bool,
+    /// those that were cut short,
+    pub cut: bool,
+    /// those to be written to,
+    pub dirty: bool,
+    /// those among them to be written to soon,
+    pub pressing: bool,
+    /// and those whose frames wait for a receiver.
+    pub held: bool,
+}
+
+/// A connection of a worker: its client with its socket, and what is to be done about it.
+pub struct Connection {
+    pub client: Client,
+    pub socket: TcpStream,
+    /// What is known to be due to it.
+    pub due: Due,
+    /// For how long its socket takes nothing.
+    pub blocked: Blocked,
+    /// Whether its socket may have more to read.
+    pub readable: bool,
+    /// Until when its frames wait, since a receiver has no room; and whether they may go on, and couldn't yet.
+    pub held_until: Option<u64>,
+    pub is_let_on: bool,
+    pub queued: Queued,
+    /// Whether it has had what waited for it before what it is told next.
+    pub has_passed: bool,
+    /// Whether its turn is over, and its session is still to be closed.
+    pub is_over: bool,
+    /// Whether its socket is to linger then, and does.
+    pub is_to_linger: bool,
+    pub lingers: bool,
+}
+
+impl Drop for Connection {
+    fn drop(self) {
+        let Self {
+            client: _,
+            socket: _,
+            due: _,
+            blocked: _,
+            readable: _,
+            held_until: _,
+            is_let_on: _,
+            queued: _,
+            has_passed: _,
+            is_over: _,
+            is_to_linger: _,
+            lingers: _,
+        } = self;
+    }
+}
+
+impl Queued {
+    ghost use Rattle.server_socket.specs.Connections.{nowhere};
+
+    /// In none.
+    fn nowhere() -> Queued
+        ensures { result ≡ nowhere }
+    {
+        Queued {
+            ready: false,
+            cut: false,
+            dirty: false,
+            pressing: false,
+            held: false,
+        }
+    }
+}
+
+impl Connection {
+    ghost use Rattle.std.specs.Prelude.{[], None, is_some, false, true};
+    ghost use Rattle.server_socket.specs.Blocked.{not_blocked, written};
+    ghost use Rattle.server_socket.specs.Connections.{had, is_due, let_on, may_not_last, may_read, nowhere, waits_its_turn};
+    ghost use Rattle.server_pacing.specs.Due.{nothing, taken};
+
+    /// A connection to which nothing has happened. Its socket may have something to read.
+    pub fn new(client: Client, socket: TcpStream) -> Connection
+        ensures { result ≡ record { client = client; socket = socket; due = nothing; blocked = not_blocked; readable = true; held_until = None; is_let_on = false; queued = nowhere; has_passed = false; is_over = false; is_to_linger = false; lingers = false } }
+    {
+        Connection {
+            client,
+            socket,
+            due: Due::nothing(),
+            blocked: Blocked::new(),
+            readable: true,
+            held_until: None,
+            is_let_on: false,
+            queued: Queued::nowhere(),
+            has_passed: false,
+            is_over: false,
+            is_to_linger: false,
+            lingers: false,
+        }
+    }
+
+    /// Its number.
+    pub fn number(&self) -> u64
+        ensures { result ≡ self.now.client.conn.conn }
+    {
+        self.client.conn().number()
+    }
+
+    /// Has the system tell of its socket, by this token. Answers whether it does.
+    pub fn watch(&mut self, registry: &Registry, token: Token) -> bool {
+        let both = Interest::READABLE | Interest::WRITABLE;
+        registry.register(&mut self.socket, token, both).is_ok()
+    }
+
+    /// Notes, after a write, whether its socket has taken all.
+    pub(crate) fn note_written(&mut self, now: u64)
+        ensures waits { self.old.client.kept ≢ [] → self.new ≡ record self.old { blocked = written true now self.old.blocked } }
+        ensures all { self.old.client.kept ≡ [] → self.new ≡ record self.old { blocked = written false now self.old.blocked } }
+    {
+        self.blocked = self.blocked.written(self.client.waits(), now);
+    }
+
+    /// Whether it may be read, or its frames go on; or whether what its client sends is to be dropped.
+    pub fn may_read(&self) -> bool
+        ensures { result ≡ may_read self.now }
+    {
+        self.readable && (self.lingers || !self.waits_its_turn() && !self.is_over)
+    }
+
+    /// Whether it goes on elsewhere: it is held, was cut short, or is to have deliveries first.
+    fn waits_its_turn(&self) -> bool
+        ensures { result ≡ waits_its_turn self.now }
+    {
+        self.held_until.is_some() || self.queued.cut || self.due.ahead.is_some()
+    }
+
+    /// Whether it is ended where its socket takes nothing: it is to be closed, or its frames could go on, and others may
+    /// wait for it meanwhile.
+    pub(crate) fn may_not_last(&self) -> bool
+        ensures { result ≡ may_not_last self.now }
+    {
+        self.due.drain || self.is_let_on || self.client.conn().stage().is_closed()
+    }
+
+    /// Whether a Take is due.
+    pub fn is_due(&self) -> bool
+        ensures { result ≡ is_due self.now }
+    {
+        self.due.is_due(self.client.conn().stage().is_connected())
+    }
+
+    /// Has its frames go on, if they wait for a receiver. Answers whether they did.
+    pub fn let_on(&mut self) -> bool
+        ensures waited { result ≡ is_some self.old.held_until }
+        ensures goes_on { self.new ≡ let_on self.old }
+    {
+        match self.held_until.take() {
+            None => false,
+            Some(_) => {
+                self.is_let_on = true;
+                true
+            }
+        }
+    }
+
+    /// Notes that a Take has asked for so many deliveries, and answers what it has had by the mean.
+    pub fn note_taken(&mut self, most: usize) -> Awaited
+        ensures had { result ≡ had self.old.due.awaited self.new.due.awaited }
+        ensures taken { self.new ≡ record self.old { due = taken self.old.due most } }
+    {
+        let before = self.due.awaited;
+        self.due = self.due.taken(most);
+        let after = self.due.awaited;
+        Awaited {
+            count: before.count.saturating_sub(after.count),
+            bytes: before.bytes.saturating_sub(after.bytes),
+        }
+    }
+}

@@ -1,0 +1,49 @@
+//! What a connection reads.
+ghost use Rattle.std.specs.Prelude.{◌≡◌, ◌<◌, length};
+
+use crate::connection::Connection;
+use crate::counted::Counted;
+use events::Port;
+use server_turns::{NonBlocking, Turn};
+use session_conn::Words;
+
+/// What one turn of a connection has come to.
+#[derive(Clone, Copy, Debug)]
+pub struct Served {
+    pub turn: Turn,
+    /// How many bytes of frames the connection held before it, and how many were read.
+    pub held: usize,
+    pub read: usize,
+    /// Whether frames wait behind it.
+    pub frames_wait: bool,
+}
+
+impl Connection {
+    /// One turn at a moment: frames that wait go on, or a piece is read into the buffer.
+    pub fn serve<P: Port, W: Words>(
+        &mut self,
+        port: &mut P,
+        words: &mut W,
+        buf: &mut [u8],
+        now: u64,
+    ) -> Served
+        requires { 0 < length buf.old }
+        ensures { P.place port.new ≡ P.place port.old }
+    {
+        let held = self.client.conn().holds();
+        let mut reader = Counted::new(NonBlocking::new(&self.socket));
+        let mut writer = NonBlocking::new(&self.socket);
+        let turn = self
+            .client
+            .serve(port, words, &mut reader, &mut writer, buf, now);
+        let read = reader.count();
+        self.note_written(now);
+        self.is_let_on = self.is_let_on && turn == Turn::Waits;
+        Served {
+            turn,
+            held,
+            read,
+            frames_wait: self.client.conn().stall().is_some(),
+        }
+    }
+}

@@ -1,0 +1,76 @@
+-- Routes in slots by rising number, of which some are empty.
+use Rattle.std.specs.Prelude.{◌≡◌, ◌≢◌, ◌<◌, ℕ, Bool, true, false, List, [], ◌∷◌, ◌++◌, Option, Some, None, length, slice_index_or}
+use Rattle.std.specs.List.{HoldsAt}
+use Rattle.std.specs.Option.{option_map}
+use Rattle.subjects.specs.Subject.{Token}
+use Rattle.service_exporter.specs.Names.{is_on}
+use Rattle.service_exporter.specs.Routes.{Numbered, on_row}
+use Rattle.service_exporter.specs.declared.route.NewRow.{NewRow}
+use Rattle.service_exporter.specs.declared.route.Row.{Row}
+use Rattle.service_exporter.specs.declared.route.Route.{Route}
+use Rattle.service_exporter.specs.declared.slots.Slot.{Slot}
+
+-- what a slot of that number has
+abbrev pub entry_of : ℕ → Option Route → List Numbered
+entry_of number None = []
+entry_of number (Some r) = (number, r) ∷ []
+
+-- the routes that stand, in order
+abbrev pub standing_in : List Slot → List Numbered
+standing_in [] = []
+standing_in (s ∷ slots) = entry_of s.number s.route ++ standing_in slots
+
+-- whether a route stands there that passes a test
+abbrev pub passes : (Route → Bool) → Option Route → Bool
+passes p None = false
+passes p (Some r) = p r
+
+-- whether a route is for a single response
+abbrev pub is_single : Route → Bool
+is_single r = r.terms.single
+
+-- the route on its row in another policy, if that has the row
+abbrev pub kept_in : (Row → Option NewRow) → Option Route → Option Route
+kept_in again None = None
+kept_in again (Some r) = option_map (on_row r) (again r.row)
+
+-- the number of every slot is above a number
+unfoldable pub AreAbove : ℕ → List Slot → Type 0
+AreAbove n [] = Unit {0}
+AreAbove n (s ∷ slots) = (n < s.number) × AreAbove n slots
+
+-- the number of every slot is below a number
+unfoldable pub AreBelow : ℕ → List Slot → Type 0
+AreBelow n [] = Unit {0}
+AreBelow n (s ∷ slots) = (s.number < n) × AreBelow n slots
+
+-- the numbers rise, those of empty slots too
+unfoldable pub AreRising : List Slot → Type 0
+AreRising [] = Unit {0}
+AreRising (s ∷ slots) = AreAbove s.number slots × AreRising slots
+
+-- the slot of that number
+abbrev pub IsPlaceOf : ℕ → List Slot → ℕ → Type 0
+IsPlaceOf number slots at = (at < length slots) × HoldsAt (λ (s : Slot). s.number ≡ number) slots at
+
+-- no slot has that number
+abbrev pub IsAbsent : ℕ → List Slot → Type 0
+IsAbsent number slots = (k : ℕ) (d : Slot) → k < length slots → (slice_index_or slots k d).number ≢ number
+
+-- whether the route of a subject stands in a slot
+abbrev pub is_in : List Token → Slot → Bool
+is_in s slot = passes (λ r. is_on s slot.number r.word) slot.route
+
+-- no slot has a route of a subject
+abbrev pub IsNowhere : List Token → List Slot → Type 0
+IsNowhere s slots = (k : ℕ) (d : Slot) → k < length slots → is_in s (slice_index_or slots k d) ≡ false
+
+-- the slot of the route of a subject, and no other has one
+pub record IsPlaceOn (s : List Token) (slots : List Slot) (at : ℕ) : Type 0 where
+  pub within : at < length slots
+  pub here : (d : Slot) → is_in s (slice_index_or slots at d) ≡ true
+  pub elsewhere : (k : ℕ) (d : Slot) → k < length slots → k ≢ at → is_in s (slice_index_or slots k d) ≡ false
+
+-- a slot with its route on the row that another policy has
+abbrev pub kept_slot : (Row → Option NewRow) → Slot → Slot
+kept_slot again slot = record { number = slot.number; route = kept_in again slot.route }

@@ -1,0 +1,217 @@
+//! What one exporter has: the last number that it gave, and its routes.
+ghost use Rattle.std.specs.Prelude.{◌≡◌, ◌≤◌, ◌<◌, ◌+◌, ◌-◌, [], OnOk, length, nat_lt, vec_len, vec_capacity};
+ghost use Rattle.std.specs.Option.{option_copied};
+ghost use Rattle.service_exporter.specs.Routes.{kept_of, living, pruned_of, route_on, spent_of, with_route};
+ghost use Rattle.service_exporter.specs.Limit.{is_full, IsNext, IsReserved};
+ghost use Rattle.service_exporter.specs.Slots.{standing_in};
+
+use crate::slots::{Slot, compact, count_living, drop_dead_at, keep_rows, prune, route_on, spend};
+use crate::{Route, RouteError, ServiceRows};
+use base::NoMemory;
+use std::alloc::Global;
+use std::marker::Model;
+use subjects::SubjectRef;
+
+/// How many routes of an exporter may live.
+const MOST: u64 = 65_536;
+
+/// How many slots may be empty however few routes stand.
+const SPARE: usize = 16;
+
+/// The routes of one exporter. A clause sees them and for how many more there is room. Those that are dead at a moment stand
+/// until `prune` or `drop_dead` takes them out.
+#[derive(Drop)]
+pub struct Exporter {
+    last: u64,
+    slots: Vec<Slot>,
+    /// About how many slots are empty.
+    empty: usize,
+    /// Where the next is looked at that may be dead.
+    turn: usize,
+}
+
+impl Model for Exporter {
+    ghost use Rattle.std.specs.Prelude.{◌+◌, ◌-◌, ◌<◌, vec_len, vec_capacity};
+    ghost use Rattle.service_exporter.specs.Slots.{standing_in, AreRising, AreBelow};
+    ghost use Rattle.service_exporter.specs.Routes.{WithRoom};
+
+    ghost Value = { WithRoom };
+
+    ghost view = { λ e. record {
+      exporter = record { last = e.last; routes = standing_in e.slots.items };
+      room = vec_capacity e.slots - vec_len e.slots;
+    } };
+
+    ghost invariant = { λ e. AreRising e.slots.items × AreBelow (e.last + 1) e.slots.items × (e.last < 18446744073709551616) };
+}
+
+impl Exporter {
+    ghost use Rattle.service_exporter.specs.Routes.{no_routes};
+
+    /// No routes.
+    #[tactic(auto, unfolding(crate::specs::Slots::AreRising, crate::specs::Slots::AreBelow))]
+    pub fn new(alloc: Global) -> Exporter
+        ensures { result.exporter ≡ no_routes }
+    {
+        Exporter {
+            last: 0,
+            slots: Vec::new(alloc),
+            empty: 0,
+            turn: 0,
+        }
+    }
+
+    /// Takes all routes out, and forgets the last number.
+    #[tactic(auto, unfolding(crate::specs::Slots::AreRising, crate::specs::Slots::AreBelow))]
+    pub fn clear(&mut self)
+        ensures exporter { self.new.exporter ≡ no_routes }
+        ensures room { self.old.room ≤ self.new.room }
+    {
+        self.last = 0;
+        self.slots.clear();
+        self.empty = 0;
+    }
+
+    /// Makes room for so many routes more.
+    pub fn make_room(&mut self, count: usize) -> Result<(), NoMemory>
+        ensures same { self.new.exporter ≡ self.old.exporter }
+        ensures ok { OnOk result (count ≤ self.new.room) }
+        ensures room { self.old.room ≤ self.new.room }
+    {
+        self.compact_if_sparse();
+        self.slots.reserve(count)?;
+        Ok(())
+    }
+
+    /// Makes room for so many routes more, at least one, and gives the next number. Nothing else changes. `RouteFull` where
+    /// more than 65,536 would live at this moment, or one would have a number above 2^64 - 1. Else `NoMemory` where memory
+    /// could not be had.
+    pub fn reserve(&mut self, count: u64, now: u64) -> Result<u64, RouteError>
+        requires some { 0 < count }
+        ensures same { self.new.exporter ≡ self.old.exporter }
+        ensures told { IsReserved (is_full count now self.old.exporter) self.old.exporter.last result }
+        ensures ok { OnOk result (count ≤ self.new.room) }
+        ensures room { self.old.room ≤ self.new.room }
+    {
+        match self.next_number(count, now) {
+            None => Err(RouteError::RouteFull),
+            Some(next) => match self.make_room(count as usize) {
+                Ok(()) => Ok(next),
+                Err(_) => Err(RouteError::NoMemory),
+            },
+        }
+    }
+
+    /// The next number, if so many routes more are allowed at a moment.
+    fn next_number(&self, count: u64, now: u64) -> Option<u64>
+        requires some { 0 < count }
+        ensures { IsNext (is_full count now self.now.exporter) self.now.exporter.last result }
+    {
+        if self.is_full(count, now) {
+            None
+        } else {
+            Some(self.last.saturating_add(1))
+        }
+    }
+
+    /// Whether so many routes more aren't allowed at a moment.
+    fn is_full(&self, count: u64, now: u64) -> bool
+        ensures { result ≡ is_full count now self.now.exporter }
+    {
+        if count > MOST || self.last > u64::MAX - count {
+            return true;
+        }
+        is_over(self.slots.as_slice(), (MOST - count) as usize, now)
+    }
+
+    /// Lets the empty slots go where more than half are empty.
+    fn compact_if_sparse(&mut self)
+        ensures same { self.new.exporter ≡ self.old.exporter }
+        ensures room { self.old.room ≤ self.new.room }
+    {
+        if SPARE < self.empty && self.slots.len() / 2 < self.empty {
+            compact(&mut self.slots);
+            self.empty = 0;
+        }
+    }
+
+    /// One route more, under the next number. It takes no memory: `reserve` has had it.
+    pub fn open(&mut self, route: Route)
+        requires room { 0 < self.old.room }
+        requires within { self.old.exporter.last < 18446744073709551615 }
+        ensures exporter { self.new.exporter ≡ with_route route self.old.exporter }
+        ensures room { self.old.room ≤ self.new.room + 1 }
+    {
+        self.last += 1;
+        self.slots.push_reserved(Slot {
+            number: self.last,
+            route: Some(route),
+        });
+    }
+
+    /// The route of a subject, dead or alive.
+    pub fn find(&self, subject: &SubjectRef<'_>) -> Option<&Route>
+        ensures { option_copied result ≡ route_on subject.now self.now.exporter.routes }
+    {
+        let route = route_on(self.slots.as_slice(), subject);
+        route
+    }
+
+    /// A response was published on a subject: the route that has it ends, if it is for a single response. Nothing happens
+    /// where no route has the subject.
+    pub fn spend(&mut self, subject: &SubjectRef<'_>)
+        ensures exporter { self.new.exporter ≡ spent_of subject.now self.old.exporter }
+        ensures room { self.new.room ≡ self.old.room }
+    {
+        if spend(self.slots.as_mut_slice(), subject) {
+            self.empty = self.empty.saturating_add(1);
+        }
+    }
+
+    /// Takes the routes out that don't live at a moment. The last number stays.
+    pub fn prune(&mut self, now: u64)
+        ensures exporter { self.new.exporter ≡ pruned_of now self.old.exporter }
+        ensures room { self.old.room ≤ self.new.room }
+    {
+        prune(&mut self.slots, now);
+        self.empty = 0;
+    }
+
+    /// Looks at the next route in turn, and takes it out if it doesn't live at a moment. Called for each route that is opened,
+    /// more than once, it lets all go that are dead.
+    pub fn drop_dead(&mut self, now: u64)
+        ensures exporter { pruned_of now self.new.exporter ≡ pruned_of now self.old.exporter }
+        ensures last { self.new.exporter.last ≡ self.old.exporter.last }
+        ensures room { self.new.room ≡ self.old.room }
+    {
+        let place = self.turn;
+        if place >= self.slots.len() {
+            self.turn = 0;
+            return;
+        }
+        self.turn = place + 1;
+        if drop_dead_at(self.slots.as_mut_slice(), place, now) {
+            self.empty = self.empty.saturating_add(1);
+        }
+    }
+
+    /// Another policy comes into force: each route goes on by the row that is equal to its own there, on that row's terms. A
+    /// route whose row has none ends. Those that are dead by the terms before go by `prune` first, or they may live again.
+    pub fn keep_rows<S: ServiceRows>(&mut self, rows: &S)
+        ensures exporter { self.new.exporter ≡ kept_of (S.again rows.now) self.old.exporter }
+        ensures room { self.new.room ≡ self.old.room }
+    {
+        keep_rows(self.slots.as_mut_slice(), rows);
+    }
+}
+
+/// Whether more than so many routes live at a moment.
+fn is_over(slots: &[Slot], most: usize, now: u64) -> bool
+    ensures { result ≡ nat_lt most (length (living now (standing_in slots.now))) }
+{
+    if slots.len() <= most {
+        false
+    } else {
+        count_living(slots, now) > most
+    }
+}

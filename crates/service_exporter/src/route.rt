@@ -1,0 +1,174 @@
+//! One route, and the import row by which its request came.
+ghost use Rattle.std.specs.Prelude.{◌≡◌, IfOk};
+
+use base::NoMemory;
+use bytes::Bytes;
+use std::alloc::Global;
+use subjects::{Subject, SubjectRef};
+
+/// An import row of a service.
+#[derive(Debug, Drop)]
+pub struct Row {
+    /// The name of the importing account.
+    pub importer: Bytes,
+    /// The row's index among the imports of that account.
+    pub index: usize,
+}
+
+/// On what terms an exported service is answered.
+#[derive(Clone, Copy, Debug, PartialEq, Eq)]
+pub struct ResponseTerms {
+    /// For how many milliseconds a route lives (`response_ttl`).
+    pub ttl: u64,
+    /// Whether the first response ends it (`response_type`).
+    pub single: bool,
+}
+
+/// The place of an import row in another policy, and the terms of its export there.
+#[derive(Clone, Copy, Debug, PartialEq, Eq)]
+pub struct NewRow {
+    /// The row's index among the imports of its account.
+    pub index: usize,
+    /// The terms of its export.
+    pub terms: ResponseTerms,
+}
+
+/// The service import rows of a policy, as those of an earlier policy are looked up among them.
+pub trait ServiceRows {
+    ghost use Rattle.std.specs.Prelude.{◌≡◌, Option};
+    ghost use Rattle.service_exporter.specs.declared.route.NewRow.{NewRow};
+    ghost use Rattle.service_exporter.specs.declared.route.Row.{Row};
+
+    /// The least row that is equal to a row of the earlier policy.
+    ghost again: { Self → Row → Option NewRow };
+
+    /// The least row that is equal to a row of the earlier policy, if there is one: with the same importer, exporter,
+    /// subject and `to`.
+    fn again(&self, row: &Row) -> Option<NewRow>
+        ensures { result ≡ again self.now row.now };
+}
+
+/// What an exporter's response needs of the request that it answers. It keeps nothing of what the request was read from.
+#[derive(Debug, Drop)]
+pub struct Route {
+    word: u64,
+    row: Row,
+    reply: Subject,
+    noted: u64,
+    terms: ResponseTerms,
+}
+
+impl Route {
+    ghost use Rattle.service_exporter.specs.Routes.{lives, on_row};
+    ghost use Rattle.std.specs.Option.{option_map};
+
+    /// The route of a request that crosses a row at a moment, with this word in its subject. The request's reply is copied.
+    /// `NoMemory` where memory could not be had.
+    pub fn new(
+        alloc: Global,
+        word: u64,
+        row: Row,
+        reply: &SubjectRef<'_>,
+        now: u64,
+        terms: ResponseTerms,
+    ) -> Result<Route, NoMemory>
+        ensures { IfOk result (λ route. route ≡ record { word = word; row = row; reply = reply.now; noted = now; terms = terms }) }
+    {
+        let reply = own_subject(alloc, reply)?;
+        Ok(Route {
+            word,
+            row,
+            reply,
+            noted: now,
+            terms,
+        })
+    }
+
+    /// The word in its subject.
+    pub fn word(&self) -> u64
+        ensures { result ≡ self.now.word }
+    {
+        self.word
+    }
+
+    /// The import row by which the request came.
+    pub fn row(&self) -> &Row
+        ensures { result.now ≡ self.now.row }
+    {
+        &self.row
+    }
+
+    /// The account that asked: the row's importer.
+    pub fn requester(&self) -> &Bytes
+        ensures { result.now ≡ self.now.row.importer }
+    {
+        &self.row.importer
+    }
+
+    /// The reply of the request, where the requester waits for responses.
+    pub fn reply(&self) -> &Subject
+        ensures { result.now ≡ self.now.reply }
+    {
+        &self.reply
+    }
+
+    /// The moment of the request, in milliseconds.
+    pub fn noted(&self) -> u64
+        ensures { result ≡ self.now.noted }
+    {
+        self.noted
+    }
+
+    /// On what terms it is answered.
+    pub fn terms(&self) -> ResponseTerms
+        ensures { result ≡ self.now.terms }
+    {
+        self.terms
+    }
+
+    /// The route on its row in another policy, on that row's terms, or none where the policy hasn't got the row.
+    pub(crate) fn keep(self, again: Option<NewRow>) -> Option<Route>
+        ensures { result ≡ option_map (on_row self) again }
+    {
+        match again {
+            None => None,
+            Some(new) => {
+                let Route {
+                    word,
+                    row,
+                    reply,
+                    noted,
+                    terms: _,
+                } = self;
+                Some(Route {
+                    word,
+                    row: Row {
+                        importer: row.importer,
+                        index: new.index,
+                    },
+                    reply,
+                    noted,
+                    terms: new.terms,
+                })
+            }
+        }
+    }
+
+    /// Whether it lives at a moment: its age is at most what its terms give it. It has no age before it was noted.
+    pub fn lives(&self, now: u64) -> bool
+        ensures { result ≡ lives now self.now }
+    {
+        now.saturating_sub(self.noted) <= self.terms.ttl
+    }
+}
+
+/// The same subject, in memory of its own.
+fn own_subject(alloc: Global, subject: &SubjectRef<'_>) -> Result<Subject, NoMemory>
+    ensures { IfOk result (λ own. own ≡ subject.now) }
+{
+    let _known = subject.tokens();
+    match Subject::parse(alloc, subject.bytes()) {
+        Ok(own) => Ok(own),
+        Err(_) => Err(NoMemory),
+    }
+}

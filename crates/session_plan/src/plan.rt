@@ -1,0 +1,294 @@
+// What a frame comes to before the hub is asked.
+ghost use Rattle.std.specs.Prelude.{◌≡◌, ℕ, IfOk, IfSome};
+ghost use Rattle.connect_opts.specs.Opts.{opts_of};
+ghost use Rattle.session_plan.specs.declared.stage.Stage.{Stage};
+ghost use Rattle.session_plan.specs.declared.plan.Plan.TheVariants.{Publishes};
+ghost use Rattle.subjects.specs.Fault.{subject_if, pattern_if};
+ghost use Rattle.events.specs.Messages as read;
+ghost use Rattle.session_plan.specs.Plans.{plan_of, fresh_plan, connected_plan, connect_plan, message_in, message_if, published_by, publish_plan, headed_plan, subscribe_plan, error_plan, named_if};
+
+use crate::reply::{Reply, fault_text, reply_of_error, reply_of_text};
+use crate::stage::Stage;
+use crate::text::Text;
+use base::{NoMemory, Shared, SharedBytes, SharedText};
+use connect_opts::{ConnectError, ConnectOpts};
+use events::{Command, Message};
+use std::alloc::Global;
+use subjects::{Pattern, Subject};
+use wire_message::MessageText;
+use wire_read::Frame;
+use wire_write::ServerError;
+
+/// What a frame comes to before the hub is asked.
+#[derive(Drop)]
+pub enum Plan {
+    /// It is answered as it is.
+    Tells(Reply<'static>),
+    /// The hub is asked. Where a CONNECT is accepted the connection is then at this stage.
+    Asks(Command, Stage),
+    /// The hub is asked to publish a message, with a word.
+    Publishes(Message),
+}
+
+/// The subject of a text, if it is one, with bytes of its own.
+fn subject_of(alloc: Global, text: &[u8]) -> Result<Option<Subject>, NoMemory>
+    ensures { IfOk result (λ subject. subject ≡ subject_if text.now) }
+{
+    match Subject::parse(alloc, text) {
+        Ok(subject) => Ok(Some(subject)),
+        Err(error) => {
+            if error.is_no_memory() {
+                Err(NoMemory)
+            } else {
+                Ok(None)
+            }
+        }
+    }
+}
+
+/// The pattern of a text, if it is one.
+fn pattern_of(alloc: Global, text: &[u8]) -> Result<Option<Pattern>, NoMemory>
+    ensures { IfOk result (λ pattern. pattern ≡ pattern_if text.now) }
+{
+    match Pattern::parse(alloc, text) {
+        Ok(pattern) => Ok(Some(pattern)),
+        Err(error) => {
+            if error.is_no_memory() {
+                Err(NoMemory)
+            } else {
+                Ok(None)
+            }
+        }
+    }
+}
+
+/// The queue name that a SUB names, with bytes of its own, since it may stand for long: none where it names none, and
+/// where it names no subject there is no answer.
+fn queue_of(alloc: Global, text: &Option<SharedBytes>) -> Result<Option<Option<Subject>>, NoMemory>
+    ensures { IfOk result (λ queue. queue ≡ named_if text.now) }
+{
+    match text {
+        None => Ok(Some(None)),
+        Some(text) => match subject_of(alloc, text.as_slice())? {
+            None => Ok(None),
+            Some(queue) => Ok(Some(Some(queue))),
+        },
+    }
+}
+
+/// An error, which closes the connection or leaves it open.
+fn plan_of_error(error: ServerError<'static>, stage: Stage) -> Plan
+    ensures { result ≡ error_plan error.entry stage }
+{
+    Plan::Tells(reply_of_error(error, stage))
+}
+
+/// A text of its own bytes. It may stand for long, and would keep all that was read with it.
+fn own_text(alloc: Global, text: &SharedBytes) -> Result<SharedText, NoMemory>
+    ensures { IfOk result (λ own. own ≡ text.now) }
+{
+    let own = SharedText::of(alloc, text.as_slice())?;
+    Ok(own)
+}
+
+/// A CONNECT of a client that has not shown who it is.
+fn plan_connect(alloc: Global, conn: u64, text: &[u8]) -> Result<Plan, NoMemory>
+    ensures { IfOk result (λ plan. plan ≡ connect_plan conn (opts_of text.now)) }
+{
+    match ConnectOpts::read(alloc, text) {
+        Ok(opts) => {
+            let ConnectOpts {
+                user,
+                password,
+                verbose,
+                echo,
+                headers,
+            } = opts;
+            let command = Command::Connect {
+                conn,
+                user,
+                password,
+                echo,
+            };
+            Ok(Plan::Asks(command, Stage::Connected { verbose, headers }))
+        }
+        Err(ConnectError::NoMemory) => Err(NoMemory),
+        Err(ConnectError::NotJson | ConnectError::NotObject | ConnectError::FieldType) => {
+            Ok(plan_of_error(ServerError::ParserError, Stage::Fresh))
+        }
+    }
+}
+
+/// The message of these texts, if its subjects are subjects. They are shared, not copied.
+fn message_of_text(text: &MessageText) -> Result<Option<Message>, NoMemory>
+    ensures { IfOk result (λ message. message ≡ read.message_of text.now) }
+{
+    let message = Message::of(text.again()?);
+    Ok(message)
+}
+
+/// The message of an HPUB, if its client declared headers and its subjects are subjects. It is apart, so that a PUB doesn't
+/// have to make place for it.
+#[inline(never)]
+fn message_if(headers: bool, text: &MessageText) -> Result<Option<Message>, NoMemory>
+    ensures { IfOk result (λ message. message ≡ message_if headers text.now) }
+{
+    if headers {
+        message_of_text(text)
+    } else {
+        Ok(None)
+    }
+}
+
+/// A message of a client whose CONNECT was accepted.
+fn plan_publish(stage: Stage, text: &MessageText) -> Result<Plan, NoMemory>
+    ensures { IfOk result (λ plan. plan ≡ publish_plan stage text.now) }
+{
+    match message_of_text(text)? {
+        None => Ok(plan_of_error(ServerError::InvalidSubject, stage)),
+        Some(message) => Ok(Plan::Publishes(message)),
+    }
+}
+
+/// A message with a header block. A client that has not declared headers may send none.
+fn plan_headed(stage: Stage, headers: bool, text: &MessageText) -> Result<Plan, NoMemory>
+    ensures { IfOk result (λ plan. plan ≡ headed_plan stage headers text.now) }
+{
+    if headers {
+        plan_publish(stage, text)
+    } else {
+        Ok(plan_of_error(ServerError::ParserError, stage))
+    }
+}
+
+/// A SUB of a client whose CONNECT was accepted.
+fn plan_subscribe(
+    alloc: Global,
+    conn: u64,
+    stage: Stage,
+    subject: &SharedBytes,
+    queue: &Option<SharedBytes>,
+    sid: &SharedBytes,
+) -> Result<Plan, NoMemory>
+    ensures { IfOk result (λ plan. plan ≡ subscribe_plan conn stage subject.now queue.now sid.now) }
+{
+    match pattern_of(alloc, subject.as_slice())? {
+        None => Ok(plan_of_error(ServerError::InvalidSubject, stage)),
+        Some(pattern) => match queue_of(alloc, queue)? {
+            None => Ok(plan_of_error(ServerError::InvalidSubject, stage)),
+            Some(queue) => {
+                let subject = Shared::new(alloc, pattern)?;
+                let sid = own_text(alloc, sid)?;
+                let command = Command::Sub {
+                    conn,
+                    subject,
+                    queue,
+                    sid,
+                };
+                Ok(Plan::Asks(command, stage))
+            }
+        },
+    }
+}
+
+/// The message of a PUB, or of an HPUB of a client that declared headers, if its subjects are subjects.
+fn message_in(headers: bool, frame: &Frame) -> Result<Option<Message>, NoMemory>
+    ensures message { IfOk result (λ published. published ≡ message_in headers frame.now) }
+    ensures plan { IfOk result (λ published. IfSome published (λ message. (conn : ℕ) (stage : Stage) → connected_plan conn stage headers frame.now ≡ Publishes message)) }
+{
+    match frame {
+        Frame::Pub(text) => {
+            let message = message_of_text(text)?;
+            Ok(message)
+        }
+        Frame::Hpub(text) => message_if(headers, text),
+        Frame::Connect(_) => Ok(None),
+        Frame::Sub { .. } => Ok(None),
+        Frame::Unsub { .. } => Ok(None),
+        Frame::Ping => Ok(None),
+        Frame::Pong => Ok(None),
+        Frame::Fault(_) => Ok(None),
+    }
+}
+
+/// A frame of a client that has not shown who it is.
+fn plan_fresh(alloc: Global, conn: u64, frame: &Frame) -> Result<Plan, NoMemory>
+    ensures { IfOk result (λ plan. plan ≡ fresh_plan conn frame.now) }
+{
+    match frame {
+        Frame::Connect(text) => plan_connect(alloc, conn, text.as_slice()),
+        Frame::Ping => Ok(Plan::Tells(reply_of_text(Text::Pong, Stage::Fresh))),
+        Frame::Pong => Ok(Plan::Tells(reply_of_text(Text::Nothing, Stage::Fresh))),
+        Frame::Fault(fault) => Ok(Plan::Tells(reply_of_text(
+            fault_text(*fault),
+            Stage::Closed { session: false },
+        ))),
+        Frame::Pub(_) => Ok(plan_of_error(ServerError::Authorization, Stage::Fresh)),
+        Frame::Hpub(_) => Ok(plan_of_error(ServerError::Authorization, Stage::Fresh)),
+        Frame::Sub { .. } => Ok(plan_of_error(ServerError::Authorization, Stage::Fresh)),
+        Frame::Unsub { .. } => Ok(plan_of_error(ServerError::Authorization, Stage::Fresh)),
+    }
+}
+
+/// A frame of a client whose CONNECT was accepted, and which may have declared headers.
+fn plan_connected(
+    alloc: Global,
+    conn: u64,
+    stage: Stage,
+    headers: bool,
+    frame: &Frame,
+) -> Result<Plan, NoMemory>
+    ensures { IfOk result (λ plan. plan ≡ connected_plan conn stage headers frame.now) }
+{
+    match frame {
+        Frame::Connect(_) => Ok(plan_of_error(ServerError::InvalidProtocol, stage)),
+        Frame::Pub(text) => plan_publish(stage, text),
+        Frame::Hpub(text) => plan_headed(stage, headers, text),
+        Frame::Sub {
+            subject,
+            queue,
+            sid,
+        } => plan_subscribe(alloc, conn, stage, subject, queue, sid),
+        Frame::Unsub { sid, most } => {
+            let sid = own_text(alloc, sid)?;
+            let most = *most;
+            Ok(Plan::Asks(Command::Unsub { conn, sid, most }, stage))
+        }
+        Frame::Ping => Ok(Plan::Tells(reply_of_text(Text::Pong, stage))),
+        Frame::Pong => Ok(Plan::Tells(reply_of_text(Text::Nothing, stage))),
+        Frame::Fault(fault) => Ok(Plan::Tells(reply_of_text(fault_text(*fault), stage.closed()))),
+    }
+}
+
+/// What a frame comes to before the hub is asked. After a closing text nothing is looked at.
+pub fn plan_of(alloc: Global, conn: u64, stage: Stage, frame: &Frame) -> Result<Plan, NoMemory>
+    ensures plan { IfOk result (λ plan. plan ≡ plan_of conn stage frame.now) }
+{
+    match stage {
+        Stage::Fresh => plan_fresh(alloc, conn, frame),
+        Stage::Connected { verbose, headers } => plan_connected(
+            alloc,
+            conn,
+            Stage::Connected { verbose, headers },
+            headers,
+            frame,
+        ),
+        Stage::Closed { session } => Ok(Plan::Tells(reply_of_text(
+            Text::Nothing,
+            Stage::Closed { session },
+        ))),
+    }
+}
+
+/// The message that a PUB or an HPUB of a client publishes whose CONNECT was accepted. Where it gives none, the frame's plan
+/// tells what it comes to.
+pub fn message_of(stage: Stage, frame: &Frame) -> Result<Option<Message>, NoMemory>
+    ensures message { IfOk result (λ published. published ≡ published_by stage frame.now) }
+    ensures plan { IfOk result (λ published. IfSome published (λ message. (conn : ℕ) → plan_of conn stage frame.now ≡ Publishes message)) }
+{
+    match stage {
+        Stage::Fresh => Ok(None),
+        Stage::Connected { headers, .. } => message_in(headers, frame),
+        Stage::Closed { .. } => Ok(None),
+    }
+}

@@ -1,0 +1,20 @@
+-- what is left, once it is offered, completes the run, whose answers so far are kept
+use Rattle.std.proofs.Common.{◌≡◌, ◌++◌, List}
+use Rattle.std.specs.VecDeque.{deque_len}
+use Rattle.events.specs.declared.answer.Entry.{Entry}
+use Rattle.shared_runs.proofs.Runs.{Continues}
+use Rattle.shared_desk.specs.Publishing.{IsPublished, inside}
+use Rattle.shared_desk.proofs.desk.Desk.publish_run.Given as goal
+
+abbrev pub invariant-loop-message : goal.invariant-loop-message
+invariant-loop-message g l = record {
+  freed : l.told.freed.items ≡ l.initial.told.freed.items;
+  rest : l.told.rest ≡ l.initial.told.rest;
+  run : (answers : List Entry) × (l.hold.answers.items ≡ l.initial.hold.answers.items ++ answers)
+      × Continues (IsPublished (λ s. s.count) g.L.Run.opening) g.W.Words.draws l.posts.conn l.posts.now l.initial.messages.items
+      (inside l.initial.self.hub l.initial.self.waits l.initial.self.held.items l.initial.seat l.initial.told) l.initial.words
+      answers l.messages.items (inside l.self.hub l.self.waits l.self.held.items l.seat l.told) l.words;
+}
+
+abbrev pub decreases-loop-message : goal.decreases-loop-message
+decreases-loop-message g l = deque_len l.messages

@@ -1,0 +1,68 @@
+ghost use Rattle.std.specs.Prelude.{◌≡◌, [], is_some};
+ghost use Rattle.events.specs.Runs.{was_published};
+
+use events::{Answer, Outcome};
+use std::alloc::Global;
+
+/// What may enter in one hold of the lock, and the answers of what has entered in it.
+#[derive(Drop)]
+pub struct Hold {
+    /// The answers of messages that were published and had others behind them, in order.
+    pub answers: Vec<Answer>,
+    /// How many messages and deliveries may still enter.
+    pub room: usize,
+}
+
+impl Hold {
+    ghost use Rattle.std.specs.Prelude.{◌≡◌, ◌++◌, ◌∷◌, [], Option, None, Some, ℕ};
+    ghost use Rattle.shared_runs.specs.Runs.{IsKept};
+
+    /// A hold in which at most so many messages, and so many messages and deliveries, may enter. Without memory one message
+    /// may enter.
+    pub fn new(alloc: Global, messages: usize, room: usize) -> Hold
+        ensures { result.answers.items ≡ [] }
+    {
+        let answers = match Vec::with_capacity(alloc, messages.saturating_sub(1)) {
+            Ok(answers) => answers,
+            Err(_) => Vec::new(alloc),
+        };
+        Hold { answers, room }
+    }
+
+    /// Keeps the answer of a message that was published, if another may enter behind it; else hands it back.
+    #[inline(always)]
+    pub fn keep(&mut self, answer: Answer) -> Option<Answer>
+        ensures { IsKept answer result self.old.answers.items self.new.answers.items }
+    {
+        match items_of(&answer) {
+            None => Some(answer),
+            Some(items) => {
+                self.room = self.room.saturating_sub(items).saturating_sub(1);
+                if self.room == 0 || self.answers.len() >= self.answers.capacity() {
+                    return Some(answer);
+                }
+                self.answers.push_reserved(answer);
+                None
+            }
+        }
+    }
+}
+
+/// How many subscriptions a message met, if it was published.
+#[inline(always)]
+fn items_of(answer: &Answer) -> Option<usize>
+    ensures { is_some result ≡ was_published answer.now.outcome }
+{
+    match &answer.get().outcome {
+        Outcome::Published(_, met) => Some(met.as_slice().len()),
+        _ => None,
+    }
+}
+
+/// Whether a message was published.
+#[inline(always)]
+pub fn was_published(answer: &Answer) -> bool
+    ensures { result ≡ was_published answer.now.outcome }
+{
+    items_of(answer).is_some()
+}

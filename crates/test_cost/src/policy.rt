@@ -1,0 +1,40 @@
+//! The policy of a scenario.
+use crate::fault::CostFault;
+use policy_doc::Policy;
+use policy_ready::Ready;
+use reload::prepare;
+use std::alloc::Global;
+
+/// The built-in policy, or one whose user may publish what so many entries allow, of which the last is `foo`.
+pub fn policy_of(alloc: Global, allows: u64) -> Result<Ready, CostFault> {
+    if allows > 0 {
+        let text = listing(alloc, allows)?;
+        return prepare(alloc, text.as_str().as_bytes())
+            .ok()
+            .ok_or(CostFault::NoMemory);
+    }
+    let policy = Policy::builtin(alloc).ok().ok_or(CostFault::NoMemory)?;
+    Ready::of(alloc, policy).ok().ok_or(CostFault::NoMemory)
+}
+
+/// What stands before a policy's list, and behind it. Without a clause, so that what is appended is known as no more than a
+/// text.
+fn ends() -> (&'static str, &'static str) {
+    (
+        "{\"accounts\":{\"A\":{\"users\":[{\"user\":\"demo\",\"password\":\"demo\",\"permissions\":{\"publish\":[",
+        "\"foo\"]}}]}}}",
+    )
+}
+
+/// The text of a policy with one user and its list.
+fn listing(alloc: Global, allows: u64) -> Result<String, CostFault> {
+    let (head, tail) = ends();
+    let mut text = String::new(alloc);
+    text.push_str(head)?;
+    for entry in 1..allows {
+        let entry = format!(in alloc; "\"other.{entry}\",")?;
+        text.push_str(entry.as_str())?;
+    }
+    text.push_str(tail)?;
+    Ok(text)
+}

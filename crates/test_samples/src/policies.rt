@@ -1,0 +1,67 @@
+use base::Items;
+use bytes::Bytes;
+use policy_doc::{AccountDoc, Accounts, Direction, PermDoc, PermEntry, Policy, PolicyDoc, UserDoc};
+use policy_ready::Ready;
+use std::alloc::Global;
+use subjects::Pattern;
+
+/// The policies of the tests. Each has one account, of user demo.
+#[derive(Clone, Copy)]
+pub enum Given {
+    /// User demo may do everything.
+    All,
+    /// User demo may subscribe to this subject alone.
+    Only(&'static str),
+}
+
+/// The policy, ready for use. There is none where memory could not be had.
+pub fn ready_of(alloc: Global, given: Given) -> Option<Ready> {
+    let permissions = match given {
+        Given::All => None,
+        Given::Only(subject) => Some(permissions(entry(alloc, subject)?, alloc)?),
+    };
+    ready(alloc, account(alloc, permissions)?)
+}
+
+fn entry(alloc: Global, subject: &str) -> Option<PermEntry> {
+    Some(PermEntry {
+        subject: Pattern::parse(alloc, subject.as_bytes()).ok()?,
+        queue: None,
+    })
+}
+
+fn permissions(entry: PermEntry, alloc: Global) -> Option<PermDoc> {
+    let mut entries = Vec::new(alloc);
+    entries.push(entry).ok()?;
+    Some(PermDoc {
+        publish: Direction {
+            allow: None,
+            deny: Items::new(alloc),
+        },
+        subscribe: Direction {
+            allow: Some(Items::from_vec(entries)),
+            deny: Items::new(alloc),
+        },
+        allow_responses: None,
+    })
+}
+
+fn account(alloc: Global, permissions: Option<PermDoc>) -> Option<AccountDoc> {
+    let mut users = Vec::new(alloc);
+    let demo = UserDoc {
+        user: Bytes::from_static(b"demo"),
+        password: Bytes::from_static(b"demo"),
+        permissions,
+    };
+    users.push(demo).ok()?;
+    Some(AccountDoc {
+        users: Items::from_vec(users),
+    })
+}
+
+fn ready(alloc: Global, account: AccountDoc) -> Option<Ready> {
+    let mut accounts = Accounts::new(alloc);
+    accounts.insert(Bytes::from_static(b"A"), account).ok()?;
+    let policy = Policy::check(PolicyDoc { accounts }).ok()?;
+    Ready::of(alloc, policy).ok()
+}

@@ -1,0 +1,185 @@
+-- What is known stays so while messages are delivered, counted and taken: who may be sent a message, and whom it is for,
+-- goes neither by what waits for a session nor by what a subscription has received.
+use Rattle.std.proofs.Common.{◌≡◌, ◌∙◌, ◌==◌, ◌&&◌, ◌||◌, ◌%◌, ◌^◌, ◌≤◌, ℕ, Bool, true, false, cond, not, List, [], ◌∷◌, length, nat_lt, Option, Some, None, map, filter, ap, sym, refl, subst, inl, inr, arith}
+use Rattle.std.specs.Option.{option_map}
+use Rattle.std.proofs.lemmas.Bool.{cases_Bool}
+use Rattle.std.proofs.lemmas.List.{length-map}
+use Rattle.std.proofs.lemmas.Option.{none-some}
+use Rattle.subjects.specs.Subject.{Token, tokens_of, text_of}
+use Rattle.policy_ready.specs.declared.ready.User.{User}
+use Rattle.permissions.specs.Verdicts.{delivery_verdict, is_allowed}
+use Rattle.events.specs.declared.answer.Addressed.{Addressed}
+use Rattle.events.specs.declared.answer.Item.{Item}
+use Rattle.queue_choice.specs.Choices.{chosen}
+use Rattle.world_groups.specs.Served.{is_named, is_member, members, is_the, is_served_by, is_served, served}
+use Rattle.world_groups.proofs.Chosen.{filter-map, same_tests, chosen-map}
+use Rattle.world_sessions.specs.Sessions.{session_of, with_session}
+use Rattle.world_sessions.specs.Delivered.{delivered, offered, after_offer, has_room}
+use Rattle.world_sessions.specs.declared.session.Session.{Session}
+use Rattle.world_subscriptions.specs.Subscriptions.{has_subject}
+use Rattle.world_subscriptions.specs.Limit.{unended, counted, has_entered, has_ended}
+use Rattle.world_rows.specs.declared.subscription.Subscription.{Subscription}
+use Rattle.world_receivers.specs.Open.{lets_through, may_hear, is_open, open_among}
+use Rattle.world_receivers.specs.Receivers.{receiver_of}
+use Rattle.world_receivers.specs.Known.{picked, IsKnown, IsWhom, IsWhomFor, Holds}
+use Rattle.world_receivers.specs.declared.receiver.Receiver.{Receiver}
+use Rattle.world_receivers.specs.declared.known.Known.{Known}
+use Rattle.world_receivers.specs.declared.known.Whom.{Whom}
+
+-- ---- sessions
+
+-- what of a session says whom it may be sent messages of, and on what
+abbrev pub Seat : Type 0
+Seat = ℕ × (User × Bool)
+
+abbrev pub seat : Session → Seat
+seat z = (z.conn, (z.user, z.echo))
+
+-- each connection's is as it was
+abbrev pub AreSeated : List Session → List Session → Type 0
+AreSeated zs after = (conn : ℕ) → option_map seat (session_of after conn) ≡ option_map seat (session_of zs conn)
+
+pub seats_with : (f : Session → Session) (conn : ℕ) → ((z : Session) → seat (f z) ≡ seat z) → (zs : List Session) → AreSeated zs (with_session f conn zs)
+seats_with f conn same [] other = refl
+seats_with f conn same (z ∷ zs) other = here (z.conn == conn) (seats_with f conn same zs other)
+  where
+    seated : (b : Bool) (z y : Session) (rest later : Option Session) → seat y ≡ seat z → option_map seat later ≡ option_map seat rest →
+        option_map seat (cond b (Some y) later) ≡ option_map seat (cond b (Some z) rest)
+    seated true z y rest later own others = ap Some own
+    seated false z y rest later own others = others
+
+    here : (b : Bool) → option_map seat (session_of (with_session f conn zs) other) ≡ option_map seat (session_of zs other) →
+        option_map seat (session_of (cond b (f z ∷ zs) (z ∷ with_session f conn zs)) other) ≡ option_map seat (session_of (z ∷ zs) other)
+    here true others =
+        ap (λ (n : ℕ). option_map seat (cond (n == other) (Some (f z)) (session_of zs other))) (ap (λ (s : Seat). s.0) (same z))
+        ∙ seated (z.conn == other) z (f z) (session_of zs other) (session_of zs other) (same z) refl
+    here false others = seated (z.conn == other) z z (session_of zs other) (session_of (with_session f conn zs) other) refl others
+
+pub seats_after : (zs ys xs : List Session) → AreSeated zs ys → AreSeated ys xs → AreSeated zs xs
+seats_after zs ys xs first then conn = then conn ∙ first conn
+
+pub seats_delivered : (now : ℕ) (all : List Addressed) (zs : List Session) → AreSeated zs (delivered now all zs).0
+seats_delivered now [] zs = λ conn. refl
+seats_delivered now (a ∷ all) zs =
+    seats_after zs (after_offer now a zs) (delivered now all (after_offer now a zs)).0
+    (seats_with (offered a.delivery a.noted now) a.conn offered-seat zs)
+    (seats_delivered now all (after_offer now a zs))
+  where
+    either : (b : Bool) (z x y : Session) → seat x ≡ seat z → seat y ≡ seat z → seat (cond b x y) ≡ seat z
+    either true z x y first second = first
+    either false z x y first second = second
+
+    offered-seat : (z : Session) → seat (offered a.delivery a.noted now z) ≡ seat z
+    offered-seat z = either (has_room (Some z)) z _ _ refl refl
+
+-- who may be sent a message goes by the seats alone
+module _ (zs after : List Session) (seated : AreSeated zs after) (z y : Session) (own : seat y ≡ seat z) (s : List Token) where
+  open_same : (sub : Subscription) → is_open after y s sub ≡ is_open zs z s sub
+  open_same sub =
+      ap (λ (q : Seat). (q.1.1 || not (sub.conn == q.0)) && lets_through s sub.queue (session_of after sub.conn)) own
+      ∙ ap (λ b. may_hear z sub.conn && b) (by_seat (session_of after sub.conn) ∙ ap lets (seated sub.conn) ∙ sym (by_seat (session_of zs sub.conn)))
+    where
+      lets : Option Seat → Bool
+      lets None = false
+      lets (Some q) = is_allowed (delivery_verdict q.1.0.rules s sub.queue)
+
+      by_seat : (o : Option Session) → lets_through s sub.queue o ≡ lets (option_map seat o)
+      by_seat None = refl
+      by_seat (Some x) = refl
+
+-- ---- subscriptions
+
+-- what of a subscription stays as its SUB made it
+abbrev pub made : Subscription → Subscription
+made s = record s { received = 0; most = None }
+
+module _ (f : Subscription → Subscription) (same : (s : Subscription) → made (f s) ≡ made s) where
+  members-map : (name : List ℕ) (xs : List Subscription) → members name (map f xs) ≡ map f (members name xs)
+  members-map name xs =
+      filter-map (is_member name) f xs
+      ∙ ap (map f) (same_tests (λ x. is_member name (f x)) (is_member name) xs (λ x. ap (λ (m : Subscription). is_member name m) (same x)))
+
+  served-map : (word : ℕ) (xs : List Subscription) → served word (map f xs) ≡ map f (served word xs)
+  served-map word xs =
+      filter-map (is_served word (map f xs)) f xs
+      ∙ ap (map f) (same_tests (λ x. is_served word (map f xs) (f x)) (is_served word xs) xs (λ x. ap (λ (m : Subscription). is_served_by word (map f xs) (f x) m.queue) (same x) ∙ by x x.queue))
+    where
+      the : (o : Option Subscription) (x : Subscription) → is_the (option_map f o) (f x) ≡ is_the o x
+      the None x = refl
+      the (Some c) x = ap (λ (m : Subscription). m.id == (f x).id) (same c) ∙ ap (λ (m : Subscription). c.id == m.id) (same x)
+
+      by : (x : Subscription) (o : Option (List Token)) → is_served_by word (map f xs) (f x) o ≡ is_served_by word xs x o
+      by x None = refl
+      by x (Some q) =
+          ap (λ (ms : List Subscription). is_the (chosen word ms) (f x)) (members-map (text_of q) xs)
+          ∙ ap (λ (o : Option Subscription). is_the o (f x)) (sym (chosen-map f word (members (text_of q) xs)))
+          ∙ the (chosen word (members (text_of q) xs)) x
+
+  receivers-map : (xs : List Subscription) → map receiver_of (map f xs) ≡ map receiver_of xs
+  receivers-map [] = refl
+  receivers-map (x ∷ xs) = (λ i. receiver_of (same x i) ∷ receivers-map xs i)
+
+  whom-map : (whom : Whom) (xs : List Subscription) → IsWhom whom xs → IsWhom whom (map f xs)
+  whom-map whom xs is = λ known word. ap (map receiver_of) (served-map word xs) ∙ receivers-map (served word xs) ∙ is known word
+
+  module _ (zs after : List Session) (seated : AreSeated zs after) (subs : List Subscription) where
+    open-map : (z y : Session) → seat y ≡ seat z → (s : List Token) → open_among after (map f subs) y y.user.account s ≡ map f (open_among zs subs z z.user.account s)
+    open-map z y own s =
+        filter-map (λ sub. has_subject y.user.account s sub && is_open after y s sub) f subs
+        ∙ ap (map f) (same_tests (λ x. has_subject y.user.account s (f x) && is_open after y s (f x)) (λ sub. has_subject z.user.account s sub && is_open zs z s sub) subs
+        (λ x. ap (λ (m : Subscription). has_subject y.user.account s m && is_open after y s m) (same x)
+        ∙ ap (λ (q : Seat). has_subject q.1.0.account s x && is_open after y s x) own
+        ∙ ap (λ b. has_subject z.user.account s x && b) (open_same zs after seated z y own s x)))
+
+    whom-stays : (o : Option Whom) (conn : ℕ) (text : List ℕ) → IsWhomFor o conn text zs subs → IsWhomFor o conn text after (map f subs)
+    whom-stays None conn text is = tt
+    whom-stays (Some whom) conn text is = λ y there. was y (session_of zs conn) refl (sym (seated conn) ∙ ap (option_map seat) there)
+      where
+        was : (y : Session) (o : Option Session) → session_of zs conn ≡ o → option_map seat (session_of zs conn) ≡ Some (seat y) → IsWhom whom (open_among after (map f subs) y y.user.account (tokens_of text))
+        was y None e own = absurd (none-some (seat y) (sym (ap (option_map seat) e) ∙ own))
+        was y (Some z) e own =
+            subst (IsWhom whom) (sym (open-map z y (ap (λ (q : Option Seat). or_else q (seat z)) (sym own ∙ ap (option_map seat) e)) (tokens_of text)))
+            (whom-map whom (open_among zs subs z z.user.account (tokens_of text)) (is z e))
+          where
+            or_else : Option Seat → Seat → Seat
+            or_else None d = d
+            or_else (Some q) d = q
+
+-- ---- what is known
+
+pub holds_taken : (known : Known) (zs after : List Session) (subs : List Subscription) → AreSeated zs after → Holds zs subs known → Holds after subs known
+holds_taken known zs after subs seated holds =
+    subst (λ (ss : List Subscription). Holds after ss known) (map-same subs) (whom-stays (λ s. s) (λ s. refl) zs after seated subs known.whom known.conn known.subject.items holds)
+  where
+    map-same : (xs : List Subscription) → map (λ s. s) xs ≡ xs
+    map-same [] = refl
+    map-same (x ∷ xs) = ap (λ rest. x ∷ rest) (map-same xs)
+
+counted-made : (items : List Item) (s : Subscription) → made (counted items s) ≡ made s
+counted-made items s = either (has_entered items s && nat_lt s.received 18446744073709551615) _ _ refl refl
+  where
+    either : (b : Bool) (x y : Subscription) → made x ≡ made s → made y ≡ made s → made (cond b x y) ≡ made s
+    either true x y first second = first
+    either false x y first second = second
+
+-- where none of those that have counted a message has ended
+pub holds_counted : (known : Known) (zs after : List Session) (subs left : List Subscription) (items : List Item) →
+    AreSeated zs after → left ≡ unended (map (counted items) subs) → length subs ≤ length left → Holds zs subs known → Holds after left known
+holds_counted known zs after subs left items seated are as_many holds =
+    subst (λ (ss : List Subscription). Holds after ss known)
+    (sym (are ∙ all_stay (λ (s : Subscription). not (has_ended s)) (map (counted items) subs) (omega (arith, as_many, ap length are, length-map subs (counted items)))))
+    (whom-stays (counted items) (counted-made items) zs after seated subs known.whom known.conn known.subject.items holds)
+  where
+    fewer : {X : Type 0} (p : X → Bool) (xs : List X) → length (filter p xs) ≤ length xs
+    fewer p [] = omega arith
+    fewer p (x ∷ xs) = elim (cases_Bool (p x)) [
+      | inl y ↦ rw y (let h = fewer p xs in omega (arith, h))
+      | inr e ↦ rw e (let h = fewer p xs in omega (arith, h))
+    ]
+
+    all_stay : {X : Type 0} (p : X → Bool) (xs : List X) → length xs ≤ length (filter p xs) → filter p xs ≡ xs
+    all_stay p [] h = refl
+    all_stay p (x ∷ xs) h = elim (cases_Bool (p x)) [
+      | inl y ↦ rw y (ap (λ ys. x ∷ ys) (all_stay p xs (let k = rw y at h in omega (arith, k))))
+      | inr e ↦ absurd (let k = rw e at h in let l = fewer p xs in omega (arith, k, l))
+    ]

@@ -1,0 +1,31 @@
+-- the deliveries are those that are known, or those for whom it was found to be for
+use Rattle.std.proofs.Common.{◌≡◌, ◌∙◌, ℕ, List, map, filter, ap}
+use Rattle.subjects.specs.Subject.{Token, tokens_of}
+use Rattle.subjects.proofs.Text.{again}
+use Rattle.events.specs.Messages.{Message}
+use Rattle.world_subscriptions.specs.Subscriptions.{has_subject, having}
+use Rattle.world_subscriptions.specs.Addressing.{addressed_to}
+use Rattle.world_rows.specs.declared.subscription.Subscription.{Subscription}
+use Rattle.world_groups.specs.Served.{served}
+use Rattle.world_receivers.specs.Open.{is_open}
+use Rattle.world_receivers.proofs.Tests.{both}
+use Rattle.world_receivers.proofs.Told.{told_are}
+use Rattle.world_receivers.proofs.address.address_all.Goals as goal
+
+pub returns-then-branch-clause-all : goal.returns-then-branch-clause-all
+returns-then-branch-clause-all c =
+    told_are c.args.known.now _ _ c.args.message.now c.args.word _ c.args.sessions.now c.args.subscriptions.now c.args.publisher.now
+    (c.in_ok-address.ensures c.if-branch.true) c.requires.holds c.requires.publisher
+    (ap tokens_of c.bytes.ensures ∙ again c.subject-subject.result c.tokens.ensures.grammar ∙ c.subject-subject.ensures)
+
+pub returns-clause-all : goal.returns-clause-all
+returns-clause-all c =
+    let zs = c.args.sessions.now in
+    let subs = c.args.subscriptions.now in
+    let z = c.args.publisher.now in
+    let m : Message = c.args.message.now in
+    c.in_ok-address_served.ensures
+    ∙ ap (λ (s : List Token). map (addressed_to m) (served c.args.word (filter (is_open zs z s) (having c.as_slice-account.result.now m.subject c.remember.new.self)))) c.subject-subject.ensures
+    ∙ ap (λ (a : List ℕ). map (addressed_to m) (served c.args.word (filter (is_open zs z m.subject) (having a m.subject c.remember.new.self)))) c.as_slice-account.ensures
+    ∙ ap (λ (now : List Subscription). map (addressed_to m) (served c.args.word (filter (is_open zs z m.subject) (having z.user.account m.subject now)))) c.remember.ensures
+    ∙ ap (λ (xs : List Subscription). map (addressed_to m) (served c.args.word xs)) (both (is_open zs z m.subject) (has_subject z.user.account m.subject) subs)

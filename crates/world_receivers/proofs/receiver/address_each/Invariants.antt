@@ -1,0 +1,8 @@
+-- what has been addressed and what is still to be are what all give
+use Rattle.std.proofs.Common.{◌≡◌, ◌++◌, map, drop}
+use Rattle.world_receivers.specs.Receivers.{addressed_at}
+use Rattle.world_receivers.proofs.receiver.address_each.Given as goal
+
+abbrev pub invariant-loop-receiver : goal.invariant-loop-receiver
+invariant-loop-receiver l =
+    l.all.items ++ map (addressed_at l.message) (drop l.receiver-index l.receivers) ≡ l.initial.all.items ++ map (addressed_at l.message) l.receivers

@@ -1,0 +1,72 @@
+//! A subscription as its deliveries name it.
+ghost use Rattle.std.specs.Prelude.{◌≡◌, ◌++◌, IfOk, OnOk, map};
+ghost use Rattle.world_receivers.specs.Receivers.{addressed_at, receiver_of};
+
+use base::NoMemory;
+use events::{Addressed, Delivery, Message, Sid};
+use std::alloc::Global;
+use world_subscriptions::SharedSubscription;
+
+/// What a delivery needs of the subscription that it is for.
+#[derive(Drop)]
+pub(crate) struct Receiver {
+    id: u64,
+    conn: u64,
+    sid: Sid,
+}
+
+impl Receiver {
+    /// That of a subscription. `NoMemory` where its sid has too many owners to count.
+    fn of(subscription: &SharedSubscription) -> Result<Receiver, NoMemory>
+        ensures { IfOk result (λ receiver. receiver ≡ receiver_of subscription.now) }
+    {
+        Ok(Receiver {
+            id: subscription.id(),
+            conn: subscription.conn(),
+            sid: subscription.sid().again()?,
+        })
+    }
+
+    /// A message on its way to it. It is not copied: the delivery is one more owner.
+    pub fn address(&self, message: &Message) -> Result<Addressed, NoMemory>
+        ensures { IfOk result (λ addressed. addressed ≡ addressed_at message.now self.now) }
+    {
+        Ok(Addressed {
+            id: self.id,
+            conn: self.conn,
+            delivery: Delivery {
+                message: message.again()?,
+                sid: self.sid.again()?,
+            },
+            noted: None,
+        })
+    }
+}
+
+/// The receivers of these subscriptions, in turn.
+pub(crate) fn receivers_of(
+    alloc: Global,
+    subscriptions: &[&SharedSubscription],
+) -> Result<Vec<Receiver>, NoMemory>
+    ensures { IfOk result (λ all. all.items ≡ map receiver_of (map (λ s. s.now) subscriptions.now)) }
+{
+    let mut all = Vec::with_capacity(alloc, subscriptions.len())?;
+    for subscription in subscriptions {
+        all.push(Receiver::of(subscription)?)?;
+    }
+    Ok(all)
+}
+
+/// Addresses a message to receivers, in turn, and adds these deliveries.
+pub(crate) fn address_each(
+    message: &Message,
+    receivers: &[Receiver],
+    all: &mut Vec<Addressed>,
+) -> Result<(), NoMemory>
+    ensures { OnOk result (all.new.items ≡ all.old.items ++ map (addressed_at message.now) receivers.now) }
+{
+    for receiver in receivers {
+        all.push(receiver.address(message)?)?;
+    }
+    Ok(())
+}

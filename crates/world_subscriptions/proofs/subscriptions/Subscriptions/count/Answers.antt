@@ -1,0 +1,7 @@
+use Rattle.std.proofs.Common.{◌∙◌}
+use Rattle.world_subscriptions.proofs.Apart.{counted_for}
+use Rattle.world_subscriptions.proofs.subscriptions.Subscriptions.count.Goals as goal
+
+pub returns-clause-counted : goal.returns-clause-counted
+returns-clause-counted c m p is tell =
+    c.count_each.ensures ∙ counted_for m p c.args.all.now c.args.items.now c.args.self.now c.known.ensures.apart c.known.ensures.going is tell

@@ -1,0 +1,11 @@
+use Rattle.std.proofs.Common.{◌∙◌, ap, List}
+use Rattle.std.specs.Prelude.{nat_le}
+use Rattle.world_subscriptions.specs.Subscriptions.{has_all}
+use Rattle.world_rows.specs.declared.subscription.Subscription.{Subscription}
+use Rattle.world_subscriptions.proofs.BySid.{counted_sids}
+use Rattle.world_subscriptions.proofs.subscriptions.Subscriptions.has_all.Goals as goal
+
+pub returns : goal.returns
+returns c =
+    ap (nat_le 4096) (counted_sids c.count_of.result c.args.conn c.self.inside.sids c.self.inside.table c.count_of.ensures c.known.ensures.apart c.self.invariant)
+    ∙ ap (λ (ss : List Subscription). has_all ss c.args.conn) c.self.view_is

@@ -1,0 +1,278 @@
+ghost use Rattle.std.specs.Prelude.{◌≡◌, ◌==◌, Bool};
+ghost use Rattle.world_rows.specs.declared.subscription.Subscription.{Subscription};
+
+use crate::table::Table;
+use crate::{NewSubscription, RowValues, SharedSubscription, Subscription, sids};
+use base::NoMemory;
+use events::{Addressed, Item, Sid};
+use std::alloc::Global;
+use std::hash::RandomState;
+use std::marker::Model;
+use subjects::SubjectRef;
+use world_ids::Sids;
+
+/// How many subscriptions of a connection may stand.
+const SUBSCRIPTIONS: usize = 4096;
+
+/// The standing subscriptions. A clause sees them as a list, oldest first. The sids find those of a connection.
+pub struct Subscriptions {
+    alloc: Global,
+    table: Table,
+    sids: Sids,
+}
+
+impl Drop for Subscriptions {
+    fn drop(self) {
+        let Self {
+            alloc: _,
+            table: _,
+            sids: _,
+        } = self;
+    }
+}
+
+impl Model for Subscriptions {
+    ghost use Rattle.std.specs.Prelude.{List};
+    ghost use Rattle.world_rows.specs.declared.subscription.Subscription.{Subscription};
+    ghost use Rattle.world_subscriptions.specs.BySid.{AreSidsOf};
+
+    ghost Value = { List Subscription };
+
+    ghost view = { λ subs. subs.table };
+
+    ghost invariant = { λ subs. AreSidsOf subs.table subs.sids };
+}
+
+// What changes which of them stand is never drawn into the world's step: there its large locals would be cleared for each
+// message.
+impl Subscriptions {
+    ghost use Rattle.std.specs.Prelude.{◌≡◌, ◌==◌, ◌<◌, ◌++◌, ◌∷◌, [], IfOk, OnOk, OnErr, All, AllPairs, false, length, map, filter, not, find};
+    ghost use Rattle.std.specs.Option.{option_copied};
+    ghost use Rattle.world_subscriptions.specs.Subscriptions.{has_same_sid, stands, has_all, subscription_of, having};
+    ghost use Rattle.world_subscriptions.specs.Addressing.{addressed_to};
+    ghost use Rattle.events.specs.Messages.{Message};
+    ghost use Rattle.world_subscriptions.specs.Limit.{has_ended, unended, limited, counted};
+    ghost use Rattle.world_subscriptions.specs.BySid.{id_of};
+    ghost use Rattle.world_subscriptions.specs.Kept.{Apart};
+    ghost use Rattle.world_subscriptions.specs.Changes.{only, bumped, capped};
+    ghost use Rattle.world_subscriptions.specs.Turns.{in_turn, entered_ids, is_one_of, TellEach};
+    ghost use Rattle.world_subscriptions.specs.Index.{found_by};
+
+    /// No subscriptions. Clients choose the tokens of subjects, and sids, so what finds them is hashed under keys that
+    /// they can't know.
+    pub fn new(alloc: Global, keys: RandomState) -> Subscriptions
+        ensures { result ≡ [] }
+    {
+        Subscriptions {
+            alloc,
+            table: Table::new(alloc, keys),
+            sids: Sids::new(alloc, keys),
+        }
+    }
+
+    /// How many stand.
+    pub fn len(&self) -> usize
+        ensures { result ≡ length self.now }
+    {
+        self.table.len()
+    }
+
+    /// Tells what holds of all: the ids rise, no two have one connection and sid, and none has ended.
+    pub fn known(&self)
+        ensures ids { AllPairs (λ (s t : Subscription). s.id < t.id) self.now }
+        ensures sids { AllPairs (λ (s t : Subscription). has_same_sid s t ≡ false) self.now }
+        ensures limits { All (λ (s : Subscription). has_ended s ≡ false) self.now }
+        ensures going { unended self.now ≡ self.now }
+        ensures apart { Apart self.now }
+    {
+        self.table.known();
+    }
+
+    /// Them all, oldest first.
+    pub fn values(&self) -> RowValues<'_>
+        ensures { result ≡ self.now }
+    {
+        self.table.values()
+    }
+
+    /// The subscription of that id.
+    pub fn get(&self, id: u64) -> Option<&SharedSubscription>
+        ensures { option_copied result ≡ find (λ (s : Subscription). s.id == id) self.now }
+    {
+        let found = self.table.get(id);
+        found
+    }
+
+    /// Whether a subscription of the connection stands under that sid.
+    pub fn stands(&self, conn: u64, sid: &Sid) -> bool
+        ensures { result ≡ stands self.now conn sid.now }
+    {
+        self.id_of(conn, sid).is_some()
+    }
+
+    /// Whether the connection has as many subscriptions as it may have, 4,096.
+    pub fn has_all(&self, conn: u64) -> bool
+        ensures { result ≡ has_all self.now conn }
+    {
+        self.table.known();
+        SUBSCRIPTIONS <= self.sids.count_of(conn)
+    }
+
+    /// Keeps in mind which of an account have a subject, where it was asked for before and memory allows: then the next
+    /// `having` needs no search. They stay what they are.
+    pub fn remember(&mut self, account: &[u8], subject: &SubjectRef<'_>)
+        ensures { self.new ≡ self.old }
+    {
+        self.table.remember(account, subject);
+    }
+
+    /// Puts the ids of those of an account that have the subject, oldest first, in the place of what was in `ids`.
+    /// `NoMemory` where memory could not be had.
+    pub fn having(
+        &self,
+        account: &[u8],
+        subject: &SubjectRef<'_>,
+        ids: &mut Vec<u64>,
+    ) -> Result<(), NoMemory>
+        ensures { OnOk result (found_by self.now ids.new.items ≡ having account.now subject.now self.now) }
+    {
+        self.table.having(account, subject, ids)?;
+        Ok(())
+    }
+
+    /// Adds a subscription, the youngest of all, which with a queue name is a member of that queue group. On `NoMemory`
+    /// nothing has changed.
+    #[inline(never)]
+    pub fn add(&mut self, id: u64, wanted: NewSubscription) -> Result<(), NoMemory>
+        requires above { All (λ (s : Subscription). s.id < id) self.old }
+        requires free { stands self.old wanted.conn wanted.sid ≡ false }
+        ensures ok { OnOk result (self.new ≡ self.old
+            ++ subscription_of id wanted.conn wanted.account wanted.subject wanted.queue wanted.sid ∷ []) }
+        ensures err { OnErr result (self.new ≡ self.old) }
+    {
+        let NewSubscription {
+            conn,
+            account,
+            subject,
+            queue,
+            sid,
+        } = wanted;
+        let made = Subscription {
+            id,
+            conn,
+            account,
+            subject,
+            queue,
+            sid,
+            received: 0,
+            most: None,
+        };
+        let subscription = SharedSubscription::of(self.alloc, made)?;
+        sids::insert(&mut self.sids, &subscription)?;
+        match self.table.add(subscription) {
+            Ok(()) => Ok(()),
+            Err(refused) => {
+                sids::remove(&mut self.sids, &refused);
+                Err(NoMemory)
+            }
+        }
+    }
+
+    /// Ends the connection's subscription of that sid: at once, or once it has received `most` messages since its
+    /// SUB. Where none stands nothing changes.
+    #[inline(never)]
+    pub fn limit(&mut self, conn: u64, sid: &Sid, most: Option<u64>)
+        ensures { self.new ≡ unended (map (limited conn sid.now most) self.old) }
+    {
+        self.known();
+        match self.id_of(conn, sid) {
+            None => {}
+            Some(id) => self.limit_one(id, most),
+        }
+    }
+
+    /// The id of the connection's subscription of that sid.
+    fn id_of(&self, conn: u64, sid: &Sid) -> Option<u64>
+        ensures { result ≡ id_of self.now conn sid.now }
+    {
+        self.sids.id_of(conn, sid.as_slice())
+    }
+
+    /// A limit for the subscription of that id, which ends where it has reached it.
+    fn limit_one(&mut self, id: u64, most: Option<u64>)
+        ensures { self.new ≡ unended (map (only (capped most) id) self.old) }
+    {
+        self.table.known();
+        self.table.limit(id, most, &mut self.sids);
+    }
+
+    /// One message more for the subscription of that id, which ends where that was the last that it was to receive.
+    fn count_one(&mut self, id: u64)
+        ensures { self.new ≡ unended (map (only bumped id) self.old) }
+    {
+        self.table.known();
+        self.table.count(id, &mut self.sids);
+    }
+
+    /// One message more where it has entered.
+    fn count_entered(&mut self, addressed: &Addressed, item: &Item)
+        ensures { self.new ≡ in_turn (entered_ids (addressed.now ∷ []) (item.now ∷ [])) self.old }
+    {
+        match item {
+            Item::Entered { .. } => self.count_one(addressed.id),
+            Item::Full { .. } => {}
+        }
+    }
+
+    /// Counts a message that was addressed to some of them, where it has entered: `items` are what each delivery met,
+    /// in turn. Those that have received all that they were to receive end. Only those that it entered for are
+    /// touched.
+    #[inline(always)]
+    pub fn count(&mut self, all: &[Addressed], items: &[Item])
+        ensures turns { self.new ≡ in_turn (entered_ids all.now items.now) self.old }
+        ensures counted { (m : Message) (p : Subscription → Bool) → all.now ≡ map (addressed_to m) (filter p self.old)
+            → TellEach all.now items.now → self.new ≡ unended (map (counted items.now) self.old) }
+    {
+        self.known();
+        self.count_each(all, items);
+    }
+
+    /// Counts a message where it has entered, one delivery after the other.
+    fn count_each(&mut self, all: &[Addressed], items: &[Item])
+        ensures { self.new ≡ in_turn (entered_ids all.now items.now) self.old }
+    {
+        for (addressed, item) in all.iter().zip(items) {
+            self.count_entered(addressed, item);
+        }
+    }
+
+    /// Removes those of a connection. No other is touched.
+    #[inline(never)]
+    pub fn remove(&mut self, conn: u64)
+        ensures { self.new ≡ filter (λ (s : Subscription). not (s.conn == conn)) self.old }
+    {
+        self.table.known();
+        match self.sids.take(conn) {
+            None => {}
+            Some(own) => self.table.take_each(&own),
+        }
+    }
+
+    /// Removes the one of that id, if it stands.
+    fn remove_one(&mut self, id: u64)
+        ensures { self.new ≡ filter (λ (s : Subscription). not (s.id == id)) self.old }
+    {
+        self.table.known();
+        self.table.end(id, &mut self.sids);
+    }
+
+    /// Removes those of these ids. No other is touched.
+    #[inline(never)]
+    pub fn remove_each(&mut self, ids: &[u64])
+        ensures { self.new ≡ filter (λ (s : Subscription). not (is_one_of ids.now s)) self.old }
+    {
+        for id in ids {
+            self.remove_one(*id);
+        }
+    }
+}
