@@ -3,6 +3,7 @@
 #![tactic(auto)]
 
 mod answer;
+mod equality;
 mod event;
 mod message;
 mod port;

@@ -1,7 +1,7 @@
 //! Elements that leave an outbox together.
 ghost use Rattle.std.specs.Prelude.{◌≡◌, ◌≤◌, ◌++◌, length, take, drop, OnOk};
 
-use base::NoMemory;
+use base::{Alike, NoMemory, are_alike};
 use circular_buffer::HeapCircularBuffer;
 use std::alloc::Global;
 use std::marker::Model;
@@ -122,5 +122,11 @@ fn move_front<T>(ring: &mut HeapCircularBuffer<T>, count: usize, room: &mut Vec<
         if let Some(next) = ring.pop_front() {
             room.push_reserved(next);
         }
+    }
+}
+
+impl<T: Alike> Alike for Batch<T> {
+    fn is_like(&self, other: &Batch<T>) -> bool {
+        are_alike(self.as_slice(), other.as_slice())
     }
 }

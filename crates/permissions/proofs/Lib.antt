@@ -1,4 +1,3 @@
 pub mod Least
 pub mod One
 pub mod Reason
-pub mod Texts

@@ -1,7 +1,7 @@
 use crate::decision::{Among, first_entry, on_publish, on_subscribe};
-use crate::same::{are_same_lists, has_no_list};
+use crate::equality::has_no_list;
 use crate::{By, Verdict};
-use base::{Copying, Items, NoMemory};
+use base::{Alike, Copying, Items, NoMemory};
 use policy_doc::{PermDoc, Terms, UserDoc};
 use std::alloc::Global;
 use std::marker::Model;
@@ -111,7 +111,7 @@ impl Compiled {
             (None, None) => true,
             (None, Some(other)) => has_no_list(&other.subscribe),
             (Some(one), None) => has_no_list(&one.subscribe),
-            (Some(one), Some(other)) => are_same_lists(&one.subscribe, &other.subscribe),
+            (Some(one), Some(other)) => one.subscribe.is_like(&other.subscribe),
         }
     }
 

@@ -3,8 +3,8 @@
 
 mod compiled;
 mod decision;
+mod equality;
 mod laws;
-mod same;
 mod subject_set;
 mod verdict;
 

@@ -1,5 +1,7 @@
 ghost use Rattle.std.specs.Prelude.{◌≡◌};
 
+use base::Alike;
+
 /// What allowed something.
 #[derive(Clone, Copy, Debug, PartialEq, Eq)]
 pub enum By {
@@ -37,6 +39,48 @@ impl Verdict {
             Verdict::DeniedBy(_) => false,
             Verdict::NoAllow => false,
             Verdict::NoQueueAllow(_) => false,
+        }
+    }
+}
+
+impl Alike for Verdict {
+    fn is_like(&self, other: &Verdict) -> bool {
+        match self {
+            Verdict::Allowed(one) => match other {
+                Verdict::Allowed(two) => one.is_like(two),
+                _ => false,
+            },
+            Verdict::DeniedBy(one) => match other {
+                Verdict::DeniedBy(two) => *one == *two,
+                _ => false,
+            },
+            Verdict::NoAllow => match other {
+                Verdict::NoAllow => true,
+                _ => false,
+            },
+            Verdict::NoQueueAllow(one) => match other {
+                Verdict::NoQueueAllow(two) => *one == *two,
+                _ => false,
+            },
+        }
+    }
+}
+
+impl Alike for By {
+    fn is_like(&self, other: &By) -> bool {
+        match self {
+            By::All => match other {
+                By::All => true,
+                _ => false,
+            },
+            By::Index(one) => match other {
+                By::Index(two) => *one == *two,
+                _ => false,
+            },
+            By::Grant => match other {
+                By::Grant => true,
+                _ => false,
+            },
         }
     }
 }

@@ -4,6 +4,7 @@
 mod accounts;
 mod builtin;
 mod document;
+mod equality;
 mod fault;
 mod policy;
 mod unique;

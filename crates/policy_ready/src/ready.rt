@@ -1,6 +1,6 @@
 ghost use Rattle.std.specs.Prelude.{◌≡◌, ◌++◌, IfOk, OnOk};
 
-use base::{Copying, NoMemory, SharedText};
+use base::{Alike, Copying, NoMemory, SharedText};
 use bytes::Bytes;
 use permissions::Compiled;
 use policy_doc::{NamedAccount, Policy, PolicyDoc, UserDoc};
@@ -40,6 +40,15 @@ impl Copying for User {
             password: self.password.clone()?,
             rules: self.rules.copy(alloc)?,
         })
+    }
+}
+
+impl Alike for User {
+    fn is_like(&self, other: &User) -> bool {
+        self.account.is_like(&other.account)
+            && self.user.is_like(&other.user)
+            && self.password.is_like(&other.password)
+            && self.rules.is_like(&other.rules)
     }
 }
 
@@ -167,6 +176,12 @@ impl Copying for Ready {
         Ok(Ready {
             shared: Arc::try_clone(&self.shared)?,
         })
+    }
+}
+
+impl Alike for Ready {
+    fn is_like(&self, other: &Ready) -> bool {
+        self.policy().doc().is_like(other.policy().doc())
     }
 }
 

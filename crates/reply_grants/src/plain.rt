@@ -3,7 +3,7 @@ ghost use Rattle.std.specs.Prelude.{◌≡◌, ◌+◌, ◌++◌, IfOk, OnOk};
 ghost use Rattle.reply_grants.specs.Window.{window};
 
 use crate::marks::Marks;
-use base::{Copying, Items, NoMemory};
+use base::{Alike, Copying, Items, NoMemory};
 use std::alloc::Global;
 use std::marker::Model;
 use subjects::Subject;
@@ -35,6 +35,14 @@ impl Model for PlainGrant {
     ghost Value = { grants.Grant };
 
     ghost view = { λ g. record { subject = g.subject; noted = g.noted; count = g.count } };
+}
+
+impl Alike for PlainGrant {
+    fn is_like(&self, other: &PlainGrant) -> bool {
+        self.noted == other.noted
+            && self.count == other.count
+            && self.subject.is_like(&other.subject)
+    }
 }
 
 /// Adds the grant at a place, if there is one.

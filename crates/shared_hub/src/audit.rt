@@ -7,7 +7,7 @@ ghost use Rattle.hub.specs.Segments.{held};
 ghost use Rattle.shared_hub.specs.Audits.{Stands, HasNone, IsFound, IsJoined, AreEntered, IsFault, IsLookUp, entry_after};
 
 use crate::Receipt;
-use alike::Alike;
+use base::Alike;
 use hub::{Answer, Hub, Segment};
 use hub_segments::joins;
 

@@ -1,15 +1,13 @@
--- A subject is that of its text.
-use Rattle.std.proofs.Common.{◌≡◌, ◌∙◌, ◌==◌, ◌∷◌, ℕ, Bool, true, false, not, List, [], ap, refl}
-use Rattle.std.specs.Prelude.{All}
+-- A pattern is that of its text, and so is a subject; two patterns are equal exactly where their texts are.
+use Rattle.std.proofs.Common.{◌≡◌, ◌∙◌, ◌&&◌, ◌==◌, ◌∷◌, ℕ, Bool, true, false, not, Decides, List, [], length, ap, sym, refl}
+use Rattle.std.specs.Prelude.{All, nat_eq, nat_le}
 use Rattle.std.specs.List.{list_all}
-use Rattle.std.proofs.lemmas.Bool.{and_parts}
+use Rattle.std.specs.Cmp.Lexicographic.{pointwise}
+use Rattle.std.proofs.lemmas.Bool.{and_parts, not-true}
 use Rattle.std.proofs.lemmas.List.Elements.{All-nil, All-cons}
 use Rattle.std.proofs.lemmas.List.Splits.{slice_split_none, slice_split_at}
-use Rattle.subjects.specs.Subject.{Token, IsSubject, is_text_byte, is_token_byte, is_wildcard, is_literal, text_of, tokens_of}
-
-no : (b : Bool) → not b ≡ true → b ≡ false
-no true h = absurd (cc)
-no false h = refl
+use Rattle.std.proofs.lemmas.Slice.Eq.{bytes_eq-Decides}
+use Rattle.subjects.specs.Subject.{Token, IsPattern, IsSubject, is_text_byte, is_token_byte, is_token, is_wildcard, is_literal, tail_is_last, text_of, tokens_of}
 
 -- no byte of a token is a dot
 abbrev HasNoDot : Token → Type 0
@@ -19,19 +17,38 @@ no_dot : (bs : List ℕ) → list_all is_token_byte bs ≡ true → HasNoDot bs
 no_dot [] h = All-nil (λ b. (b == 46) ≡ false)
 no_dot (b ∷ bs) h =
     let parts = and_parts (is_token_byte b) (list_all is_token_byte bs) h in
-    All-cons (λ b. (b == 46) ≡ false) b bs (no (b == 46) (and_parts (is_text_byte b) (not (b == 46)) parts.0).1) (no_dot bs parts.1)
+    All-cons (λ b. (b == 46) ≡ false) b bs (not-true (b == 46) (and_parts (is_text_byte b) (not (b == 46)) parts.0).1) (no_dot bs parts.1)
 
-literal : (t : Token) → is_literal t ≡ true → HasNoDot t
-literal [] h = absurd (cc)
-literal (b ∷ bs) h = no_dot (b ∷ bs) (and_parts (list_all is_token_byte (b ∷ bs)) (not (is_wildcard (b ∷ bs))) h).0
+token : (t : Token) → is_token t ≡ true → HasNoDot t
+token [] h = absurd (cc)
+token (b ∷ bs) h = no_dot (b ∷ bs) h
 
-cut : (t : Token) (ts : List Token) → list_all is_literal (t ∷ ts) ≡ true → tokens_of (text_of (t ∷ ts)) ≡ t ∷ ts
-cut t [] h = slice_split_none (λ b. b == 46) t (literal t (and_parts (is_literal t) true h).0)
+cut : (t : Token) (ts : List Token) → list_all is_token (t ∷ ts) ≡ true → tokens_of (text_of (t ∷ ts)) ≡ t ∷ ts
+cut t [] h = slice_split_none (λ b. b == 46) t (token t (and_parts (is_token t) true h).0)
 cut t (u ∷ ts) h =
-    let parts = and_parts (is_literal t) (list_all is_literal (u ∷ ts)) h in
-    slice_split_at (λ b. b == 46) t 46 (text_of (u ∷ ts)) (literal t parts.0) refl ∙ ap (λ us. t ∷ us) (cut u ts parts.1)
+    let parts = and_parts (is_token t) (list_all is_token (u ∷ ts)) h in
+    slice_split_at (λ b. b == 46) t 46 (text_of (u ∷ ts)) (token t parts.0) refl ∙ ap (λ us. t ∷ us) (cut u ts parts.1)
+
+-- the text of a pattern has its tokens
+pub pattern_again : (p : List Token) → IsPattern p → tokens_of (text_of p) ≡ p
+pattern_again [] h = absurd (cc)
+pattern_again (t ∷ ts) h =
+    let first = and_parts (list_all is_token (t ∷ ts) && tail_is_last (t ∷ ts)) (nat_le (length (t ∷ ts)) 512) h in
+    cut t ts (and_parts (list_all is_token (t ∷ ts)) (tail_is_last (t ∷ ts)) first.0).0
+
+tokens : (ts : List Token) → list_all is_literal ts ≡ true → list_all is_token ts ≡ true
+tokens [] h = refl
+tokens (t ∷ ts) h =
+    let parts = and_parts (is_literal t) (list_all is_literal ts) h in
+    ap (λ b. b && list_all is_token ts) (and_parts (is_token t) (not (is_wildcard t)) parts.0).0 ∙ tokens ts parts.1
 
 -- the text of a subject has its tokens
 pub again : (s : List Token) → IsSubject s → tokens_of (text_of s) ≡ s
 again [] h = absurd (cc)
-again (t ∷ ts) h = cut t ts (and_parts (list_all is_literal (t ∷ ts)) _ h).0
+again (t ∷ ts) h = cut t ts (tokens (t ∷ ts) (and_parts (list_all is_literal (t ∷ ts)) _ h).0)
+
+pub same_patterns : (b : Bool) (p q : List Token) (t u : List ℕ) → IsPattern p → IsPattern q → t ≡ text_of p → u ≡ text_of q → b ≡ pointwise nat_eq t u → Decides b (p ≡ q)
+same_patterns b p q t u hp hq tp uq is = (
+  (λ yes. sym (pattern_again p hp) ∙ ap tokens_of (sym tp ∙ (bytes_eq-Decides t u).0 (sym is ∙ yes) ∙ uq) ∙ pattern_again q hq),
+  (λ e. is ∙ (bytes_eq-Decides t u).1 (tp ∙ ap text_of e ∙ sym uq)),
+)

@@ -3,6 +3,7 @@
 
 mod bytewise;
 mod compare;
+mod equality;
 mod error;
 mod faults;
 mod mark;

@@ -1,7 +1,6 @@
 //! The world as it was at a moment.
 use crate::world::World;
-use alike::Alike;
-use base::{Copying, Items, NoMemory};
+use base::{Alike, Copying, Items, NoMemory};
 use policy_ready::Ready;
 use std::marker::Model;
 use world_copies::{PlainSession, PlainSubscription, plain_sessions, plain_subscriptions};

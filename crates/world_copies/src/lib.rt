@@ -4,7 +4,6 @@
 
 mod session;
 mod subscription;
-mod user;
 
 pub use session::{PlainSession, plain_sessions};
 pub use subscription::{PlainSubscription, plain_subscriptions};

@@ -1,8 +1,6 @@
 ghost use Rattle.std.specs.Prelude.{◌≡◌, IfOk};
 
-use crate::user::are_same_users;
-use alike::Alike;
-use base::{Copying, Items, NoMemory};
+use base::{Alike, Copying, Items, NoMemory};
 use events::Delivery;
 use outbox::Outbox;
 use policy_ready::User;
@@ -102,7 +100,7 @@ impl Alike for PlainSession {
             && self.echo == other.echo
             && self.missed == other.missed
             && self.capacity == other.capacity
-            && are_same_users(&self.user, &other.user)
+            && self.user.is_like(&other.user)
             && self.waiting.is_like(&other.waiting)
             && self.replies.is_like(&other.replies)
     }

@@ -1,7 +1,6 @@
 ghost use Rattle.std.specs.Prelude.{◌≡◌, IfOk};
 
-use alike::Alike;
-use base::{Items, NoMemory};
+use base::{Alike, Items, NoMemory};
 use std::alloc::Global;
 use std::marker::Model;
 use world_subscriptions::{SharedSubscription, Subscriptions};

@@ -1,205 +1,28 @@
-//! Whether two entries are equal: each of these answers yes exactly where the values are.
+//! Whether two events, answers or entries are equal.
 ghost use Rattle.std.specs.Prelude.{◌≡◌};
 ghost use Rattle.std.specs.Bool.{Decides};
-ghost use Rattle.std.specs.Option.{option_copied};
 ghost use Rattle.events.specs.declared.answer.Outcome.TheVariants.{Published, Taken, Reloaded};
 ghost use Rattle.events.specs.declared.event.Command.TheVariants.{Connect, Sub, Unsub, Pub, Take, Close, Reload};
 
-use base::{Items, Pieces, Shared, SharedText};
-use bytes::Bytes;
-use events::{Command, Delivery, Entry, Event, Item, Message, Met, Outcome, Removed};
+use crate::{Command, Delivery, Entry, Event, Item, Message, Met, Outcome, Removed};
+use base::{Alike, Items, Shared, SharedText, are_alike, are_same_bytes};
 use outbox::Batch;
-use permissions::{By, Verdict};
-use policy_doc::{
-    AccountDoc, Direction, NamedAccount, PermDoc, PermEntry, PolicyDoc, Terms, UserDoc,
-};
+use permissions::By;
 use policy_ready::Ready;
-use reply_grants::PlainGrant;
-use subjects::{Pattern, Subject, SubjectRef};
+use subjects::{Pattern, Subject};
 
-/// What can be compared with another of its kind.
-pub trait Alike {
-    /// Whether it is equal to the other.
-    fn is_like(&self, other: &Self) -> bool
-        ensures { Decides result (self.now ≡ other.now) };
-}
-
-impl Alike for u64 {
-    fn is_like(&self, other: &u64) -> bool {
-        *self == *other
-    }
-}
-
-impl<T: Alike> Alike for Option<T> {
-    fn is_like(&self, other: &Option<T>) -> bool {
-        match self {
-            None => match other {
-                None => true,
-                Some(_) => false,
-            },
-            Some(one) => match other {
-                None => false,
-                Some(two) => one.is_like(two),
-            },
-        }
-    }
-}
-
-impl<T: Alike> Alike for Shared<T> {
-    fn is_like(&self, other: &Shared<T>) -> bool {
-        self.get().is_like(other.get())
-    }
-}
-
-impl<T: Alike> Alike for Items<T> {
-    fn is_like(&self, other: &Items<T>) -> bool {
-        are_alike(self.as_slice(), other.as_slice())
-    }
-}
-
-impl<T: Alike> Alike for Batch<T> {
-    fn is_like(&self, other: &Batch<T>) -> bool {
-        are_alike(self.as_slice(), other.as_slice())
+impl Alike for Message {
+    fn is_like(&self, other: &Message) -> bool {
+        self.subject().is_like(&other.subject())
+            && self.reply().is_like(&other.reply())
+            && are_same_bytes(self.head(), other.head())
+            && are_same_bytes(self.payload(), other.payload())
     }
 }
 
 impl Alike for Met {
     fn is_like(&self, other: &Met) -> bool {
         are_alike(self.as_slice(), other.as_slice())
-    }
-}
-
-/// Whether two lists have the same elements in the same order.
-fn are_alike<T: Alike>(all: &[T], others: &[T]) -> bool
-    ensures { Decides result (all.now ≡ others.now) }
-{
-    if all.len() != others.len() {
-        return false;
-    }
-    for index in 0..all.len() {
-        if !all[index].is_like(&others[index]) {
-            return false;
-        }
-    }
-    true
-}
-
-fn are_same_bytes(one: &[u8], other: &[u8]) -> bool
-    ensures { Decides result (one.now ≡ other.now) }
-{
-    one == other
-}
-
-/// Whether two texts have the same pieces.
-fn are_same_pieces(mut some: Pieces, mut others: Pieces) -> bool
-    ensures { Decides result (some.entry ≡ others.entry) }
-{
-    while let Some(piece) = some.next_piece() {
-        match others.next_piece() {
-            None => return false,
-            Some(other) => {
-                if !are_same_bytes(piece, other) {
-                    return false;
-                }
-            }
-        }
-    }
-    others.next_piece().is_none()
-}
-
-impl Alike for Bytes {
-    fn is_like(&self, other: &Bytes) -> bool {
-        are_same_bytes(self.as_slice(), other.as_slice())
-    }
-}
-
-impl Alike for SharedText {
-    fn is_like(&self, other: &SharedText) -> bool {
-        are_same_bytes(self.as_slice(), other.as_slice())
-    }
-}
-
-impl Alike for Pattern {
-    fn is_like(&self, other: &Pattern) -> bool {
-        are_same_pieces(self.tokens(), other.tokens())
-    }
-}
-
-impl Alike for Subject {
-    fn is_like(&self, other: &Subject) -> bool {
-        are_same_pieces(self.tokens(), other.tokens())
-    }
-}
-
-impl Alike for PlainGrant {
-    fn is_like(&self, other: &PlainGrant) -> bool {
-        self.noted == other.noted
-            && self.count == other.count
-            && self.subject.is_like(&other.subject)
-    }
-}
-
-/// Whether both are there and alike, or neither is there.
-fn are_alike_where_given(one: Option<SubjectRef<'_>>, other: Option<SubjectRef<'_>>) -> bool
-    ensures { Decides result (one ≡ other) }
-{
-    match one {
-        None => other.is_none(),
-        Some(one) => match other {
-            None => false,
-            Some(other) => are_same_pieces(one.tokens(), other.tokens()),
-        },
-    }
-}
-
-impl Alike for Message {
-    fn is_like(&self, other: &Message) -> bool {
-        are_same_pieces(self.subject().tokens(), other.subject().tokens())
-            && are_alike_where_given(self.reply(), other.reply())
-            && are_same_bytes(self.head(), other.head())
-            && are_same_bytes(self.payload(), other.payload())
-    }
-}
-
-impl Alike for Verdict {
-    fn is_like(&self, other: &Verdict) -> bool {
-        match self {
-            Verdict::Allowed(one) => match other {
-                Verdict::Allowed(two) => one.is_like(two),
-                _ => false,
-            },
-            Verdict::DeniedBy(one) => match other {
-                Verdict::DeniedBy(two) => *one == *two,
-                _ => false,
-            },
-            Verdict::NoAllow => match other {
-                Verdict::NoAllow => true,
-                _ => false,
-            },
-            Verdict::NoQueueAllow(one) => match other {
-                Verdict::NoQueueAllow(two) => *one == *two,
-                _ => false,
-            },
-        }
-    }
-}
-
-impl Alike for By {
-    fn is_like(&self, other: &By) -> bool {
-        match self {
-            By::All => match other {
-                By::All => true,
-                _ => false,
-            },
-            By::Index(one) => match other {
-                By::Index(two) => *one == *two,
-                _ => false,
-            },
-            By::Grant => match other {
-                By::Grant => true,
-                _ => false,
-            },
-        }
     }
 }
 
@@ -444,63 +267,5 @@ impl Alike for Entry {
             && self.epoch == other.epoch
             && self.outcome.is_like(&other.outcome)
             && self.event.is_like(&other.event)
-    }
-}
-
-impl Alike for Ready {
-    fn is_like(&self, other: &Ready) -> bool {
-        self.policy().doc().is_like(other.policy().doc())
-    }
-}
-
-impl Alike for PolicyDoc {
-    fn is_like(&self, other: &PolicyDoc) -> bool {
-        are_alike(self.accounts.as_slice(), other.accounts.as_slice())
-    }
-}
-
-impl Alike for NamedAccount {
-    fn is_like(&self, other: &NamedAccount) -> bool {
-        self.name.is_like(&other.name) && self.account.is_like(&other.account)
-    }
-}
-
-impl Alike for AccountDoc {
-    fn is_like(&self, other: &AccountDoc) -> bool {
-        self.users.is_like(&other.users)
-    }
-}
-
-impl Alike for UserDoc {
-    fn is_like(&self, other: &UserDoc) -> bool {
-        self.user.is_like(&other.user)
-            && self.password.is_like(&other.password)
-            && self.permissions.is_like(&other.permissions)
-    }
-}
-
-impl Alike for PermDoc {
-    fn is_like(&self, other: &PermDoc) -> bool {
-        self.publish.is_like(&other.publish)
-            && self.subscribe.is_like(&other.subscribe)
-            && self.allow_responses.is_like(&other.allow_responses)
-    }
-}
-
-impl Alike for Terms {
-    fn is_like(&self, other: &Terms) -> bool {
-        self.max.is_like(&other.max) && self.expires.is_like(&other.expires)
-    }
-}
-
-impl Alike for Direction {
-    fn is_like(&self, other: &Direction) -> bool {
-        self.allow.is_like(&other.allow) && self.deny.is_like(&other.deny)
-    }
-}
-
-impl Alike for PermEntry {
-    fn is_like(&self, other: &PermEntry) -> bool {
-        self.subject.is_like(&other.subject) && self.queue.is_like(&other.queue)
     }
 }
