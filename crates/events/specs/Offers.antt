@@ -9,6 +9,6 @@ use Rattle.events.specs.declared.refusal.PublishRefusal.TheVariants.{By, Held}
 -- it was submitted, once, and this came of it; or it is held back, and nothing was submitted
 abbrev pub IsOffered : {P : Type 0} → (P → Event → Result Entry (Event × HubRefusal) → P → Type 0) → (P → P → Type 0)
     → P → Event → Result Entry (Event × PublishRefusal) → P → Type 0
-IsOffered steps holds p e (Ok entry) p' = steps p e (Ok entry) p'
-IsOffered steps holds p e (Err (back, By refusal)) p' = steps p e (Err (back, refusal)) p'
-IsOffered steps holds p e (Err (back, Held)) p' = holds p p'
+IsOffered posts holds p e (Ok entry) p' = posts p e (Ok entry) p'
+IsOffered posts holds p e (Err (back, By refusal)) p' = posts p e (Err (back, refusal)) p'
+IsOffered posts holds p e (Err (back, Held)) p' = holds p p'

@@ -21,17 +21,17 @@ was_published _ = false
 
 -- what ended a run at an event with this word: its answer, or why it was not entered
 abbrev pub EndsRun : {P : Type 0} → (P → Event → Result Entry (Event × HubRefusal) → P → Type 0) → (P → P → Type 0) → P → Event → ℕ → RunEnd → P → Type 0
-EndsRun steps holds p e word run.Published p' = ⊥
-EndsRun steps holds p e word (run.Answered entry) p' = steps p e (Ok entry) p'
-EndsRun steps holds p e word (run.Stopped drawn refusal) p' = (drawn ≡ word) × ((back : Event) × IsOffered steps holds p e (Err (back, refusal)) p')
+EndsRun posts holds p e word run.Published p' = ⊥
+EndsRun posts holds p e word (run.Answered entry) p' = posts p e (Ok entry) p'
+EndsRun posts holds p e word (run.Stopped drawn refusal) p' = (drawn ≡ word) × ((back : Event) × IsOffered posts holds p e (Err (back, refusal)) p')
 
 -- A run: each message draws its word and is offered, once, in order, while those before it were published. Those behind the
 -- one that ended it are left, and have drawn nothing.
 unfoldable pub IsPosted : {P W : Type 0} → (P → Event → Result Entry (Event × HubRefusal) → P → Type 0) → (P → P → Type 0) → (W → ℕ → W → Type 0)
     → ℕ → ℕ → List Message → P → W → RunEnd → List Message → P → W → Type 0
-IsPosted steps holds draws conn now [] p w end left p' w' = (end ≡ run.Published) × (left ≡ []) × (p' ≡ p) × (w' ≡ w)
-IsPosted {P} {W} steps holds draws conn now (m ∷ ms) p w end left p' w' =
+IsPosted posts holds draws conn now [] p w end left p' w' = (end ≡ run.Published) × (left ≡ []) × (p' ≡ p) × (w' ≡ w)
+IsPosted {P} {W} posts holds draws conn now (m ∷ ms) p w end left p' w' =
     (word : ℕ) × (next : W) × draws w word next
-    × (((entry : Entry) × (mid : P) × steps p (post conn now m word) (Ok entry) mid × (was_published entry.outcome ≡ true)
-    × IsPosted steps holds draws conn now ms mid next end left p' w')
-    ⊎ (EndsRun steps holds p (post conn now m word) word end p' × (left ≡ ms) × (w' ≡ next)))
+    × (((entry : Entry) × (mid : P) × posts p (post conn now m word) (Ok entry) mid × (was_published entry.outcome ≡ true)
+    × IsPosted posts holds draws conn now ms mid next end left p' w')
+    ⊎ (EndsRun posts holds p (post conn now m word) word end p' × (left ≡ ms) × (w' ≡ next)))

@@ -18,6 +18,10 @@ pub trait Port {
     /// An event, its answer or refusal, and the port before and after it.
     ghost steps: { Self → Event → Result Entry (Event × HubRefusal) → Self → Type 0 };
 
+    /// The same of a message's event that is offered and not held back. It is a submission too; what a port tells beside that
+    /// says by which call the message was entered.
+    ghost posts: { Self → Event → Result Entry (Event × HubRefusal) → Self → Type 0 };
+
     /// The port before and after it held something back: nothing was submitted. A port that holds nothing back has none.
     ghost holds: { Self → Self → Type 0 } = { λ _ _. ⊥ };
 
@@ -28,17 +32,10 @@ pub trait Port {
         ensures err { IfErr result (λ refused. refused.0 ≡ event) };
 
     /// Offers a message's event: it is submitted, once, or held back until its receivers have room. A refusal hands it back.
-    #[inline(always)]
     fn offer(&mut self, event: Event) -> Result<Answer, (Event, PublishRefusal)>
         ensures place { place self.new ≡ place self.old }
-        ensures offered { IsOffered steps holds self.old event result self.new }
-        ensures err { IfErr result (λ refused. refused.0 ≡ event) }
-    {
-        match self.submit(event) {
-            Ok(answer) => Ok(answer),
-            Err((event, refusal)) => Err((event, PublishRefusal::By(refusal))),
-        }
-    }
+        ensures offered { IsOffered posts holds self.old event result self.new }
+        ensures err { IfErr result (λ refused. refused.0 ≡ event) };
 
     /// Offers the messages of a connection in order, each with a word that is drawn for it. The first that isn't published
     /// ends the run, and those behind it are left. A port may also end it behind any that was answered.
@@ -50,7 +47,7 @@ pub trait Port {
         words: &mut W,
     ) -> RunEnd
         ensures place { place self.new ≡ place self.old }
-        ensures posted { IsPosted steps holds W.draws conn now messages.old.items self.old words.old result messages.new.items self.new words.new }
+        ensures posted { IsPosted posts holds W.draws conn now messages.old.items self.old words.old result messages.new.items self.new words.new }
     {
         while let Some(message) = messages.pop_front() {
             let word = words.next();

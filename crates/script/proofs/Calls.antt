@@ -29,13 +29,13 @@ use Rattle.script.proofs.Turning.{IsOpenPort, turns_are}
 
 -- a hub that is lent steps as a hub does, and holds nothing back
 abbrev pub direct_steps : Steps Direct
-direct_steps = port_of (λ old e r new. IsStep old.hub.now e r new.hub.now) (λ _ _. ⊥)
+direct_steps = port_of (λ old e r new. IsStep old.hub.now e r new.hub.now) (λ old e r new. IsStep old.hub.now e r new.hub.now) (λ _ _. ⊥)
 
 abbrev pub hub_of : Direct → State
 hub_of p = p.hub.now
 
 pub direct_open : IsOpenPort direct_steps hub_of
-direct_open = record { step = λ p e r p' h. h; never = λ p p' h. h }
+direct_open = record { step = λ p e r p' h. h; post = λ p e r p' h. h; never = λ p p' h. h }
 
 -- ---- a call that does nothing
 

@@ -1,7 +1,8 @@
 -- The turns of frames over a hub, where memory is enough.
 use Rattle.std.proofs.Common.{◌≡◌, ◌∙◌, ◌∷◌, [], ℕ, List, Bool, true, false, Option, Some, None, Result, Ok, Err, inl, inr, cond, ap, sym, refl}
 use Rattle.wire_read.specs.declared.frame.Frame.{Frame}
-use Rattle.hub.specs.History.{State, IsStep}
+use Rattle.hub.specs.History.{State}
+use Rattle.session.specs.Accounts.{AreSteps}
 use Rattle.events.specs.declared.event.Event.{Event}
 use Rattle.events.specs.declared.event.Command.TheVariants as command
 use Rattle.events.specs.declared.answer.Entry.{Entry}
@@ -14,14 +15,15 @@ use Rattle.session_plan.specs.declared.stage.Stage.{Stage}
 use Rattle.session_plan.specs.Plans.{plan_of}
 use Rattle.session_plan.specs.Replies.{told, is_closed}
 use Rattle.session_conn.specs.Serving.{Spot, spot, Served, served, rests, behind, UnlessClosed, IsFollowed, Serves}
-use Rattle.session_conn.specs.Turns.{Steps, Turned, Goes, Stalls, turn_after, event, IsAnswered, IsWord, IsHeldBack, IsPlanned, IsFrameTurn}
+use Rattle.session_conn.specs.Turns.{Step, Steps, Turned, Goes, Stalls, turn_after, event, IsAnswered, IsWord, IsHeldBack, IsPlanned, IsFrameTurn}
 use Rattle.script.specs.Server.{heard, IsNextWord}
 use Rattle.script.specs.Session.{Here, FrameTurn, frame_turn, word_of, words_after, answered_turn, planned, goes_on, turns, is_memory_stall}
 use Rattle.script.proofs.Answering.{is_memory_answer, answered_is}
 
 -- a port to a hub that holds nothing back
 pub record IsOpenPort {P : Type 0} (steps : Steps P) (hub_of : P → State) : Type 0 where
-  pub step : (p : P) (e : Event) (a : Result Entry (Event × HubRefusal)) (p' : P) → steps.step p e a p' → IsStep (hub_of p) e a (hub_of p')
+  pub step : AreSteps steps.step hub_of
+  pub post : AreSteps steps.post hub_of
   pub never : (p p' : P) → steps.holds p p' → ⊥
 
 -- what is seen of a place between two turns, and of what the turns came to
@@ -48,13 +50,13 @@ memory_after s accepted f word (Err refusal.SessionTaken) = refl
 memory_after s accepted f word (Err refusal.SessionLimit) = refl
 
 -- the hub was asked
-asked_is : {P : Type 0} (steps : Steps P) (hub_of : P → State) → IsOpenPort steps hub_of → (s accepted : Stage) (f : Frame) (word : Option ℕ) (words : List ℕ) (e : Event)
-    (p p' : P) (r : Result Outcome HubRefusal) (t : Turned) → IsAnswered steps.step p e r p' → t ≡ turn_after s accepted f word r → is_memory_turn t ≡ false →
+asked_is : {P : Type 0} (step : Step P) (hub_of : P → State) → AreSteps step hub_of → (s accepted : Stage) (f : Frame) (word : Option ℕ) (words : List ℕ) (e : Event)
+    (p p' : P) (r : Result Outcome HubRefusal) (t : Turned) → IsAnswered step p e r p' → t ≡ turn_after s accepted f word r → is_memory_turn t ≡ false →
     frame_turn t (hub_of p') words ≡ answered_turn s accepted f word words (heard (hub_of p) e)
-asked_is steps hub_of over s accepted f word words e p p' r t answered is enough =
+asked_is step hub_of are s accepted f word words e p p' r t answered is enough =
     let had : is_memory_answer r ≡ false = sym (memory_after s accepted f word r) ∙ sym (ap is_memory_turn is) ∙ enough in
     ap (λ (x : Turned). frame_turn x (hub_of p') words) is
-    ∙ ap (λ (a : Result Outcome HubRefusal × State). answered_turn s accepted f word words a) (answered_is (hub_of p) e answered.0 r (hub_of p') (over.step p e answered.0 p' answered.1) answered.2 had)
+    ∙ ap (λ (a : Result Outcome HubRefusal × State). answered_turn s accepted f word words a) (answered_is (hub_of p) e answered.0 r (hub_of p') (are p e answered.0 p' answered.1) answered.2 had)
 
 -- the word of a message
 word_is : (word : Option ℕ) (words words' : List ℕ) (drawn : ℕ) → IsWord IsNextWord words word drawn words' → (drawn ≡ word_of word words) × (words' ≡ words_after word words)
@@ -69,10 +71,10 @@ planned_is steps hub_of over now conn at f t p w (Tells r) h enough =
     ap (λ (x : Turned). frame_turn x (hub_of p) w) h.0 ∙ ap (λ (x : State). frame_turn (Goes (told r)) x w) (ap hub_of h.1) ∙ ap (λ (x : List ℕ). frame_turn (Goes (told r)) (hub_of at.port) x) h.2
 planned_is steps hub_of over now conn at f t p w (Asks what accepted) h enough =
     ap (λ (x : List ℕ). frame_turn t (hub_of p) x) h.3
-    ∙ asked_is steps hub_of over at.stage accepted f at.word at.words (event now what) at.port p h.0 t h.1 h.2 enough
+    ∙ asked_is steps.step hub_of over.step at.stage accepted f at.word at.words (event now what) at.port p h.0 t h.1 h.2 enough
 planned_is steps hub_of over now conn at f t p w (Publishes message) h enough =
     let word = word_is at.word at.words w h.1 h.2 in
-    asked_is steps hub_of over at.stage at.stage f (Some h.1) w (event now (command.Pub conn message h.1)) at.port p h.0 t h.3 h.4 enough
+    asked_is steps.post hub_of over.post at.stage at.stage f (Some h.1) w (event now (command.Pub conn message h.1)) at.port p h.0 t h.3 h.4 enough
     ∙ ap (λ (x : ℕ). answered_turn at.stage at.stage f (Some x) w (heard (hub_of at.port) (event now (command.Pub conn message x)))) word.0
     ∙ ap (λ (x : List ℕ). answered_turn at.stage at.stage f (Some (word_of at.word at.words)) x (heard (hub_of at.port) (event now (command.Pub conn message (word_of at.word at.words))))) word.1
 

@@ -12,17 +12,17 @@ use Rattle.events.specs.declared.run.RunEnd.{RunEnd}
 use Rattle.events.specs.declared.run.RunEnd.TheVariants as run
 use Rattle.shared_runs.specs.Runs.{Came, Draws, IsBack, IsRun, told_end}
 use Rattle.shared_runs.proofs.Runs.{Completes, completes_answered, completes_published, run_again, run_of_part, posted_run, posted_held}
-use Rattle.shared_hub.specs.Entering.{IsAnswered, IsOfferedBy}
+use Rattle.shared_hub.specs.Entering.{IsOfferedBy, IsPostedBy}
 use Rattle.server_port.specs.Ends.{IsEnded, goes_on}
 
 -- an offer of a seat is one of the ports that have it
 offered_at : {P S : Type 0} (seat : P → S) (count : S → ℕ) (opening : ℕ) (a : S) (p : P) (e : Event) (r : Came) (b : S) (q : P) → seat p ≡ a → seat q ≡ b
     → IsOfferedBy opening (count a) e r (count b)
-    → IsOffered (λ old e r new. IsAnswered opening (count (seat old)) e r (count (seat new))) (λ old new. count (seat new) ≡ count (seat old)) p e r q
+    → IsOffered (λ old e r new. IsPostedBy opening (count (seat old)) e r (count (seat new))) (λ old new. count (seat new) ≡ count (seat old)) p e r q
 offered_at seat count opening a p e (Ok entry) b q first last h =
-    subst (λ n. IsAnswered opening n e (Ok entry) (count (seat q))) (ap count (sym first)) (subst (λ n. IsAnswered opening (count a) e (Ok entry) n) (ap count (sym last)) h)
+    subst (λ n. IsPostedBy opening n e (Ok entry) (count (seat q))) (ap count (sym first)) (subst (λ n. IsPostedBy opening (count a) e (Ok entry) n) (ap count (sym last)) h)
 offered_at seat count opening a p e (Err (back, By x)) b q first last h =
-    subst (λ n. IsAnswered opening n e (Err (back, x)) (count (seat q))) (ap count (sym first)) (subst (λ n. IsAnswered opening (count a) e (Err (back, x)) n) (ap count (sym last)) h)
+    subst (λ n. IsPostedBy opening n e (Err (back, x)) (count (seat q))) (ap count (sym first)) (subst (λ n. IsPostedBy opening (count a) e (Err (back, x)) n) (ap count (sym last)) h)
 offered_at seat count opening a p e (Err (back, Held)) b q first last h =
     subst (λ n. count (seat q) ≡ n) (ap count (sym first)) (subst (λ n. n ≡ count a) (ap count (sym last)) h)
 
@@ -31,9 +31,9 @@ pub posted_by : {P S W : Type 0} (seat : P → S) (put : S → P) (count : S →
     (ms : List Message) (s : S) (p : P) (w : W) (answers : List Entry) (last : Option Came) (end : RunEnd) (left : List Message) (s' : S) (p' : P) (w' : W)
     → ((x : S) → seat (put x) ≡ x) → 0 < length ms → seat p ≡ s → seat p' ≡ s' → end ≡ told_end last
     → IsRun (λ a e r b. IsOfferedBy opening (count a) e r (count b)) draws conn now ms s w answers last left s' w'
-    → IsPosted (λ old e r new. IsAnswered opening (count (seat old)) e r (count (seat new))) (λ old new. count (seat new) ≡ count (seat old)) draws conn now ms p w end left p' w'
+    → IsPosted (λ old e r new. IsPostedBy opening (count (seat old)) e r (count (seat new))) (λ old new. count (seat new) ≡ count (seat old)) draws conn now ms p w end left p' w'
 posted_by {P} seat put count opening draws conn now ms s p w answers last end left s' p' w' there some before after is h =
-    let steps : P → Event → Result Entry (Event × HubRefusal) → P → Type 0 = λ old e r new. IsAnswered opening (count (seat old)) e r (count (seat new)) in
+    let steps : P → Event → Result Entry (Event × HubRefusal) → P → Type 0 = λ old e r new. IsPostedBy opening (count (seat old)) e r (count (seat new)) in
     let holds : P → P → Type 0 = λ old new. count (seat new) ≡ count (seat old) in
     subst (λ (x : RunEnd). IsPosted steps holds draws conn now ms p w x left p' w') (sym is)
     (posted_run steps holds draws conn now ms p w answers last left p' w'
@@ -44,23 +44,23 @@ posted_by {P} seat put count opening draws conn now ms s p w answers last end le
 pub held_first : {P S W : Type 0} (seat : P → S) (count : S → ℕ) (opening : ℕ) (draws : Draws W) (conn now : ℕ)
     (all : List Message) (m : Message) (ms : List Message) (p : P) (w : W) (word : ℕ) (end : RunEnd) (p' : P) (w' : W)
     → end ≡ run.Stopped word Held → all ≡ m ∷ ms → draws w word w' → seat p' ≡ seat p
-    → IsPosted (λ old e r new. IsAnswered opening (count (seat old)) e r (count (seat new))) (λ old new. count (seat new) ≡ count (seat old)) draws conn now all p w end ms p' w'
+    → IsPosted (λ old e r new. IsPostedBy opening (count (seat old)) e r (count (seat new))) (λ old new. count (seat new) ≡ count (seat old)) draws conn now all p w end ms p' w'
 held_first {P} seat count opening draws conn now all m ms p w word end p' w' is first drawn same =
-    let steps : P → Event → Result Entry (Event × HubRefusal) → P → Type 0 = λ old e r new. IsAnswered opening (count (seat old)) e r (count (seat new)) in
+    let steps : P → Event → Result Entry (Event × HubRefusal) → P → Type 0 = λ old e r new. IsPostedBy opening (count (seat old)) e r (count (seat new)) in
     let holds : P → P → Type 0 = λ old new. count (seat new) ≡ count (seat old) in
     subst (λ (x : RunEnd). IsPosted steps holds draws conn now all p w x ms p' w') (sym is)
     (posted_held steps holds draws conn now all m ms p w word p' w' first drawn (ap count same))
 
 -- an offer of a port, as its seat knows it
 pub by_count : {P : Type 0} (count : P → ℕ) (opening : ℕ) (p : P) (e : Event) (r : Came) (q : P)
-    → IsOffered (λ old e r new. IsAnswered opening (count old) e r (count new)) (λ old new. count new ≡ count old) p e r q → IsOfferedBy opening (count p) e r (count q)
+    → IsOffered (λ old e r new. IsPostedBy opening (count old) e r (count new)) (λ old new. count new ≡ count old) p e r q → IsOfferedBy opening (count p) e r (count q)
 by_count count opening p e (Ok entry) q h = h
 by_count count opening p e (Err (back, By x)) q h = h
 by_count count opening p e (Err (back, Held)) q h = h
 
 -- a message that met a full history has left the seat as it was
 full_count : (opening before : ℕ) (e back : Event) (after : ℕ) → IsOfferedBy opening before e (Err (back, By HistoryFull)) after → after ≡ before
-full_count opening before e back after h = h.1
+full_count opening before e back after h = h.0.1
 
 -- an offer that ended as the run did, of another count that is the same
 moved : {S : Type 0} (count : S → ℕ) (opening : ℕ) (s b c : S) (e : Event) (r : Came) → count c ≡ count b

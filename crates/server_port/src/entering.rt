@@ -20,7 +20,7 @@ impl<L: Run, R: Wait, G: Gate + Drop> ServerPort<'_, L, R, G> {
     ghost use Rattle.server_history.specs.Bytes.{IsCounted, own};
     ghost use Rattle.server_port.specs.Courses.{entered, followed, offered, refused};
     ghost use Rattle.server_port.specs.Histories.{falls_due, passed, tried, was_same};
-    ghost use Rattle.shared_hub.specs.Entering.{IsAnswered};
+    ghost use Rattle.shared_hub.specs.Entering.{IsAnswered, IsPostedBy};
 
     /// Notes whom an answer names, with the size of its message, counts what its entry keeps, and hands the history out if
     /// that is due. Answers what others were told, and what it saw where the history is due.
@@ -94,7 +94,7 @@ impl<L: Run, R: Wait, G: Gate + Drop> ServerPort<'_, L, R, G> {
     /// Offers a message's event, once more where the history was full.
     #[inline(always)]
     fn enter_message(&mut self, event: Event) -> Result<Answer, (Event, PublishRefusal)>
-        ensures offered { IsOffered (λ old e r new. IsAnswered L.opening old.seat.count e r new.seat.count) (λ old new. new.seat.count ≡ old.seat.count) self.old event result self.new }
+        ensures offered { IsOffered (λ old e r new. IsPostedBy L.opening old.seat.count e r new.seat.count) (λ old new. new.seat.count ≡ old.seat.count) self.old event result self.new }
         ensures course { self.new.course ≡ offered result self.new.told.slow self.new.told.until self.old.course }
         ensures full { IfErr result (λ back. back.1 ≡ By HistoryFull → self.new.rotation.tries ≡ tried true self.old.rotation.tries) }
         ensures err { IfErr result (λ back. back.0 ≡ event) }
@@ -126,7 +126,7 @@ impl<L: Run, R: Wait, G: Gate + Drop> ServerPort<'_, L, R, G> {
     /// Offers a message's event once the history was handed out, or that was tried.
     #[inline(never)]
     pub(crate) fn offer_again(&mut self, event: Event) -> Result<Answer, (Event, PublishRefusal)>
-        ensures offered { IsOffered (λ old e r new. IsAnswered L.opening old.seat.count e r new.seat.count) (λ old new. new.seat.count ≡ old.seat.count) self.old event result self.new }
+        ensures offered { IsOffered (λ old e r new. IsPostedBy L.opening old.seat.count e r new.seat.count) (λ old new. new.seat.count ≡ old.seat.count) self.old event result self.new }
         ensures course { self.new.course ≡ offered result self.new.told.slow self.new.told.until self.old.course }
         ensures tried { OnErr result (self.new.rotation.tries ≡ tried true self.old.rotation.tries) }
         ensures err { IfErr result (λ back. back.0 ≡ event) }
@@ -143,7 +143,7 @@ impl<L: Run, R: Wait, G: Gate + Drop> ServerPort<'_, L, R, G> {
 
     #[inline(always)]
     fn offer_once(&mut self, event: Event) -> Result<Answer, (Event, PublishRefusal)>
-        ensures offered { IsOffered (λ old e r new. IsAnswered L.opening old.seat.count e r new.seat.count) (λ old new. new.seat.count ≡ old.seat.count) self.old event result self.new }
+        ensures offered { IsOffered (λ old e r new. IsPostedBy L.opening old.seat.count e r new.seat.count) (λ old new. new.seat.count ≡ old.seat.count) self.old event result self.new }
         ensures course { self.new.course ≡ offered result self.new.told.slow self.new.told.until self.old.course }
         ensures same { OnErr result (self.new.rotation ≡ self.old.rotation) }
         ensures err { IfErr result (λ back. back.0 ≡ event) }
@@ -189,11 +189,13 @@ impl<L: Run, R: Wait, G: Gate + Drop> Port for ServerPort<'_, L, R, G> {
     ghost use Rattle.events.specs.declared.refusal.PublishRefusal.TheVariants.{Held};
     ghost use Rattle.server_port.specs.Courses.{entered, offered};
     ghost use Rattle.server_port.specs.declared.course.Why.TheVariants.{Share};
-    ghost use Rattle.shared_hub.specs.Entering.{IsAnswered};
+    ghost use Rattle.shared_hub.specs.Entering.{IsAnswered, IsPostedBy};
 
     ghost place = { λ port. 0 };
 
     ghost steps = { λ old event result new. IsAnswered L.opening old.seat.count event result new.seat.count };
+
+    ghost posts = { λ old event result new. IsPostedBy L.opening old.seat.count event result new.seat.count };
 
     ghost holds = { λ old new. new.seat.count ≡ old.seat.count };
 
@@ -215,7 +217,7 @@ impl<L: Run, R: Wait, G: Gate + Drop> Port for ServerPort<'_, L, R, G> {
     #[inline(always)]
     fn offer(&mut self, event: Event) -> Result<Answer, (Event, PublishRefusal)>
         ensures place { ◌≡◌ {A = ℕ} 0 0 }
-        ensures offered { IsOffered (λ old e r new. IsAnswered L.opening old.seat.count e r new.seat.count) (λ old new. new.seat.count ≡ old.seat.count) self.old event result self.new }
+        ensures offered { IsOffered (λ old e r new. IsPostedBy L.opening old.seat.count e r new.seat.count) (λ old new. new.seat.count ≡ old.seat.count) self.old event result self.new }
         ensures err { IfErr result (λ back. back.0 ≡ event) }
         ensures spent { self.old.course.share ≡ 0 → (result ≡ Err (event, Held)) × (self.new.course ≡ record self.old.course { why = Some Share }) × (self.new.told ≡ self.old.told) × (self.new.rotation ≡ self.old.rotation) }
         ensures course { self.old.course.share ≢ 0 → self.new.course ≡ offered result self.new.told.slow self.new.told.until (record self.old.course { has_passed = false }) }

@@ -41,7 +41,7 @@ impl<L: Run, R: Wait, G: Gate + Drop> ServerPort<'_, L, R, G> {
     ghost use Rattle.server_port.specs.Courses.{all_followed, followed};
     ghost use Rattle.server_port.specs.Ends.{IsEnded, IsOfferedAgain};
     ghost use Rattle.server_port.specs.declared.course.Why.TheVariants.{Share};
-    ghost use Rattle.shared_hub.specs.Entering.{IsAnswered, IsOfferedBy};
+    ghost use Rattle.shared_hub.specs.Entering.{IsOfferedBy, IsPostedBy};
 
     /// What so many messages need in one hold.
     #[inline(always)]
@@ -62,7 +62,7 @@ impl<L: Run, R: Wait, G: Gate + Drop> ServerPort<'_, L, R, G> {
     ) -> RunEnd
         requires some { 0 < length messages.old.items }
         requires empty { hold.old.answers.items ≡ [] }
-        ensures posted { IsPosted (λ old e r new. IsAnswered L.opening old.seat.count e r new.seat.count) (λ old new. new.seat.count ≡ old.seat.count) W.draws posts.conn posts.now messages.old.items self.old words.old result messages.new.items self.new words.new }
+        ensures posted { IsPosted (λ old e r new. IsPostedBy L.opening old.seat.count e r new.seat.count) (λ old new. new.seat.count ≡ old.seat.count) W.draws posts.conn posts.now messages.old.items self.old words.old result messages.new.items self.new words.new }
         ensures empty { hold.new.answers.items ≡ [] }
         ensures spent { self.old.course.share ≡ 0 → (word : ℕ) × (result ≡ Stopped word Held) × (self.new.course ≡ record self.old.course { why = Some Share }) × (self.new.told ≡ self.old.told) × (self.new.rotation ≡ self.old.rotation) }
     {

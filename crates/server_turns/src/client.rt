@@ -232,7 +232,7 @@ impl Client {
     ) -> Turn
         requires { 0 < length buf.old }
         ensures place { P.place port.new ≡ P.place port.old }
-        ensures serving { IsServing (port_of P.steps P.holds) W.draws now (length buf.old) (state self.old port.old (S.contents writer.old)) words.old (R.remaining reader.old) (state self.new port.new (S.contents writer.new)) words.new (R.remaining reader.new) result }
+        ensures serving { IsServing (port_of P.steps P.posts P.holds) W.draws now (length buf.old) (state self.old port.old (S.contents writer.old)) words.old (R.remaining reader.old) (state self.new port.new (S.contents writer.new)) words.new (R.remaining reader.new) result }
         ensures turn { IsReadTurn self.new (R.failed reader.old) (R.failed reader.new) (S.failed writer.old) (S.failed writer.new) (S.waits writer.new) result }
         ensures ended { result ≡ Turn.Ended → IsAtEnd (R.remaining reader.new) }
         ensures idle { result ≡ Turn.Idle → R.waits reader.new ≡ true }
@@ -269,7 +269,7 @@ impl Client {
         now: u64,
     ) -> Turn
         ensures place { P.place port.new ≡ P.place port.old }
-        ensures draining { IsDraining (port_of P.steps P.holds) now most (state self.old port.old (S.contents writer.old)) (state self.new port.new (S.contents writer.new)) result }
+        ensures draining { IsDraining (port_of P.steps P.posts P.holds) now most (state self.old port.old (S.contents writer.old)) (state self.new port.new (S.contents writer.new)) result }
         ensures turn { IsTurn self.new (S.failed writer.old) (S.failed writer.new) (S.waits writer.new) result }
         ensures neither { IsNoRead result }
     {
@@ -289,7 +289,7 @@ impl Client {
     /// or the history is full it stands still, and this may be called again.
     pub fn end<P: Port>(&mut self, port: &mut P, now: u64) -> Option<Stall>
         ensures place { P.place port.new ≡ P.place port.old }
-        ensures ended { IsOver (port_of P.steps P.holds) now self.old port.old result self.new port.new }
+        ensures ended { IsOver (port_of P.steps P.posts P.holds) now self.old port.old result self.new port.new }
     {
         self.bytes = Vec::new(self.alloc);
         self.written = 0;

@@ -16,16 +16,16 @@ use Rattle.session_plan.specs.declared.reply.Reply.{Reply}
 use Rattle.session_plan.specs.declared.plan.Plan.{Plan}
 use Rattle.session_plan.specs.declared.plan.Plan.TheVariants.{Tells, Asks, Publishes}
 use Rattle.session_plan.specs.Replies.{Told, reply_to}
-use Rattle.session_conn.specs.Turns.{Steps, Draws, Goes, Stalls, outcome_of, without_event, turn_after, IsAnswered, IsWord}
+use Rattle.session_conn.specs.Turns.{Step, Draws, Goes, Stalls, outcome_of, without_event, turn_after, IsAnswered, IsWord}
 use Rattle.session.specs.Happenings.{is_final}
-use Rattle.session.specs.Accounts.{IsPortTo, IsStepped, IsDrawn, unless_refused}
+use Rattle.session.specs.Accounts.{AreSteps, IsStepped, IsDrawn, unless_refused}
 
 -- ---- the hub
 
 -- what a port answers, its hub does
-pub of_hub : {P : Type 0} (steps : Steps P) (hub_of : P → State) → IsPortTo steps hub_of →
-    {p : P} {e : Event} {r : Result Outcome HubRefusal} {p' : P} → IsAnswered steps.step p e r p' → IsAnswered IsStep (hub_of p) e r (hub_of p')
-of_hub steps hub_of port {p} {e} {p'} h = (h.0, port.step p e h.0 p' h.1, h.2)
+pub of_hub : {P : Type 0} (step : Step P) (hub_of : P → State) → AreSteps step hub_of →
+    {p : P} {e : Event} {r : Result Outcome HubRefusal} {p' : P} → IsAnswered step p e r p' → IsAnswered IsStep (hub_of p) e r (hub_of p')
+of_hub step hub_of are {p} {e} {p'} h = (h.0, are p e h.0 p' h.1, h.2)
 
 pub stepped-one : (s s' : State) (e : Event) (r : Result Outcome HubRefusal) → IsAnswered IsStep s e r s' → IsStepped ((e, r) ∷ []) s s'
 unfolding IsStepped

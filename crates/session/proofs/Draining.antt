@@ -235,4 +235,4 @@ drains_to steps hub_of port conn now most a p d p' still at (inr (inr (none, inl
 drains_to steps hub_of port conn now most a p d p' still at (inr (inr (none, inr h))) =
     then_taken conn now most a d (hub_of p') still none
     (take_to conn now most a (texts (takes_headers a.stage) a.owed) d (hub_of p') h.0 still
-    (subst (λ (s : State). IsAnswered IsStep s (event now (command.Take conn most)) h.0 (hub_of p')) at (of_hub steps hub_of port h.1)) h.2)
+    (subst (λ (s : State). IsAnswered IsStep s (event now (command.Take conn most)) h.0 (hub_of p')) at (of_hub steps.step hub_of port.step h.1)) h.2)

@@ -58,7 +58,7 @@ close_end steps hub_of port conn now a p s p' r at from step is = record {
   leads = end_leads conn now a s (hub_of p') r ((event now (command.Close conn), r) ∷ [])
       (ap (come_of_end conn now r) from ∙ ap (λ (x : Stage). came (told_text [] x) ((event now (command.Close conn), r) ∷ []) []) (sym is))
       (stepped-one a.hub (hub_of p') (event now (command.Close conn)) r
-      (subst (λ (x : State). IsAnswered IsStep x (event now (command.Close conn)) r (hub_of p')) at (of_hub steps hub_of port step)));
+      (subst (λ (x : State). IsAnswered IsStep x (event now (command.Close conn)) r (hub_of p')) at (of_hub steps.step hub_of port.step step)));
   closed = ap is_closed is ∙ closed_after r;
 }
 

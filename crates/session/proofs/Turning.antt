@@ -80,7 +80,7 @@ goes_by steps draws hub_of port conn now owed missed f fs at t p w (Asks what ac
       drawn = [];
       leads = framed_leads conn now (place_at hub_of owed missed fs at) f fs (hub_of p) t 0 h.0 (Asks what accepted) []
           still done.1 planned (ap (λ (x : Told). x.text) done.0) (ap (λ (x : Told). x.stage) done.0)
-          (stepped-one (hub_of at.port) (hub_of p) (event now what) h.0 (of_hub steps hub_of port h.1))
+          (stepped-one (hub_of at.port) (hub_of p) (event now what) h.0 (of_hub steps.step hub_of port.step h.1))
           (ap (λ (o : Option ℕ). option_to_list o ++ []) (sym (asked_wordless at.word what accepted has)));
       words = drawn-nil draws at.words w h.3;
     }
@@ -93,7 +93,7 @@ goes_by steps draws hub_of port conn now owed missed f fs at t p w (Publishes me
       drawn = drawn.new;
       leads = framed_leads conn now (place_at hub_of owed missed fs at) f fs (hub_of p) t h.1 h.0 (Publishes message) drawn.new
           still done.1 planned (ap (λ (x : Told). x.text) done.0) (ap (λ (x : Told). x.stage) done.0)
-          (stepped-one (hub_of at.port) (hub_of p) (event now (command.Pub conn message h.1)) h.0 (of_hub steps hub_of port h.3)) drawn.same;
+          (stepped-one (hub_of at.port) (hub_of p) (event now (command.Pub conn message h.1)) h.0 (of_hub steps.post hub_of port.post h.3)) drawn.same;
       words = drawn.are;
     }
 
@@ -149,7 +149,7 @@ stalls_by steps draws hub_of port conn now owed missed f left at st kept p w (As
     let so : IsStalled st kept at.word h.0 = stalls_told st kept at.stage accepted f at.word h.0 h.2 in
     record {
       drawn = [];
-      leads = stays (place_at hub_of owed missed left at) (refused (event now what) so.why so.is (of_hub steps hub_of port h.1))
+      leads = stays (place_at hub_of owed missed left at) (refused (event now what) so.why so.is (of_hub steps.step hub_of port.step h.1))
           (ap option_to_list so.keeps ∙ sym (append-nil (option_to_list at.word)));
       words = drawn-nil draws at.words w h.3;
       has = subst (HasWord kept) (sym planned) (subst (λ (o : Option ℕ). HasWord o (Asks what accepted)) (sym so.keeps) has);
@@ -160,7 +160,7 @@ stalls_by steps draws hub_of port conn now owed missed f left at st kept p w (Pu
     let drawn : IsWordFrom draws at.words at.word h.1 w = word_from draws at.words at.word h.1 w h.2 in
     record {
       drawn = drawn.new;
-      leads = stays (place_at hub_of owed missed left at) (refused (event now (command.Pub conn message h.1)) so.why so.is (of_hub steps hub_of port h.3))
+      leads = stays (place_at hub_of owed missed left at) (refused (event now (command.Pub conn message h.1)) so.why so.is (of_hub steps.post hub_of port.post h.3))
           (ap option_to_list so.keeps ∙ drawn.same);
       words = drawn.are;
       has = subst (HasWord kept) (sym planned) (subst (λ (o : Option ℕ). HasWord o (Publishes message)) (sym so.keeps) tt);

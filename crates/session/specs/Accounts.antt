@@ -16,7 +16,7 @@ use Rattle.session_conn.specs.declared.output.Output.{Output}
 use Rattle.session_conn.specs.declared.output.Stall.{Stall}
 use Rattle.session_conn.specs.declared.output.Stall.TheVariants as stall
 use Rattle.session_plan.specs.Replies.{is_closed}
-use Rattle.session_conn.specs.Turns.{Steps, Draws, IsAnswered}
+use Rattle.session_conn.specs.Turns.{Step, Steps, Draws, IsAnswered}
 use Rattle.session_conn.specs.Calls.{Connection, new_connection, Given, given, nothing, IsOpened, IsServed, IsDrained, IsEnded}
 use Rattle.session.specs.Happenings.{Happening, Opened, Framed, Took, Sent, Slow, Ended, Other, framed, sent, took, is_slow, has_missed, Submitted, comes, IsInOrder}
 
@@ -39,9 +39,14 @@ pub record Moment : Type 0 where
 abbrev pub moment : Connection → State → Moment
 moment at hub = record { at = at; hub = hub }
 
+-- each of these is a step of the hub
+abbrev pub AreSteps : {P : Type 0} → Step P → (P → State) → Type 0
+AreSteps {P} step hub_of = (p : P) (e : Event) (a : Result Entry (Event × HubRefusal)) (p' : P) → step p e a p' → IsStep (hub_of p) e a (hub_of p')
+
 -- a port to a hub: each of its events is a step of it, and what it holds back leaves it as it is
 pub record IsPortTo {P : Type 0} (steps : Steps P) (hub_of : P → State) : Type 0 where
-  pub step : (p : P) (e : Event) (a : Result Entry (Event × HubRefusal)) (p' : P) → steps.step p e a p' → IsStep (hub_of p) e a (hub_of p')
+  pub step : AreSteps steps.step hub_of
+  pub post : AreSteps steps.post hub_of
   pub holds : (p p' : P) → steps.holds p p' → hub_of p' ≡ hub_of p
 
 -- a call over a port of its own: what is lent to it is the hub as it is then, and what it leaves is the hub after it

@@ -25,12 +25,13 @@ impl Port for Direct<'_> {
 
     ghost steps = { λ old event result new. IsStep old.hub.now event result new.hub.now };
 
+    ghost posts = { λ old event result new. IsStep old.hub.now event result new.hub.now };
+
     #[inline(always)]
     fn submit(&mut self, event: Event) -> Result<Answer, (Event, HubRefusal)> {
         self.hub.step(event)
     }
 
-    // (as the trait's own body, whose hint on inlining isn't followed)
     #[inline(always)]
     fn offer(&mut self, event: Event) -> Result<Answer, (Event, PublishRefusal)> {
         match self.submit(event) {

@@ -13,14 +13,14 @@ use wire_read::cut_anywhere;
 /// the bytes that were taken has one turn, unless the connection closed before; each delivery that was taken is
 /// written once, or owed; and after a closing text nothing is written but INFO, where the caller asks for it again.
 pub fn any_calls<P: Port, W: Words>()
-    ensures { AccountsForCalls (port_of P.steps P.holds) W.draws }
+    ensures { AccountsForCalls (port_of P.steps P.posts P.holds) W.draws }
 {
     cut_anywhere();
 }
 
 /// The same over a hub that is this thread's alone.
 pub fn any_calls_direct<W: Words>()
-    ensures { AccountsOver (port_of ⟦<Direct<'static> as Port>⟧.steps ⟦<Direct<'static> as Port>⟧.holds) W.draws (λ port. port.hub.now) }
+    ensures { AccountsOver (port_of ⟦<Direct<'static> as Port>⟧.steps ⟦<Direct<'static> as Port>⟧.posts ⟦<Direct<'static> as Port>⟧.holds) W.draws (λ port. port.hub.now) }
 {
     any_calls::<Direct, W>();
 }

@@ -41,7 +41,7 @@ quiet_too false o v e = published_too o e
 
 -- a message that was published
 published_turn : {P W : Type 0} (steps : Steps P) (draws : Draws W) (now conn : ℕ) (s : Stage) (room : ℕ) (f : Frame) (m : Message) (p : P) (w : W) (word : ℕ) (w' : W) (entry : Entry) (p' : P) →
-    IsMessageOf s room f m → draws w word w' → steps.step p (post conn now m word) (Ok entry) p' → was_published entry.outcome ≡ true →
+    IsMessageOf s room f m → draws w word w' → steps.post p (post conn now m word) (Ok entry) p' → was_published entry.outcome ≡ true →
     IsFrameTurn steps draws now conn s None f p w (Goes (told_text [] s)) p' w'
 published_turn steps draws now conn s room f m p w word w' entry p' of drawn step published =
     inr (inr (subst (λ (plan : Plan). IsPlanned steps draws now conn s None f p w (Goes (told_text [] s)) p' w' plan) (sym (of.plan conn))
@@ -49,7 +49,7 @@ published_turn steps draws now conn s room f m p w word w' entry p' of drawn ste
 
 -- the message that ended the run
 last_turn : {P W : Type 0} (steps : Steps P) (draws : Draws W) (now conn : ℕ) (s : Stage) (room : ℕ) (f : Frame) (m : Message) (p : P) (w : W) (word : ℕ) (w' : W) (end : RunEnd) (p' : P) (t : Turned) →
-    IsMessageOf s room f m → draws w word w' → EndsRun steps.step steps.holds p (post conn now m word) word end p' → IsLastTold s f end t →
+    IsMessageOf s room f m → draws w word w' → EndsRun steps.post steps.holds p (post conn now m word) word end p' → IsLastTold s f end t →
     IsFrameTurn steps draws now conn s None f p w t p' w'
 last_turn steps draws now conn s room f m p w word w' run.Published p' t of drawn ends told = absurd ends
 last_turn steps draws now conn s room f m p w word w' (run.Answered entry) p' t of drawn ends told =
@@ -103,7 +103,7 @@ behind_one steps draws now conn s room all start text f fs n (run.Stopped word r
 at_first : {P W : Type 0} (steps : Steps P) (draws : Draws W) (now conn : ℕ) (s : Stage) (room : ℕ) (all : List Frame) (start : Spot P W) (text : List ℕ)
     (f : Frame) (fs : List Frame) (m : Message) (left : List Message) (p : P) (w : W) (word : ℕ) (w' : W) (end : RunEnd) (p' : P) →
     IsMessageOf s room f m → IsAhead s room fs left → Completes steps draws now conn all start text (f ∷ fs) (spot p w s None) → draws w word w' →
-    EndsRun steps.step steps.holds p (post conn now m word) word end p' → Leads steps draws now conn s room all start text (f ∷ fs) 1 end left p' w'
+    EndsRun steps.post steps.holds p (post conn now m word) word end p' → Leads steps draws now conn s room all start text (f ∷ fs) 1 end left p' w'
 at_first steps draws now conn s room all start text f fs m left p w word w' run.Published p' of ahead done drawn ends = absurd ends
 at_first steps draws now conn s room all start text f fs m left p w word w' (run.Answered entry) p' of ahead done drawn ends = (
   0,
@@ -160,7 +160,7 @@ none_offered steps draws now conn s room all start text fs end left p w p' w' is
 -- a run is the turns of its frames
 pub leads : {P W : Type 0} (steps : Steps P) (draws : Draws W) (now conn : ℕ) (s : Stage) (room : ℕ) (all : List Frame) (start : Spot P W) (text : List ℕ)
     (fs : List Frame) (ms : List Message) (p : P) (w : W) (end : RunEnd) (left : List Message) (p' : P) (w' : W) → is_closed s ≡ false → IsAhead s room fs ms →
-    Completes steps draws now conn all start text fs (spot p w s None) → IsPosted steps.step steps.holds draws conn now ms p w end left p' w' →
+    Completes steps draws now conn all start text fs (spot p w s None) → IsPosted steps.post steps.holds draws conn now ms p w end left p' w' →
     LeadsOn steps draws now conn s room all start text fs (length ms) end left p' w'
 unfolding IsPosted IsAhead
 leads steps draws now conn s room all start text fs [] p w end left p' w' still ahead done (is, none, port, words) =

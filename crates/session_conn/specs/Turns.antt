@@ -26,13 +26,15 @@ use Rattle.session_plan.specs.Plans.{plan_of}
 abbrev pub Step : Type 0 → Type 1
 Step P = P → Event → Result Entry (Event × HubRefusal) → P → Type 0
 
--- what a port does with an event; and the port before and after it held something back, so that nothing was submitted
+-- what a port does with an event that is submitted, and with a message's event that is offered and not held back; and the port
+-- before and after it held something back, so that nothing was submitted
 pub record Steps (P : Type 0) : Type 1 where
   pub step : Step P
+  pub post : Step P
   pub holds : P → P → Type 0
 
-abbrev pub port_of : {P : Type 0} → Step P → (P → P → Type 0) → Steps P
-port_of step holds = record { step = step; holds = holds }
+abbrev pub port_of : {P : Type 0} → Step P → Step P → (P → P → Type 0) → Steps P
+port_of step post holds = record { step = step; post = post; holds = holds }
 
 -- a word, and what it is drawn from before and after it
 abbrev pub Draws : Type 0 → Type 1
@@ -99,14 +101,14 @@ is_quiet s r = not (is_verbose s) && is_published r
 abbrev pub event : ℕ → Command → Event
 event now what = record { now = now; what = what }
 
--- A turn by its plan: nothing is asked, or one event is submitted. A message has its word then.
+-- A turn by its plan: nothing is asked, or one event is submitted. A message's event is offered, and it has its word then.
 abbrev pub IsPlanned : {P W : Type 0} → Steps P → Draws W → ℕ → ℕ → Stage → Option ℕ → Frame → P → W → Turned → P → W → Plan → Type 0
 IsPlanned steps draws now conn s word f p w t p' w' (Tells r) = (t ≡ Goes (told r)) × (p' ≡ p) × (w' ≡ w)
 IsPlanned steps draws now conn s word f p w t p' w' (Asks what accepted) =
     (r : Result Outcome HubRefusal) × IsAnswered steps.step p (event now what) r p' × (t ≡ turn_after s accepted f word r) × (w' ≡ w)
 IsPlanned steps draws now conn s word f p w t p' w' (Publishes message) =
     (r : Result Outcome HubRefusal) × (drawn : ℕ) × IsWord draws w word drawn w'
-    × IsAnswered steps.step p (event now (command.Pub conn message drawn)) r p' × (t ≡ turn_after s s f (Some drawn) r)
+    × IsAnswered steps.post p (event now (command.Pub conn message drawn)) r p' × (t ≡ turn_after s s f (Some drawn) r)
 
 -- the frame stays before anything was asked, since memory lacked
 pub record IsUntouched {P W : Type 0} (word : Option ℕ) (p : P) (w : W) (t : Turned) (p' : P) (w' : W) : Type 0 where

@@ -171,7 +171,7 @@ impl Conn {
         words: &mut W,
     ) -> Output
         ensures place { P.place port.new ≡ P.place port.old }
-        ensures served { IsServed (port_of P.steps P.holds) W.draws now piece.now self.old port.old words.old result self.new port.new words.new }
+        ensures served { IsServed (port_of P.steps P.posts P.holds) W.draws now piece.now self.old port.old words.old result self.new port.new words.new }
     {
         if self.stage.is_closed() {
             return nothing(alloc, true, None);
@@ -205,7 +205,7 @@ impl Conn {
     /// it gives nothing but what stopped them, unless they are only held back. Where it closes the connection they are dropped.
     pub fn drain<P: Port>(&mut self, alloc: Global, port: &mut P, most: usize, now: u64) -> Output
         ensures place { P.place port.new ≡ P.place port.old }
-        ensures drained { IsDrained (port_of P.steps P.holds) now most self.old port.old result self.new port.new }
+        ensures drained { IsDrained (port_of P.steps P.posts P.holds) now most self.old port.old result self.new port.new }
     {
         if self.stage.is_closed() {
             return nothing(alloc, true, None);
@@ -237,7 +237,7 @@ impl Conn {
     /// is closed. After a stall it may be called again.
     pub fn ended<P: Port>(&mut self, port: &mut P, now: u64) -> Output
         ensures place { P.place port.new ≡ P.place port.old }
-        ensures ended { IsEnded (port_of P.steps P.holds) now self.old port.old result self.new port.new }
+        ensures ended { IsEnded (port_of P.steps P.posts P.holds) now self.old port.old result self.new port.new }
     {
         self.drop_frames();
         let closing = close_session(self.conn, now, port, self.stage.closed());
@@ -280,7 +280,7 @@ fn after_close(answer: &Result<Answer, HubRefusal>) -> (Stage, Option<Stall>)
 /// Submits the Close of a session that stands, and gives whether it stands still, and what stopped it.
 fn close_session<P: Port>(conn: u64, now: u64, port: &mut P, stage: Stage) -> (Stage, Option<Stall>)
     ensures place { P.place port.new ≡ P.place port.old }
-    ensures closing { IsClosing (port_of P.steps P.holds) now conn stage port.old result.0 result.1 port.new }
+    ensures closing { IsClosing (port_of P.steps P.posts P.holds) now conn stage port.old result.0 result.1 port.new }
 {
     match stage {
         Stage::Closed { session: true } => {

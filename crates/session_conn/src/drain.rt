@@ -144,7 +144,7 @@ fn drain_by_take<P: Port>(
 ) -> Drained
     requires { owed.old.deliveries ≡ [] }
     ensures place { P.place port.new ≡ P.place port.old }
-    ensures taken { IsTaken (port_of P.steps P.holds) now conn most stage bytes.items owed.old.missed port.old (drain_of result owed.new) port.new }
+    ensures taken { IsTaken (port_of P.steps P.posts P.holds) now conn most stage bytes.items owed.old.missed port.old (drain_of result owed.new) port.new }
 {
     if bytes.reserve(64).is_err() {
         return Drained::new(bytes, stage, Some(Stall::Memory));
@@ -172,7 +172,7 @@ pub fn drain<P: Port>(
     owed: &mut Owed,
 ) -> Drained
     ensures place { P.place port.new ≡ P.place port.old }
-    ensures drains { Drains (port_of P.steps P.holds) now conn most stage owed.old.deliveries owed.old.missed port.old (drain_of result owed.new) port.new }
+    ensures drains { Drains (port_of P.steps P.posts P.holds) now conn most stage owed.old.deliveries owed.old.missed port.old (drain_of result owed.new) port.new }
 {
     let mut bytes = Vec::new(alloc);
     match write_owed(&mut bytes, stage.takes_headers(), owed) {

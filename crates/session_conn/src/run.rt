@@ -218,7 +218,7 @@ pub fn take_run<P: Port, W: Words>(
     requires some { 0 < length ahead.old.messages.items }
     requires room { vec_len out.old + ahead.old.room ≤ vec_capacity out.old }
     ensures place { P.place port.new ≡ P.place port.old }
-    ensures went { Went (port_of P.steps P.holds) W.draws now conn frames.old (spot port.old words.old stage None) result out.old.items out.new.items frames.new port.new words.new }
+    ensures went { Went (port_of P.steps P.posts P.holds) W.draws now conn frames.old (spot port.old words.old stage None) result out.old.items out.new.items frames.new port.new words.new }
     ensures nearer { IsNearer result frames.old frames.new }
     ensures ahead { IsAheadAfter result ahead.new.room frames.new ahead.new.messages.items }
 {

@@ -58,7 +58,7 @@ fn take_one<P: Port, W: Words>(
     requires open { is_closed stage ≡ false }
     requires some { 0 < length frames.old }
     ensures place { P.place port.new ≡ P.place port.old }
-    ensures went { Went (port_of P.steps P.holds) W.draws now conn frames.old (spot port.old words.old stage word) result out.old.items out.new.items frames.new port.new words.new }
+    ensures went { Went (port_of P.steps P.posts P.holds) W.draws now conn frames.old (spot port.old words.old stage word) result out.old.items out.new.items frames.new port.new words.new }
     ensures nearer { IsNearer result frames.old frames.new }
 {
     let Some(frame) = frames.first() else {
@@ -90,7 +90,7 @@ fn take_turns<P: Port, W: Words>(
     requires some { 0 < length frames.old }
     requires ahead { IsAhead stage ahead.old.room frames.old ahead.old.messages.items }
     ensures place { P.place port.new ≡ P.place port.old }
-    ensures went { Went (port_of P.steps P.holds) W.draws now conn frames.old (spot port.old words.old stage word) result out.old.items out.new.items frames.new port.new words.new }
+    ensures went { Went (port_of P.steps P.posts P.holds) W.draws now conn frames.old (spot port.old words.old stage word) result out.old.items out.new.items frames.new port.new words.new }
     ensures nearer { IsNearer result frames.old frames.new }
     ensures ahead { IsAheadAfter result ahead.new.room frames.new ahead.new.messages.items }
 {
@@ -115,7 +115,7 @@ fn serve_one<P: Port, W: Words>(
 ) -> Served
     requires few { length frames.old ≤ 1 }
     ensures place { P.place port.new ≡ P.place port.old }
-    ensures served { Serves (port_of P.steps P.holds) W.draws now conn frames.old (spot port.old words.old stage word) (served result.bytes.items frames.new result.stall (spot port.new words.new result.stage result.word)) }
+    ensures served { Serves (port_of P.steps P.posts P.holds) W.draws now conn frames.old (spot port.old words.old stage word) (served result.bytes.items frames.new result.stall (spot port.new words.new result.stage result.word)) }
 {
     let mut bytes = Vec::new(alloc);
     if frames.is_empty() {
@@ -146,7 +146,7 @@ fn serve_all<P: Port, W: Words>(
     frames: &mut Frames,
 ) -> Served
     ensures place { P.place port.new ≡ P.place port.old }
-    ensures served { Serves (port_of P.steps P.holds) W.draws now conn frames.old (spot port.old words.old stage word) (served result.bytes.items frames.new result.stall (spot port.new words.new result.stage result.word)) }
+    ensures served { Serves (port_of P.steps P.posts P.holds) W.draws now conn frames.old (spot port.old words.old stage word) (served result.bytes.items frames.new result.stall (spot port.new words.new result.stage result.word)) }
 {
     let mut bytes = Vec::new(alloc);
     let mut stage = stage;
@@ -186,7 +186,7 @@ pub fn serve<P: Port, W: Words>(
     frames: &mut Frames,
 ) -> Served
     ensures place { P.place port.new ≡ P.place port.old }
-    ensures served { Serves (port_of P.steps P.holds) W.draws now conn frames.old (spot port.old words.old stage word) (served result.bytes.items frames.new result.stall (spot port.new words.new result.stage result.word)) }
+    ensures served { Serves (port_of P.steps P.posts P.holds) W.draws now conn frames.old (spot port.old words.old stage word) (served result.bytes.items frames.new result.stall (spot port.new words.new result.stage result.word)) }
 {
     if frames.are_few() {
         serve_one(alloc, conn, now, port, words, stage, word, frames)

@@ -23,7 +23,7 @@ pub fn submit<P: Port>(port: &mut P, event: Event) -> Result<Answer, HubRefusal>
 #[inline(always)]
 pub fn offer<P: Port>(port: &mut P, event: Event) -> Option<Result<Answer, HubRefusal>>
     ensures place { P.place port.new ≡ P.place port.old }
-    ensures offered { MatchOption result (P.holds port.old port.new) (λ answer. IsAnswered P.steps port.old event (outcome_of answer) port.new) }
+    ensures offered { MatchOption result (P.holds port.old port.new) (λ answer. IsAnswered P.posts port.old event (outcome_of answer) port.new) }
 {
     match port.offer(event) {
         Ok(answer) => Some(Ok(answer)),

@@ -121,7 +121,7 @@ fn publish<P: Port, W: Words>(
     requires plan { plan_of conn stage frame.now ≡ Publishes message }
     requires room { vec_len out.old + room_of frame.now ≤ vec_capacity out.old }
     ensures place { P.place port.new ≡ P.place port.old }
-    ensures turn { IsFrameTurned (λ turned. IsFrameTurn (port_of P.steps P.holds) W.draws now conn stage word frame.now port.old words.old turned port.new words.new) result out.old.items out.new.items }
+    ensures turn { IsFrameTurned (λ turned. IsFrameTurn (port_of P.steps P.posts P.holds) W.draws now conn stage word frame.now port.old words.old turned port.new words.new) result out.old.items out.new.items }
 {
     let drawn = word_of(words, word);
     let what = Command::Pub {
@@ -153,7 +153,7 @@ pub fn take_turn<P: Port, W: Words>(
     out: &mut Vec<u8>,
 ) -> FrameTurn
     ensures place { P.place port.new ≡ P.place port.old }
-    ensures turn { IsFrameTurned (λ turned. IsFrameTurn (port_of P.steps P.holds) W.draws now conn stage word frame.now port.old words.old turned port.new words.new) result out.old.items out.new.items }
+    ensures turn { IsFrameTurned (λ turned. IsFrameTurn (port_of P.steps P.posts P.holds) W.draws now conn stage word frame.now port.old words.old turned port.new words.new) result out.old.items out.new.items }
 {
     if make_room(out, frame).is_err() {
         return FrameTurn::Stalls(Stall::Memory, word);

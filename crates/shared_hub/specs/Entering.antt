@@ -4,9 +4,12 @@ use Rattle.events.specs.declared.event.Event.{Event}
 use Rattle.events.specs.declared.answer.Entry.{Entry}
 use Rattle.events.specs.declared.refusal.HubRefusal.{HubRefusal}
 use Rattle.events.specs.declared.refusal.PublishRefusal.{PublishRefusal}
+use Rattle.events.specs.declared.refusal.PublishRefusal.TheVariants.{By}
 use Rattle.events.specs.Offers.{IsOffered}
 use Rattle.hub.specs.History.{State, IsStep}
 use Rattle.shared_receipts.specs.Receipts.{Receipt}
+use Rattle.shared_runs.specs.Runs.{Came}
+use Rattle.shared_desk.specs.Publishing.{Inside, IsPublished}
 
 -- What a seat knows of an answered event: its entry has the event, it is one more of the seat's, and since the run opened
 -- at least as many entries were made as the seat has.
@@ -27,9 +30,23 @@ IsAnswered opening before e (Err refused) after = (refused.0 ≡ e) × (after �
 abbrev pub IsLonger : List ℕ → List ℕ → Type 0
 IsLonger short long = (more : List ℕ) × (long ≡ short ++ more)
 
--- A message's event that a seat has offered: it was submitted, or it is held back, and the seat is as before.
+-- what came of a message's event that was not held back
+abbrev pub came : Result Entry (Event × HubRefusal) → Came
+came (Ok entry) = Ok entry
+came (Err (back, refusal)) = Err (back, By refusal)
+
+-- An answer or a refusal is what `Desk::publish` tells of the event, by the hub, the waits and the patience of some moment: so no
+-- message enters past them.
+abbrev pub IsFromPublish : ℕ → Event → Result Entry (Event × HubRefusal) → Type 0
+IsFromPublish opening e r = (x : Inside ℕ) × ((y : Inside ℕ) × IsPublished (λ count. count) opening x e (came r) y)
+
+-- A message's event that a seat has offered and that was not held back: it was submitted, and `Desk::publish` has told what came of it.
+abbrev pub IsPostedBy : ℕ → ℕ → Event → Result Entry (Event × HubRefusal) → ℕ → Type 0
+IsPostedBy opening before e r after = IsAnswered opening before e r after × IsFromPublish opening e r
+
+-- A message's event that a seat has offered: it was posted, or it is held back, and the seat is as before.
 abbrev pub IsOfferedBy : ℕ → ℕ → Event → Result Entry (Event × PublishRefusal) → ℕ → Type 0
-IsOfferedBy opening = IsOffered (IsAnswered opening) (λ before after. after ≡ before)
+IsOfferedBy opening = IsOffered (IsPostedBy opening) (λ before after. after ≡ before)
 
 -- An event that a seat has submitted: with a receipt it is counted; a refusal hands it back, and the seat is as before.
 abbrev pub IsSubmitted : ℕ → ℕ → Event → Result Receipt (Event × HubRefusal) → ℕ → Type 0

@@ -2,7 +2,7 @@ ghost use Rattle.std.specs.Prelude.{◌≡◌};
 
 use crate::{Receipt, Run, Seat, Shared};
 use base::NoMemory;
-use hub::{Answer, Event, HubRefusal, Port, Segment};
+use hub::{Answer, Event, HubRefusal, Port, PublishRefusal, Segment};
 use std::alloc::Global;
 use std::mem;
 use std::sync::Wait;
@@ -75,6 +75,8 @@ impl<L: Run, R: Wait> Port for SharedPort<'_, L, R> {
 
     ghost steps = { λ old event result new. IsKept L.opening (kept old.seat.count old.receipts.items) event result (kept new.seat.count new.receipts.items) };
 
+    ghost posts = { λ old event result new. IsKept L.opening (kept old.seat.count old.receipts.items) event result (kept new.seat.count new.receipts.items) };
+
     #[inline(always)]
     fn submit(&mut self, event: Event) -> Result<Answer, (Event, HubRefusal)> {
         if self.receipts.reserve(1).is_err() {
@@ -87,6 +89,13 @@ impl<L: Run, R: Wait> Port for SharedPort<'_, L, R> {
                 Ok(answer)
             }
             Err(refused) => Err(refused),
+        }
+    }
+
+    fn offer(&mut self, event: Event) -> Result<Answer, (Event, PublishRefusal)> {
+        match self.submit(event) {
+            Ok(answer) => Ok(answer),
+            Err((event, refusal)) => Err((event, PublishRefusal::By(refusal))),
         }
     }
 }

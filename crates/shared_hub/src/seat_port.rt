@@ -69,11 +69,13 @@ impl<'a, L: Run, R: Wait, N: Notes + Drop> SeatPort<'a, L, R, N> {
 }
 
 impl<L: Run, R: Wait, N: Notes + Drop> Port for SeatPort<'_, L, R, N> {
-    ghost use Rattle.shared_hub.specs.Entering.{IsAnswered};
+    ghost use Rattle.shared_hub.specs.Entering.{IsAnswered, IsPostedBy};
 
     ghost place = { λ port. 0 };
 
     ghost steps = { λ old event result new. IsAnswered L.opening old.seat.count event result new.seat.count };
+
+    ghost posts = { λ old event result new. IsPostedBy L.opening old.seat.count event result new.seat.count };
 
     ghost holds = { λ old new. new.seat.count ≡ old.seat.count };
 

@@ -14,8 +14,8 @@ loop-alloc-init g c =
     let start = spot c.args.port.now c.args.words.now c.args.stage c.args.word in
     record {
       place = refl;
-      turns = subst (λ (x : List ℕ). Completes (port_of g.P.Port.steps g.P.Port.holds) g.W.Words.draws c.args.now c.args.conn c.args.frames.now start x c.args.frames.now start)
-          (sym c.new-bytes.ensures.items) (completes_start (port_of g.P.Port.steps g.P.Port.holds) g.W.Words.draws c.args.now c.args.conn c.args.frames.now start);
+      turns = subst (λ (x : List ℕ). Completes (port_of g.P.Port.steps g.P.Port.posts g.P.Port.holds) g.W.Words.draws c.args.now c.args.conn c.args.frames.now start x c.args.frames.now start)
+          (sym c.new-bytes.ensures.items) (completes_start (port_of g.P.Port.steps g.P.Port.posts g.P.Port.holds) g.W.Words.draws c.args.now c.args.conn c.args.frames.now start);
       ahead = λ still. none_ahead c.args.stage c.new-ahead.result.room c.args.frames.now c.new-ahead.result.messages.items c.new-ahead.ensures;
     }
 
@@ -23,11 +23,11 @@ pub returns-then-is_closed-clause-served : goal.returns-then-is_closed-clause-se
 returns-then-is_closed-clause-served g c =
     let start = spot c.args.port.now c.args.words.now c.args.stage c.args.word in
     let at = spot c.loop-alloc.port c.loop-alloc.words c.loop-alloc.stage c.loop-alloc.word in
-    subst (λ (s : Served). Serves (port_of g.P.Port.steps g.P.Port.holds) g.W.Words.draws c.args.now c.args.conn c.args.frames.now start (served s.bytes.items c.clear.new.self s.stall (spot c.loop-alloc.port c.loop-alloc.words s.stage s.word)))
+    subst (λ (s : Served). Serves (port_of g.P.Port.steps g.P.Port.posts g.P.Port.holds) g.W.Words.draws c.args.now c.args.conn c.args.frames.now start (served s.bytes.items c.clear.new.self s.stall (spot c.loop-alloc.port c.loop-alloc.words s.stage s.word)))
     (sym c.new.ensures)
-    (subst (λ (x : List Frame). Serves (port_of g.P.Port.steps g.P.Port.holds) g.W.Words.draws c.args.now c.args.conn c.args.frames.now start (served c.loop-alloc.bytes.items x None at))
+    (subst (λ (x : List Frame). Serves (port_of g.P.Port.steps g.P.Port.posts g.P.Port.holds) g.W.Words.draws c.args.now c.args.conn c.args.frames.now start (served c.loop-alloc.bytes.items x None at))
     (sym c.clear.ensures)
-    (closed_at (port_of g.P.Port.steps g.P.Port.holds) g.W.Words.draws c.args.now c.args.conn c.args.frames.now start c.loop-alloc.bytes.items c.loop-alloc.frames at
+    (closed_at (port_of g.P.Port.steps g.P.Port.posts g.P.Port.holds) g.W.Words.draws c.args.now c.args.conn c.args.frames.now start c.loop-alloc.bytes.items c.loop-alloc.frames at
     c.loop-alloc.invariant.turns (sym c.is_closed.ensures ∙ c.if-is_closed.true)))
 
 pub loop-alloc-preserved : goal.loop-alloc-preserved
@@ -36,7 +36,7 @@ loop-alloc-preserved g c =
     let at = spot c.loop-alloc.port c.loop-alloc.words c.loop-alloc.stage c.loop-alloc.word in
     record {
       place = c.in-Goes.ensures.place ∙ c.loop-alloc.invariant.place;
-      turns = went_on (port_of g.P.Port.steps g.P.Port.holds) g.W.Words.draws c.args.now c.args.conn c.args.frames.now start c.loop-alloc.bytes.items c.loop-alloc.frames at
+      turns = went_on (port_of g.P.Port.steps g.P.Port.posts g.P.Port.holds) g.W.Words.draws c.args.now c.args.conn c.args.frames.now start c.loop-alloc.bytes.items c.loop-alloc.frames at
           c.in-Goes.after c.take_turns.new.out.items c.take_turns.new.frames c.take_turns.new.port c.take_turns.new.words c.loop-alloc.invariant.turns c.in-Goes.ensures.went;
       ahead = c.in-Goes.ensures.ahead;
     }
@@ -45,7 +45,7 @@ pub returns-clause-served : goal.returns-clause-served
 returns-clause-served g c =
     let start = spot c.args.port.now c.args.words.now c.args.stage c.args.word in
     let at = spot c.loop-alloc.port c.loop-alloc.words c.loop-alloc.stage c.loop-alloc.word in
-    subst (λ (s : Served). Serves (port_of g.P.Port.steps g.P.Port.holds) g.W.Words.draws c.args.now c.args.conn c.args.frames.now start (served s.bytes.items c.loop-alloc.frames s.stall (spot c.loop-alloc.port c.loop-alloc.words s.stage s.word)))
+    subst (λ (s : Served). Serves (port_of g.P.Port.steps g.P.Port.posts g.P.Port.holds) g.W.Words.draws c.args.now c.args.conn c.args.frames.now start (served s.bytes.items c.loop-alloc.frames s.stall (spot c.loop-alloc.port c.loop-alloc.words s.stage s.word)))
     (sym c.new-2.ensures)
-    (completes_end (port_of g.P.Port.steps g.P.Port.holds) g.W.Words.draws c.args.now c.args.conn c.args.frames.now start c.loop-alloc.bytes.items at
+    (completes_end (port_of g.P.Port.steps g.P.Port.posts g.P.Port.holds) g.W.Words.draws c.args.now c.args.conn c.args.frames.now start c.loop-alloc.bytes.items at
     c.loop-alloc.frames (c.loop-alloc-test.ensures.0 refl) c.loop-alloc.invariant.turns)

@@ -11,7 +11,7 @@ invariant-loop-alloc g l =
     let start = spot l.initial.port l.initial.words l.initial.stage l.initial.word in
     record {
       place : g.P.Port.place l.port ≡ g.P.Port.place l.initial.port;
-      turns : Completes (port_of g.P.Port.steps g.P.Port.holds) g.W.Words.draws l.now l.conn l.initial.frames start l.bytes.items l.frames (spot l.port l.words l.stage l.word);
+      turns : Completes (port_of g.P.Port.steps g.P.Port.posts g.P.Port.holds) g.W.Words.draws l.now l.conn l.initial.frames start l.bytes.items l.frames (spot l.port l.words l.stage l.word);
       ahead : is_closed l.stage ≡ false → IsAhead l.stage l.ahead.room l.frames l.ahead.messages.items;
     }
 

@@ -13,5 +13,5 @@ tell-requires g c =
 
 pub returns-in-Publishes-clause-turn : goal.returns-in-Publishes-clause-turn
 returns-in-Publishes-clause-turn g c =
-    subst (λ (before : List ℕ). IsFrameTurned (λ turned. IsFrameTurn (port_of g.P.Port.steps g.P.Port.holds) g.W.Words.draws c.args.now c.args.conn c.args.stage c.args.word c.args.frame.now c.args.port.now c.args.words.now turned c.publish-in-Publishes.new.port c.publish-in-Publishes.new.words) c.publish-in-Publishes.result before c.publish-in-Publishes.new.out.items)
+    subst (λ (before : List ℕ). IsFrameTurned (λ turned. IsFrameTurn (port_of g.P.Port.steps g.P.Port.posts g.P.Port.holds) g.W.Words.draws c.args.now c.args.conn c.args.stage c.args.word c.args.frame.now c.args.port.now c.args.words.now turned c.publish-in-Publishes.new.port c.publish-in-Publishes.new.words) c.publish-in-Publishes.result before c.publish-in-Publishes.new.out.items)
     c.make_room.ensures.same c.publish-in-Publishes.ensures.turn

@@ -1,5 +1,5 @@
 use Rattle.std.proofs.Common.{subst, Ok}
-use Rattle.shared_hub.specs.Entering.{IsAnswered}
+use Rattle.shared_hub.specs.Entering.{IsPostedBy}
 use Rattle.server_port.specs.declared.port.ServerPort.{ServerPort}
 use Rattle.server_port.proofs.Offers.{same_count}
 use Rattle.server_port.proofs.port.ServerPort.enter_message.Goals as goal
@@ -10,5 +10,5 @@ returns-in-Ok-offer_again-clause-offered g c =
     let after = c.offer_again.new.self.seat.count in
     let answered = Ok c.in-Ok-offer_again.answer in
     let same = same_count {P = ServerPort g.row.L.Denot g.row.R.Denot g.row.G.Denot g.L.Run} (λ p. p.seat.count) opening c.args.self.now c.offer_once.new.self c.args.event c.in-Err.event c.in-Err.refusal c.in-Err.ensures.offered in
-    subst (λ e. IsAnswered opening c.args.self.now.seat.count e answered after) c.in-Err.ensures.err
-    (subst (λ n. IsAnswered opening n c.in-Err.event answered after) same c.in-Ok-offer_again.ensures.offered)
+    subst (λ e. IsPostedBy opening c.args.self.now.seat.count e answered after) c.in-Err.ensures.err
+    (subst (λ n. IsPostedBy opening n c.in-Err.event answered after) same c.in-Ok-offer_again.ensures.offered)

@@ -8,7 +8,7 @@ use Rattle.server_turns.proofs.client.Client.end.Goals as goal
 pub returns-clause-ended : goal.returns-clause-ended
 returns-clause-ended g c =
     let new = the_view (record { conn = c.ended.new.self; bytes = c.new.result; written = 0; alloc = c.self.inside.alloc }) in
-    subst (λ (was : Client). IsOver (port_of g.P.Port.steps g.P.Port.holds) c.args.now was c.args.port.now c.ended.result.stall new c.ended.new.port)
+    subst (λ (was : Client). IsOver (port_of g.P.Port.steps g.P.Port.posts g.P.Port.holds) c.args.now was c.args.port.now c.ended.result.stall new c.ended.new.port)
     c.self.view_is
     (record {
       output = c.ended.result;

@@ -17,10 +17,10 @@ returns-in-Ok-clause-served g c =
     let before = spot c.args.port.now c.args.words.now c.self.inside.stage c.self.inside.word in
     let after = served c.serve-served.result.bytes.items c.serve-served.new.frames c.serve-served.result.stall
     (spot c.serve-served.new.port c.serve-served.new.words c.serve-served.result.stage c.serve-served.result.word) in
-    let turns = subst (λ (fs : List Frame). Serves (port_of g.P.Port.steps g.P.Port.holds) g.W.Words.draws c.args.now c.self.inside.conn fs before after) c.in-Ok.ensures.frames c.serve-served.ensures.served in
-    subst (λ (was : Connection). IsServed (port_of g.P.Port.steps g.P.Port.holds) g.W.Words.draws c.args.now c.args.piece.now was c.args.port.now c.args.words.now output new c.serve-served.new.port c.serve-served.new.words)
+    let turns = subst (λ (fs : List Frame). Serves (port_of g.P.Port.steps g.P.Port.posts g.P.Port.holds) g.W.Words.draws c.args.now c.self.inside.conn fs before after) c.in-Ok.ensures.frames c.serve-served.ensures.served in
+    subst (λ (was : Connection). IsServed (port_of g.P.Port.steps g.P.Port.posts g.P.Port.holds) g.W.Words.draws c.args.now c.args.piece.now was c.args.port.now c.args.words.now output new c.serve-served.new.port c.serve-served.new.words)
     c.self.view_is
-    (read_open (port_of g.P.Port.steps g.P.Port.holds) g.W.Words.draws c.args.now c.args.piece.now old c.args.port.now c.args.words.now output new c.serve-served.new.port c.serve-served.new.words
+    (read_open (port_of g.P.Port.steps g.P.Port.posts g.P.Port.holds) g.W.Words.draws c.args.now c.args.piece.now old c.args.port.now c.args.words.now output new c.serve-served.new.port c.serve-served.new.words
     (sym c.is_closed.ensures ∙ c.if-is_closed.false)
     (record {
       turns = turns;
