@@ -4,7 +4,7 @@ use policy_source::Policies;
 use server_fault::{ServeFault, least};
 use server_gates::Gate;
 use server_loop::{Access, Start, WAKER, Worker};
-use server_mail::{Door, Flags, House, Limits, millis, open_door};
+use server_mail::{Flags, Limits, Mailbox, ServerState, millis, open_mailbox};
 use server_prints::Prints;
 use server_reloads::Reloads;
 use session_conn::Words;
@@ -43,7 +43,7 @@ struct Common<'a, L: Run, R> {
     rt: &'a R,
     alloc: Global,
     shared: &'a Shared<L>,
-    house: &'a House<'a>,
+    state: &'a ServerState<'a>,
     prints: &'a Prints,
 }
 
@@ -51,14 +51,14 @@ fn common_of<'a, L: Run, R>(
     rt: &'a R,
     alloc: Global,
     shared: &'a Shared<L>,
-    house: &'a House<'a>,
+    state: &'a ServerState<'a>,
     prints: &'a Prints,
 ) -> Common<'a, L, R> {
     Common {
         rt,
         alloc,
         shared,
-        house,
+        state,
         prints,
     }
 }
@@ -68,12 +68,12 @@ impl<'a, 'b, L: Run, R: Wait + Clock, G: Gate + Drop, W: Words + Drop, P: Polici
     ReloadStart<'b, L, G, P>,
 > for Common<'a, L, R> {
     fn work(&self, start: Start<L, G, W>) -> Option<ServeFault> {
-        let fault = match Worker::new(self.rt, self.alloc, self.shared, self.house, start) {
+        let fault = match Worker::new(self.rt, self.alloc, self.shared, self.state, start) {
             None => Some(ServeFault::NoMemory),
             Some(mut worker) => worker.run(),
         };
         if fault.is_some() {
-            self.house.stop();
+            self.state.stop();
         }
         fault
     }
@@ -86,26 +86,26 @@ impl<'a, 'b, L: Run, R: Wait + Clock, G: Gate + Drop, W: Words + Drop, P: Polici
         } = start;
         let (shared, prints) = (self.shared, self.prints);
         let own = (seat, gate);
-        let fault = match Reloads::new(self.rt, self.alloc, shared, self.house, own, prints) {
+        let fault = match Reloads::new(self.rt, self.alloc, shared, self.state, own, prints) {
             None => Some(ServeFault::NoMemory),
             Some(mut reloads) => reloads.run(policies),
         };
-        self.house.stop();
+        self.state.stop();
         fault
     }
 
     fn stop(&self) {
-        self.house.stop();
+        self.state.stop();
     }
 }
 
 /// Serves clients over sockets, with a worker for each access to the hub, and installs the policies that come. The first
-/// worker accepts connections and hands them round in turn, beginning with itself. It ends where the input of the policies
+/// worker accepts connections and deals them out round-robin, beginning with itself. It ends where the input of the policies
 /// ends, once what was accepted is written out or two seconds have passed. The moment of an event is in milliseconds
 /// since it began.
 ///
 /// `PollFailed` comes where the system gives no way to wait for sockets, `BadFrame` where a frame of the policies is wrong
-/// or can't be read, `NoMemory` where a worker can't begin, `TurnsSpent` where a gate lets nothing more pass; of several
+/// or can't be read, `NoMemory` where a worker can't begin, `GateClosed` where a gate lets nothing more pass; of several
 /// the least. A fault of a socket closes that connection alone.
 pub(crate) fn serve<
     'x,
@@ -125,10 +125,10 @@ pub(crate) fn serve<
     policies: &mut P,
     prints: &'x Prints,
 ) -> Result<(), ServeFault> {
-    let (doors, starts) = open_all(rt, alloc, listener, accesses)?;
+    let (mailboxes, starts) = open_all(rt, alloc, listener, accesses)?;
     let flags = Flags::new(limits);
-    let house = House::new(doors.as_slice(), limits, millis(rt), &flags);
-    let common = common_of(rt, alloc, shared, &house, prints);
+    let state = ServerState::new(mailboxes.as_slice(), limits, millis(rt), &flags);
+    let common = common_of(rt, alloc, shared, &state, prints);
     let (seat, gate) = own;
     let reload = ReloadStart {
         seat,
@@ -178,22 +178,22 @@ fn work_all<R: Threads + Sync, J: Send + Drop, O, T: Duties<J, O> + Sync>(
     }
 }
 
-/// A door and a start for each worker. The first has the listener.
+/// Opens a mailbox for each worker, and makes its start. The first worker has the listener.
 fn open_all<L: Run, R: Net, G: Drop, W: Drop>(
     rt: &R,
     alloc: Global,
     listener: TcpListener,
     accesses: Vec<Access<L, G, W>>,
-) -> Result<(Vec<Door>, Vec<Start<L, G, W>>), ServeFault> {
+) -> Result<(Vec<Mailbox>, Vec<Start<L, G, W>>), ServeFault> {
     let mut accesses = VecDeque::from(accesses);
     let mut listener = Some(listener);
-    let mut doors = Vec::new(alloc);
+    let mut mailboxes = Vec::new(alloc);
     let mut starts = Vec::new(alloc);
     for index in 0..accesses.len() {
         let Some(access) = accesses.pop_front() else {
             break;
         };
-        let Some((door, poll)) = open_door(rt, alloc, WAKER) else {
+        let Some((mailbox, poll)) = open_mailbox(rt, alloc, WAKER) else {
             return Err(ServeFault::PollFailed);
         };
         let start = Start {
@@ -202,9 +202,9 @@ fn open_all<L: Run, R: Net, G: Drop, W: Drop>(
             poll,
             listener: listener.take(),
         };
-        if doors.push(door).is_err() || starts.push(start).is_err() {
+        if mailboxes.push(mailbox).is_err() || starts.push(start).is_err() {
             return Err(ServeFault::NoMemory);
         }
     }
-    Ok((doors, starts))
+    Ok((mailboxes, starts))
 }

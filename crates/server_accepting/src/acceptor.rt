@@ -1,11 +1,11 @@
 use mio::net::{TcpListener, TcpStream};
 use mio::{Interest, Registry, Token};
-use server_mail::{Arrival, House, owner_of};
+use server_mail::{Arrival, ServerState, owner_of};
 use std::io;
 use std::io::ErrorKind;
 use std::sync::Wait;
 
-/// The token of the socket that listens. Connections have those of their places.
+/// The token of the socket that listens. Connections have those of their keys.
 pub const LISTENER: Token = Token(usize::MAX - 1);
 
 /// After how long accepting is tried again where the system has refused it, in milliseconds.
@@ -42,7 +42,7 @@ enum Said {
     Refused,
 }
 
-/// The worker that accepts connections, and hands them round in turn; or one that doesn't.
+/// What a worker accepts connections with, if it does: it deals them out to all workers, round-robin.
 pub struct Acceptor {
     /// Which worker it is.
     index: usize,
@@ -119,20 +119,20 @@ impl Acceptor {
         self.accept_at = Some(at);
     }
 
-    /// Accepts a connection, as far as there is room. One of another worker is left at its door. Where none can be had, it is
+    /// Accepts a connection, if there is room. One of another worker is left in its mailbox. Where none can be had, it is also
     /// settled when that is tried again.
     pub fn accept<R: Wait>(
         &mut self,
         rt: &R,
-        house: &House<'_>,
+        state: &ServerState<'_>,
         registry: &Registry,
         now: u64,
     ) -> Accepted {
-        match self.accept_one(rt, house) {
-            Said::Socket(socket) => self.hand_over(rt, house, socket),
+        match self.accept_one(rt, state) {
+            Said::Socket(socket) => self.hand_over(rt, state, socket),
             Said::Nobody => Accepted::Nobody,
             Said::Full => {
-                self.make_way(house, registry, now);
+                self.make_way(state, registry, now);
                 Accepted::Nobody
             }
             Said::Refused => {
@@ -143,14 +143,14 @@ impl Acceptor {
     }
 
     /// Accepts a connection. Nobody else opens a descriptor meanwhile.
-    fn accept_one<R: Wait>(&mut self, rt: &R, house: &House<'_>) -> Said {
+    fn accept_one<R: Wait>(&mut self, rt: &R, state: &ServerState<'_>) -> Said {
         let Some(listener) = &self.listener else {
             return Said::Nobody;
         };
-        if house.is_full() {
+        if state.is_full() {
             return Said::Full;
         }
-        let guard = house.descriptors().lock(rt);
+        let guard = state.descriptors().lock(rt);
         let accepted = listener.accept();
         drop(guard);
         match accepted {
@@ -166,14 +166,14 @@ impl Acceptor {
 
     /// There is no room for one more. If somebody waits for it, another is asked to give way; else the system is to tell
     /// once somebody does.
-    fn make_way(&mut self, house: &House<'_>, registry: &Registry, now: u64) {
+    fn make_way(&mut self, state: &ServerState<'_>, registry: &Registry, now: u64) {
         if !self.is_full {
             self.is_full = true;
             self.listen_again(registry, now);
             return;
         }
         self.is_full = false;
-        let wait = if house.ask_way() { WAY } else { RETRY };
+        let wait = if state.ask_way() { WAY } else { RETRY };
         self.accept_at = Some(now.saturating_add(wait));
     }
 
@@ -191,18 +191,23 @@ impl Acceptor {
     }
 
     /// Numbers a socket that was accepted, and leaves it for its owner if that is another worker.
-    fn hand_over<R: Wait>(&mut self, rt: &R, house: &House<'_>, socket: TcpStream) -> Accepted {
+    fn hand_over<R: Wait>(
+        &mut self,
+        rt: &R,
+        state: &ServerState<'_>,
+        socket: TcpStream,
+    ) -> Accepted {
         let conn = self.next_conn;
         self.next_conn = conn.saturating_add(1);
-        house.note_open();
+        state.note_open();
         drop(socket.set_nodelay(true));
-        let owner = owner_of(conn, house.doors.len());
+        let owner = owner_of(conn, state.mailboxes.len());
         if owner == self.index {
             return Accepted::Own(Arrival { conn, socket });
         }
-        if let Some(door) = house.doors.get(owner) {
-            if !door.leave_socket(rt, Arrival { conn, socket }) {
-                house.note_closed();
+        if let Some(mailbox) = state.mailboxes.get(owner) {
+            if !mailbox.leave_socket(rt, Arrival { conn, socket }) {
+                state.note_closed();
             }
         }
         Accepted::Left

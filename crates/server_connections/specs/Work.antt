@@ -15,44 +15,44 @@ use Rattle.server_connections.specs.declared.turns.Reads.TheVariants as reads
 
 -- ---- queues
 
--- how a connection is marked as standing in a queue, or not
+-- how a connection is marked as being in a queue, or not
 abbrev pub mark_ready : Bool → Queued → Queued
-mark_ready stands q = record q { ready = stands }
+mark_ready is_in q = record q { ready = is_in }
 
 abbrev pub mark_cut : Bool → Queued → Queued
-mark_cut stands q = record q { cut = stands }
+mark_cut is_in q = record q { cut = is_in }
 
-abbrev pub mark_dirty : Bool → Queued → Queued
-mark_dirty stands q = record q { dirty = stands }
+abbrev pub mark_flush : Bool → Queued → Queued
+mark_flush is_in q = record q { flush = is_in }
 
 abbrev pub mark_pressing : Bool → Queued → Queued
-mark_pressing stands q = record q { pressing = stands }
+mark_pressing is_in q = record q { pressing = is_in }
 
 abbrev pub marked : (Queued → Queued) → Connection → Connection
 marked mark it = record it { queued = mark it.queued }
 
--- A connection, if it is there, is put behind the others of a queue and marked as standing there, unless it was. Without
+-- A connection, if the worker has it, is put behind the others of a queue and marked as being in it, unless it was. Without
 -- memory neither changes.
 abbrev pub IsQueued : (Queued → Bool) → (Bool → Queued → Queued) → ℕ → Option Connection → List ℕ → Option Connection → List ℕ → Type 0
-IsQueued stands mark key None queue it' queue' = (it' ≡ None) × (queue' ≡ queue)
-IsQueued stands mark key (Some it) queue it' queue' = (now : Bool) × IsPut key (stands it.queued) queue now queue' × (it' ≡ Some (marked (mark now) it))
+IsQueued is_in mark key None queue it' queue' = (it' ≡ None) × (queue' ≡ queue)
+IsQueued is_in mark key (Some it) queue it' queue' = (now : Bool) × IsPut key (is_in it.queued) queue now queue' × (it' ≡ Some (marked (mark now) it))
 
 -- the same, or nothing
 abbrev pub IsQueuedIf : Bool → (Queued → Bool) → (Bool → Queued → Queued) → ℕ → Option Connection → List ℕ → Option Connection → List ℕ → Type 0
-IsQueuedIf false stands mark key it queue it' queue' = (it' ≡ it) × (queue' ≡ queue)
-IsQueuedIf true stands mark key it queue it' queue' = IsQueued stands mark key it queue it' queue'
+IsQueuedIf false is_in mark key it queue it' queue' = (it' ≡ it) × (queue' ≡ queue)
+IsQueuedIf true is_in mark key it queue it' queue' = IsQueued is_in mark key it queue it' queue'
 
--- it is there, and may be read
+-- the worker has it, and it may be read
 abbrev pub is_readable : Option Connection → Bool
 is_readable None = false
 is_readable (Some it) = may_read it
 
--- it is there, and so much waits for it that it is written to soon
+-- the worker has it, and so much waits for it that it is written to soon
 abbrev pub is_pressing : ℕ → Option Connection → Bool
 is_pressing many None = false
 is_pressing many (Some it) = not (may_wait it.due many)
 
--- it is there, and its frames wait for a receiver
+-- the worker has it, and its frames wait for a receiver
 abbrev pub waits : Option Connection → Bool
 waits None = false
 waits (Some it) = is_some it.held_until
@@ -62,13 +62,13 @@ waits (Some it) = is_some it.held_until
 -- work was looked for long enough, or is tried again after a sleep; and no connection has something to be read, to go on with,
 -- or to be written
 abbrev pub are_idle : Connections → Bool
-are_idle c = (((nat_eq c.looks 0 || not (nat_eq (length c.stalled) 0)) && nat_eq (length c.ready) 0) && nat_eq (length c.cut) 0) && nat_eq (length c.dirty) 0
+are_idle c = (((nat_eq c.looks 0 || not (nat_eq (length c.stalled) 0)) && nat_eq (length c.ready) 0) && nat_eq (length c.cut) 0) && nat_eq (length c.flush) 0
 
--- what is done with what a client sends: it has its turn where it may be read, or is dropped where it lingers
+-- what is done with what a client sends: it is served where it may be read, or dropped where it lingers
 abbrev pub reads_by : Bool → Bool → Reads
 reads_by false lingers = reads.Nothing
 reads_by true true = reads.Drop
-reads_by true false = reads.Turn
+reads_by true false = reads.Serve
 
 abbrev pub reads_of : Option Connection → Reads
 reads_of None = reads.Nothing

@@ -22,7 +22,7 @@ pub struct Connections {
     /// soon, and those whose turn could not be ended.
     pub ready: Queue,
     pub cut: Queue,
-    pub dirty: Queue,
+    pub flush: Queue,
     pub pressing: Queue,
     pub stalled: Queue,
     /// Those whose frames wait for a receiver, and when they are looked after.
@@ -46,7 +46,7 @@ impl Drop for Connections {
             keys: _,
             ready: _,
             cut: _,
-            dirty: _,
+            flush: _,
             pressing: _,
             stalled: _,
             held: _,
@@ -72,7 +72,7 @@ impl Connections {
             keys: HashMap::with_hasher(alloc, keys),
             ready: Queue::new(alloc),
             cut: Queue::new(alloc),
-            dirty: Queue::new(alloc),
+            flush: Queue::new(alloc),
             pressing: Queue::new(alloc),
             stalled: Queue::new(alloc),
             held: Queue::new(alloc),
@@ -139,6 +139,6 @@ impl Connections {
     pub fn owe(&self) -> bool {
         self.slab
             .iter()
-            .any(|(_, it)| it.client.waits() || it.queued.dirty)
+            .any(|(_, it)| it.client.waits() || it.queued.flush)
     }
 }

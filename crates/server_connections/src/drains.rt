@@ -20,20 +20,20 @@ impl Connections {
     ghost use Rattle.std.specs.Prelude.{ℕ, Some, IfSome, false, option_map};
     ghost use Rattle.slab.specs.Slab.{get};
     ghost use Rattle.server_socket.specs.Queues.{IsFirst};
-    ghost use Rattle.server_connections.specs.Work.{mark_dirty, mark_pressing, marked};
+    ghost use Rattle.server_connections.specs.Work.{mark_flush, mark_pressing, marked};
 
     /// Takes out the first of those to be written to, if there is one.
-    pub fn next_dirty(&mut self) -> Option<usize>
-        ensures first { IsFirst self.old.dirty result self.new.dirty }
-        ensures taken { IfSome result (λ key. get self.new.slab key ≡ option_map (marked (mark_dirty false)) (get self.old.slab key)) }
+    pub fn next_flush(&mut self) -> Option<usize>
+        ensures first { IsFirst self.old.flush result self.new.flush }
+        ensures taken { IfSome result (λ key. get self.new.slab key ≡ option_map (marked (mark_flush false)) (get self.old.slab key)) }
         ensures others { (other : ℕ) → result ≢ Some other → get self.new.slab other ≡ get self.old.slab other }
-        ensures rest { self.new ≡ record self.old { slab = self.new.slab; dirty = self.new.dirty } }
+        ensures rest { self.new ≡ record self.old { slab = self.new.slab; flush = self.new.flush } }
     {
-        let Some(key) = self.dirty.next() else {
+        let Some(key) = self.flush.next() else {
             return None;
         };
         if let Some(it) = self.slab.get_mut(key) {
-            it.queued.dirty = false;
+            it.queued.flush = false;
         }
         Some(key)
     }
@@ -62,7 +62,7 @@ impl Connections {
         match it.write_kept(now) {
             Written::Take => Drained::More,
             Written::Passed => {
-                self.make_dirty(key);
+                self.queue_flush(key);
                 Drained::Ends(Turn::Done)
             }
             Written::Stops => Drained::Stops,

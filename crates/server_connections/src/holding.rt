@@ -49,7 +49,7 @@ impl Connections {
             return;
         };
         if it.let_on() {
-            self.make_cut(key);
+            self.queue_cut(key);
         }
     }
 

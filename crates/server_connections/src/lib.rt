@@ -7,7 +7,7 @@ mod drains;
 mod fresh;
 mod holding;
 mod lingering;
-mod names;
+mod pending;
 mod turns;
 mod work;
 

@@ -41,7 +41,7 @@ impl Connections {
             return false;
         }
         it.queued.ready = false;
-        self.make_ready(key);
+        self.queue_ready(key);
         true
     }
 
@@ -51,7 +51,7 @@ impl Connections {
             Some(it) if it.lingers => it.queued.ready = false,
             _ => return self.linger(key, now),
         }
-        self.make_ready(key);
+        self.queue_ready(key);
         true
     }
 
@@ -62,7 +62,7 @@ impl Connections {
         };
         match it.drop_input(buf) {
             Input::More => {
-                self.make_ready(key);
+                self.queue_ready(key);
                 false
             }
             Input::Later => {

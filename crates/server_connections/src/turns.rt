@@ -8,8 +8,8 @@ use std::mem;
 /// What is to be done with what a connection's client sends.
 #[derive(Clone, Copy, Debug)]
 pub enum Reads {
-    /// It has a turn.
-    Turn,
+    /// The connection has a turn.
+    Serve,
     /// It is read and dropped, since the connection lingers.
     Drop,
     /// Nothing, now.
@@ -37,7 +37,7 @@ impl Connections {
         } else if it.lingers {
             Reads::Drop
         } else {
-            Reads::Turn
+            Reads::Serve
         }
     }
 
@@ -67,7 +67,7 @@ impl Connections {
         }
         if is_due {
             // (what its socket hadn't taken may be written now, and then nobody tells that it takes more)
-            self.make_dirty(key);
+            self.queue_flush(key);
         }
     }
 
@@ -81,13 +81,13 @@ impl Connections {
             Turn::Waits => {
                 if it.client.conn().stage().is_closed() {
                     // (it is looked after until its closing text is written)
-                    self.make_dirty(key);
+                    self.queue_flush(key);
                 }
             }
             Turn::Stalled(_) => {
                 let _ = self.stalled.add(key);
             }
-            _ => self.make_ready(key),
+            _ => self.queue_ready(key),
         }
     }
 
@@ -98,8 +98,8 @@ impl Connections {
     {
         let is_over = matches!(self.slab.get(key), Some(it) if it.is_over && !it.lingers);
         if !is_over {
-            self.make_dirty(key);
-            self.make_ready(key);
+            self.queue_flush(key);
+            self.queue_ready(key);
         }
         is_over
     }

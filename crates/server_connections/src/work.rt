@@ -10,7 +10,7 @@ const LOOKS: u32 = 100;
 impl Connections {
     ghost use Rattle.std.specs.Prelude.{◌-◌, ℕ, []};
     ghost use Rattle.slab.specs.Slab.{get};
-    ghost use Rattle.server_connections.specs.Work.{are_idle, is_pressing, is_readable, mark_cut, mark_dirty, mark_pressing, mark_ready, IsQueued, IsQueuedIf};
+    ghost use Rattle.server_connections.specs.Work.{are_idle, is_pressing, is_readable, mark_cut, mark_flush, mark_pressing, mark_ready, IsQueued, IsQueuedIf};
 
     /// A round begins.
     pub fn begin_round(&mut self)
@@ -25,12 +25,12 @@ impl Connections {
         ensures { result ≡ are_idle self.now }
     {
         let may_sleep = self.looks == 0 || !self.stalled.is_empty();
-        may_sleep && self.ready.is_empty() && self.cut.is_empty() && self.dirty.is_empty()
+        may_sleep && self.ready.is_empty() && self.cut.is_empty() && self.flush.is_empty()
     }
 
     /// Notes what the system tells of a socket.
     pub fn note_socket(&mut self, key: usize, readable: bool, writable: bool)
-        ensures rest { self.new ≡ record self.old { looks = self.new.looks; slab = self.new.slab; ready = self.new.ready; dirty = self.new.dirty } }
+        ensures rest { self.new ≡ record self.old { looks = self.new.looks; slab = self.new.slab; ready = self.new.ready; flush = self.new.flush } }
         ensures others { (other : ℕ) → other ≢ key → get self.new.slab other ≡ get self.old.slab other }
     {
         let Some(it) = self.slab.get_mut(key) else {
@@ -38,13 +38,13 @@ impl Connections {
         };
         it.readable = it.readable || readable;
         if writable && (it.client.waits() || it.is_due()) {
-            self.make_dirty(key);
+            self.queue_flush(key);
         }
-        self.make_ready(key);
+        self.queue_ready(key);
     }
 
     /// Puts a connection among those with something to read, where it may be read.
-    pub fn make_ready(&mut self, key: usize)
+    pub fn queue_ready(&mut self, key: usize)
         ensures queue { IsQueuedIf (is_readable (get self.old.slab key)) (λ q. q.ready) mark_ready key (get self.old.slab key) self.old.ready (get self.new.slab key) self.new.ready }
         ensures rest { self.new ≡ record self.old { looks = 100; slab = self.new.slab; ready = self.new.ready } }
         ensures others { (other : ℕ) → other ≢ key → get self.new.slab other ≡ get self.old.slab other }
@@ -58,19 +58,19 @@ impl Connections {
     }
 
     /// Puts a connection among those to be written to.
-    pub fn make_dirty(&mut self, key: usize)
-        ensures queue { IsQueued (λ q. q.dirty) mark_dirty key (get self.old.slab key) self.old.dirty (get self.new.slab key) self.new.dirty }
-        ensures rest { self.new ≡ record self.old { looks = 100; slab = self.new.slab; dirty = self.new.dirty } }
+    pub fn queue_flush(&mut self, key: usize)
+        ensures queue { IsQueued (λ q. q.flush) mark_flush key (get self.old.slab key) self.old.flush (get self.new.slab key) self.new.flush }
+        ensures rest { self.new ≡ record self.old { looks = 100; slab = self.new.slab; flush = self.new.flush } }
         ensures others { (other : ℕ) → other ≢ key → get self.new.slab other ≡ get self.old.slab other }
     {
         self.looks = LOOKS;
         if let Some(it) = self.slab.get_mut(key) {
-            self.dirty.put(key, &mut it.queued.dirty);
+            self.flush.put(key, &mut it.queued.flush);
         }
     }
 
     /// Puts a connection behind those that were cut short.
-    pub fn make_cut(&mut self, key: usize)
+    pub fn queue_cut(&mut self, key: usize)
         ensures queue { IsQueued (λ q. q.cut) mark_cut key (get self.old.slab key) self.old.cut (get self.new.slab key) self.new.cut }
         ensures rest { self.new ≡ record self.old { looks = 100; slab = self.new.slab; cut = self.new.cut } }
         ensures others { (other : ℕ) → other ≢ key → get self.new.slab other ≡ get self.old.slab other }
@@ -82,7 +82,7 @@ impl Connections {
     }
 
     /// Puts a connection among those to be written to soon, if so much waits for it that publishers might soon wait too.
-    pub(crate) fn press(&mut self, key: usize)
+    pub(crate) fn queue_pressing(&mut self, key: usize)
         ensures queue { IsQueuedIf (is_pressing self.old.many (get self.old.slab key)) (λ q. q.pressing) mark_pressing key (get self.old.slab key) self.old.pressing (get self.new.slab key) self.new.pressing }
         ensures rest { self.new ≡ record self.old { slab = self.new.slab; pressing = self.new.pressing } }
         ensures others { (other : ℕ) → other ≢ key → get self.new.slab other ≡ get self.old.slab other }

@@ -23,8 +23,8 @@ pub enum Fault {
     NoKeys,
     /// Memory could not be had.
     NoMemory,
-    /// A gate has no turns left.
-    TurnsSpent,
+    /// A gate lets nothing more pass.
+    GateClosed,
 }
 
 impl Fault {
@@ -40,7 +40,7 @@ impl Fault {
             Fault::PollFailed => b"poll failed\n",
             Fault::NoKeys => b"no random keys\n",
             Fault::NoMemory => b"no memory\n",
-            Fault::TurnsSpent => b"turns spent\n",
+            Fault::GateClosed => b"turns spent\n",
         }
     }
 }
@@ -65,7 +65,7 @@ impl From<ServeFault> for Fault {
             ServeFault::PollFailed => Fault::PollFailed,
             ServeFault::BadFrame => Fault::BadFrame,
             ServeFault::NoMemory => Fault::NoMemory,
-            ServeFault::TurnsSpent => Fault::TurnsSpent,
+            ServeFault::GateClosed => Fault::GateClosed,
         }
     }
 }

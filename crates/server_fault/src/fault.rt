@@ -13,8 +13,8 @@ pub enum ServeFault {
     BadFrame,
     /// Memory for a worker could not be had.
     NoMemory,
-    /// A gate has no turns left.
-    TurnsSpent,
+    /// A gate lets nothing more pass.
+    GateClosed,
 }
 
 impl fmt::Display for ServeFault {
@@ -25,7 +25,7 @@ impl fmt::Display for ServeFault {
             ServeFault::PollFailed => f.write_str("poll failed"),
             ServeFault::BadFrame => f.write_str("bad frame"),
             ServeFault::NoMemory => f.write_str("no memory"),
-            ServeFault::TurnsSpent => f.write_str("turns spent"),
+            ServeFault::GateClosed => f.write_str("turns spent"),
         }
     }
 }
@@ -41,7 +41,7 @@ impl ServeFault {
             ServeFault::PollFailed => 1,
             ServeFault::BadFrame => 2,
             ServeFault::NoMemory => 3,
-            ServeFault::TurnsSpent => 4,
+            ServeFault::GateClosed => 4,
         }
     }
 }

@@ -11,9 +11,9 @@ pub enum Point {
     Prepared,
 }
 
-/// A gate lets nothing more pass.
+/// The gate lets nothing more pass.
 #[derive(Clone, Copy, Debug, PartialEq, Eq)]
-pub struct TurnsSpent;
+pub struct GateClosed;
 
 /// What a thread passes at each point. It may hold the thread there; the hub's lock is free meanwhile.
 pub trait Gate {
@@ -23,7 +23,7 @@ pub trait Gate {
     ghost passes: { Self → Point → Bool → Self → Type 0 } = { λ _ _ _ _. ⊤ };
 
     /// Passes a point.
-    fn pass(&mut self, point: Point) -> Result<(), TurnsSpent>
+    fn pass(&mut self, point: Point) -> Result<(), GateClosed>
         ensures { passes self.old point (is_ok result) self.new };
 }
 
@@ -34,7 +34,7 @@ pub struct Open;
 impl Gate for Open {
     ghost passes = { λ _ _ lets _. IsTrue lets };
 
-    fn pass(&mut self, _point: Point) -> Result<(), TurnsSpent> {
+    fn pass(&mut self, _point: Point) -> Result<(), GateClosed> {
         Ok(())
     }
 }

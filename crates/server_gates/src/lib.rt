@@ -3,4 +3,4 @@
 
 mod gate;
 
-pub use gate::{Gate, Open, Point, TurnsSpent};
+pub use gate::{Gate, GateClosed, Open, Point};

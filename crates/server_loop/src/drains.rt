@@ -13,12 +13,12 @@ const TAKES: usize = 16;
 
 impl<'a, L: Run, R: Wait + Clock, G: Gate + Drop, W: Words + Drop> Worker<'a, L, R, G, W> {
     /// Drains a slice of the connections that are to be written to, in the order in which they came to be.
-    pub(crate) fn drain_dirty(&mut self) {
-        for _ in 0..self.connections.dirty.len() {
+    pub(crate) fn drain_queued(&mut self) {
+        for _ in 0..self.connections.flush.len() {
             if self.slice.is_spent() {
                 return;
             }
-            let Some(key) = self.connections.next_dirty() else {
+            let Some(key) = self.connections.next_flush() else {
                 return;
             };
             self.drain_one(key);
@@ -41,7 +41,7 @@ impl<'a, L: Run, R: Wait + Clock, G: Gate + Drop, W: Words + Drop> Worker<'a, L,
     /// Some Takes of a connection, as far as its socket takes them. Publishers that they let on are told at once.
     pub(crate) fn drain_one(&mut self, key: usize) {
         self.slice = self.slice.less(0, 0);
-        self.now = self.house.now(self.rt);
+        self.now = self.state.now(self.rt);
         for _ in 0..TAKES {
             match self.drain_once(key) {
                 Drained::More => {}
@@ -52,7 +52,7 @@ impl<'a, L: Run, R: Wait + Clock, G: Gate + Drop, W: Words + Drop> Worker<'a, L,
                 }
             }
         }
-        self.connections.make_dirty(key);
+        self.connections.queue_flush(key);
         self.leave_freed();
     }
 
@@ -74,14 +74,14 @@ impl<'a, L: Run, R: Wait + Clock, G: Gate + Drop, W: Words + Drop> Worker<'a, L,
         self.port.begin_take(it.blocked.millis);
         let turn = it.drain(&mut self.port, most, self.now);
         if turn == Turn::Waits {
-            self.now = self.house.now(self.rt);
+            self.now = self.state.now(self.rt);
         }
         it.note_drained(self.port.untold(), self.now);
         if turn == Turn::Done || turn == Turn::Waits {
             let had = it.note_taken(most);
             self.slice = self.slice.less(had.count, had.bytes);
             if let Some(rest) = self.port.take_rest() {
-                it.due = it.due.rested(rest);
+                it.due = it.due.left_by_take(rest);
             }
         }
         if turn == Turn::Done {

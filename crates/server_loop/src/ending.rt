@@ -61,11 +61,11 @@ impl<'a, L: Run, R: Wait + Clock, G: Gate + Drop, W: Words + Drop> Worker<'a, L,
     /// Lets a connection go, and its socket.
     pub(crate) fn remove(&mut self, key: usize) {
         if self.connections.remove(key) {
-            self.house.note_closed();
+            self.state.note_closed();
         }
     }
 
-    /// One turn of a connection that lingers.
+    /// Drops some input of a connection that lingers.
     pub(crate) fn drop_input(&mut self, key: usize) {
         if self.connections.drop_input(key, self.buf.as_mut_slice()) {
             self.remove(key);
@@ -82,9 +82,9 @@ impl<'a, L: Run, R: Wait + Clock, G: Gate + Drop, W: Words + Drop> Worker<'a, L,
         }
     }
 
-    /// The end: nothing more is read, what was accepted is written out, and then is to arrive.
-    pub(crate) fn rest(&mut self, events: &mut Events) {
-        self.house.rest();
+    /// Ends the worker: nothing more is read, what was accepted is written out, and then is to arrive.
+    pub(crate) fn finish(&mut self, events: &mut Events) {
+        self.state.note_finished();
         self.write_out(events);
         self.linger_all();
         self.see_off(events);
@@ -94,18 +94,18 @@ impl<'a, L: Run, R: Wait + Clock, G: Gate + Drop, W: Words + Drop> Worker<'a, L,
     fn write_out(&mut self, events: &mut Events) {
         let begin = millis(self.rt);
         for _ in self.rt.forever() {
-            let all = self.house.all_rest();
+            let have_finished = self.state.have_finished();
             self.connections.read_no_more();
             self.take_in();
             self.slice = Slice::whole();
-            self.drain_dirty();
-            if all && !self.connections.owe() {
+            self.drain_queued();
+            if have_finished && !self.connections.owe() {
                 return;
             }
             if millis(self.rt).saturating_sub(begin) > GRACE {
                 return;
             }
-            let may_wait = self.connections.dirty.is_empty();
+            let may_wait = self.connections.flush.is_empty();
             self.look(events, may_wait);
         }
     }
@@ -119,7 +119,7 @@ impl<'a, L: Run, R: Wait + Clock, G: Gate + Drop, W: Words + Drop> Worker<'a, L,
 
     /// All connections linger: what was written to them is to arrive, for two seconds at most.
     fn linger_all(&mut self) {
-        self.now = self.house.now(self.rt);
+        self.now = self.state.now(self.rt);
         self.connections.ready.clear();
         for key in 0..self.connections.slab.capacity() {
             if !self.connections.shut(key, self.now) {
@@ -138,11 +138,11 @@ impl<'a, L: Run, R: Wait + Clock, G: Gate + Drop, W: Words + Drop> Worker<'a, L,
             }
             let may_wait = self.connections.ready.is_empty();
             self.look(events, may_wait);
-            self.now = self.house.now(self.rt);
+            self.now = self.state.now(self.rt);
         }
     }
 
-    /// One turn of each that has something to read, all of which linger.
+    /// Drops some input of each connection that has some, all of which linger.
     fn drop_inputs(&mut self) {
         for _ in 0..self.connections.ready.len() {
             let Some(key) = self.connections.ready.next() else {

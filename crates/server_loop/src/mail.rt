@@ -1,4 +1,4 @@
-//! What workers leave for each other.
+//! What workers leave in each other's mailboxes.
 use crate::worker::Worker;
 use server_gates::Gate;
 use server_mail::{Arrival, Intake, Mail, owner_of};
@@ -9,64 +9,64 @@ use std::sync::Wait;
 use std::time::Clock;
 
 impl<'a, L: Run, R: Wait + Clock, G: Gate + Drop, W: Words + Drop> Worker<'a, L, R, G, W> {
-    /// Takes what others have left here.
+    /// Does what the worker's mailbox says.
     pub(crate) fn take_in(&mut self) {
-        let doors = self.house.doors;
-        let Some(door) = doors.get(self.index) else {
+        let mailboxes = self.state.mailboxes;
+        let Some(mailbox) = mailboxes.get(self.index) else {
             return;
         };
         let is_idle = self.connections.are_idle();
-        let room = mem::replace(&mut self.room, Mail::new(self.alloc));
+        let spare = mem::replace(&mut self.spare, Mail::new(self.alloc));
         let Intake {
             arrivals,
             mail,
             slow,
             sleeps,
-        } = door.take_in(self.rt, is_idle, room);
+        } = mailbox.take_in(self.rt, is_idle, spare);
         self.sleeps = sleeps;
         self.connections.follow(&mail);
-        self.room = mail;
+        self.spare = mail;
         for conn in slow {
             self.end_slow(conn);
         }
         self.open_all(arrivals);
     }
 
-    /// Connections begin whose sockets others have accepted.
+    /// Opens the connections whose sockets another worker has accepted.
     fn open_all(&mut self, arrivals: Vec<Arrival>) {
         for arrival in arrivals {
             self.open(arrival);
         }
     }
 
-    /// Names one's own connections, and lets one's own publishers on.
-    pub(crate) fn name_own(&mut self) {
-        let room = mem::replace(&mut self.own, Mail::new(self.alloc));
-        let mut mail = self.port.notices().take(self.index, room);
+    /// Does what the worker's own answers say about its own connections.
+    pub(crate) fn follow_own_mail(&mut self) {
+        let spare = mem::replace(&mut self.own_spare, Mail::new(self.alloc));
+        let mut mail = self.port.outgoing().take(self.index, spare);
         self.connections.follow(&mail);
         mail.clear();
-        self.own = mail;
+        self.own_spare = mail;
     }
 
-    /// Leaves what there is at the doors of other workers.
-    pub(crate) fn tell_others(&mut self) {
-        let doors = self.house.doors;
-        self.port.notices().leave_others(self.rt, doors);
+    /// Leaves mail in the mailboxes of other workers.
+    pub(crate) fn leave_mail(&mut self) {
+        let mailboxes = self.state.mailboxes;
+        self.port.outgoing().leave_others(self.rt, mailboxes);
     }
 
-    /// Has the worker of a connection close it, since too much waits for it.
+    /// Asks the worker of a slow consumer to close it.
     pub(crate) fn leave_slow(&mut self, conn: u64) {
-        let doors = self.house.doors;
-        if let Some(door) = doors.get(owner_of(conn, doors.len())) {
-            door.leave_slow(self.rt, conn);
+        let mailboxes = self.state.mailboxes;
+        if let Some(mailbox) = mailboxes.get(owner_of(conn, mailboxes.len())) {
+            mailbox.leave_slow(self.rt, conn);
         }
     }
 
-    /// Leaves the publishers that were let on, if there are some.
+    /// Leaves all mail where publishers were let on.
     pub(crate) fn leave_freed(&mut self) {
-        if self.port.notices().has_freed() {
-            self.name_own();
-            self.tell_others();
+        if self.port.outgoing().has_freed() {
+            self.follow_own_mail();
+            self.leave_mail();
         }
     }
 }

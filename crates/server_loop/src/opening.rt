@@ -21,7 +21,7 @@ impl<'a, L: Run, R: Wait + Clock, G: Gate + Drop, W: Words + Drop> Worker<'a, L,
             let registry = self.poll.registry();
             match self
                 .acceptor
-                .accept(self.rt, self.house, registry, self.now)
+                .accept(self.rt, self.state, registry, self.now)
             {
                 Accepted::Own(arrival) => self.open(arrival),
                 Accepted::Left => {}
@@ -36,7 +36,7 @@ impl<'a, L: Run, R: Wait + Clock, G: Gate + Drop, W: Words + Drop> Worker<'a, L,
         let Arrival { conn, socket } = arrival;
         let registry = self.poll.registry();
         let Some(key) = self.connections.add(conn, socket, registry) else {
-            self.house.note_closed();
+            self.state.note_closed();
             return;
         };
         if let Some(turn) = self.connections.open(key) {
@@ -46,11 +46,11 @@ impl<'a, L: Run, R: Wait + Clock, G: Gate + Drop, W: Words + Drop> Worker<'a, L,
 
     /// Shows others who would give way here, and has the first give way where that was asked.
     pub(crate) fn give_way(&mut self) {
-        let doors = self.house.doors;
-        let Some(door) = doors.get(self.index) else {
+        let mailboxes = self.state.mailboxes;
+        let Some(mailbox) = mailboxes.get(self.index) else {
             return;
         };
-        if door.ways.is_asked() {
+        if mailbox.ways.is_asked() {
             self.go_first();
         }
         let lingering = match self.connections.first_lingering() {
@@ -61,7 +61,7 @@ impl<'a, L: Run, R: Wait + Clock, G: Gate + Drop, W: Words + Drop> Worker<'a, L,
             None => None,
             Some(it) => Some(it.conn),
         };
-        door.ways.show(lingering, fresh);
+        mailbox.ways.show(lingering, fresh);
     }
 
     /// The connection goes that has lingered longest, else the one that has waited longest without an accepted CONNECT.

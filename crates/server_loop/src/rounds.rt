@@ -27,17 +27,17 @@ impl<'a, L: Run, R: Wait + Clock, G: Gate + Drop, W: Words + Drop> Worker<'a, L,
             return Some(ServeFault::PollFailed);
         }
         for _ in self.rt.forever() {
-            if self.house.stops() {
+            if self.state.stops() {
                 break;
             }
             if !self.round(&mut events) {
                 return Some(ServeFault::PollFailed);
             }
             if self.port.is_spent() {
-                return Some(ServeFault::TurnsSpent);
+                return Some(ServeFault::GateClosed);
             }
         }
-        self.rest(&mut events);
+        self.finish(&mut events);
         None
     }
 
@@ -48,7 +48,7 @@ impl<'a, L: Run, R: Wait + Clock, G: Gate + Drop, W: Words + Drop> Worker<'a, L,
         self.take_in();
         self.give_way();
         self.slice = Slice::whole();
-        self.drain_dirty();
+        self.drain_queued();
         if !self.wait(events) {
             return false;
         }
@@ -87,7 +87,7 @@ impl<'a, L: Run, R: Wait + Clock, G: Gate + Drop, W: Words + Drop> Worker<'a, L,
             patience = Duration::ZERO;
         }
         let told = self.poll.poll(events, Some(patience)).is_ok();
-        self.now = self.house.now(self.rt);
+        self.now = self.state.now(self.rt);
         self.note_events(events);
         told
     }

@@ -37,7 +37,7 @@ impl<'a, L: Run, R: Wait + Clock, G: Gate + Drop, W: Words + Drop> Worker<'a, L,
         self.serve_each_ready();
         self.port.allow(LEAST);
         self.serve_each_cut();
-        self.tell_others();
+        self.leave_mail();
     }
 
     /// Turns of connections with something to read.
@@ -50,7 +50,7 @@ impl<'a, L: Run, R: Wait + Clock, G: Gate + Drop, W: Words + Drop> Worker<'a, L,
                 break;
             };
             match self.connections.begin_ready(key) {
-                Reads::Turn => self.serve(key),
+                Reads::Serve => self.serve(key),
                 Reads::Drop => self.drop_input(key),
                 Reads::Nothing => {}
             }
@@ -76,9 +76,9 @@ impl<'a, L: Run, R: Wait + Clock, G: Gate + Drop, W: Words + Drop> Worker<'a, L,
         }
     }
 
-    /// One turn: frames that wait go on, or a piece is read. Then those are named for whom deliveries have entered.
+    /// Gives a connection one turn: frames that wait go on, or a piece is read. Then mail is left about what it made pending.
     fn serve(&mut self, key: usize) {
-        self.now = self.house.now(self.rt);
+        self.now = self.state.now(self.rt);
         let Some(it) = self.connections.slab.get_mut(key) else {
             return;
         };
@@ -91,7 +91,7 @@ impl<'a, L: Run, R: Wait + Clock, G: Gate + Drop, W: Words + Drop> Worker<'a, L,
         let served = it.serve(&mut self.port, &mut self.words, buf, self.now);
         self.connections.follow_writes(key);
         self.keep(served);
-        self.tell();
+        self.tell_pending();
         let turn = self.connections.bounded(key, served.turn);
         match turn {
             Turn::Stalled(Stall::Held) => self.follow_held(key),
@@ -99,20 +99,21 @@ impl<'a, L: Run, R: Wait + Clock, G: Gate + Drop, W: Words + Drop> Worker<'a, L,
         }
     }
 
-    /// Counts a piece that was read, and what its connection held before it, where frames of it were entered or will be: the
-    /// history keeps both then.
+    /// Counts a piece that was read, and what was buffered before it, where frames of it were entered or will be: the history
+    /// keeps both then.
     fn keep(&mut self, served: Served) {
         if served.read > 0 && (served.frames_wait || self.port.has_entered()) {
-            self.port.keep(served.held.saturating_add(served.read));
+            self.port.keep(served.buffered.saturating_add(served.read));
         }
     }
 
-    /// Names one's own connections at once, and those of other workers once many deliveries have entered for one.
-    fn tell(&mut self) {
-        self.name_own();
-        let most = self.port.notices().most();
-        if most > 0 && most >= batch(self.house.limits.outbox, self.house.doors.len()) {
-            self.tell_others();
+    /// Follows the worker's own mail at once, and leaves that of other workers once many deliveries are pending for one
+    /// connection.
+    fn tell_pending(&mut self) {
+        self.follow_own_mail();
+        let most = self.port.outgoing().most();
+        if most > 0 && most >= batch(self.state.limits.outbox, self.state.mailboxes.len()) {
+            self.leave_mail();
         }
     }
 
@@ -125,14 +126,15 @@ impl<'a, L: Run, R: Wait + Clock, G: Gate + Drop, W: Words + Drop> Worker<'a, L,
                 self.leave_slow(conn);
                 self.hold(key, self.now.saturating_add(CLOSING));
             }
-            Some(Why::Share) => self.connections.make_cut(key),
+            Some(Why::Share) => self.connections.queue_cut(key),
             None => self.bar(key),
         }
     }
 
-    /// A connection's frames wait for a receiver, until a moment at most. The names are left at once, so that it is drained.
+    /// Holds a connection's frames until a receiver has room, or until a moment. Mail is left at once, so that the receiver is
+    /// drained.
     fn hold(&mut self, key: usize, until: u64) {
-        self.tell_others();
+        self.leave_mail();
         self.connections.hold(key, until);
     }
 

@@ -3,7 +3,7 @@ use mio::{Poll, Token};
 use server_accepting::Acceptor;
 use server_connections::Connections;
 use server_gates::Gate;
-use server_mail::{House, Mail, Notices};
+use server_mail::{Mail, OutgoingMail, ServerState};
 use server_pacing::{PIECE, Slice};
 use server_port::ServerPort;
 use session_conn::Words;
@@ -37,7 +37,7 @@ pub struct Worker<'a, L: Run, R: Wait, G: Gate + Drop, W: Words + Drop> {
     pub(crate) rt: &'a R,
     pub(crate) alloc: Global,
     pub(crate) index: usize,
-    pub(crate) house: &'a House<'a>,
+    pub(crate) state: &'a ServerState<'a>,
     pub(crate) poll: Poll,
     pub(crate) acceptor: Acceptor,
     pub(crate) port: ServerPort<'a, L, R, G>,
@@ -45,9 +45,9 @@ pub struct Worker<'a, L: Run, R: Wait, G: Gate + Drop, W: Words + Drop> {
     pub(crate) connections: Connections,
     /// What may still be drained before the sockets are looked at again.
     pub(crate) slice: Slice,
-    /// Room for what others leave here, and for what one leaves oneself.
-    pub(crate) room: Mail,
-    pub(crate) own: Mail,
+    /// Mail that was read, whose memory is used again: that of others, and one's own.
+    pub(crate) spare: Mail,
+    pub(crate) own_spare: Mail,
     pub(crate) buf: Vec<u8>,
     pub(crate) now: u64,
     /// From when on turns that could not be ended are tried again.
@@ -62,15 +62,15 @@ impl<'a, L: Run, R: Wait, G: Gate + Drop, W: Words + Drop> Drop for Worker<'a, L
             rt: _,
             alloc: _,
             index: _,
-            house: _,
+            state: _,
             poll: _,
             acceptor: _,
             port: _,
             words: _,
             connections: _,
             slice: _,
-            room: _,
-            own: _,
+            spare: _,
+            own_spare: _,
             buf: _,
             now: _,
             try_at: _,
@@ -84,21 +84,21 @@ fn port_of<'a, L: Run, R: Wait, G: Gate + Drop>(
     rt: &'a R,
     alloc: Global,
     shared: &'a Shared<L>,
-    house: &'a House<'a>,
+    state: &'a ServerState<'a>,
     behind: (Seat<L>, G),
-    notices: Notices,
+    outgoing: OutgoingMail,
 ) -> ServerPort<'a, L, R, G> {
     let (seat, gate) = behind;
-    let history = house.limits.history;
+    let history = state.limits.history;
     ServerPort::new(
         rt,
         alloc,
         shared,
         seat,
         gate,
-        notices,
+        outgoing,
         history,
-        house.kept(),
+        state.kept(),
     )
 }
 
@@ -108,7 +108,7 @@ impl<'a, L: Run, R: Wait, G: Gate + Drop, W: Words + Drop> Worker<'a, L, R, G, W
         rt: &'a R,
         alloc: Global,
         shared: &'a Shared<L>,
-        house: &'a House<'a>,
+        state: &'a ServerState<'a>,
         start: Start<L, G, W>,
     ) -> Option<Worker<'a, L, R, G, W>> {
         let mut buf = Vec::new(alloc);
@@ -120,20 +120,20 @@ impl<'a, L: Run, R: Wait, G: Gate + Drop, W: Words + Drop> Worker<'a, L, R, G, W
             listener,
         } = start;
         let Access { seat, gate, words } = access;
-        let notices = Notices::new(alloc, house.doors.len(), Some(index))?;
+        let outgoing = OutgoingMail::new(alloc, state.mailboxes.len(), Some(index))?;
         Some(Worker {
             rt,
             alloc,
             index,
-            house,
+            state,
             poll,
             acceptor: Acceptor::new(index, listener),
-            port: port_of(rt, alloc, shared, house, (seat, gate), notices),
+            port: port_of(rt, alloc, shared, state, (seat, gate), outgoing),
             words,
-            connections: Connections::new(alloc, house.limits.keys, house.limits.outbox),
+            connections: Connections::new(alloc, state.limits.keys, state.limits.outbox),
             slice: Slice::whole(),
-            room: Mail::new(alloc),
-            own: Mail::new(alloc),
+            spare: Mail::new(alloc),
+            own_spare: Mail::new(alloc),
             buf,
             now: 0,
             try_at: 0,

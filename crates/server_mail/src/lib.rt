@@ -1,12 +1,12 @@
-//! What others leave for a worker, which connections answers name, and what all threads of a server share.
+//! The workers' mailboxes, the mail that answers make for them, and the state that all threads of a server share.
 #![tactic(auto)]
 
-mod door;
-mod house;
-mod notices;
+mod mailbox;
+mod outgoing;
+mod server_state;
 mod ways;
 
-pub use door::{Arrival, Door, Intake, Mail};
-pub use house::{Flags, House, Limits, millis, open_door};
-pub use notices::{Notices, owner_of};
+pub use mailbox::{Arrival, Intake, Mail, Mailbox};
+pub use outgoing::{OutgoingMail, owner_of};
+pub use server_state::{Flags, Limits, ServerState, millis, open_mailbox};
 pub use ways::{Way, Ways};

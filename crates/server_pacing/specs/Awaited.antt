@@ -31,6 +31,6 @@ fewer a most = record { count = a.count - min a.count most; bytes = a.bytes - u6
 abbrev pub many : ℕ → ℕ
 many outbox = outbox / 2 - 4096 / 11
 
--- what publishers of all other workers may have entered unnamed, together, is not more than many
+-- what publishers of all other workers may have entered untold, together, is not more than many
 abbrev pub batch : ℕ → ℕ → ℕ
 batch outbox workers = many outbox / max (workers - 1) 1

@@ -2,16 +2,16 @@
 use Rattle.std.specs.Option.{unwrap_or}
 use Rattle.std.specs.Prelude.{◌-◌, ◌||◌, ◌&&◌, ℕ, Bool, true, false, not, Option, Some, None, max, min, nat_eq, nat_lt}
 use Rattle.server_pacing.specs.Awaited as awaited
-use Rattle.server_pacing.specs.declared.named.Named.{Named}
+use Rattle.server_pacing.specs.declared.pending.Pending.{Pending}
 use Rattle.server_pacing.specs.declared.due.Due.{Due}
 
 -- nothing waits for it
 abbrev pub nothing : Due
 nothing = record { awaited = record { count = 0; bytes = 0 }; ahead = None; drain = false }
 
--- answers name it
-abbrev pub named : Due → Named → Due
-named d name = record d { awaited = awaited.more d.awaited name.entered name.bytes; drain = d.drain || name.drain }
+-- more is pending for it
+abbrev pub more_pending : Due → Pending → Due
+more_pending d p = record d { awaited = awaited.more d.awaited p.entered p.bytes; drain = d.drain || p.drain }
 
 abbrev pub ahead_of : Option ℕ → ℕ → Option ℕ
 ahead_of None rest = None
@@ -22,12 +22,12 @@ bytes_of true bytes = 0
 bytes_of false bytes = bytes
 
 -- a Take has left so many, and no more than these come before what waits behind
-abbrev pub rested : Due → ℕ → Due
-rested d rest = record { awaited = record { count = rest; bytes = bytes_of (nat_eq rest 0) d.awaited.bytes }; ahead = ahead_of d.ahead rest; drain = d.drain }
+abbrev pub left_by_take : Due → ℕ → Due
+left_by_take d rest = record { awaited = record { count = rest; bytes = bytes_of (nat_eq rest 0) d.awaited.bytes }; ahead = ahead_of d.ahead rest; drain = d.drain }
 
--- names of it may be lost: something may wait
-abbrev pub unnamed : Due → Due
-unnamed d = record d { awaited = record { count = max d.awaited.count 1; bytes = d.awaited.bytes } }
+-- mail about it may be lost: something may wait
+abbrev pub mail_lost : Due → Due
+mail_lost d = record d { awaited = record { count = max d.awaited.count 1; bytes = d.awaited.bytes } }
 
 abbrev pub ahead_after : Option ℕ → ℕ → Option ℕ
 ahead_after None most = None

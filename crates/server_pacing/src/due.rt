@@ -1,9 +1,9 @@
 // What is due to a connection, and when.
 ghost use Rattle.std.specs.Prelude.{◌≡◌};
-ghost use Rattle.server_pacing.specs.Due.{barred, is_due, is_nothing, may_wait, named, next_take, nothing, passed, rested, taken, unnamed};
+ghost use Rattle.server_pacing.specs.Due.{barred, is_due, is_nothing, may_wait, more_pending, next_take, nothing, passed, left_by_take, taken, mail_lost};
 
 use crate::awaited::Awaited;
-use crate::named::Named;
+use crate::pending::Pending;
 
 /// How many deliveries are taken at a time of which nothing is known.
 const FEW: usize = 16;
@@ -32,20 +32,20 @@ impl Due {
         }
     }
 
-    /// What is due once answers have named the connection.
-    pub fn named(self, name: Named) -> Due
-        ensures { result ≡ named self name }
+    /// Returns what is due once more is pending for the connection.
+    pub fn more_pending(self, pending: Pending) -> Due
+        ensures { result ≡ more_pending self pending }
     {
         Due {
-            awaited: self.awaited.more(name.entered, name.bytes),
+            awaited: self.awaited.more(pending.entered, pending.bytes),
             ahead: self.ahead,
-            drain: self.drain || name.drain,
+            drain: self.drain || pending.drain,
         }
     }
 
     /// What is due once a Take has left so many: where it has left none, what waits behind comes next.
-    pub fn rested(self, rest: usize) -> Due
-        ensures { result ≡ rested self rest }
+    pub fn left_by_take(self, rest: usize) -> Due
+        ensures { result ≡ left_by_take self rest }
     {
         let ahead = match self.ahead {
             None => None,
@@ -59,9 +59,9 @@ impl Due {
         }
     }
 
-    /// What is due where names were lost: something may wait.
-    pub fn unnamed(self) -> Due
-        ensures { result ≡ unnamed self }
+    /// Returns what is due where mail about the connection may be lost: something may wait.
+    pub fn mail_lost(self) -> Due
+        ensures { result ≡ mail_lost self }
     {
         let awaited = Awaited {
             count: self.awaited.count.max(1),

@@ -1,12 +1,12 @@
-//! How much a server takes, drains and names at a time, and what is due to a connection.
+//! How much a server reads, takes and writes at a time, what is pending for a connection, and what is due to it.
 #![tactic(auto)]
 
 mod awaited;
 mod due;
-mod named;
+mod pending;
 mod slice;
 
 pub use awaited::{Awaited, PIECE, batch, many};
 pub use due::Due;
-pub use named::Named;
+pub use pending::Pending;
 pub use slice::Slice;

@@ -22,7 +22,7 @@ impl<L: Run, R: Wait, G: Gate + Drop> ServerPort<'_, L, R, G> {
     ghost use Rattle.server_port.specs.Histories.{falls_due, passed, tried, was_same};
     ghost use Rattle.shared_hub.specs.Entering.{IsAnswered, IsPostedBy};
 
-    /// Notes whom an answer names, with the size of its message, counts what its entry keeps, and hands the history out if
+    /// Notes what an answer makes pending, with the size of its message, counts what its entry keeps, and hands the history out if
     /// that is due. Answers what others were told, and what it saw where the history is due.
     #[inline(always)]
     pub(crate) fn follow(&mut self, answer: &Answer, size: usize) -> (Option<Telling>, Option<Look>)
@@ -32,20 +32,20 @@ impl<L: Run, R: Wait, G: Gate + Drop> ServerPort<'_, L, R, G> {
         ensures course { self.new.course ≡ followed answer.now self.old.course }
         ensures seat { self.new.seat ≡ self.old.seat }
     {
-        let work = self.notices.note(answer, size);
+        let work = self.outgoing.add_answer(answer, size);
         self.course.share = self.course.share.saturating_sub(work);
         self.course.has_entered = true;
         let told = self.count(answer);
         told
     }
 
-    /// Leaves the publishers that an event has let on among what is to be left at the doors.
+    /// Adds the publishers that an event has let on to what is to be left in the workers' mailboxes.
     fn free(&mut self)
         ensures seat { self.new.seat ≡ self.old.seat }
         ensures course { self.new.course ≡ self.old.course }
     {
         for conn in self.told.freed.as_slice() {
-            self.notices.free(*conn);
+            self.outgoing.add_freed(*conn);
         }
         self.told.freed.clear();
     }

@@ -3,7 +3,7 @@ ghost use Rattle.std.specs.Prelude.{◌≡◌};
 use crate::course::{Course, Why};
 use server_gates::{Gate, Point};
 use server_history::{Kept, Rotation};
-use server_mail::Notices;
+use server_mail::OutgoingMail;
 use shared_hub::{Run, Seat, Shared, Told};
 use std::alloc::Global;
 use std::mem;
@@ -20,7 +20,7 @@ pub struct ServerPort<'a, L: Run, R: Wait, G: Gate + Drop> {
     pub(crate) rotation: Rotation,
     /// What all ports have counted.
     pub(crate) kept: &'a Kept,
-    pub(crate) notices: Notices,
+    pub(crate) outgoing: OutgoingMail,
     /// What the hub told beside the latest answer.
     pub(crate) told: Told,
     pub(crate) course: Course,
@@ -39,7 +39,7 @@ impl<L: Run, R: Wait, G: Gate + Drop> Drop for ServerPort<'_, L, R, G> {
             is_spent: _,
             rotation: _,
             kept: _,
-            notices: _,
+            outgoing: _,
             told: _,
             course: _,
             refused: _,
@@ -61,7 +61,7 @@ impl<'a, L: Run, R: Wait, G: Gate + Drop> ServerPort<'a, L, R, G> {
         shared: &'a Shared<L>,
         seat: Seat<L>,
         gate: G,
-        notices: Notices,
+        outgoing: OutgoingMail,
         history: usize,
         kept: &'a Kept,
     ) -> ServerPort<'a, L, R, G>
@@ -79,7 +79,7 @@ impl<'a, L: Run, R: Wait, G: Gate + Drop> ServerPort<'a, L, R, G> {
             is_spent: false,
             rotation: Rotation::new(alloc, history),
             kept,
-            notices,
+            outgoing,
             told: Told::new(alloc),
             course: Course {
                 share: 0,
@@ -98,9 +98,9 @@ impl<'a, L: Run, R: Wait, G: Gate + Drop> ServerPort<'a, L, R, G> {
         self.is_spent
     }
 
-    /// What is to be left at the doors.
-    pub fn notices(&mut self) -> &mut Notices {
-        &mut self.notices
+    /// What is to be left in the workers' mailboxes.
+    pub fn outgoing(&mut self) -> &mut OutgoingMail {
+        &mut self.outgoing
     }
 
     /// A round begins, or goes on: at least so many deliveries may enter in it.

@@ -5,7 +5,7 @@ use reload::prepare;
 use script_text::write_reload;
 use server_fault::ServeFault;
 use server_gates::{Gate, Point};
-use server_mail::{House, Notices};
+use server_mail::{OutgoingMail, ServerState};
 use server_port::ServerPort;
 use server_prints::Prints;
 use shared_hub::{Run, Seat, Shared};
@@ -20,7 +20,7 @@ const RETRY: u64 = 10;
 pub struct Reloads<'a, L: Run, R: Wait, G: Gate + Drop> {
     rt: &'a R,
     alloc: Global,
-    house: &'a House<'a>,
+    state: &'a ServerState<'a>,
     port: ServerPort<'a, L, R, G>,
     prints: &'a Prints,
 }
@@ -30,7 +30,7 @@ impl<L: Run, R: Wait, G: Gate + Drop> Drop for Reloads<'_, L, R, G> {
         let Self {
             rt: _,
             alloc: _,
-            house: _,
+            state: _,
             port: _,
             prints: _,
         } = self;
@@ -43,19 +43,19 @@ impl<'a, L: Run, R: Wait + Clock, G: Gate + Drop> Reloads<'a, L, R, G> {
         rt: &'a R,
         alloc: Global,
         shared: &'a Shared<L>,
-        house: &'a House<'a>,
+        state: &'a ServerState<'a>,
         own: (Seat<L>, G),
         prints: &'a Prints,
     ) -> Option<Reloads<'a, L, R, G>> {
         let (seat, gate) = own;
-        let notices = Notices::new(alloc, house.doors.len(), None)?;
-        let history = house.limits.history;
-        let kept = house.kept();
+        let outgoing = OutgoingMail::new(alloc, state.mailboxes.len(), None)?;
+        let history = state.limits.history;
+        let kept = state.kept();
         Some(Reloads {
             rt,
             alloc,
-            house,
-            port: ServerPort::new(rt, alloc, shared, seat, gate, notices, history, kept),
+            state,
+            port: ServerPort::new(rt, alloc, shared, seat, gate, outgoing, history, kept),
             prints,
         })
     }
@@ -63,17 +63,17 @@ impl<'a, L: Run, R: Wait + Clock, G: Gate + Drop> Reloads<'a, L, R, G> {
     /// Installs policies until their input ends or the server stops.
     pub fn run<P: Policies>(&mut self, policies: &mut P) -> Option<ServeFault> {
         for _ in self.rt.forever() {
-            if self.house.stops() {
+            if self.state.stops() {
                 return None;
             }
-            match policies.next(self.house.descriptors()) {
+            match policies.next(self.state.descriptors()) {
                 Next::Later => {}
                 Next::End => return None,
                 Next::Bad => return Some(ServeFault::BadFrame),
                 Next::NoMemory => self.say(b"no memory\n"),
                 Next::Text(text) => {
                     if self.install(text.as_slice()) {
-                        return Some(ServeFault::TurnsSpent);
+                        return Some(ServeFault::GateClosed);
                     }
                 }
             }
@@ -105,7 +105,7 @@ impl<'a, L: Run, R: Wait + Clock, G: Gate + Drop> Reloads<'a, L, R, G> {
 
     /// Enters a reload, and prints what came of it.
     fn submit(&mut self, ready: Ready) {
-        let now = self.house.now(self.rt);
+        let now = self.state.now(self.rt);
         let event = Event {
             now,
             what: Command::Reload(ready),
@@ -119,7 +119,9 @@ impl<'a, L: Run, R: Wait + Clock, G: Gate + Drop> Reloads<'a, L, R, G> {
 
     /// Tells the owners of the connections that a reload names, and then prints its lines.
     fn tell(&mut self, answer: &Answer) {
-        self.port.notices().leave_others(self.rt, self.house.doors);
+        self.port
+            .outgoing()
+            .leave_others(self.rt, self.state.mailboxes);
         let mut lines = Vec::new(self.alloc);
         match write_reload(&mut lines, answer.get()) {
             Ok(()) => self.say(lines.as_slice()),
@@ -130,7 +132,7 @@ impl<'a, L: Run, R: Wait + Clock, G: Gate + Drop> Reloads<'a, L, R, G> {
     /// Has lines printed, once there is room for them. Where the server stops first they are lost.
     fn say(&self, lines: &[u8]) {
         for _ in self.rt.forever() {
-            if self.prints.add(self.rt, lines) || self.house.stops() {
+            if self.prints.add(self.rt, lines) || self.state.stops() {
                 return;
             }
             self.rt.sleep(Duration::from_millis(RETRY));

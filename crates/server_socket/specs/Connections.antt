@@ -11,17 +11,17 @@ use Rattle.server_socket.specs.declared.connection.Queued.{Queued}
 use Rattle.server_socket.specs.declared.writing.Written.{Written}
 use Rattle.server_socket.specs.declared.writing.Written.TheVariants.{Ends, Later, Passed, Stops, Take}
 
--- it stands in no queue
-abbrev pub nowhere : Queued
-nowhere = record { ready = false; cut = false; dirty = false; pressing = false; held = false }
+-- it is in no queue
+abbrev pub not_queued : Queued
+not_queued = record { ready = false; cut = false; flush = false; pressing = false; held = false }
 
--- it goes on elsewhere: its frames wait for a receiver, were cut short, or stand behind deliveries
-abbrev pub waits_its_turn : Connection → Bool
-waits_its_turn c = (is_some c.held_until || c.queued.cut) || is_some c.due.ahead
+-- it isn't read meanwhile: its frames wait for a receiver, were cut short, or come behind deliveries
+abbrev pub is_set_aside : Connection → Bool
+is_set_aside c = (is_some c.held_until || c.queued.cut) || is_some c.due.ahead
 
 -- it may be read, or its frames go on; or what its client sends is dropped
 abbrev pub may_read : Connection → Bool
-may_read c = c.readable && (c.lingers || not (waits_its_turn c) && not c.is_over)
+may_read c = c.readable && (c.lingers || not (is_set_aside c) && not c.is_over)
 
 -- it is ended where its socket takes nothing
 abbrev pub may_not_last : Connection → Bool

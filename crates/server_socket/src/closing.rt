@@ -5,7 +5,7 @@ use std::alloc::Global;
 use std::net::Shutdown;
 use wire_write::{ServerError, write_err};
 
-/// How many pieces of input are read and dropped in a turn, 64 KiB in all.
+/// How many pieces of input are read and dropped at a time, 64 KiB in all.
 const PIECES: usize = 16;
 
 /// What became of input that was dropped.

@@ -6,7 +6,7 @@ use mio::{Interest, Registry, Token};
 use server_pacing::{Awaited, Due};
 use server_turns::Client;
 
-/// In which of its worker's queues a connection stands.
+/// The marks of a connection: which of its worker's queues it is in.
 #[derive(Clone, Copy, Debug)]
 pub struct Queued {
     /// Among those with something to read,
@@ -14,7 +14,7 @@ pub struct Queued {
     /// those that were cut short,
     pub cut: bool,
     /// those to be written to,
-    pub dirty: bool,
+    pub flush: bool,
     /// those among them to be written to soon,
     pub pressing: bool,
     /// and those whose frames wait for a receiver.
@@ -37,7 +37,7 @@ pub struct Connection {
     pub queued: Queued,
     /// Whether it has had what waited for it before what it is told next.
     pub has_passed: bool,
-    /// Whether its turn is over, and its session is still to be closed.
+    /// Whether the connection is over, and its session is still to be closed.
     pub is_over: bool,
     /// Whether its socket is to linger then, and does.
     pub is_to_linger: bool,
@@ -64,16 +64,16 @@ impl Drop for Connection {
 }
 
 impl Queued {
-    ghost use Rattle.server_socket.specs.Connections.{nowhere};
+    ghost use Rattle.server_socket.specs.Connections.{not_queued};
 
-    /// In none.
-    fn nowhere() -> Queued
-        ensures { result ≡ nowhere }
+    /// Returns the marks of a connection in no queue.
+    fn none() -> Queued
+        ensures { result ≡ not_queued }
     {
         Queued {
             ready: false,
             cut: false,
-            dirty: false,
+            flush: false,
             pressing: false,
             held: false,
         }
@@ -83,12 +83,12 @@ impl Queued {
 impl Connection {
     ghost use Rattle.std.specs.Prelude.{[], None, is_some, false, true};
     ghost use Rattle.server_socket.specs.Blocked.{not_blocked, written};
-    ghost use Rattle.server_socket.specs.Connections.{had, is_due, let_on, may_not_last, may_read, nowhere, waits_its_turn};
+    ghost use Rattle.server_socket.specs.Connections.{had, is_due, is_set_aside, let_on, may_not_last, may_read, not_queued};
     ghost use Rattle.server_pacing.specs.Due.{nothing, taken};
 
     /// A connection to which nothing has happened. Its socket may have something to read.
     pub fn new(client: Client, socket: TcpStream) -> Connection
-        ensures { result ≡ record { client = client; socket = socket; due = nothing; blocked = not_blocked; readable = true; held_until = None; is_let_on = false; queued = nowhere; has_passed = false; is_over = false; is_to_linger = false; lingers = false } }
+        ensures { result ≡ record { client = client; socket = socket; due = nothing; blocked = not_blocked; readable = true; held_until = None; is_let_on = false; queued = not_queued; has_passed = false; is_over = false; is_to_linger = false; lingers = false } }
     {
         Connection {
             client,
@@ -98,7 +98,7 @@ impl Connection {
             readable: true,
             held_until: None,
             is_let_on: false,
-            queued: Queued::nowhere(),
+            queued: Queued::none(),
             has_passed: false,
             is_over: false,
             is_to_linger: false,
@@ -131,12 +131,12 @@ impl Connection {
     pub fn may_read(&self) -> bool
         ensures { result ≡ may_read self.now }
     {
-        self.readable && (self.lingers || !self.waits_its_turn() && !self.is_over)
+        self.readable && (self.lingers || !self.is_set_aside() && !self.is_over)
     }
 
-    /// Whether it goes on elsewhere: it is held, was cut short, or is to have deliveries first.
-    fn waits_its_turn(&self) -> bool
-        ensures { result ≡ waits_its_turn self.now }
+    /// Returns whether it isn't read meanwhile: it is held, was cut short, or is to have deliveries first.
+    fn is_set_aside(&self) -> bool
+        ensures { result ≡ is_set_aside self.now }
     {
         self.held_until.is_some() || self.queued.cut || self.due.ahead.is_some()
     }

@@ -1,5 +1,5 @@
-//! A connection of a worker: its client with its socket, what is due to it, what may be done about it next, and the queues in
-//! which it stands.
+//! A connection of a worker: its client with its socket, what is due to it, what may be done about it next, and the queues that
+//! it is in.
 #![tactic(auto)]
 
 mod blocked;

@@ -6,7 +6,7 @@ use std::collections::VecDeque;
 use std::marker::Model;
 
 /// Connections that have some kind of work, by their keys, in the order in which they came to have it. A clause sees the
-/// keys. Which of them stand here the connections themselves say. A key whose connection is gone may still stand here.
+/// keys. Which of them are in the queue the connections themselves say. The key of a connection that is gone may be in it.
 pub struct Queue {
     keys: VecDeque<usize>,
 }
@@ -35,14 +35,14 @@ impl Queue {
         }
     }
 
-    /// How many stand here.
+    /// Returns how many keys the queue has.
     pub fn len(&self) -> usize
         ensures { result ≡ length self.now }
     {
         self.keys.len()
     }
 
-    /// Whether none stands here.
+    /// Returns whether the queue is empty.
     pub fn is_empty(&self) -> bool
         ensures { result ≡ nat_eq (length self.now) 0 }
     {
@@ -57,17 +57,18 @@ impl Queue {
         first
     }
 
-    /// Puts a connection behind the others, and notes that it stands here, unless it is noted already. Without memory
-    /// neither changes.
-    pub fn put(&mut self, key: usize, stands: &mut bool)
-        ensures { IsPut key stands.old self.old stands.new self.new }
+    /// Puts a connection behind the others, and sets its mark `is_in`, unless that is set already. Without memory neither
+    /// changes.
+    pub fn put(&mut self, key: usize, is_in: &mut bool)
+        ensures { IsPut key is_in.old self.old is_in.new self.new }
     {
-        if !*stands {
-            *stands = self.keys.push_back(key).is_ok();
+        if !*is_in {
+            *is_in = self.keys.push_back(key).is_ok();
         }
     }
 
-    /// Puts a connection behind the others, whether or not it stands here. Without memory nothing changes.
+    /// Puts a connection behind the others, whether or not it is in the queue, and returns whether it could. Without memory
+    /// nothing changes.
     pub fn add(&mut self, key: usize) -> bool
         ensures { self.new ≡ added result key self.old }
     {

@@ -11,8 +11,8 @@ use session_conn::Words;
 #[derive(Clone, Copy, Debug)]
 pub struct Served {
     pub turn: Turn,
-    /// How many bytes of frames the connection held before it, and how many were read.
-    pub held: usize,
+    /// How many bytes of frames were buffered before it, and how many were read.
+    pub buffered: usize,
     pub read: usize,
     /// Whether frames wait behind it.
     pub frames_wait: bool,
@@ -30,7 +30,7 @@ impl Connection {
         requires { 0 < length buf.old }
         ensures { P.place port.new ≡ P.place port.old }
     {
-        let held = self.client.conn().holds();
+        let buffered = self.client.conn().holds();
         let mut reader = Counted::new(NonBlocking::new(&self.socket));
         let mut writer = NonBlocking::new(&self.socket);
         let turn = self
@@ -41,7 +41,7 @@ impl Connection {
         self.is_let_on = self.is_let_on && turn == Turn::Waits;
         Served {
             turn,
-            held,
+            buffered,
             read,
             frames_wait: self.client.conn().stall().is_some(),
         }

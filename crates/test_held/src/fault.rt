@@ -4,7 +4,7 @@ use std::fmt;
 /// Why nothing is served.
 #[derive(Clone, Copy, Debug, PartialEq, Eq)]
 pub enum HeldFault {
-    /// The words have no number of turns.
+    /// The words have no number.
     WrongWords,
     /// Memory could not be had.
     NoMemory,

@@ -1,6 +1,6 @@
 //! Gates that hold the first worker.
 use server::GateSource;
-use server_gates::{Gate, Point, TurnsSpent};
+use server_gates::{Gate, GateClosed, Point};
 use std::sync::atomic::{AtomicU64, Ordering};
 use std::time::{Clock, Duration};
 
@@ -60,20 +60,20 @@ enum Thread {
 pub struct HoldingGate<'a, R> {
     rt: &'a R,
     answers: &'a Answers,
-    turns: u64,
+    looks: u64,
     thread: Thread,
 }
 
 impl<R: Clock> HoldingGate<'_, R> {
     /// Waits until the second worker has answered enough, and looks so often at most.
-    fn wait(&self) -> Result<(), TurnsSpent> {
-        for _ in 0..self.turns {
+    fn wait(&self) -> Result<(), GateClosed> {
+        for _ in 0..self.looks {
             if self.answers.has_enough() {
                 return Ok(());
             }
             self.rt.sleep(Duration::from_micros(100));
         }
-        Err(TurnsSpent)
+        Err(GateClosed)
     }
 
     /// Whether it holds its thread before the next event: the first worker, but at its first event.
@@ -83,7 +83,7 @@ impl<R: Clock> HoldingGate<'_, R> {
 }
 
 impl<R: Clock> Gate for HoldingGate<'_, R> {
-    fn pass(&mut self, point: Point) -> Result<(), TurnsSpent> {
+    fn pass(&mut self, point: Point) -> Result<(), GateClosed> {
         match point {
             Point::FrameRead => {
                 if self.holds() {
@@ -102,20 +102,20 @@ impl<R: Clock> Gate for HoldingGate<'_, R> {
 pub struct Holding<'a, R> {
     rt: &'a R,
     answers: &'a Answers,
-    turns: u64,
+    looks: u64,
 }
 
 impl<'a, R> Holding<'a, R> {
     /// Gates of which the first worker's looks so often at most.
-    pub fn new(rt: &'a R, answers: &'a Answers, turns: u64) -> Holding<'a, R> {
-        Holding { rt, answers, turns }
+    pub fn new(rt: &'a R, answers: &'a Answers, looks: u64) -> Holding<'a, R> {
+        Holding { rt, answers, looks }
     }
 
     fn gate(&self, thread: Thread) -> HoldingGate<'a, R> {
         HoldingGate {
             rt: self.rt,
             answers: self.answers,
-            turns: self.turns,
+            looks: self.looks,
             thread,
         }
     }

@@ -20,15 +20,15 @@ use std::{env, thread};
 /// The words of the command line: `held TURNS`. Policies come as frames on standard input, and clients are served at a
 /// free port until it ends. TURNS is how often the first worker looks whether it may go on.
 fn main(rt: HostRuntime) -> ExitCode {
-    let turns = match turns(&rt) {
-        Ok(turns) => turns,
+    let looks = match looks(&rt) {
+        Ok(looks) => looks,
         Err(fault) => {
             let told = eprintln!(rt; "{fault}");
             return ExitCode::from(if told.is_ok() { 2 } else { 1 });
         }
     };
     let answers = Answers::new();
-    let gates = Holding::new(&rt, &answers, turns);
+    let gates = Holding::new(&rt, &answers, looks);
     let mut policies = Frames::new(rt.alloc(), ReadSource::new(rt.reader()));
     let prints = Prints::new(rt.alloc());
     let mut stdout = rt.stdout();
@@ -56,9 +56,9 @@ fn settings() -> Settings<'static>
 }
 
 /// How often the first worker is to look.
-fn turns<R: Env + AllocGlobal>(rt: &R) -> Result<u64, HeldFault> {
+fn looks<R: Env + AllocGlobal>(rt: &R) -> Result<u64, HeldFault> {
     let words = words_of(rt)?;
-    turns_in(words.as_slice()).ok_or(HeldFault::WrongWords)
+    looks_in(words.as_slice()).ok_or(HeldFault::WrongWords)
 }
 
 /// The words of the command line.
@@ -73,6 +73,6 @@ fn words_of<R: Env + AllocGlobal>(rt: &R) -> Result<Vec<String>, HeldFault> {
 }
 
 /// The number behind the program's name.
-fn turns_in(words: &[String]) -> Option<u64> {
+fn looks_in(words: &[String]) -> Option<u64> {
     words.get(1)?.as_str().parse::<u64>().ok()
 }

@@ -1,4 +1,4 @@
-use crate::door::Door;
+use crate::mailbox::Mailbox;
 use crate::ways::Way;
 use mio::{Poll, Token};
 use server_history::Kept;
@@ -24,32 +24,32 @@ pub struct Limits {
     pub keys: RandomState,
 }
 
-/// What all threads of a server set.
+/// What any thread of a server may change.
 #[derive(Drop)]
 pub struct Flags {
     /// Not 0 once the server is to stop.
     stops: AtomicU64,
     /// How many workers read no more.
-    rested: AtomicU64,
+    finished: AtomicU64,
     /// How many sockets of clients are open.
     open: AtomicU64,
-    /// Who lets a descriptor go to have it again, and who opens one, has this.
+    /// Held by whoever opens a descriptor, or lets one go to have it again.
     descriptors: Mutex<()>,
-    /// What the history keeps.
+    /// How many bytes the history's entries keep.
     kept: Kept,
 }
 
-/// What all threads of a server share.
+/// The state that all threads of a server share.
 #[derive(Drop)]
-pub struct House<'a> {
-    pub doors: &'a [Door],
+pub struct ServerState<'a> {
+    pub mailboxes: &'a [Mailbox],
     pub limits: Limits,
     /// The moment of the start, in milliseconds.
     start: u64,
     flags: &'a Flags,
 }
 
-/// Milliseconds by the system's clock, 0 where it has none.
+/// Returns the milliseconds of the system's clock, or 0 where it has none.
 pub fn millis<R: Clock>(rt: &R) -> u64 {
     match rt.monotonic() {
         Ok(time) => u64::try_from(time.as_millis()).unwrap_or(u64::MAX),
@@ -58,11 +58,11 @@ pub fn millis<R: Clock>(rt: &R) -> u64 {
 }
 
 impl Flags {
-    /// A server that has just begun, and keeps to these limits.
+    /// Returns the flags of a server that has just begun, with these limits.
     pub fn new(limits: Limits) -> Flags {
         Flags {
             stops: AtomicU64::new(0),
-            rested: AtomicU64::new(0),
+            finished: AtomicU64::new(0),
             open: AtomicU64::new(0),
             descriptors: Mutex::new(()),
             kept: Kept::new(limits.history_bytes),
@@ -70,28 +70,33 @@ impl Flags {
     }
 }
 
-impl<'a> House<'a> {
-    /// What threads share that begin at this moment.
-    pub fn new(doors: &'a [Door], limits: Limits, start: u64, flags: &'a Flags) -> House<'a> {
-        House {
-            doors,
+impl<'a> ServerState<'a> {
+    /// Returns the state of a server that begins at the moment `start`.
+    pub fn new(
+        mailboxes: &'a [Mailbox],
+        limits: Limits,
+        start: u64,
+        flags: &'a Flags,
+    ) -> ServerState<'a> {
+        ServerState {
+            mailboxes,
             limits,
             start,
             flags,
         }
     }
 
-    /// How many milliseconds have passed since the start.
+    /// Returns how many milliseconds have passed since the start.
     pub fn now<R: Clock>(&self, rt: &R) -> u64 {
         millis(rt).saturating_sub(self.start)
     }
 
-    /// The lock under which descriptors are opened, so that nobody takes one that another has let go for a moment.
+    /// Returns the lock under which descriptors are opened, so that nobody takes one that another has let go for a moment.
     pub fn descriptors(&self) -> &Mutex<()> {
         &self.flags.descriptors
     }
 
-    /// What the history keeps.
+    /// Returns what is counted of the bytes that the history's entries keep.
     pub fn kept(&self) -> &'a Kept {
         &self.flags.kept
     }
@@ -106,65 +111,65 @@ impl<'a> House<'a> {
         let _ = self.flags.open.fetch_sub(1, Ordering::SeqCst);
     }
 
-    /// Whether as many sockets of clients are open as may be.
+    /// Returns whether as many sockets of clients are open as may be.
     pub fn is_full(&self) -> bool {
         self.flags.open.load(Ordering::SeqCst) >= self.limits.connections
     }
 
-    /// Has a connection give way to a new one: one that lingers, else the one that has waited longest without an accepted
-    /// CONNECT. Answers whether there is one.
+    /// Asks a connection to give way to a new one: one that lingers, else the one that has waited longest without an accepted
+    /// CONNECT. Returns whether there is one.
     pub fn ask_way(&self) -> bool {
         self.ask_first(Way::Lingering) || self.ask_first(Way::Fresh)
     }
 
-    /// Has the first of such connections give way. Answers whether there is one.
+    /// Asks the first of such connections to give way. Returns whether there is one.
     fn ask_first(&self, way: Way) -> bool {
         let mut least = u64::MAX;
         let mut first = None;
-        for door in self.doors {
-            let shown = door.ways.shown(way);
+        for mailbox in self.mailboxes {
+            let shown = mailbox.ways.shown(way);
             if shown < least {
                 least = shown;
-                first = Some(door);
+                first = Some(mailbox);
             }
         }
         match first {
             None => false,
-            Some(door) => {
-                door.ask_way();
+            Some(mailbox) => {
+                mailbox.ask_way();
                 true
             }
         }
     }
 
-    /// Has all workers stop.
+    /// Makes all workers stop.
     pub fn stop(&self) {
         self.flags.stops.store(1, Ordering::SeqCst);
-        for door in self.doors {
-            door.wake();
+        for mailbox in self.mailboxes {
+            mailbox.wake();
         }
     }
 
-    /// Whether the server is to stop.
+    /// Returns whether the server is to stop.
     pub fn stops(&self) -> bool {
         self.flags.stops.load(Ordering::SeqCst) != 0
     }
 
     /// Notes that a worker reads no more.
-    pub fn rest(&self) {
-        let _ = self.flags.rested.fetch_add(1, Ordering::SeqCst);
+    pub fn note_finished(&self) {
+        let _ = self.flags.finished.fetch_add(1, Ordering::SeqCst);
     }
 
-    /// Whether all workers read no more.
-    pub fn all_rest(&self) -> bool {
-        self.flags.rested.load(Ordering::SeqCst) >= self.doors.len() as u64
+    /// Returns whether all workers read no more.
+    pub fn have_finished(&self) -> bool {
+        self.flags.finished.load(Ordering::SeqCst) >= self.mailboxes.len() as u64
     }
 }
 
-/// A way to wait for sockets, and a door by which it is ended, with a waker of this token. `None` where the system gives
-/// no such way.
-pub fn open_door<R: Net>(rt: &R, alloc: Global, token: Token) -> Option<(Door, Poll)> {
+/// Makes a worker's mailbox, and the poll by which it waits for its sockets and for mail; mail has this token. It returns
+/// `None` where the system refuses either.
+pub fn open_mailbox<R: Net>(rt: &R, alloc: Global, token: Token) -> Option<(Mailbox, Poll)> {
     let poll = Poll::new(rt).ok()?;
-    let door = Door::new(alloc, poll.registry(), token).ok()?;
-    Some((door, poll))
+    let mailbox = Mailbox::new(alloc, poll.registry(), token).ok()?;
+    Some((mailbox, poll))
 }
