@@ -22,7 +22,7 @@ impl Connections {
             return;
         };
         if let Some(it) = self.slab.get_mut(key) {
-            it.due = it.due.more_pending(pending);
+            it.due.note_pending(pending);
         }
         self.queue_flush(key);
         self.queue_pressing(key);
@@ -32,7 +32,7 @@ impl Connections {
     fn note_mail_lost(&mut self) {
         for key in 0..self.slab.capacity() {
             if let Some(it) = self.slab.get_mut(key) {
-                it.due = it.due.mail_lost();
+                it.due.note_mail_lost();
             }
             self.queue_flush(key);
         }

@@ -111,7 +111,7 @@ impl Connections {
         ensures others { (other : ℕ) → other ≢ key → get self.new.slab other ≡ get self.old.slab other }
     {
         if let Some(it) = self.slab.get_mut(key) {
-            it.due = it.due.barred(count);
+            it.due.bar(count);
         }
     }
 }

@@ -78,10 +78,10 @@ impl<'a, L: Run, R: Wait + Clock, G: Gate + Drop, W: Words + Drop> Worker<'a, L,
         }
         it.note_drained(self.port.untold(), self.now);
         if turn == Turn::Done || turn == Turn::Waits {
-            let had = it.note_taken(most);
+            let had = it.due.note_taken(most);
             self.slice = self.slice.less(had.count, had.bytes);
             if let Some(rest) = self.port.take_rest() {
-                it.due = it.due.left_by_take(rest);
+                it.due.note_left(rest);
             }
         }
         if turn == Turn::Done {

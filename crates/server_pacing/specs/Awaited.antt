@@ -27,6 +27,10 @@ next_take a = take_if (nat_eq (mean a) 0) (mean a)
 abbrev pub fewer : Awaited → ℕ → Awaited
 fewer a most = record { count = a.count - min a.count most; bytes = a.bytes - u64_saturate (mean a * min a.count most) }
 
+-- what a Take has had, by the mean, where this waited before and after it
+abbrev pub had : Awaited → Awaited → Awaited
+had before after = record { count = before.count - after.count; bytes = before.bytes - after.bytes }
+
 -- A message takes 11 bytes at least. So with fewer than these, and those of another piece, half an outbox is free.
 abbrev pub many : ℕ → ℕ
 many outbox = outbox / 2 - 4096 / 11

@@ -1,27 +1,28 @@
 // What is due to a connection, and when.
-ghost use Rattle.std.specs.Prelude.{◌≡◌};
-ghost use Rattle.server_pacing.specs.Due.{barred, is_due, is_nothing, may_wait, more_pending, next_take, nothing, passed, left_by_take, taken, mail_lost};
+ghost use Rattle.std.specs.Prelude.{◌≡◌, is_some};
+ghost use Rattle.server_pacing.specs.Awaited.{had};
+ghost use Rattle.server_pacing.specs.Due.{barred, is_due, is_nothing, left_by_take, mail_lost, may_wait, more_pending, next_take, nothing, passed, taken};
 
 use crate::awaited::Awaited;
 use crate::pending::Pending;
 
-/// How many deliveries are taken at a time of which nothing is known.
+/// How many deliveries are taken at a time where nothing is known of their size.
 const FEW: usize = 16;
 
 /// What is due to a connection: the deliveries that are known to wait in its outbox, and what it is told behind them.
 #[derive(Clone, Copy)]
 pub struct Due {
     /// What is known to wait in its outbox.
-    pub awaited: Awaited,
+    awaited: Awaited,
     /// How many deliveries are to be taken before it is told what waits behind them, while Takes leave some. `None` where
     /// nothing waits behind.
-    pub ahead: Option<usize>,
+    ahead: Option<usize>,
     /// Whether it is to be drained whatever waits.
-    pub drain: bool,
+    drain: bool,
 }
 
 impl Due {
-    /// Nothing waits for a connection whose client has sent nothing.
+    /// Returns what is due to a connection whose client has sent nothing: nothing.
     pub fn nothing() -> Due
         ensures { result ≡ nothing }
     {
@@ -32,96 +33,80 @@ impl Due {
         }
     }
 
-    /// Returns what is due once more is pending for the connection.
-    pub fn more_pending(self, pending: Pending) -> Due
-        ensures { result ≡ more_pending self pending }
+    /// Adds what is pending for the connection.
+    pub fn note_pending(&mut self, pending: Pending)
+        ensures { self.new ≡ more_pending self.old pending }
     {
-        Due {
-            awaited: self.awaited.more(pending.entered, pending.bytes),
-            ahead: self.ahead,
-            drain: self.drain || pending.drain,
+        self.awaited = self.awaited.more(pending.entered, pending.bytes);
+        self.drain = self.drain || pending.drain;
+    }
+
+    /// Notes that mail about the connection may be lost: something may wait.
+    pub fn note_mail_lost(&mut self)
+        ensures { self.new ≡ mail_lost self.old }
+    {
+        self.awaited = Awaited {
+            count: self.awaited.count.max(1),
+            bytes: self.awaited.bytes,
+        };
+    }
+
+    /// Notes that a Take has asked for `most` deliveries, and returns what it has had, by the mean size.
+    pub fn note_taken(&mut self, most: usize) -> Awaited
+        ensures had { result ≡ had self.old.awaited self.new.awaited }
+        ensures taken { self.new ≡ taken self.old most }
+    {
+        let before = self.awaited;
+        self.awaited = before.fewer(most);
+        self.ahead = match self.ahead {
+            None => None,
+            Some(ahead) => Some(ahead.saturating_sub(most)),
+        };
+        self.drain = false;
+        Awaited {
+            count: before.count.saturating_sub(self.awaited.count),
+            bytes: before.bytes.saturating_sub(self.awaited.bytes),
         }
     }
 
-    /// What is due once a Take has left so many: where it has left none, what waits behind comes next.
-    pub fn left_by_take(self, rest: usize) -> Due
-        ensures { result ≡ left_by_take self rest }
+    /// Notes how many deliveries a Take has left. Where it has left none, what waits behind comes next.
+    pub fn note_left(&mut self, rest: usize)
+        ensures { self.new ≡ left_by_take self.old rest }
     {
-        let ahead = match self.ahead {
+        self.ahead = match self.ahead {
             None => None,
             Some(ahead) => Some(ahead.min(rest)),
         };
         let bytes = if rest == 0 { 0 } else { self.awaited.bytes };
-        Due {
-            awaited: Awaited { count: rest, bytes },
-            ahead,
-            drain: self.drain,
-        }
+        self.awaited = Awaited { count: rest, bytes };
     }
 
-    /// Returns what is due where mail about the connection may be lost: something may wait.
-    pub fn mail_lost(self) -> Due
-        ensures { result ≡ mail_lost self }
+    /// Puts `count` deliveries, which wait, before what the client is told next.
+    pub fn bar(&mut self, count: usize)
+        ensures { self.new ≡ barred self.old count }
     {
-        let awaited = Awaited {
-            count: self.awaited.count.max(1),
+        self.awaited = Awaited {
+            count: self.awaited.count.max(count),
             bytes: self.awaited.bytes,
         };
-        Due {
-            awaited,
-            ahead: self.ahead,
-            drain: self.drain,
-        }
+        self.ahead = Some(count);
     }
 
-    /// What is due once a Take has asked for so many.
-    pub fn taken(self, most: usize) -> Due
-        ensures { result ≡ taken self most }
+    /// Notes that the client is told now what waited behind deliveries.
+    pub fn pass(&mut self)
+        ensures { self.new ≡ passed self.old }
     {
-        let ahead = match self.ahead {
-            None => None,
-            Some(ahead) => Some(ahead.saturating_sub(most)),
-        };
-        Due {
-            awaited: self.awaited.fewer(most),
-            ahead,
-            drain: false,
-        }
+        self.ahead = None;
     }
 
-    /// What is due where the client is to have so many deliveries, which wait, before it is told what waits behind them.
-    pub fn barred(self, count: usize) -> Due
-        ensures { result ≡ barred self count }
-    {
-        Due {
-            awaited: Awaited {
-                count: self.awaited.count.max(count),
-                bytes: self.awaited.bytes,
-            },
-            ahead: Some(count),
-            drain: self.drain,
-        }
-    }
-
-    /// What is due once the client is told what waited behind deliveries.
-    pub fn passed(self) -> Due
-        ensures { result ≡ passed self }
-    {
-        Due {
-            awaited: self.awaited,
-            ahead: None,
-            drain: self.drain,
-        }
-    }
-
-    /// Whether a Take is due to a client that is connected, or that isn't.
+    /// Returns whether a Take is due to a client that is connected, or that isn't.
     pub fn is_due(self, is_connected: bool) -> bool
         ensures { result ≡ is_due self is_connected }
     {
         (self.awaited.count > 0 || self.drain || self.ahead.unwrap_or(0) > 0) && is_connected
     }
 
-    /// How many deliveries the next Take is to ask for: few where nothing is known of their size.
+    /// Returns how many deliveries the next Take is to ask for: few where nothing is known of their size.
     pub fn next_take(self) -> usize
         ensures { result ≡ next_take self }
     {
@@ -131,7 +116,14 @@ impl Due {
         self.awaited.next_take()
     }
 
-    /// Whether all deliveries are taken that come before what waits behind them.
+    /// Returns whether something waits behind deliveries.
+    pub fn is_barred(self) -> bool
+        ensures { result ≡ is_some self.ahead }
+    {
+        self.ahead.is_some()
+    }
+
+    /// Returns whether all deliveries are taken that come before what waits behind them.
     pub fn has_passed(self) -> bool
         ensures { result ≡ is_nothing self.ahead }
     {
@@ -141,7 +133,14 @@ impl Due {
         }
     }
 
-    /// Whether a drain may wait while others have something to read, where so many deliveries are many.
+    /// Returns whether the connection is to be drained whatever waits.
+    pub fn must_drain(self) -> bool
+        ensures { result ≡ self.drain }
+    {
+        self.drain
+    }
+
+    /// Returns whether a drain may wait while others have something to read, where so many deliveries are many.
     pub fn may_wait(self, many: usize) -> bool
         ensures { result ≡ may_wait self many }
     {

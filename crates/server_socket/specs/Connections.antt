@@ -1,9 +1,8 @@
 -- A worker's connection: what it may do.
-use Rattle.std.specs.Prelude.{ℕ, ◌-◌, ◌&&◌, ◌||◌, Bool, true, false, not, Option, None, Some, is_some}
+use Rattle.std.specs.Prelude.{ℕ, ◌&&◌, ◌||◌, Bool, true, false, not, Option, None, Some, is_some}
 use Rattle.server_turns.specs.declared.turn.Turn.TheVariants.{Done, Failed}
 use Rattle.server_pacing.specs.Due as due
 use Rattle.server_pacing.specs.Due.{is_nothing, passed}
-use Rattle.server_pacing.specs.declared.awaited.Awaited.{Awaited}
 use Rattle.session_plan.specs.Replies.{is_closed, is_connected}
 use Rattle.server_socket.specs.Blocked.{end_of}
 use Rattle.server_socket.specs.declared.connection.Connection.{Connection}
@@ -38,10 +37,6 @@ let_on_by (Some until) c = record c { held_until = None; is_let_on = true }
 
 abbrev pub let_on : Connection → Connection
 let_on c = let_on_by c.held_until c
-
--- what a Take has had, by the mean, where this waited before and after it
-abbrev pub had : Awaited → Awaited → Awaited
-had before after = record { count = before.count - after.count; bytes = before.bytes - after.bytes }
 
 -- ---- what comes next of a connection that is written to
 

@@ -3,7 +3,7 @@ ghost use Rattle.std.specs.Prelude.{◌≡◌, ◌≢◌};
 use crate::blocked::Blocked;
 use mio::net::TcpStream;
 use mio::{Interest, Registry, Token};
-use server_pacing::{Awaited, Due};
+use server_pacing::Due;
 use server_turns::Client;
 
 /// The marks of a connection: which of its worker's queues it is in.
@@ -83,8 +83,8 @@ impl Queued {
 impl Connection {
     ghost use Rattle.std.specs.Prelude.{[], None, is_some, false, true};
     ghost use Rattle.server_socket.specs.Blocked.{not_blocked, written};
-    ghost use Rattle.server_socket.specs.Connections.{had, is_due, is_set_aside, let_on, may_not_last, may_read, not_queued};
-    ghost use Rattle.server_pacing.specs.Due.{nothing, taken};
+    ghost use Rattle.server_socket.specs.Connections.{is_due, is_set_aside, let_on, may_not_last, may_read, not_queued};
+    ghost use Rattle.server_pacing.specs.Due.{nothing};
 
     /// A connection to which nothing has happened. Its socket may have something to read.
     pub fn new(client: Client, socket: TcpStream) -> Connection
@@ -138,7 +138,7 @@ impl Connection {
     fn is_set_aside(&self) -> bool
         ensures { result ≡ is_set_aside self.now }
     {
-        self.held_until.is_some() || self.queued.cut || self.due.ahead.is_some()
+        self.held_until.is_some() || self.queued.cut || self.due.is_barred()
     }
 
     /// Whether it is ended where its socket takes nothing: it is to be closed, or its frames could go on, and others may
@@ -146,7 +146,7 @@ impl Connection {
     pub(crate) fn may_not_last(&self) -> bool
         ensures { result ≡ may_not_last self.now }
     {
-        self.due.drain || self.is_let_on || self.client.conn().stage().is_closed()
+        self.due.must_drain() || self.is_let_on || self.client.conn().stage().is_closed()
     }
 
     /// Whether a Take is due.
@@ -167,20 +167,6 @@ impl Connection {
                 self.is_let_on = true;
                 true
             }
-        }
-    }
-
-    /// Notes that a Take has asked for so many deliveries, and answers what it has had by the mean.
-    pub fn note_taken(&mut self, most: usize) -> Awaited
-        ensures had { result ≡ had self.old.due.awaited self.new.due.awaited }
-        ensures taken { self.new ≡ record self.old { due = taken self.old.due most } }
-    {
-        let before = self.due.awaited;
-        self.due = self.due.taken(most);
-        let after = self.due.awaited;
-        Awaited {
-            count: before.count.saturating_sub(after.count),
-            bytes: before.bytes.saturating_sub(after.bytes),
         }
     }
 }

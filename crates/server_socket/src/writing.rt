@@ -66,7 +66,7 @@ impl Connection {
     {
         self.blocked.end_at = None;
         if self.due.has_passed() {
-            self.due = self.due.passed();
+            self.due.pass();
             self.has_passed = true;
             return Written::Passed;
         }
