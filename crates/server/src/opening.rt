@@ -6,37 +6,30 @@ use crate::settings::Settings;
 use hub::{Caps, Hub};
 use mio::net::TcpListener;
 use policy_ready::Ready;
-use policy_source::{Next, Policies};
-use reload::prepare;
+use policy_source::Policies;
 use server_fault::Fault;
 use server_mail::Limits;
 use server_prints::Prints;
+use server_reloads::{NextPolicy, next_policy};
 use std::alloc::{AllocGlobal, Global};
 use std::hash::RandomState;
 use std::net::{Net, SocketAddr};
 use std::sync::{Mutex, Wait};
 
-/// The first policy, or `None` where the input ends before it.
+/// Reads the first policy, or returns `None` where the input ends before it.
 pub(crate) fn first_policy<P: Policies>(
     alloc: Global,
     policies: &mut P,
 ) -> Result<Option<Ready>, Fault> {
     // (nobody else opens anything yet)
     let descriptors = Mutex::new(());
-    let text = match policies.next(&descriptors) {
-        Next::Text(text) => text,
-        Next::End => return Ok(None),
-        Next::Later => return Err(Fault::ReadFailed),
-        Next::Bad => return Err(Fault::BadFrame),
-        Next::NoMemory => return Err(Fault::NoMemory),
-    };
-    match prepare(alloc, text.as_slice()) {
-        Ok(ready) => Ok(Some(ready)),
-        Err(fault) => {
-            let mut line = fault.line(alloc)?;
-            line.extend_from_slice(b"\n")?;
-            Err(Fault::Refused(line))
-        }
+    match next_policy(alloc, policies, &descriptors) {
+        NextPolicy::Ready(ready) => Ok(Some(ready)),
+        NextPolicy::End => Ok(None),
+        NextPolicy::Refused(line) => Err(Fault::Refused(line)),
+        NextPolicy::Later => Err(Fault::ReadFailed),
+        NextPolicy::Bad => Err(Fault::BadFrame),
+        NextPolicy::NoMemory => Err(Fault::NoMemory),
     }
 }
 

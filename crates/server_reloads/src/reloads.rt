@@ -1,7 +1,7 @@
+use crate::next_policy::{NextPolicy, next_policy};
 use events::{Answer, Command, Event, HubRefusal};
 use policy_ready::Ready;
-use policy_source::{Next, Policies};
-use reload::prepare;
+use policy_source::Policies;
 use script_text::write_reload;
 use server_fault::ServeFault;
 use server_gates::{Gate, Point};
@@ -66,13 +66,15 @@ impl<'a, L: Run, R: Wait + Clock, G: Gate + Drop> Reloads<'a, L, R, G> {
             if self.state.stops() {
                 return None;
             }
-            match policies.next(self.state.descriptors()) {
-                Next::Later => {}
-                Next::End => return None,
-                Next::Bad => return Some(ServeFault::BadFrame),
-                Next::NoMemory => self.say(b"no memory\n"),
-                Next::Text(text) => {
-                    if self.install(text.as_slice()) {
+            match next_policy(self.alloc, policies, self.state.descriptors()) {
+                NextPolicy::Later => {}
+                NextPolicy::End => return None,
+                NextPolicy::Bad => return Some(ServeFault::BadFrame),
+                NextPolicy::NoMemory => self.say(b"no memory\n"),
+                NextPolicy::Refused(line) => self.say(line.as_slice()),
+                NextPolicy::Ready(ready) => {
+                    self.install(ready);
+                    if self.port.is_spent() {
                         return Some(ServeFault::GateClosed);
                     }
                 }
@@ -81,26 +83,11 @@ impl<'a, L: Run, R: Wait + Clock, G: Gate + Drop> Reloads<'a, L, R, G> {
         None
     }
 
-    /// Installs a policy, or prints its first fault. Answers whether the gate has let it pass no more.
-    fn install(&mut self, text: &[u8]) -> bool {
-        match prepare(self.alloc, text) {
-            Ok(ready) => {
-                self.port.pass(Point::Prepared);
-                self.submit(ready);
-                let _ = self.port.shed(usize::MAX);
-                self.port.is_spent()
-            }
-            Err(fault) => {
-                match fault.line(self.alloc) {
-                    Ok(line) => {
-                        self.say(line.as_slice());
-                        self.say(b"\n");
-                    }
-                    Err(_) => self.say(b"no memory\n"),
-                }
-                false
-            }
-        }
+    /// Installs a policy, and drops the old entries of the history.
+    fn install(&mut self, ready: Ready) {
+        self.port.pass(Point::Prepared);
+        self.submit(ready);
+        let _ = self.port.shed(usize::MAX);
     }
 
     /// Enters a reload, and prints what came of it.
