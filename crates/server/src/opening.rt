@@ -16,6 +16,13 @@ use std::hash::RandomState;
 use std::net::{Net, SocketAddr};
 use std::sync::{Mutex, Wait};
 
+/// What is opened for a server beside its hub: where it listens, and the limits that it keeps to.
+#[derive(Drop)]
+pub(crate) struct Opened {
+    pub(crate) listener: TcpListener,
+    pub(crate) limits: Limits,
+}
+
 /// Reads the first policy, or returns `None` where the input ends before it.
 pub(crate) fn first_policy<P: Policies>(
     alloc: Global,

@@ -2,11 +2,10 @@
 ghost use Rattle.std.specs.Prelude.{◌≡◌, ◌≤◌, ◌+◌, ⊤};
 ghost use Rattle.server.specs.Serve.{AreServable};
 
-use crate::opening::{first_policy, listen, open_hub, tell_listening};
+use crate::opening::{Opened, first_policy, listen, open_hub, tell_listening};
 use crate::settings::Settings;
-use crate::threads::serve;
+use crate::threads::{ReloadStart, ThreadStarts, serve};
 use hub::Hub;
-use mio::net::TcpListener;
 use policy_source::Policies;
 use rand::make_rng;
 use rand::rngs::SmallRng;
@@ -14,7 +13,6 @@ use rand_core::Rng;
 use server_fault::Fault;
 use server_gates::Gate;
 use server_loop::Access;
-use server_mail::Limits;
 use server_prints::Prints;
 use session_conn::Words;
 use shared_hub::{Blank, Run, Seat, Shared};
@@ -40,6 +38,14 @@ pub trait GateSource<G> {
 #[derive(Drop)]
 struct Drawn {
     generator: SmallRng,
+}
+
+/// What a server's caller lends it: its gates, its policies, and where it prints.
+#[derive(Drop)]
+struct Lent<'x, F, P> {
+    gates: &'x F,
+    policies: &'x mut P,
+    prints: &'x Prints,
 }
 
 impl Words for Drawn {
@@ -94,17 +100,13 @@ fn serve_policies<
     };
     let (hub, limits) = open_hub(rt.alloc(), settings, ready, keys)?;
     let seats = settings.workers + 1;
-    serve_run::<Brand, R, G, F, P>(
-        rt,
-        Blank::new(seats),
-        hub,
-        seats,
-        limits,
-        listener,
+    let opened = Opened { listener, limits };
+    let lent = Lent {
         gates,
         policies,
         prints,
-    )
+    };
+    serve_run::<Brand, R, G, F, P>(rt, Blank::new(seats), hub, seats, opened, lent)
 }
 
 /// Lets threads share a hub, with so many seats, and serves.
@@ -119,11 +121,8 @@ fn serve_run<
     blank: Blank,
     hub: Hub,
     seats: u64,
-    limits: Limits,
-    listener: TcpListener,
-    gates: &F,
-    policies: &mut P,
-    prints: &Prints,
+    opened: Opened,
+    lent: Lent<'_, F, P>,
 ) -> Result<(), Fault>
     requires name { blank.name ≡ L.name }
     requires parts { blank.parts ≡ L.parts }
@@ -131,11 +130,7 @@ fn serve_run<
     requires seats { (seats ≡ L.seats) × (L.seats ≡ L.parts) }
 {
     match Shared::<L>::with_seats(rt.alloc(), blank, hub, seats) {
-        Ok((shared, seats)) => {
-            serve_seats(
-                rt, &shared, seats, limits, listener, gates, policies, prints,
-            )
-        }
+        Ok((shared, seats)) => serve_seats(rt, &shared, seats, opened, lent),
         Err(_) => Err(Fault::NoMemory),
     }
 }
@@ -151,23 +146,28 @@ fn serve_seats<
     rt: &R,
     shared: &Shared<L>,
     seats: Vec<Seat<L>>,
-    limits: Limits,
-    listener: TcpListener,
-    gates: &F,
-    policies: &mut P,
-    prints: &Prints,
+    opened: Opened,
+    lent: Lent<'_, F, P>,
 ) -> Result<(), Fault> {
     let alloc = rt.alloc();
+    let Lent {
+        gates,
+        policies,
+        prints,
+    } = lent;
     let mut seats = seats;
     let Some(seat) = seats.pop() else {
         return Err(Fault::NoMemory);
     };
     let accesses = accesses(rt, alloc, gates, seats)?;
-    tell_listening(rt, &listener, prints)?;
-    let own = (seat, gates.reload_gate());
-    serve(
-        rt, alloc, listener, shared, accesses, own, limits, policies, prints,
-    )?;
+    tell_listening(rt, &opened.listener, prints)?;
+    let reload = ReloadStart {
+        seat,
+        gate: gates.reload_gate(),
+        policies,
+    };
+    let starts = ThreadStarts { accesses, reload };
+    serve(rt, alloc, shared, opened, starts, prints)?;
     Ok(())
 }
 

@@ -1,10 +1,11 @@
 //! The threads of a server.
+use crate::opening::Opened;
 use mio::net::TcpListener;
 use policy_source::Policies;
 use server_fault::{ServeFault, least};
 use server_gates::Gate;
 use server_loop::{Access, Start, WAKER, Worker};
-use server_mail::{Flags, Limits, Mailbox, ServerState, millis, open_mailbox};
+use server_mail::{Flags, Mailbox, ServerState, millis, open_mailbox};
 use server_prints::Prints;
 use server_reloads::Reloads;
 use session_conn::Words;
@@ -19,10 +20,17 @@ use std::time::Clock;
 
 /// What the thread that installs policies begins with, and what is lent to it.
 #[derive(Drop)]
-struct ReloadStart<'b, L: Run, G: Drop, P> {
-    seat: Seat<L>,
-    gate: G,
-    policies: &'b mut P,
+pub(crate) struct ReloadStart<'b, L: Run, G: Drop, P> {
+    pub(crate) seat: Seat<L>,
+    pub(crate) gate: G,
+    pub(crate) policies: &'b mut P,
+}
+
+/// What the threads of a server begin with: an access to the hub for each worker, and the start of the reloads.
+#[derive(Drop)]
+pub(crate) struct ThreadStarts<'b, L: Run, G: Drop, W: Drop, P> {
+    pub(crate) accesses: Vec<Access<L, G, W>>,
+    pub(crate) reload: ReloadStart<'b, L, G, P>,
 }
 
 /// What the threads of a server do. It stands for a `Common`, so that what is handed to a thread names no more than this.
@@ -117,24 +125,17 @@ pub(crate) fn serve<
 >(
     rt: &'x R,
     alloc: Global,
-    listener: TcpListener,
     shared: &'x Shared<L>,
-    accesses: Vec<Access<L, G, W>>,
-    own: (Seat<L>, G),
-    limits: Limits,
-    policies: &mut P,
+    opened: Opened,
+    starts: ThreadStarts<'_, L, G, W, P>,
     prints: &'x Prints,
 ) -> Result<(), ServeFault> {
+    let Opened { listener, limits } = opened;
+    let ThreadStarts { accesses, reload } = starts;
     let (mailboxes, starts) = open_all(rt, alloc, listener, accesses)?;
     let flags = Flags::new(limits);
     let state = ServerState::new(mailboxes.as_slice(), limits, millis(rt), &flags);
     let common = common_of(rt, alloc, shared, &state, prints);
-    let (seat, gate) = own;
-    let reload = ReloadStart {
-        seat,
-        gate,
-        policies,
-    };
     match run_all(rt, &common, reload, starts) {
         Some(fault) => Err(fault),
         None => Ok(()),

@@ -79,31 +79,31 @@ impl<'a, L: Run, R: Wait, G: Gate + Drop, W: Words + Drop> Drop for Worker<'a, L
     }
 }
 
-/// A port to the hub, by a seat behind a gate.
-fn port_of<'a, L: Run, R: Wait, G: Gate + Drop>(
+/// Returns a worker's port to the hub, and where its messages' words come from. Without memory it returns `None`.
+fn port_of<'a, L: Run, R: Wait, G: Gate + Drop, W: Drop>(
     rt: &'a R,
     alloc: Global,
     shared: &'a Shared<L>,
     state: &'a ServerState<'a>,
-    behind: (Seat<L>, G),
-    outgoing: OutgoingMail,
-) -> ServerPort<'a, L, R, G> {
-    let (seat, gate) = behind;
-    let history = state.limits.history;
-    ServerPort::new(
-        rt,
-        alloc,
-        shared,
-        seat,
-        gate,
-        outgoing,
-        history,
-        state.kept(),
-    )
+    index: usize,
+    access: Access<L, G, W>,
+) -> Option<(ServerPort<'a, L, R, G>, W)> {
+    let Access { seat, gate, words } = access;
+    let outgoing = OutgoingMail::new(alloc, state.mailboxes.len(), Some(index))?;
+    let (history, kept) = (state.limits.history, state.kept());
+    let port = ServerPort::new(rt, alloc, shared, seat, gate, outgoing, history, kept);
+    Some((port, words))
+}
+
+/// Returns a buffer for a piece. Without memory it returns `None`.
+fn piece_buffer(alloc: Global) -> Option<Vec<u8>> {
+    let mut buf = Vec::new(alloc);
+    buf.resize(PIECE, 0).ok()?;
+    Some(buf)
 }
 
 impl<'a, L: Run, R: Wait, G: Gate + Drop, W: Words + Drop> Worker<'a, L, R, G, W> {
-    /// A worker with no connection. `None` without memory.
+    /// Returns a worker with no connection. Without memory it returns `None`.
     pub fn new(
         rt: &'a R,
         alloc: Global,
@@ -111,16 +111,14 @@ impl<'a, L: Run, R: Wait, G: Gate + Drop, W: Words + Drop> Worker<'a, L, R, G, W
         state: &'a ServerState<'a>,
         start: Start<L, G, W>,
     ) -> Option<Worker<'a, L, R, G, W>> {
-        let mut buf = Vec::new(alloc);
-        buf.resize(PIECE, 0).ok()?;
+        let buf = piece_buffer(alloc)?;
         let Start {
             index,
             access,
             poll,
             listener,
         } = start;
-        let Access { seat, gate, words } = access;
-        let outgoing = OutgoingMail::new(alloc, state.mailboxes.len(), Some(index))?;
+        let (port, words) = port_of(rt, alloc, shared, state, index, access)?;
         Some(Worker {
             rt,
             alloc,
@@ -128,7 +126,7 @@ impl<'a, L: Run, R: Wait, G: Gate + Drop, W: Words + Drop> Worker<'a, L, R, G, W
             state,
             poll,
             acceptor: Acceptor::new(index, listener),
-            port: port_of(rt, alloc, shared, state, (seat, gate), outgoing),
+            port,
             words,
             connections: Connections::new(alloc, state.limits.keys, state.limits.outbox),
             slice: Slice::whole(),
