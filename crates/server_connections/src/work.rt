@@ -44,7 +44,7 @@ impl Connections {
     }
 
     /// Puts a connection among those with something to read, where it may be read.
-    pub fn queue_ready(&mut self, key: usize)
+    pub(crate) fn queue_ready(&mut self, key: usize)
         ensures queue { IsQueuedIf (is_readable (get self.old.slab key)) (λ q. q.ready) mark_ready key (get self.old.slab key) self.old.ready (get self.new.slab key) self.new.ready }
         ensures rest { self.new ≡ record self.old { looks = 100; slab = self.new.slab; ready = self.new.ready } }
         ensures others { (other : ℕ) → other ≢ key → get self.new.slab other ≡ get self.old.slab other }

@@ -69,7 +69,7 @@ impl Kept {
 
     /// Counts bytes more. Where half of what may be kept is passed it counts from none, so that one teller alone is to hand
     /// the history out.
-    pub fn tell(&self, bytes: u64) -> Telling
+    pub(crate) fn tell(&self, bytes: u64) -> Telling
         ensures bytes { result.bytes ≡ bytes }
         ensures half { result.half ≡ self.now.half }
     {

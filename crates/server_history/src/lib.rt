@@ -6,5 +6,4 @@ mod own;
 mod rotation;
 
 pub use kept::{Kept, Look, Telling};
-pub use own::own_of;
 pub use rotation::Rotation;

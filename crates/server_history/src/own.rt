@@ -14,7 +14,7 @@ const DELIVERY: u64 = 32;
 
 /// How many bytes the entry of an answer keeps of its own, beside the texts that were read.
 #[inline(always)]
-pub fn own_of(answer: &Answer) -> u64
+pub(crate) fn own_of(answer: &Answer) -> u64
     ensures { result ≡ u64_saturate (own answer.now) }
 {
     let more = match &answer.get().outcome {

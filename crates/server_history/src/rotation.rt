@@ -70,7 +70,7 @@ impl Model for Rotation {
 }
 
 impl Rotation {
-    ghost use Rattle.std.specs.Prelude.{◌≡◌, ◌<◌, ◌-◌, ℕ, [], cond, is_some, length, nat_le, nat_lt};
+    ghost use Rattle.std.specs.Prelude.{◌≡◌, ◌-◌, ℕ, [], cond, is_some, length, nat_le, nat_lt};
     ghost use Rattle.server_history.specs.Bytes.{IsCounted, own};
     ghost use Rattle.server_history.specs.Rotating.{but_last, dropped, failed, fresh, is_due, looked, taken_over};
 
@@ -88,15 +88,6 @@ impl Rotation {
             part: 0,
             tries: 0,
         }
-    }
-
-    /// Tells what holds of every rotation.
-    #[inline(always)]
-    pub fn known(&self)
-        ensures { self.now.uncounted < 65536 }
-    {
-        // The loan tells the prover what the type keeps.
-        let _ = &self.spent;
     }
 
     /// Counts what the entry of an answer keeps of its own. From 64 KiB on others are told of what was counted.

@@ -9,4 +9,4 @@ mod ways;
 pub use mailbox::{Arrival, Intake, Mail, Mailbox};
 pub use outgoing::{OutgoingMail, owner_of};
 pub use server_state::{Flags, Limits, ServerState, millis, open_mailbox};
-pub use ways::{Way, Ways};
+pub use ways::Ways;

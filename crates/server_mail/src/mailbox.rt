@@ -52,24 +52,17 @@ pub struct Mailbox {
 }
 
 impl Mail {
-    /// Returns empty mail that uses these vectors' memory.
-    pub fn empty(mut pending: Vec<Pending>, mut freed: Vec<u64>) -> Mail {
-        pending.clear();
-        freed.clear();
+    /// Returns empty mail. It takes no memory.
+    pub fn new(alloc: Global) -> Mail {
         Mail {
-            pending,
-            freed,
+            pending: Vec::new(alloc),
+            freed: Vec::new(alloc),
             all: false,
         }
     }
 
-    /// Returns empty mail. It takes no memory.
-    pub fn new(alloc: Global) -> Mail {
-        Mail::empty(Vec::new(alloc), Vec::new(alloc))
-    }
-
     /// Returns whether there is nothing to do.
-    pub fn is_empty(&self) -> bool {
+    pub(crate) fn is_empty(&self) -> bool {
         self.pending.is_empty() && self.freed.is_empty() && !self.all
     }
 
@@ -113,7 +106,7 @@ impl Contents {
 
 impl Mailbox {
     /// Makes the mailbox of a worker that waits by this registry. It fails where the system makes no waker.
-    pub fn new(alloc: Global, registry: &Registry, token: Token) -> io::Result<Mailbox> {
+    pub(crate) fn new(alloc: Global, registry: &Registry, token: Token) -> io::Result<Mailbox> {
         let waker = Waker::new(registry, token)?;
         let intake = Intake {
             arrivals: Vec::new(alloc),
@@ -129,7 +122,7 @@ impl Mailbox {
     }
 
     /// Wakes the worker.
-    pub fn wake(&self) {
+    pub(crate) fn wake(&self) {
         drop(self.waker.wake());
     }
 
@@ -152,7 +145,7 @@ impl Mailbox {
     }
 
     /// Leaves a copy of some mail.
-    pub fn leave_mail<R: Wait>(&self, rt: &R, mail: &Mail) {
+    pub(crate) fn leave_mail<R: Wait>(&self, rt: &R, mail: &Mail) {
         let mut contents = self.contents.lock(rt);
         contents.intake.mail.add(mail);
         let sleeps = mem::replace(&mut contents.intake.sleeps, false);

@@ -2,7 +2,7 @@ use std::sync::atomic::{AtomicU64, Ordering};
 
 /// Which connections give way to new ones.
 #[derive(Clone, Copy)]
-pub enum Way {
+pub(crate) enum Way {
     /// Those that linger.
     Lingering,
     /// Those without an accepted CONNECT.

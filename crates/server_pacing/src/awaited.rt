@@ -25,7 +25,7 @@ pub struct Awaited {
 
 impl Awaited {
     /// What waits once so many more have entered, with so many bytes.
-    pub fn more(self, count: usize, bytes: usize) -> Awaited
+    pub(crate) fn more(self, count: usize, bytes: usize) -> Awaited
         ensures { result ≡ more self count bytes }
     {
         Awaited {
@@ -45,7 +45,7 @@ impl Awaited {
     }
 
     /// How many deliveries the next Take is to ask for: fewer where messages are large.
-    pub fn next_take(self) -> usize
+    pub(crate) fn next_take(self) -> usize
         ensures { result ≡ next_take self }
     {
         let each = self.mean();
@@ -56,7 +56,7 @@ impl Awaited {
     }
 
     /// What waits once a Take has asked for so many.
-    pub fn fewer(self, most: usize) -> Awaited
+    pub(crate) fn fewer(self, most: usize) -> Awaited
         ensures { result ≡ fewer self most }
     {
         let each = self.mean();
