@@ -51,7 +51,7 @@ fn main(rt: HostRuntime) -> ExitCode {
     }
 }
 
-/// What the program is started with, or why it can't be had.
+/// Returns what the program is started with, or why it can't be had.
 fn start<R: Env + RandomSource + AllocGlobal>(rt: &R) -> Result<Start<String>, StartFault> {
     let words = words_of(rt)?;
     match RandomState::new(rt) {
@@ -60,7 +60,7 @@ fn start<R: Env + RandomSource + AllocGlobal>(rt: &R) -> Result<Start<String>, S
     }
 }
 
-/// The words of the command line.
+/// Returns the words of the command line.
 fn words_of<R: Env + AllocGlobal>(rt: &R) -> Result<Vec<String>, StartFault> {
     match env::args(rt) {
         Ok(args) => match args.collect(rt.alloc()) {

@@ -27,8 +27,8 @@ impl GateSource<Open> for AllOpen {
     }
 }
 
-/// Serves clients as the options say, by the policies that come, until they end, and answers the status: 0 at their end,
-/// 1 at a fault. What comes to pass is to be printed, a line each, and the last line tells why it has ended.
+/// Serves clients as the options say, by the policies that come, until they end, and returns the status: 0 at their end,
+/// 1 at a fault. It prints a line for where it listens and for what each policy does; the last line tells why it has ended.
 pub fn serve_clients<
     R: Threads + Wait + Net + Clock + RandomSource + Sync + AllocGlobal,
     P: Policies + Send,

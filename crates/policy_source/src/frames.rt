@@ -18,12 +18,12 @@ enum Size {
 }
 
 impl<S: Source + Drop> Frames<S> {
-    /// The frames of a source.
+    /// Returns the frames of a source.
     pub fn new(alloc: Global, source: S) -> Frames<S> {
         Frames { alloc, source }
     }
 
-    /// Reads a byte, or `None` at the end.
+    /// Reads a byte. It returns `None` at the end.
     fn byte(&mut self) -> Result<Option<u8>, DeviceFailed> {
         let mut one = [0; 1];
         match self.source.read(&mut one) {
@@ -33,7 +33,7 @@ impl<S: Source + Drop> Frames<S> {
         }
     }
 
-    /// The size of the next frame.
+    /// Reads the size of the next frame.
     fn size(&mut self) -> Size {
         let mut size = 0usize;
         for place in 0..8 {
@@ -59,7 +59,7 @@ impl<S: Source + Drop> Frames<S> {
         Size::Bad
     }
 
-    /// The text of a frame of this size.
+    /// Reads the text of a frame of this size.
     fn text(&mut self, size: usize) -> Next {
         let mut text = Vec::new(self.alloc);
         if text.resize(size, 0).is_err() {

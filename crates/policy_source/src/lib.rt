@@ -25,7 +25,7 @@ pub enum Next {
 
 /// Where policies come from.
 pub trait Policies {
-    /// The next, once there is one, or after a while that there is none. Whoever lets a descriptor go to have it again has
-    /// the lock `descriptors` meanwhile, and so has whoever opens others: so nobody else takes it.
+    /// Returns the next once there is one, or `Later` after a while without any. Whoever lets a descriptor go to have it again
+    /// holds the lock `descriptors` meanwhile, and so does whoever opens others: so nobody else takes it.
     fn next(&mut self, descriptors: &Mutex<()>) -> Next;
 }

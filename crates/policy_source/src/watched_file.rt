@@ -28,7 +28,7 @@ pub struct WatchedFile<'a, R: Files, E> {
 }
 
 impl<'a, R: Files + Clock + Wait + AllocGlobal, E: Sink> WatchedFile<'a, R, E> {
-    /// A file that has not been read. Why it can't be read is told on `errors`.
+    /// Returns a file that has not been read. Why it can't be read is told on `errors`.
     pub fn new(rt: &'a R, path: &'a str, errors: &'a mut E) -> WatchedFile<'a, R, E> {
         let alloc = rt.alloc();
         WatchedFile {
@@ -42,7 +42,7 @@ impl<'a, R: Files + Clock + Wait + AllocGlobal, E: Sink> WatchedFile<'a, R, E> {
         }
     }
 
-    /// Whether to open the file may wait for another process, as a pipe's may.
+    /// Returns whether to open the file may wait for another process, as a pipe's may.
     fn may_wait(&self) -> bool {
         match fs::metadata(self.rt, self.path) {
             Ok(found) => !found.is_file(),
@@ -74,7 +74,7 @@ impl<'a, R: Files + Clock + Wait + AllocGlobal, E: Sink> WatchedFile<'a, R, E> {
         drop(guard);
     }
 
-    /// What the file holds.
+    /// Reads what the file holds.
     fn read(&mut self, descriptors: &Mutex<()>) -> io::Result<Vec<u8>> {
         let mut file = self.open(descriptors)?;
         let mut text = Vec::new(self.alloc);

@@ -1,4 +1,5 @@
-//! A server from its first policy to its end: what it begins with is made, it serves, and what comes to pass is printed.
+//! A server from its first policy to its end: its hub, its listener and its threads are made, it serves, and it prints a line for
+//! each policy and for its end.
 #![tactic(auto)]
 
 mod opening;

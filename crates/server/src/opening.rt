@@ -40,7 +40,7 @@ pub(crate) fn first_policy<P: Policies>(
     }
 }
 
-/// A listener at an address and port.
+/// Listens at an address with its port. It fails where the text is none, or can't be listened at.
 pub(crate) fn listen<R: Net>(rt: &R, address: &str) -> Result<TcpListener, Fault> {
     let Ok(address) = address.parse::<SocketAddr>() else {
         return Err(Fault::ListenFailed);
@@ -51,7 +51,7 @@ pub(crate) fn listen<R: Net>(rt: &R, address: &str) -> Result<TcpListener, Fault
     }
 }
 
-/// Has it printed where the listener listens.
+/// Prints where the listener listens.
 pub(crate) fn tell_listening<R: Wait + AllocGlobal>(
     rt: &R,
     listener: &TcpListener,
@@ -65,7 +65,7 @@ pub(crate) fn tell_listening<R: Wait + AllocGlobal>(
     Ok(())
 }
 
-/// A hub by the first policy, with nobody connected, and what its server keeps to.
+/// Opens a hub with the first policy and nobody connected, and returns it with the server's limits.
 pub(crate) fn open_hub(
     alloc: Global,
     settings: Settings<'_>,

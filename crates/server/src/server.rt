@@ -27,10 +27,10 @@ use std::time::Clock;
 
 /// Where the gates of a server's threads come from.
 pub trait GateSource<G> {
-    /// The gate of a worker. The first worker is number 0.
+    /// Returns the gate of a worker. The first worker is number 0.
     fn worker_gate(&self, worker: usize) -> G;
 
-    /// The gate of the thread that installs policies.
+    /// Returns the gate of the thread that installs policies.
     fn reload_gate(&self) -> G;
 }
 
@@ -56,9 +56,9 @@ impl Words for Drawn {
     }
 }
 
-/// Serves clients as the settings say, by the policies that come, until they end, and answers the status: 0 at their end,
-/// 1 at a fault. What comes to pass is to be printed, a line each, and the last line tells why it has ended. Each thread
-/// passes a gate of its own.
+/// Serves clients as the settings say, by the policies that come, until they end, and returns the status: 0 at their end,
+/// 1 at a fault. It prints a line for where it listens and for what each policy does; the last line tells why it has ended.
+/// Each thread passes a gate of its own.
 pub fn serve_clients<
     R: Threads + Wait + Net + Clock + RandomSource + Sync + AllocGlobal,
     G: Gate + Send + Drop,
@@ -171,7 +171,7 @@ fn serve_seats<
     Ok(())
 }
 
-/// An access to the hub for each seat, with a gate and words of its own.
+/// Returns an access to the hub for each seat, with a gate and words of its own.
 fn accesses<L: Run, R: RandomSource, G: Gate + Drop, F: GateSource<G>>(
     rt: &R,
     alloc: Global,

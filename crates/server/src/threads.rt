@@ -35,13 +35,13 @@ pub(crate) struct ThreadStarts<'b, L: Run, G: Drop, W: Drop, P> {
 
 /// What the threads of a server do. It stands for a `Common`, so that what is handed to a thread names no more than this.
 trait Duties<J, O> {
-    /// One worker, from its start to its end. Where it fails the others end too.
+    /// Runs one worker, from its start to its end, and returns its fault. Where it fails the others end too.
     fn work(&self, start: J) -> Option<ServeFault>;
 
-    /// The reloads, to the end of their input. The workers end after it.
+    /// Installs policies to the end of their input, and returns the fault. The workers end after it.
     fn reload(&self, start: O) -> Option<ServeFault>;
 
-    /// Has all threads end.
+    /// Ends all threads.
     fn stop(&self);
 }
 
@@ -142,7 +142,7 @@ pub(crate) fn serve<
     }
 }
 
-/// The reloads in a thread of their own, beside the workers, and the least of all their faults.
+/// Runs the reloads in a thread of their own, beside the workers, and returns the least of all faults.
 fn run_all<R: Threads + Sync, J: Send + Drop, O: Send + Drop, T: Duties<J, O> + Sync>(
     rt: &R,
     duties: &T,
@@ -157,7 +157,7 @@ fn run_all<R: Threads + Sync, J: Send + Drop, O: Send + Drop, T: Duties<J, O> + 
     least(reloads, workers)
 }
 
-/// All workers, each in a thread of its own, and the least of their faults.
+/// Runs all workers, each in a thread of its own, and returns the least of their faults.
 fn work_all<R: Threads + Sync, J: Send + Drop, O, T: Duties<J, O> + Sync>(
     rt: &R,
     duties: &T,

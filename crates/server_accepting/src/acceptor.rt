@@ -66,13 +66,13 @@ impl Drop for Acceptor {
     }
 }
 
-/// Whether an error says that no descriptor is left.
+/// Returns whether an error says that no descriptor is left.
 fn is_full(error: &io::Error) -> bool {
     matches!(error.raw_os_error(), Some(EMFILE | ENFILE))
 }
 
 impl Acceptor {
-    /// The worker of this number. It accepts if it has a listener.
+    /// Returns what the worker of this number accepts with. It accepts if it has a listener.
     pub fn new(index: usize, listener: Option<TcpListener>) -> Acceptor {
         Acceptor {
             index,
@@ -83,7 +83,7 @@ impl Acceptor {
         }
     }
 
-    /// Watches the socket that listens, if there is one, and answers whether it can.
+    /// Registers the socket that listens, if there is one, and returns whether the system could.
     pub fn listen(&mut self, registry: &Registry) -> bool {
         match &mut self.listener {
             None => true,
@@ -98,12 +98,12 @@ impl Acceptor {
         self.accept_at = self.accept_at.or(Some(now));
     }
 
-    /// From when on connections are to be accepted, if they are.
+    /// Returns from when on connections are to be accepted, if they are.
     pub fn due_at(&self) -> Option<u64> {
         self.accept_at
     }
 
-    /// Begins to accept, if that is due at a moment, and answers whether it is.
+    /// Begins to accept, if that is due at a moment, and returns whether it is.
     pub fn begin(&mut self, now: u64) -> bool {
         match self.accept_at {
             Some(at) if at <= now => {
@@ -114,13 +114,13 @@ impl Acceptor {
         }
     }
 
-    /// Accepting is to go on at a moment.
+    /// Lets accepting go on at a moment.
     pub fn go_on(&mut self, at: u64) {
         self.accept_at = Some(at);
     }
 
-    /// Accepts a connection, if there is room. One of another worker is left in its mailbox. Where none can be had, it is also
-    /// settled when that is tried again.
+    /// Accepts a connection, if there is room. One of another worker is left in its mailbox. Where none can be had, this also
+    /// settles when it is tried again.
     pub fn accept<R: Wait>(
         &mut self,
         rt: &R,
@@ -164,8 +164,8 @@ impl Acceptor {
         }
     }
 
-    /// There is no room for one more. If somebody waits for it, another is asked to give way; else the system is to tell
-    /// once somebody does.
+    /// Settles what comes next where there is no room for one more. If somebody waits for it, another is asked to give way;
+    /// else the system is to tell once somebody does.
     fn make_way(&mut self, state: &ServerState<'_>, registry: &Registry, now: u64) {
         if !self.is_full {
             self.is_full = true;
@@ -177,7 +177,7 @@ impl Acceptor {
         self.accept_at = Some(now.saturating_add(wait));
     }
 
-    /// Has the system tell whether somebody waits to be accepted. Where it can't, that is tried later.
+    /// Asks the system to tell whether somebody waits to be accepted. Where it can't, that is tried later.
     fn listen_again(&mut self, registry: &Registry, now: u64) {
         let Some(listener) = &mut self.listener else {
             return;

@@ -63,8 +63,8 @@ impl Connections {
     ghost use Rattle.std.specs.Prelude.{ℕ, None, is_some};
     ghost use Rattle.slab.specs.Slab.{get};
 
-    /// None. `keys` are the keys of a hash map, which clients can't know; `outbox` is how many deliveries may wait for one.
-    /// It takes no memory.
+    /// Returns a table without connections. `keys` are the keys of a hash map, which clients can't know; `outbox` is how many
+    /// deliveries may wait for a connection. It takes no memory.
     pub fn new(alloc: Global, keys: RandomState, outbox: usize) -> Connections {
         Connections {
             alloc,
@@ -84,13 +84,13 @@ impl Connections {
         }
     }
 
-    /// The key of a connection with this number, if there is one.
+    /// Returns the key of the connection with this number, if there is one.
     pub fn key_of(&self, conn: u64) -> Option<usize> {
         self.keys.get(&conn).copied()
     }
 
-    /// Adds a connection with its number, and has the system tell of its socket. `None` without memory, or where the system
-    /// refuses to watch it: its socket is closed then.
+    /// Adds a connection with its number, registers its socket, and returns its key. Without memory, or where the system
+    /// refuses to watch it, its socket is closed and the result is `None`.
     pub fn add(&mut self, conn: u64, socket: TcpStream, registry: &Registry) -> Option<usize> {
         let connection = Connection::new(Client::new(self.alloc, conn), socket);
         let Ok(key) = self.slab.insert(connection) else {
@@ -104,7 +104,7 @@ impl Connections {
         Some(key)
     }
 
-    /// Has the system tell of a connection's socket.
+    /// Registers a connection's socket, and returns whether the system could.
     fn watch(&mut self, key: usize, registry: &Registry) -> bool {
         match self.slab.get_mut(key) {
             None => false,
@@ -120,7 +120,7 @@ impl Connections {
         }
     }
 
-    /// Lets a connection go, and its socket. Answers whether it was there.
+    /// Removes a connection with its socket, and returns whether it was there.
     pub fn remove(&mut self, key: usize) -> bool
         ensures was { result ≡ is_some (get self.old.slab key) }
         ensures gone { get self.new.slab key ≡ None }
@@ -135,7 +135,7 @@ impl Connections {
         drop(self.keys.remove(&conn));
     }
 
-    /// Whether something waits for a client.
+    /// Returns whether something waits for a client.
     pub fn owe(&self) -> bool {
         self.slab
             .iter()

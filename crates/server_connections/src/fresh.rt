@@ -22,7 +22,7 @@ impl Connections {
     ghost use Rattle.server_socket.specs.Unknown.{IsBounded};
     ghost use Rattle.server_connections.specs.Work.{is_fresh};
 
-    /// A turn of a connection, or that it closes, where too much is kept of a client that hasn't shown who it is.
+    /// Returns a connection's turn, or `Closed` where too much is kept of a client that hasn't shown who it is.
     pub fn bounded(&self, key: usize, turn: Turn) -> Turn
         ensures { is_over result ≡ false → IfSome (get self.entry.now.slab key) (λ it. IsBounded it.client.conn) }
     {
@@ -52,7 +52,7 @@ impl Connections {
         }
     }
 
-    /// Whether an entry is that of a connection that still hasn't shown who it is.
+    /// Returns whether an entry is that of a connection that still hasn't shown who it is.
     fn is_fresh(&self, entry: Fresh) -> bool
         ensures { result ≡ is_fresh entry (get self.now.slab entry.key) }
     {
@@ -62,7 +62,7 @@ impl Connections {
         }
     }
 
-    /// The one that has waited longest without an accepted CONNECT, if there is one. Others before it are let go of.
+    /// Returns the one that has waited longest without an accepted CONNECT, if there is one. Others before it are dropped.
     pub fn first_fresh(&mut self) -> Option<Fresh>
         ensures { IfSome result (λ entry. is_fresh entry (get self.new.slab entry.key) ≡ true) }
     {

@@ -9,8 +9,8 @@ impl Connections {
     ghost use Rattle.server_socket.specs.Connections.{let_on};
     ghost use Rattle.server_connections.specs.Work.{mark_cut, sooner, waits, IsQueued};
 
-    /// A connection's frames wait for a receiver, until a moment at most. Without memory they go on, since nobody would look
-    /// after them.
+    /// Holds a connection's frames until a receiver has room, or until a moment. Without memory they go on, since nobody would
+    /// look after them.
     pub fn hold(&mut self, key: usize, until: u64) {
         let Some(it) = self.slab.get_mut(key) else {
             return;
@@ -24,21 +24,21 @@ impl Connections {
         }
     }
 
-    /// Those that are held are looked after at a moment at the latest.
+    /// Fixes a moment at which those that are held are looked after at the latest.
     fn look_by(&mut self, until: u64)
         ensures { self.new ≡ record self.old { look_at = Some (sooner self.old.look_at until) } }
     {
         self.look_at = Some(self.look_at.unwrap_or(until).min(until));
     }
 
-    /// When those that are held are looked after, if some are.
+    /// Returns when those that are held are looked after, if some are.
     pub fn next_look(&self) -> Option<u64>
         ensures { result ≡ self.now.look_at }
     {
         self.look_at
     }
 
-    /// Has a connection's frames go on, if they wait for a receiver.
+    /// Lets a connection's frames go on, if they wait for a receiver.
     fn resume(&mut self, key: usize)
         ensures same { waits (get self.old.slab key) ≡ false → self.new ≡ self.old }
         ensures queue { waits (get self.old.slab key) ≡ true → IsQueued (λ q. q.cut) mark_cut key (option_map let_on (get self.old.slab key)) self.old.cut (get self.new.slab key) self.new.cut }
@@ -53,14 +53,14 @@ impl Connections {
         }
     }
 
-    /// Has a publisher's frames go on whose receiver has made room.
+    /// Lets a publisher's frames go on whose receiver has made room.
     pub(crate) fn let_on(&mut self, conn: u64) {
         if let Some(key) = self.key_of(conn) {
             self.resume(key);
         }
     }
 
-    /// Has all go on that were held for long enough at a moment. It walks over those that are held.
+    /// Lets all go on that were held for long enough at a moment. It walks over those that are held.
     pub fn look_after_held(&mut self, now: u64) {
         match self.look_at {
             Some(at) if at <= now => {}
@@ -75,7 +75,7 @@ impl Connections {
         }
     }
 
-    /// Has one go on that was held for long enough. If it is still held, it is looked after later.
+    /// Lets one go on that was held for long enough. If it is still held, it is looked after later.
     fn look_after(&mut self, key: usize, now: u64) {
         let Some(it) = self.slab.get_mut(key) else {
             return;
@@ -87,7 +87,7 @@ impl Connections {
         }
     }
 
-    /// Has all go on that are held, since it isn't known whose receiver has made room. It walks over them.
+    /// Lets all go on that are held, since it isn't known whose receiver has made room. It walks over them.
     pub(crate) fn resume_all(&mut self) {
         for _ in 0..self.held.len() {
             let Some(key) = self.held.next() else {

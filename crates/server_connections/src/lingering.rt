@@ -21,9 +21,9 @@ impl Connections {
     ghost use Rattle.slab.specs.Slab.{get};
     ghost use Rattle.server_connections.specs.Work.{is_lingering};
 
-    /// A connection is over to which all is written: no more is written to its socket. It stays until the peer has ended or
-    /// failed, for two seconds at most, and what comes meanwhile is read and dropped. Answers whether it stays: without
-    /// memory, or where its socket has failed, it is to be let go.
+    /// Ends the writing to a connection that is over, and lets its socket linger. It stays until the peer has ended or failed,
+    /// for two seconds at most, and what comes meanwhile is read and dropped. Returns whether it stays: without memory, or
+    /// where its socket has failed, it is to be removed.
     pub fn linger(&mut self, key: usize, now: u64) -> bool {
         let until = now.saturating_add(LINGER);
         let Some(it) = self.slab.get_mut(key) else {
@@ -45,7 +45,7 @@ impl Connections {
         true
     }
 
-    /// Has a connection linger, or go on lingering. Answers whether it does.
+    /// Lets a connection linger, or go on lingering. Returns whether it does.
     pub fn shut(&mut self, key: usize, now: u64) -> bool {
         match self.slab.get_mut(key) {
             Some(it) if it.lingers => it.queued.ready = false,
@@ -55,7 +55,7 @@ impl Connections {
         true
     }
 
-    /// Reads some of what the peer of a connection sends that lingers, and drops it. Answers whether the peer has ended.
+    /// Reads some of what the peer of a connection sends that lingers, and drops it. Returns whether the peer has ended.
     pub fn drop_input(&mut self, key: usize, buf: &mut [u8]) -> bool {
         let Some(it) = self.slab.get_mut(key) else {
             return false;
@@ -73,7 +73,7 @@ impl Connections {
         }
     }
 
-    /// The one that has lingered longest, if one lingers. Those that are gone are let go of.
+    /// Returns the one that has lingered longest, if one lingers. Those that are gone are dropped.
     pub fn first_lingering(&mut self) -> Option<Lingering>
         ensures { IfSome result (λ entry. is_lingering entry (get self.new.slab entry.key) ≡ true) }
     {
@@ -87,7 +87,7 @@ impl Connections {
         None
     }
 
-    /// Whether an entry is that of a connection that still lingers.
+    /// Returns whether an entry is that of a connection that still lingers.
     fn does_linger(&self, entry: Lingering) -> bool
         ensures { result ≡ is_lingering entry (get self.now.slab entry.key) }
     {
@@ -97,7 +97,7 @@ impl Connections {
         }
     }
 
-    /// Until when the first stays that may linger, or the greatest number.
+    /// Returns until when the first stays that may linger, or the greatest number.
     pub fn lingers_until(&self) -> u64 {
         match self.lingering.front() {
             None => u64::MAX,
@@ -105,7 +105,7 @@ impl Connections {
         }
     }
 
-    /// One that has lingered for long enough at a moment, if there is one.
+    /// Returns one that has lingered for long enough at a moment, if there is one.
     pub fn has_lingered(&mut self, now: u64) -> Option<usize> {
         match self.first_lingering() {
             Some(first) if first.until <= now => Some(first.key),

@@ -4,7 +4,7 @@ use server_mail::Mail;
 use server_pacing::Pending;
 
 impl Connections {
-    /// Does what mail says. Where an entry of it was lost, this walks over all connections.
+    /// Follows a worker's mail. Where an entry of it was lost, this walks over all connections.
     pub fn follow(&mut self, mail: &Mail) {
         if mail.all {
             self.note_mail_lost();

@@ -21,7 +21,7 @@ impl Connections {
     ghost use Rattle.slab.specs.Slab.{get};
     ghost use Rattle.server_connections.specs.Work.{barred_by, goes_on, is_to_end, mark_cut, mark_ready, marked, reads_of};
 
-    /// A connection is taken from those with something to read: what is to be done with that.
+    /// Takes a connection out of those with something to read, and returns what is to be done with that.
     pub fn begin_ready(&mut self, key: usize) -> Reads
         ensures reads { result ≡ reads_of (get self.old.slab key) }
         ensures taken { get self.new.slab key ≡ option_map (marked (mark_ready false)) (get self.old.slab key) }
@@ -41,7 +41,7 @@ impl Connections {
         }
     }
 
-    /// A connection is taken from those that were cut short. Answers whether it has a turn.
+    /// Takes a connection out of those that were cut short, and returns whether it has a turn.
     pub fn begin_cut(&mut self, key: usize) -> bool
         ensures goes_on { result ≡ goes_on (get self.old.slab key) }
         ensures taken { get self.new.slab key ≡ option_map (marked (mark_cut false)) (get self.old.slab key) }
@@ -54,7 +54,7 @@ impl Connections {
         }
     }
 
-    /// What follows where a turn has written, or its socket hasn't taken all.
+    /// Queues a connection after a turn that has written, or whose socket hasn't taken all.
     pub fn follow_writes(&mut self, key: usize) {
         let Some(it) = self.slab.get(key) else {
             return;
@@ -71,7 +71,7 @@ impl Connections {
         }
     }
 
-    /// What follows from a turn that isn't over.
+    /// Queues a connection after a turn that isn't over.
     pub fn follow_turn(&mut self, key: usize, turn: Turn) {
         let Some(it) = self.slab.get_mut(key) else {
             return;
@@ -91,7 +91,7 @@ impl Connections {
         }
     }
 
-    /// Has a connection go on whose turn could not be ended. Answers whether its session is still to be closed instead.
+    /// Queues a connection again whose turn could not be ended. Returns whether its session is still to be closed instead.
     pub fn try_again(&mut self, key: usize) -> bool
         ensures ends { result ≡ is_to_end (get self.old.slab key) }
         ensures same { result ≡ true → self.new ≡ self.old }
@@ -104,7 +104,7 @@ impl Connections {
         is_over
     }
 
-    /// A connection is to have so many deliveries, which wait, before it is told what waits behind them.
+    /// Puts so many deliveries, which wait, before what the client is told next.
     pub fn bar(&mut self, key: usize, count: usize)
         ensures barred { get self.new.slab key ≡ option_map (barred_by count) (get self.old.slab key) }
         ensures rest { self.new ≡ record self.old { slab = self.new.slab } }

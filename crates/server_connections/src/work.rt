@@ -12,14 +12,14 @@ impl Connections {
     ghost use Rattle.slab.specs.Slab.{get};
     ghost use Rattle.server_connections.specs.Work.{are_idle, is_pressing, is_readable, mark_cut, mark_flush, mark_pressing, mark_ready, IsQueued, IsQueuedIf};
 
-    /// A round begins.
+    /// Begins a round.
     pub fn begin_round(&mut self)
         ensures { self.new ≡ record self.old { looks = self.old.looks - 1 } }
     {
         self.looks = self.looks.saturating_sub(1);
     }
 
-    /// Whether the worker may sleep: no connection has something to read, to be written or to go on with, and work was looked
+    /// Returns whether the worker may sleep: no connection has something to read, to be written or to go on with, and work was looked
     /// for long enough. What has stalled is tried again after a sleep.
     pub fn are_idle(&self) -> bool
         ensures { result ≡ are_idle self.now }
@@ -94,7 +94,7 @@ impl Connections {
         }
     }
 
-    /// Has nothing more be read, and no frames go on.
+    /// Stops reading: no connection is read, and no frames go on.
     pub fn read_no_more(&mut self)
         ensures { self.new ≡ record self.old { ready = []; cut = [] } }
     {

@@ -28,7 +28,7 @@ pub enum Fault {
 }
 
 impl Fault {
-    /// The line that tells it, with its LF.
+    /// Returns the line that tells it, with its LF.
     pub fn line(&self) -> &[u8]
         ensures { result.now ≡ line_of self.now }
     {

@@ -33,7 +33,7 @@ impl fmt::Display for ServeFault {
 impl Error for ServeFault {}
 
 impl ServeFault {
-    /// Its place among the faults, the least first.
+    /// Returns its number in the order of the faults. The least comes first.
     fn rank(self) -> u8
         ensures { result ≡ rank self }
     {
@@ -46,7 +46,7 @@ impl ServeFault {
     }
 }
 
-/// The least of two faults, if there is one.
+/// Returns the least of two faults, if there is one.
 pub fn least(one: Option<ServeFault>, other: Option<ServeFault>) -> Option<ServeFault>
     ensures { result ≡ least one other }
 {

@@ -22,7 +22,7 @@ pub trait Gate {
     /// A point, whether the gate lets it pass, and the gate before and after it.
     ghost passes: { Self → Point → Bool → Self → Type 0 } = { λ _ _ _ _. ⊤ };
 
-    /// Passes a point.
+    /// Passes a point, once the gate lets it. It returns `GateClosed` where nothing passes any more.
     fn pass(&mut self, point: Point) -> Result<(), GateClosed>
         ensures { passes self.old point (is_ok result) self.new };
 }

@@ -29,7 +29,7 @@ pub struct Telling {
 }
 
 impl Telling {
-    /// Whether the teller is to hand the history out: half of what may be kept is passed, and nobody else took it away.
+    /// Returns whether the teller is to hand the history out: half of what may be kept is passed, and nobody else took it away.
     pub fn is_passed(&self) -> bool
         ensures { result ≡ is_passed self.now.half self.now.before self.now.bytes self.now.taken }
     {
@@ -46,7 +46,7 @@ pub struct Look {
 }
 
 impl Look {
-    /// Whether it was not handed out between the two looks.
+    /// Returns whether it was not handed out between the two looks.
     pub fn is_same(&self) -> bool
         ensures { result ≡ is_same self.now.parts self.now.before }
     {
@@ -55,7 +55,8 @@ impl Look {
 }
 
 impl Kept {
-    /// None, of a history that may keep so many bytes: those that it holds and those that were handed out last.
+    /// Returns the count of a history that keeps nothing. It may keep `most` bytes: those of the entries that it holds, and
+    /// those of the part that was handed out last.
     pub fn new(most: u64) -> Kept
         ensures { result.half ≡ most / 2 }
     {
@@ -92,7 +93,7 @@ impl Kept {
         let _ = self.bytes.fetch_add(self.half, Ordering::SeqCst);
     }
 
-    /// The history was handed out. Answers how often it was.
+    /// Notes that the history was handed out, and returns how often it was.
     pub(crate) fn note_part(&self) -> u64 {
         self.bytes.store(0, Ordering::SeqCst);
         self.parts.fetch_add(1, Ordering::SeqCst).saturating_add(1)
@@ -109,7 +110,7 @@ impl Kept {
         Look { parts, before }
     }
 
-    /// How often the history was handed out.
+    /// Returns how often the history was handed out.
     pub(crate) fn parts(&self) -> u64 {
         self.parts.load(Ordering::SeqCst)
     }

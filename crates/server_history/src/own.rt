@@ -12,7 +12,7 @@ const ITEM: u64 = 24;
 
 const DELIVERY: u64 = 32;
 
-/// How many bytes the entry of an answer keeps of its own, beside the texts that were read.
+/// Returns how many bytes the entry of an answer keeps of its own, beside the texts that were read.
 #[inline(always)]
 pub(crate) fn own_of(answer: &Answer) -> u64
     ensures { result ≡ u64_saturate (own answer.now) }

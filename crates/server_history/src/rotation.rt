@@ -12,8 +12,8 @@ const TOGETHER: usize = 7;
 /// How many bytes a port counts until others are told of them.
 const TOLD: u64 = 64 * 1024;
 
-/// Reads of each entry where it says what it owns. Their memory was last used long ago: read so, all of it is fetched side by
-/// side, where drops would wait for one after the other.
+/// Reads each entry where it says what it owns, so that its memory is fetched. It was last used long ago: so all is fetched
+/// side by side, where drops would wait for one after the other.
 fn read_each(entries: &[Answer]) -> u64 {
     let mut read = 0;
     for entry in entries {
@@ -74,7 +74,7 @@ impl Rotation {
     ghost use Rattle.server_history.specs.Bytes.{IsCounted, own};
     ghost use Rattle.server_history.specs.Rotating.{but_last, dropped, failed, fresh, is_due, looked, taken_over};
 
-    /// Of a history that holds at most so many entries.
+    /// Returns the rotation of a history that holds at most so many entries.
     pub fn new(alloc: Global, history: usize) -> Rotation
         ensures { result ≡ fresh history }
     {
@@ -124,7 +124,7 @@ impl Rotation {
         }
     }
 
-    /// Drops all but so many of the entries that were handed out, or none. Answers whether some are left.
+    /// Drops all but so many of the entries that were handed out, or none. Returns whether some are left.
     pub fn shed(&mut self, most: usize) -> bool
         ensures left { self.new ≡ record self.old { spent = but_last most self.old.spent } }
         ensures some { result ≡ nat_lt 0 (length self.new.spent) }
@@ -150,7 +150,7 @@ impl Rotation {
         self.tries = self.tries.saturating_add(1);
     }
 
-    /// Whether the history may be due at the number of an answer.
+    /// Returns whether the history may be due at the number of an answer.
     #[inline(always)]
     pub fn is_near(&self, number: u64) -> bool
         ensures { result ≡ nat_le self.now.due number }
@@ -173,7 +173,7 @@ impl Rotation {
         if past == 0 { Some(kept.look()) } else { None }
     }
 
-    /// Drops some of what was handed out, where new entries have had the blocks of those before.
+    /// Drops the last seven of what was handed out, once new entries have had the blocks of the seven before.
     #[inline(always)]
     pub fn drop_some(&mut self)
         ensures { self.new ≡ dropped self.old }
@@ -194,8 +194,8 @@ ghost use Rattle.std.specs.List.{AllByRecursion, sum_by};
 ghost use Rattle.events.specs.declared.answer.Entry.{Entry};
 ghost use Rattle.server_history.specs.Bytes.{AreCounted, IsTold, own};
 
-/// What a port has counted: of entries whose sizes are told as they are, what it has told others of and what it hasn't yet are
-/// exactly what they keep of their own, beside what it had not told of before.
+/// Proves what a port has counted: of entries whose sizes are told as they are, what it has told others of and what it hasn't
+/// yet are exactly what they keep of their own, beside what it had not told of before.
 pub fn counted_in_all()
     ensures { (entries : List Entry) (before all after : ℕ) → AllByRecursion IsTold entries → before < 65536 → AreCounted before entries all after → before + sum_by own entries ≡ all + after }
 {}

@@ -38,7 +38,7 @@ impl<'a, L: Run, R: Wait + Clock, G: Gate + Drop, W: Words + Drop> Worker<'a, L,
         }
     }
 
-    /// Some Takes of a connection, as far as its socket takes them. Publishers that they let on are told at once.
+    /// Drains a connection by some Takes, as far as its socket takes them. Publishers that they let on are told at once.
     pub(crate) fn drain_one(&mut self, key: usize) {
         self.slice = self.slice.less(0, 0);
         self.now = self.state.now(self.rt);
@@ -56,7 +56,7 @@ impl<'a, L: Run, R: Wait + Clock, G: Gate + Drop, W: Words + Drop> Worker<'a, L,
         self.leave_freed();
     }
 
-    /// What is kept for a client is written, and then what one Take gives.
+    /// Writes what is kept for a client, and then what one Take gives.
     fn drain_once(&mut self, key: usize) -> Drained {
         match self.connections.write_kept(key, self.now) {
             Drained::More => self.take_one(key),
@@ -65,7 +65,7 @@ impl<'a, L: Run, R: Wait + Clock, G: Gate + Drop, W: Words + Drop> Worker<'a, L,
         }
     }
 
-    /// One Take of a connection, once all before is written.
+    /// Makes one Take of a connection, once all before is written.
     fn take_one(&mut self, key: usize) -> Drained {
         let Some(it) = self.connections.slab.get_mut(key) else {
             return Drained::Stops;

@@ -15,7 +15,7 @@ use wire_write::ServerError;
 const GRACE: u64 = 2000;
 
 impl<'a, L: Run, R: Wait + Clock, G: Gate + Drop, W: Words + Drop> Worker<'a, L, R, G, W> {
-    /// A connection's turn is over. Where the server closes it, its socket is to linger.
+    /// Closes a connection whose turn is over. Where the server closes it, its socket is to linger.
     pub(crate) fn close(&mut self, key: usize, turn: Turn) {
         if let Some(it) = self.connections.slab.get_mut(key) {
             it.is_to_linger = matches!(turn, Turn::Closed | Turn::Lost);
@@ -23,7 +23,7 @@ impl<'a, L: Run, R: Wait + Clock, G: Gate + Drop, W: Words + Drop> Worker<'a, L,
         self.end(key);
     }
 
-    /// Closes a connection for which too much waits, if it still stands. What waits for it is lost.
+    /// Closes a slow consumer, if it isn't over yet. What waits for it is lost.
     pub(crate) fn end_slow(&mut self, conn: u64) {
         let Some(key) = self.connections.key_of(conn) else {
             return;
@@ -37,7 +37,7 @@ impl<'a, L: Run, R: Wait + Clock, G: Gate + Drop, W: Words + Drop> Worker<'a, L,
         }
     }
 
-    /// A connection ends: its session is closed, and then its socket. Where the session can't be closed yet, it is tried
+    /// Ends a connection: its session is closed, and then its socket. Where the session can't be closed yet, it is tried
     /// again.
     pub(crate) fn end(&mut self, key: usize) {
         let Some(it) = self.connections.slab.get_mut(key) else {
@@ -117,7 +117,7 @@ impl<'a, L: Run, R: Wait + Clock, G: Gate + Drop, W: Words + Drop> Worker<'a, L,
         self.note_events(events);
     }
 
-    /// All connections linger: what was written to them is to arrive, for two seconds at most.
+    /// Lets all connections linger: what was written to them is to arrive, for two seconds at most.
     fn linger_all(&mut self) {
         self.now = self.state.now(self.rt);
         self.connections.ready.clear();

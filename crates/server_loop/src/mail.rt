@@ -9,7 +9,7 @@ use std::sync::Wait;
 use std::time::Clock;
 
 impl<'a, L: Run, R: Wait + Clock, G: Gate + Drop, W: Words + Drop> Worker<'a, L, R, G, W> {
-    /// Does what the worker's mailbox says.
+    /// Empties the worker's mailbox, and follows what was in it.
     pub(crate) fn take_in(&mut self) {
         let mailboxes = self.state.mailboxes;
         let Some(mailbox) = mailboxes.get(self.index) else {
@@ -39,7 +39,7 @@ impl<'a, L: Run, R: Wait + Clock, G: Gate + Drop, W: Words + Drop> Worker<'a, L,
         }
     }
 
-    /// Does what the worker's own answers say about its own connections.
+    /// Follows what the worker's own answers make pending for its own connections.
     pub(crate) fn follow_own_mail(&mut self) {
         let spare = mem::replace(&mut self.own_spare, Mail::new(self.alloc));
         let mut mail = self.port.outgoing().take(self.index, spare);

@@ -12,7 +12,7 @@ use std::time::Clock;
 const ARRIVALS: usize = 256;
 
 impl<'a, L: Run, R: Wait + Clock, G: Gate + Drop, W: Words + Drop> Worker<'a, L, R, G, W> {
-    /// Accepts what has come, as far as there is room, and hands the sockets round.
+    /// Accepts what has come, as far as there is room, and deals the sockets out.
     pub(crate) fn accept(&mut self) {
         if !self.acceptor.begin(self.now) {
             return;
@@ -31,7 +31,7 @@ impl<'a, L: Run, R: Wait + Clock, G: Gate + Drop, W: Words + Drop> Worker<'a, L,
         self.acceptor.go_on(self.now);
     }
 
-    /// A connection begins. Without memory, or where the system refuses to watch it, its socket is closed.
+    /// Opens a connection. Without memory, or where the system refuses to watch it, its socket is closed.
     pub(crate) fn open(&mut self, arrival: Arrival) {
         let Arrival { conn, socket } = arrival;
         let registry = self.poll.registry();
@@ -44,7 +44,7 @@ impl<'a, L: Run, R: Wait + Clock, G: Gate + Drop, W: Words + Drop> Worker<'a, L,
         }
     }
 
-    /// Shows others who would give way here, and has the first give way where that was asked.
+    /// Shows others which connections would give way here, and lets the first give way where that was asked.
     pub(crate) fn give_way(&mut self) {
         let mailboxes = self.state.mailboxes;
         let Some(mailbox) = mailboxes.get(self.index) else {
@@ -64,7 +64,7 @@ impl<'a, L: Run, R: Wait + Clock, G: Gate + Drop, W: Words + Drop> Worker<'a, L,
         mailbox.ways.show(lingering, fresh);
     }
 
-    /// The connection goes that has lingered longest, else the one that has waited longest without an accepted CONNECT.
+    /// Removes the connection that has lingered longest, else ends the one that has waited longest without an accepted CONNECT.
     fn go_first(&mut self) {
         if let Some(it) = self.connections.first_lingering() {
             self.remove(it.key);

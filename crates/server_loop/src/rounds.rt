@@ -41,8 +41,8 @@ impl<'a, L: Run, R: Wait + Clock, G: Gate + Drop, W: Words + Drop> Worker<'a, L,
         None
     }
 
-    /// One round: what was left here, a slice of what is to be written, what the sockets tell, and some turns. Answers
-    /// whether the system could tell of sockets.
+    /// Works for one round: what was left in the mailbox, a slice of what is to be written, what the sockets tell, and some
+    /// turns. Returns whether the system could tell of sockets.
     fn round(&mut self, events: &mut Events) -> bool {
         self.connections.begin_round();
         self.take_in();
@@ -60,7 +60,7 @@ impl<'a, L: Run, R: Wait + Clock, G: Gate + Drop, W: Words + Drop> Worker<'a, L,
         true
     }
 
-    /// How long to wait for sockets: not at all where there is work.
+    /// Returns how long to wait for sockets: not at all where there is work.
     fn patience(&self) -> Duration {
         let accepts = matches!(self.acceptor.due_at(), Some(at) if at <= self.now);
         if accepts || !self.sleeps {
@@ -73,14 +73,14 @@ impl<'a, L: Run, R: Wait + Clock, G: Gate + Drop, W: Words + Drop> Worker<'a, L,
         }
     }
 
-    /// When something is to be looked at that no socket tells of.
+    /// Returns when something is to be looked at that no socket tells of.
     fn next_look(&self) -> u64 {
         let held = self.connections.next_look().unwrap_or(u64::MAX);
         let accepts = self.acceptor.due_at().unwrap_or(u64::MAX);
         held.min(accepts).min(self.connections.lingers_until())
     }
 
-    /// Waits for sockets, and notes what they tell. Answers whether the system could tell.
+    /// Waits for sockets, and notes what they tell. Returns whether the system could tell.
     fn wait(&mut self, events: &mut Events) -> bool {
         let mut patience = self.patience();
         if patience > Duration::ZERO && self.port.shed(SHED) {

@@ -29,8 +29,8 @@ const CLOSING: u64 = 100;
 const RETRY: u64 = 10;
 
 impl<'a, L: Run, R: Wait + Clock, G: Gate + Drop, W: Words + Drop> Worker<'a, L, R, G, W> {
-    /// The turns of a round: first of connections with something to read, as far as its share of deliveries goes, and then
-    /// of those that were cut short, at least one. So who does little never waits for those who do much.
+    /// Gives connections their turns of a round: first those with something to read, as far as the round's share of deliveries
+    /// goes, and then those that were cut short, at least one. So who does little never waits for those who do much.
     pub(crate) fn take_turns(&mut self) {
         self.slice = Slice::whole();
         self.port.allow(SHARE);
@@ -40,7 +40,7 @@ impl<'a, L: Run, R: Wait + Clock, G: Gate + Drop, W: Words + Drop> Worker<'a, L,
         self.leave_mail();
     }
 
-    /// Turns of connections with something to read.
+    /// Gives turns to connections with something to read.
     fn serve_each_ready(&mut self) {
         for _ in 0..TURNS {
             if self.port.has_no_share() {
@@ -59,7 +59,7 @@ impl<'a, L: Run, R: Wait + Clock, G: Gate + Drop, W: Words + Drop> Worker<'a, L,
         }
     }
 
-    /// Turns of connections that were cut short.
+    /// Gives turns to connections that were cut short.
     fn serve_each_cut(&mut self) {
         for _ in 0..self.connections.cut.len().min(CUT_TURNS) {
             if self.port.has_no_share() {
@@ -117,8 +117,8 @@ impl<'a, L: Run, R: Wait + Clock, G: Gate + Drop, W: Words + Drop> Worker<'a, L,
         }
     }
 
-    /// What follows where a frame is held back: its connection waits for a receiver, for its share of another round, or
-    /// until it has had what waits for it.
+    /// Sets a connection aside whose frame is held back: it waits for a receiver, for its share of another round, or until it
+    /// has had what waits for it.
     fn follow_held(&mut self, key: usize) {
         match self.port.why() {
             Some(Why::Receiver(until)) => self.hold(key, until),
@@ -138,7 +138,7 @@ impl<'a, L: Run, R: Wait + Clock, G: Gate + Drop, W: Words + Drop> Worker<'a, L,
         self.connections.hold(key, until);
     }
 
-    /// A connection is to have what waits for it before what it is told next.
+    /// Lets a connection have what waits for it before what it is told next.
     fn bar(&mut self, key: usize) {
         let Some(it) = self.connections.slab.get(key) else {
             return;
@@ -148,7 +148,7 @@ impl<'a, L: Run, R: Wait + Clock, G: Gate + Drop, W: Words + Drop> Worker<'a, L,
         self.drain_one(key);
     }
 
-    /// What follows from a turn.
+    /// Closes a connection whose turn is over, or queues it again.
     pub(crate) fn after(&mut self, key: usize, turn: Turn) {
         if turn.is_over() {
             self.close(key, turn);
@@ -157,7 +157,7 @@ impl<'a, L: Run, R: Wait + Clock, G: Gate + Drop, W: Words + Drop> Worker<'a, L,
         }
     }
 
-    /// Has connections go on whose turn could not be ended, each 10 milliseconds.
+    /// Queues those again whose turn could not be ended, each 10 milliseconds.
     pub(crate) fn try_again(&mut self) {
         if self.now < self.try_at {
             return;

@@ -20,7 +20,7 @@ pub struct Mail {
     pub pending: Vec<Pending>,
     /// Publishers whose receivers have made room.
     pub freed: Vec<u64>,
-    /// Whether an entry was lost for want of memory: each connection is to be drained then, and each publisher let on.
+    /// Whether an entry was lost, since there was no memory: each connection is to be drained then, and each publisher let on.
     pub all: bool,
 }
 

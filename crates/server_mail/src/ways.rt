@@ -21,7 +21,7 @@ pub struct Ways {
 }
 
 impl Ways {
-    /// Nobody would.
+    /// Returns the ways of a worker none of whose connections would give way.
     pub(crate) fn new() -> Ways {
         Ways {
             asked: AtomicU64::new(0),
@@ -38,7 +38,7 @@ impl Ways {
             .store(fresh.unwrap_or(u64::MAX), Ordering::SeqCst);
     }
 
-    /// The number that is shown of such connections. The least goes first.
+    /// Returns the number that is shown of such connections. The least goes first.
     pub(crate) fn shown(&self, way: Way) -> u64 {
         match way {
             Way::Lingering => self.lingering.load(Ordering::SeqCst),
@@ -51,7 +51,7 @@ impl Ways {
         self.asked.store(1, Ordering::SeqCst);
     }
 
-    /// Whether the first one was asked to give way since this was called.
+    /// Returns whether the first one was asked to give way since this was called.
     pub fn is_asked(&self) -> bool {
         self.asked.swap(0, Ordering::SeqCst) != 0
     }

@@ -24,7 +24,7 @@ pub struct Awaited {
 }
 
 impl Awaited {
-    /// What waits once so many more have entered, with so many bytes.
+    /// Returns what waits once so many more have entered, with so many bytes.
     pub(crate) fn more(self, count: usize, bytes: usize) -> Awaited
         ensures { result ≡ more self count bytes }
     {
@@ -34,7 +34,7 @@ impl Awaited {
         }
     }
 
-    /// How many bytes a message has, by the mean.
+    /// Returns how many bytes a message has, by the mean.
     fn mean(self) -> usize
         ensures { result ≡ mean self }
     {
@@ -44,7 +44,7 @@ impl Awaited {
         self.bytes / self.count
     }
 
-    /// How many deliveries the next Take is to ask for: fewer where messages are large.
+    /// Returns how many deliveries the next Take is to ask for: fewer where messages are large.
     pub(crate) fn next_take(self) -> usize
         ensures { result ≡ next_take self }
     {
@@ -55,7 +55,7 @@ impl Awaited {
         (ROOM / each).max(1).min(MOST)
     }
 
-    /// What waits once a Take has asked for so many.
+    /// Returns what waits once a Take has asked for so many.
     pub(crate) fn fewer(self, most: usize) -> Awaited
         ensures { result ≡ fewer self most }
     {
@@ -68,7 +68,7 @@ impl Awaited {
     }
 }
 
-/// How many deliveries wait for a connection at least that is drained before another piece is read: with fewer, those of
+/// Returns how many deliveries wait for a connection at least that is drained before another piece is read: with fewer, those of
 /// another piece leave half an outbox free.
 pub fn many(outbox: usize) -> usize
     ensures { result ≡ many outbox }
@@ -76,7 +76,7 @@ pub fn many(outbox: usize) -> usize
     (outbox / 2).saturating_sub(PIECE / LEAST_MESSAGE)
 }
 
-/// How many deliveries may have entered for a connection of another worker before that is told, while their publisher is
+/// Returns how many deliveries may have entered for a connection of another worker before that is told, while their publisher is
 /// read further: those of all other workers together are not more than are many.
 pub fn batch(outbox: usize, workers: usize) -> usize
     ensures { result ≡ batch outbox workers }

@@ -14,7 +14,7 @@ pub struct Slice {
 }
 
 impl Slice {
-    /// A whole one: some milliseconds' work.
+    /// Returns a whole slice: some milliseconds' work.
     pub fn whole() -> Slice
         ensures { result ≡ whole }
     {
@@ -25,7 +25,7 @@ impl Slice {
         }
     }
 
-    /// What is left once a connection has had so many deliveries, with so many bytes.
+    /// Returns what is left once a connection has had so many deliveries, with so many bytes.
     pub fn less(self, deliveries: usize, bytes: usize) -> Slice
         ensures { result ≡ less self deliveries bytes }
     {
@@ -36,7 +36,7 @@ impl Slice {
         }
     }
 
-    /// Whether one of the three is used up.
+    /// Returns whether one of the three is used up.
     pub fn is_spent(self) -> bool
         ensures { result ≡ is_spent self }
     {

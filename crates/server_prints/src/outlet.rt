@@ -28,7 +28,7 @@ struct Readiness {
 }
 
 impl Readiness {
-    /// A way to be told, or `None` where the system tells nothing of this descriptor, such as a file's, which never waits.
+    /// Returns a way to be told, or `None` where the system tells nothing of this descriptor. A file's is such: it never waits.
     fn of<R: Net>(rt: &R, alloc: Global, fd: RawFd) -> Option<Readiness> {
         let poll = Poll::new(rt).ok()?;
         let events = Events::with_capacity(alloc, 1).ok()?;
@@ -39,7 +39,7 @@ impl Readiness {
         Some(Readiness { poll, events, fd })
     }
 
-    /// Whether the descriptor takes bytes, which is waited for a while. It is said too where the system can't tell.
+    /// Returns whether the descriptor takes bytes, which is waited for a while. It is said too where the system can't tell.
     fn is_writable(&mut self) -> bool {
         let registry = self.poll.registry();
         let again = registry.reregister(&mut SourceFd(&self.fd), OUTLET, Interest::WRITABLE);
@@ -63,7 +63,7 @@ struct Outlet<'a, R, W> {
 }
 
 impl<R: Wait + Clock, W: Write> Outlet<'_, R, W> {
-    /// The moment, in milliseconds; 0 where the system has no clock.
+    /// Returns the moment, in milliseconds, or 0 where the system has no clock.
     fn now(&self) -> u64 {
         match self.rt.monotonic() {
             Ok(time) => u64::try_from(time.as_millis()).unwrap_or(u64::MAX),
@@ -71,7 +71,7 @@ impl<R: Wait + Clock, W: Write> Outlet<'_, R, W> {
         }
     }
 
-    /// Whether the end came so long ago that nothing more is to be written.
+    /// Returns whether the end came so long ago that nothing more is to be written.
     fn gives_up(&mut self) -> bool {
         if self.until.is_none() && self.prints.has_ended(self.rt) {
             self.until = Some(self.now().saturating_add(GRACE));
@@ -82,7 +82,7 @@ impl<R: Wait + Clock, W: Write> Outlet<'_, R, W> {
         }
     }
 
-    /// Waits until the writer takes bytes. Answers false where it is to be given up.
+    /// Waits until the writer takes bytes, and returns true; or false once that is to be given up.
     fn wait(&mut self) -> bool {
         for _ in self.rt.forever() {
             if self.gives_up() {
@@ -99,7 +99,7 @@ impl<R: Wait + Clock, W: Write> Outlet<'_, R, W> {
         false
     }
 
-    /// Writes a text, as far as the writer takes it. Answers false where it is to be given up.
+    /// Writes a text, as far as the writer takes it. It returns false once that is to be given up.
     fn print(&mut self, text: &[u8]) -> bool {
         let mut left = text;
         for _ in self.rt.forever() {

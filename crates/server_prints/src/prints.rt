@@ -23,7 +23,7 @@ pub struct Prints {
 }
 
 impl Prints {
-    /// Nothing to be printed yet.
+    /// Returns a queue without texts.
     pub fn new(alloc: Global) -> Prints {
         let queue = Queue {
             texts: VecDeque::new(alloc),
@@ -37,7 +37,7 @@ impl Prints {
         }
     }
 
-    /// Adds a text. Answers false, and adds nothing, where too much waits. Without memory the text is lost.
+    /// Adds a text. Returns false, and adds nothing, where too much waits. Without memory the text is lost.
     pub fn add<R: Wait>(&self, rt: &R, text: &[u8]) -> bool {
         let mut queue = self.queue.lock(rt);
         let bytes = queue.bytes.saturating_add(text.len());
@@ -54,7 +54,7 @@ impl Prints {
         true
     }
 
-    /// Says that nothing will be added any more.
+    /// Notes that nothing will be added any more.
     pub fn end<R: Wait>(&self, rt: &R) {
         let mut queue = self.queue.lock(rt);
         queue.has_ended = true;
@@ -62,13 +62,13 @@ impl Prints {
         self.changed.notify_one();
     }
 
-    /// Whether nothing will be added any more.
+    /// Returns whether nothing will be added any more.
     pub(crate) fn has_ended<R: Wait>(&self, rt: &R) -> bool {
         let queue = self.queue.lock(rt);
         queue.has_ended
     }
 
-    /// Waits for the next text, and takes it. `None` once nothing is left and nothing will be added.
+    /// Waits for the next text, and takes it out. It returns `None` once nothing is left and nothing will be added.
     pub(crate) fn next<R: Wait>(&self, rt: &R) -> Option<Vec<u8>> {
         let mut queue = self.queue.lock(rt);
         for _ in rt.forever() {

@@ -38,7 +38,7 @@ impl<L: Run, R: Wait, G: Gate + Drop> Drop for Reloads<'_, L, R, G> {
 }
 
 impl<'a, L: Run, R: Wait + Clock, G: Gate + Drop> Reloads<'a, L, R, G> {
-    /// A thread with this seat and gate. `None` without memory.
+    /// Returns a thread's reloads, with its seat and gate. Without memory it returns `None`.
     pub fn new(
         rt: &'a R,
         alloc: Global,
@@ -104,7 +104,7 @@ impl<'a, L: Run, R: Wait + Clock, G: Gate + Drop> Reloads<'a, L, R, G> {
         }
     }
 
-    /// Tells the owners of the connections that a reload names, and then prints its lines.
+    /// Leaves mail about the sessions that a reload has ended, and then prints its lines.
     fn tell(&mut self, answer: &Answer) {
         self.port
             .outgoing()
@@ -116,7 +116,7 @@ impl<'a, L: Run, R: Wait + Clock, G: Gate + Drop> Reloads<'a, L, R, G> {
         }
     }
 
-    /// Has lines printed, once there is room for them. Where the server stops first they are lost.
+    /// Prints lines, once there is room for them. Where the server stops first they are lost.
     fn say(&self, lines: &[u8]) {
         for _ in self.rt.forever() {
             if self.prints.add(self.rt, lines) || self.state.stops() {

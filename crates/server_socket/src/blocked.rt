@@ -19,7 +19,7 @@ impl Blocked {
     ghost use Rattle.std.specs.Prelude.{Some, None};
     ghost use Rattle.server_socket.specs.Blocked.{end_of, is_out, not_blocked, written};
 
-    /// A socket takes what it is given.
+    /// Returns what is known of a socket that takes what it is given.
     pub(crate) fn new() -> Blocked
         ensures { result ≡ not_blocked }
     {
@@ -30,7 +30,7 @@ impl Blocked {
         }
     }
 
-    /// What is known after a write, of which something waits or nothing does.
+    /// Returns what is known after a write: some bytes wait still, or none does.
     pub(crate) fn written(self, waits: bool, now: u64) -> Blocked
         ensures { result ≡ written waits now self }
     {
@@ -52,8 +52,8 @@ impl Blocked {
         }
     }
 
-    /// Counts down the two seconds that a connection has which is to be closed and whose socket takes nothing: they begin
-    /// with the first call. Answers whether they have passed.
+    /// Counts down the two seconds that a connection has left, and returns whether they have passed. They begin with the first
+    /// call, when it is to be closed and its socket takes nothing.
     pub(crate) fn runs_out(&mut self, now: u64) -> bool
         ensures passed { result ≡ is_out self.old.end_at now }
         ensures end { self.new ≡ record self.old { end_at = Some (end_of self.old.end_at now) } }

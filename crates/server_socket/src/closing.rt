@@ -29,7 +29,7 @@ impl Connection {
         drop(NonBlocking::new(&self.socket).write(text.as_slice()));
     }
 
-    /// Ends what is written to its socket. Answers whether the system could.
+    /// Ends what is written to its socket. Returns whether the system could.
     pub fn shut(&self) -> bool {
         self.socket.shutdown(Shutdown::Write).is_ok()
     }

@@ -86,7 +86,7 @@ impl Connection {
     ghost use Rattle.server_socket.specs.Connections.{is_due, is_set_aside, let_on, may_not_last, may_read, not_queued};
     ghost use Rattle.server_pacing.specs.Due.{nothing};
 
-    /// A connection to which nothing has happened. Its socket may have something to read.
+    /// Returns a connection to which nothing has happened. Its socket may have something to read.
     pub fn new(client: Client, socket: TcpStream) -> Connection
         ensures { result ≡ record { client = client; socket = socket; due = nothing; blocked = not_blocked; readable = true; held_until = None; is_let_on = false; queued = not_queued; has_passed = false; is_over = false; is_to_linger = false; lingers = false } }
     {
@@ -106,20 +106,20 @@ impl Connection {
         }
     }
 
-    /// Its number.
+    /// Returns its number.
     pub fn number(&self) -> u64
         ensures { result ≡ self.now.client.conn.conn }
     {
         self.client.conn().number()
     }
 
-    /// Has the system tell of its socket, by this token. Answers whether it does.
+    /// Registers its socket under this token, and returns whether the system could.
     pub fn watch(&mut self, registry: &Registry, token: Token) -> bool {
         let both = Interest::READABLE | Interest::WRITABLE;
         registry.register(&mut self.socket, token, both).is_ok()
     }
 
-    /// Notes, after a write, whether its socket has taken all.
+    /// Notes after a write whether its socket has taken all.
     pub(crate) fn note_written(&mut self, now: u64)
         ensures waits { self.old.client.kept ≢ [] → self.new ≡ record self.old { blocked = written true now self.old.blocked } }
         ensures all { self.old.client.kept ≡ [] → self.new ≡ record self.old { blocked = written false now self.old.blocked } }
@@ -127,7 +127,7 @@ impl Connection {
         self.blocked = self.blocked.written(self.client.waits(), now);
     }
 
-    /// Whether it may be read, or its frames go on; or whether what its client sends is to be dropped.
+    /// Returns whether it may be read, or its frames go on; or whether what its client sends is to be dropped.
     pub fn may_read(&self) -> bool
         ensures { result ≡ may_read self.now }
     {
@@ -141,7 +141,7 @@ impl Connection {
         self.held_until.is_some() || self.queued.cut || self.due.is_barred()
     }
 
-    /// Whether it is ended where its socket takes nothing: it is to be closed, or its frames could go on, and others may
+    /// Returns whether it is ended where its socket takes nothing: it is to be closed, or its frames could go on, and others may
     /// wait for it meanwhile.
     pub(crate) fn may_not_last(&self) -> bool
         ensures { result ≡ may_not_last self.now }
@@ -149,14 +149,14 @@ impl Connection {
         self.due.must_drain() || self.is_let_on || self.client.conn().stage().is_closed()
     }
 
-    /// Whether a Take is due.
+    /// Returns whether a Take is due.
     pub fn is_due(&self) -> bool
         ensures { result ≡ is_due self.now }
     {
         self.due.is_due(self.client.conn().stage().is_connected())
     }
 
-    /// Has its frames go on, if they wait for a receiver. Answers whether they did.
+    /// Lets its frames go on, if they wait for a receiver. Returns whether they did.
     pub fn let_on(&mut self) -> bool
         ensures waited { result ≡ is_some self.old.held_until }
         ensures goes_on { self.new ≡ let_on self.old }

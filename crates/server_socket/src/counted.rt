@@ -9,12 +9,12 @@ pub(crate) struct Counted<R> {
 }
 
 impl<R> Counted<R> {
-    /// A reader that has read nothing.
+    /// Returns a reader that has read nothing.
     pub fn new(reader: R) -> Counted<R> {
         Counted { reader, count: 0 }
     }
 
-    /// How many bytes it has read.
+    /// Returns how many bytes it has read.
     pub fn count(&self) -> usize {
         self.count
     }

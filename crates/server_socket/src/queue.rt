@@ -26,7 +26,7 @@ impl Model for Queue {
 }
 
 impl Queue {
-    /// No connection. It takes no memory.
+    /// Returns an empty queue. It takes no memory.
     pub fn new(alloc: Global) -> Queue
         ensures { result ≡ [] }
     {
@@ -75,7 +75,7 @@ impl Queue {
         self.keys.push_back(key).is_ok()
     }
 
-    /// Lets all go.
+    /// Empties the queue.
     pub fn clear(&mut self)
         ensures { self.new ≡ [] }
     {

@@ -7,7 +7,7 @@ use events::Port;
 use server_turns::{NonBlocking, Turn};
 use session_conn::Words;
 
-/// What one turn of a connection has come to.
+/// The result of one turn of a connection.
 #[derive(Clone, Copy, Debug)]
 pub struct Served {
     pub turn: Turn,
@@ -19,7 +19,7 @@ pub struct Served {
 }
 
 impl Connection {
-    /// One turn at a moment: frames that wait go on, or a piece is read into the buffer.
+    /// Serves its client for one turn: frames that wait go on, or a piece is read into the buffer.
     pub fn serve<P: Port, W: Words>(
         &mut self,
         port: &mut P,

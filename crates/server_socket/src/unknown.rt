@@ -12,7 +12,7 @@ use wire_write::ServerError;
 /// How many bytes of such a client are kept at most.
 const MOST: usize = 8192;
 
-/// Whether a client hasn't shown who it is, and may still do so.
+/// Returns whether a client hasn't shown who it is, and may still do so.
 pub fn is_unknown(conn: &Conn) -> bool
     ensures { result ≡ is_unknown conn.now.stage }
 {
@@ -20,7 +20,7 @@ pub fn is_unknown(conn: &Conn) -> bool
     !stage.is_connected() && !stage.is_closed()
 }
 
-/// Whether too much may be kept of a client that hasn't shown who it is.
+/// Returns whether too much may be kept of a client that hasn't shown who it is.
 fn is_beyond(conn: &Conn) -> bool
     ensures { result ≡ false → IsBounded conn.now }
 {
@@ -28,7 +28,7 @@ fn is_beyond(conn: &Conn) -> bool
 }
 
 impl Connection {
-    /// A turn of it, or that it closes, where too much is kept of a client that hasn't shown who it is.
+    /// Returns its turn, or `Closed` where too much is kept of a client that hasn't shown who it is.
     pub fn bounded(&self, alloc: Global, turn: Turn) -> Turn
         ensures { is_over result ≡ false → IsBounded self.now.client.conn }
     {

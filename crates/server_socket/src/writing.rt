@@ -24,13 +24,13 @@ impl Connection {
     ghost use Rattle.server_socket.specs.Blocked.{is_out};
     ghost use Rattle.server_socket.specs.Connections.{all_written, counted_down, may_not_last, next_of, next_of_blocked};
 
-    /// The opening: its client is sent INFO, as far as its socket takes that.
+    /// Opens it: its client is sent INFO, as far as its socket takes that.
     pub fn open(&mut self) -> Turn {
         let mut writer = NonBlocking::new(&self.socket);
         self.client.open(&mut writer)
     }
 
-    /// Writes what is kept for its client, as far as its socket takes it, and answers what comes next.
+    /// Writes what is kept for its client, as far as its socket takes it, and returns what comes next.
     pub fn write_kept(&mut self, now: u64) -> Written {
         if self.is_over {
             return Written::Stops;
@@ -45,7 +45,8 @@ impl Connection {
         }
     }
 
-    /// Its socket takes nothing now. If it is to be closed, it ends once it has taken nothing for two seconds.
+    /// Returns what comes next where its socket takes nothing now. If it is to be closed, it ends once that took nothing for two
+    /// seconds.
     fn wait(&mut self, now: u64) -> Written
         ensures next { result ≡ next_of_blocked (may_not_last self.old) (is_out self.old.blocked.end_at now) }
         ensures counted { self.new ≡ counted_down (may_not_last self.old) now self.old }
@@ -59,7 +60,8 @@ impl Connection {
         Written::Later
     }
 
-    /// All is written. What its client is told next comes before what has come meanwhile, and that before the next Take.
+    /// Returns what comes next once all is written. What its client is told next comes before what has come meanwhile, and that
+    /// before the next Take.
     fn go_on(&mut self) -> Written
         ensures next { result ≡ next_of self.old }
         ensures written { self.new ≡ all_written self.old }
@@ -79,7 +81,7 @@ impl Connection {
         Written::Ends(Turn::Done)
     }
 
-    /// One Take of at most so many deliveries, and the writing of what it gives.
+    /// Makes one Take of at most so many deliveries, and writes what it gives.
     pub fn drain<P: Port>(&mut self, port: &mut P, most: usize, now: u64) -> Turn
         ensures { P.place port.new ≡ P.place port.old }
     {
@@ -88,8 +90,8 @@ impl Connection {
         turn
     }
 
-    /// Notes, at a moment behind a Take, whether its socket has taken all, and for how many milliseconds it took nothing of
-    /// which no event has told the hub.
+    /// Notes, behind a Take, whether its socket has taken all, and for how many milliseconds it took nothing of which no event
+    /// has told the hub.
     pub fn note_drained(&mut self, untold: u64, now: u64) {
         self.blocked.millis = untold;
         self.note_written(now);

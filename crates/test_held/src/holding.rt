@@ -15,7 +15,7 @@ pub struct Answers {
 }
 
 impl Answers {
-    /// None yet.
+    /// Returns the counts of workers that have answered nothing yet.
     pub fn new() -> Answers {
         Answers {
             first: AtomicU64::new(0),
@@ -36,12 +36,12 @@ impl Answers {
         }
     }
 
-    /// Whether the first worker has answered an event.
+    /// Returns whether the first worker has answered an event.
     fn has_first(&self) -> bool {
         self.first.load(Ordering::SeqCst) > 0
     }
 
-    /// Whether the second worker has answered enough.
+    /// Returns whether the second worker has answered enough.
     fn has_enough(&self) -> bool {
         self.second.load(Ordering::SeqCst) >= ENOUGH
     }
@@ -76,7 +76,7 @@ impl<R: Clock> HoldingGate<'_, R> {
         Err(GateClosed)
     }
 
-    /// Whether it holds its thread before the next event: the first worker, but at its first event.
+    /// Returns whether it holds its thread before the next event: the first worker, but at its first event.
     fn holds(&self) -> bool {
         matches!(self.thread, Thread::First) && self.answers.has_first()
     }
@@ -106,7 +106,7 @@ pub struct Holding<'a, R> {
 }
 
 impl<'a, R> Holding<'a, R> {
-    /// Gates of which the first worker's looks so often at most.
+    /// Returns the source of gates. The first worker's looks `looks` times at most whether it may go on.
     pub fn new(rt: &'a R, answers: &'a Answers, looks: u64) -> Holding<'a, R> {
         Holding { rt, answers, looks }
     }

@@ -17,8 +17,8 @@ use std::process::ExitCode;
 use std::rt::Env;
 use std::{env, thread};
 
-/// The words of the command line: `held TURNS`. Policies come as frames on standard input, and clients are served at a
-/// free port until it ends. TURNS is how often the first worker looks whether it may go on.
+/// Serves by the words of the command line: `held TURNS`. Policies come as frames on standard input, and clients are served
+/// at a free port until it ends. TURNS is how often the first worker looks whether it may go on.
 fn main(rt: HostRuntime) -> ExitCode {
     let looks = match looks(&rt) {
         Ok(looks) => looks,
@@ -41,7 +41,7 @@ fn main(rt: HostRuntime) -> ExitCode {
     ExitCode::from(status)
 }
 
-/// Two workers at a free port.
+/// Returns settings of two workers at a free port.
 fn settings() -> Settings<'static>
     ensures { AreServable result.workers result.outbox result.history result.history_bytes result.connections }
 {
@@ -55,13 +55,13 @@ fn settings() -> Settings<'static>
     }
 }
 
-/// How often the first worker is to look.
+/// Returns how often the first worker is to look.
 fn looks<R: Env + AllocGlobal>(rt: &R) -> Result<u64, HeldFault> {
     let words = words_of(rt)?;
     looks_in(words.as_slice()).ok_or(HeldFault::WrongWords)
 }
 
-/// The words of the command line.
+/// Returns the words of the command line.
 fn words_of<R: Env + AllocGlobal>(rt: &R) -> Result<Vec<String>, HeldFault> {
     match env::args(rt) {
         Ok(args) => match args.collect(rt.alloc()) {
@@ -72,7 +72,7 @@ fn words_of<R: Env + AllocGlobal>(rt: &R) -> Result<Vec<String>, HeldFault> {
     }
 }
 
-/// The number behind the program's name.
+/// Returns the number behind the program's name.
 fn looks_in(words: &[String]) -> Option<u64> {
     words.get(1)?.as_str().parse::<u64>().ok()
 }
