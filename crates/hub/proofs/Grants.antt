@@ -14,9 +14,9 @@ use Rattle.policy_doc.specs.declared.document.Terms.{Terms}
 use Rattle.reply_grants.specs.Grants.{Grant, is_below, is_within, is_live, is_for, has_live, youngest, without, after_note, answered, after_end, after_answer}
 use Rattle.reply_grants.specs.Replies.{Table, grants_of, noted, answered_in, ended_in, judged}
 use Rattle.reply_grants.specs.declared.replies.Note.{Note}
-use Rattle.hub.specs.Kept.{is_open, has_answer_left, IsAfter, AreApart, AreKept, IsKeptTable}
+use Rattle.hub.specs.Kept.{is_open, has_response_left, IsAfter, AreApart, AreKept, IsKeptTable}
 use Rattle.world_sessions.specs.Replying.{note_of}
-use Rattle.hub.specs.Replies.{is_young, answers, has_grant, noted_at}
+use Rattle.hub.specs.Replies.{is_young, is_live_for, has_grant, noted_at}
 use Rattle.hub.proofs.Finds.{AllPairs-head, AllPairs-tail, AllPairs-map}
 
 -- ---- what they allow
@@ -41,7 +41,7 @@ granted_is s now (Some terms) [] = refl
 granted_is s now (Some terms) (g ∷ gs) =
     ap (λ b. (same_subject s g.subject && (b && is_within terms.expires (now - g.noted))) || has_live s now (Some terms) gs) (open_is terms.max g.count)
     ∙ ap (λ b. (same_subject s g.subject && (is_open terms.max g.count && b)) || has_live s now (Some terms) gs) (young_is terms.expires (now - g.noted))
-    ∙ ap (λ b. answers now s terms g || b) (granted_is s now (Some terms) gs)
+    ∙ ap (λ b. is_live_for now s terms g || b) (granted_is s now (Some terms) gs)
 
 -- ---- their order
 
@@ -143,10 +143,10 @@ order_note now s gs is = record {
 
 -- each has an answer left, but perhaps the one for a subject
 abbrev Spares : Terms → List Token → Grant → Type 0
-Spares terms s g = (is_for s g || has_answer_left terms.max g.count) ≡ true
+Spares terms s g = (is_for s g || has_response_left terms.max g.count) ≡ true
 
 abbrev HasLeft : Terms → Grant → Type 0
-HasLeft terms g = has_answer_left terms.max g.count ≡ true
+HasLeft terms g = has_response_left terms.max g.count ≡ true
 
 or-right : (a b : Bool) → b ≡ true → (a || b) ≡ true
 or-right true b h = refl
@@ -159,7 +159,7 @@ spared_answer : (terms : Terms) (s : List Token) (gs : List Grant) → All (Spar
 spared_answer terms s gs all = All-map (Spares terms s) (λ (g : Grant). cond (is_for s g) (answered g) g) gs (λ k d h. here (get_or gs k d) (is_for s (get_or gs k d)) refl (all k d h))
   where
     here : (g : Grant) (b : Bool) → is_for s g ≡ b → Spares terms s g → Spares terms s (cond b (answered g) g)
-    here g true is h = ap (λ b. b || has_answer_left terms.max (answered g).count) is
+    here g true is h = ap (λ b. b || has_response_left terms.max (answered g).count) is
     here g false is h = h
 
 spared_note : (terms : Terms) (s r : List Token) (now : ℕ) (gs : List Grant) → All (Spares terms s) gs → All (Spares terms s) (after_note r now gs)
@@ -210,10 +210,10 @@ left_live terms s (g ∷ gs) apart all live =
     by_subject true is later =
         All-cons (HasLeft terms) g gs
         (open_left terms g (by_live is (is_live 0 (Some terms) g) refl (ap (λ b. (b && is_live 0 (Some terms) g) || has_live s 0 (Some terms) gs) (sym is) ∙ live)))
-        (λ k d h. ap (λ b. b || has_answer_left terms.max (get_or gs k d).count) (sym (no_other is k d h)) ∙ rest k d h)
+        (λ k d h. ap (λ b. b || has_response_left terms.max (get_or gs k d).count) (sym (no_other is k d h)) ∙ rest k d h)
     by_subject false is later =
         All-cons (HasLeft terms) g gs
-        (ap (λ b. b || has_answer_left terms.max g.count) (sym is) ∙ first)
+        (ap (λ b. b || has_response_left terms.max g.count) (sym is) ∙ first)
         (later (ap (λ b. (b && is_live 0 (Some terms) g) || has_live s 0 (Some terms) gs) (sym is) ∙ live))
 
 left_end : (terms : Terms) (s : List Token) (gs : List Grant) → AllPairs AreApart gs → All (Spares terms s) gs → All (HasLeft terms) (after_end s (Some terms) gs)
@@ -222,7 +222,7 @@ left_end terms s gs apart all = here (has_live s 0 (Some terms) gs) refl
     here : (b : Bool) → has_live s 0 (Some terms) gs ≡ b → All (HasLeft terms) (cond b gs (without s gs))
     here true is = left_live terms s gs apart all is
     here false is = λ k d h.
-        ap (λ b. b || has_answer_left terms.max (get_or (without s gs) k d).count) (sym (others s gs k d h))
+        ap (λ b. b || has_response_left terms.max (get_or (without s gs) k d).count) (sym (others s gs k d h))
         ∙ All-filter (λ (g : Grant). not (is_for s g)) (Spares terms s) gs all k d h
 
 order_end : (now : ℕ) (s : List Token) (terms : Option Terms) (gs : List Grant) → AreInOrder now gs → AreInOrder now (after_end s terms gs)

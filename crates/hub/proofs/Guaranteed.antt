@@ -45,7 +45,7 @@ use Rattle.world.specs.Transition.{IsReasoned, IsRefusal, connected, subscribed,
 use Rattle.hub.specs.Sound.{IsSound, user_behind, user_at, account_of, may_subscribe, HasAllowance}
 use Rattle.hub.specs.InForce.{policy_after, epoch_after}
 use Rattle.hub.specs.History.{State, is_history_full, remembered, stepped, IsStep}
-use Rattle.hub.specs.Replies.{terms_in, grants_at, has_grant, may_answer, is_answer}
+use Rattle.hub.specs.Replies.{terms_in, grants_at, has_grant, may_respond, is_response}
 use Rattle.hub.specs.Guarantee.{room_in, IsAllowance, accepts, allows, may_publish, may_receive, has_echo, is_for, eligible, IsDenial, HasReason, IsReasonedFor, AreServed, IsDelivered, IsUntouched, IsEffect, is_connect, is_nobodys, has_session, is_fit, is_in_order, is_due, is_at_limit, IsRouted, KeepsGuarantee, IsGuarded}
 use Rattle.std.proofs.Math.Bool.{or-true}
 use Rattle.std.proofs.lemmas.Bool.{eqb-true}
@@ -254,7 +254,7 @@ receives-keeps capacity now by conn m subs = record {
   conn = λ z. refl;
   user = λ z. refl;
   outbox = λ z is. (is.0, bounded z.outbox.waiting _ z.outbox.capacity capacity is);
-  grants = λ z is. kept_after now (length (take (room_in (Some z)) (map (delivery_to m) (of_connection z.conn subs)))) (is_answer by conn z) m.subject m.reply z.user.rules.allow_responses z.replies is;
+  grants = λ z is. kept_after now (length (take (room_in (Some z)) (map (delivery_to m) (of_connection z.conn subs)))) (is_response by conn z) m.subject m.reply z.user.rules.allow_responses z.replies is;
 }
 
 -- counting changes nothing but the count
@@ -295,8 +295,8 @@ pub-keeps w now conn m word sound = by_session (session_of w.sessions conn) refl
     later = max w.moment now
 
     -- a live grant is one that the guarantee speaks of
-    may_answer-is : (z : Session) → session_of w.sessions conn ≡ Some z → user_at w conn ≡ Some z.user → may_answer w later conn m.subject ≡ is_granted later m.subject z
-    may_answer-is z at u =
+    may_respond-is : (z : Session) → session_of w.sessions conn ≡ Some z → user_at w conn ≡ Some z.user → may_respond w later conn m.subject ≡ is_granted later m.subject z
+    may_respond-is z at u =
         ap (λ o. has_grant later m.subject (terms_in o) (grants_at (session_of w.sessions conn))) u
         ∙ ap (λ o. has_grant later m.subject (terms_of z) (grants_at o)) at
         ∙ sym (granted_is m.subject later (terms_of z) (grants_of z.replies))
@@ -317,7 +317,7 @@ pub-keeps w now conn m word sound = by_session (session_of w.sessions conn) refl
     granted : (v : Verdict) (z : Session) → publish_verdict z.user.rules m.subject ≡ v → is_allowed v ≡ false → is_granted later m.subject z ≡ true → session_of w.sessions conn ≡ Some z → user_at w conn ≡ Some z.user → Reasoned → Allows Grant
     granted v z e refuses live at u reasoned =
         subst (λ o. IsSomeAnd o (λ (user : User). IsAllowance w later conn m.subject user Grant)) (sym u)
-        (ap is_allowed e ∙ refuses, justified (publish_verdict z.user.rules m.subject) z refl at reasoned, may_answer-is z at u ∙ live)
+        (ap is_allowed e ∙ refuses, justified (publish_verdict z.user.rules m.subject) z refl at reasoned, may_respond-is z at u ∙ live)
 
     all : Session → List Subscription
     all z = admitted w z (own_view z m)
@@ -349,7 +349,7 @@ pub-keeps w now conn m word sound = by_session (session_of w.sessions conn) refl
         )
 
     -- the message goes to whom it is for
-    sends : (by : By) (z : Session) → session_of w.sessions conn ≡ Some z → user_at w conn ≡ Some z.user → (may_publish (user_at w conn) m.subject || may_answer w later conn m.subject) ≡ true → (Reasoned → Allows by) → is_fit w command ≡ true →
+    sends : (by : By) (z : Session) → session_of w.sessions conn ≡ Some z → user_at w conn ≡ Some z.user → (may_publish (user_at w conn) m.subject || may_respond w later conn m.subject) ≡ true → (Reasoned → Allows by) → is_fit w command ≡ true →
         Keeps w (event now command) (numbered (w.number + 1) (Ok (published (advanced w now) z m word (Allowed by))))
     sends by z at u may reason fit =
         let own : z.conn ≡ conn = eqb-true z.conn conn (find-passes (λ (y : Session). y.conn == conn) w.sessions z at) in
@@ -375,19 +375,19 @@ pub-keeps w now conn m word sound = by_session (session_of w.sessions conn) refl
         Keeps w (event now command) (Ok (Denied v, next w now w.sessions w.subscriptions))
     refused v z e refuses dead at u fit =
         answered w now command (Denied v) w.sessions w.subscriptions (refl, refl) fit
-        (sym (ap (λ b. b || may_answer w later conn m.subject) (may_publish-is v z e u ∙ refuses) ∙ may_answer-is z at u ∙ dead))
+        (sym (ap (λ b. b || may_respond w later conn m.subject) (may_publish-is v z e u ∙ refuses) ∙ may_respond-is z at u ∙ dead))
         (denied v z e at u) (untouched w now) (λ _. sound-same w now sound)
 
     -- what the lists refuse, a grant may allow
     answers : (v : Verdict) (z : Session) → publish_verdict z.user.rules m.subject ≡ v → is_allowed v ≡ false → is_granted later m.subject z ≡ true → session_of w.sessions conn ≡ Some z → user_at w conn ≡ Some z.user → is_fit w command ≡ true →
         Keeps w (event now command) (numbered (w.number + 1) (Ok (published (advanced w now) z m word (Allowed Grant))))
     answers v z e refuses live at u fit =
-        sends Grant z at u (ap (λ b. may_publish (user_at w conn) m.subject || b) (may_answer-is z at u ∙ live) ∙ or-true (may_publish (user_at w conn) m.subject)) (granted v z e refuses live at u) fit
+        sends Grant z at u (ap (λ b. may_publish (user_at w conn) m.subject || b) (may_respond-is z at u ∙ live) ∙ or-true (may_publish (user_at w conn) m.subject)) (granted v z e refuses live at u) fit
 
     by_verdict : (v : Verdict) (live : Bool) (z : Session) → publish_verdict z.user.rules m.subject ≡ v → is_granted later m.subject z ≡ live → session_of w.sessions conn ≡ Some z → user_at w conn ≡ Some z.user → is_fit w command ≡ true →
         Keeps w (event now command) (numbered (w.number + 1) (Ok (published (advanced w now) z m word (or_granted live v))))
     by_verdict (Allowed by) live z e is at u fit =
-        sends by z at u (ap (λ b. b || may_answer w later conn m.subject) (may_publish-is (Allowed by) z e u)) (listed by z e at u) fit
+        sends by z at u (ap (λ b. b || may_respond w later conn m.subject) (may_publish-is (Allowed by) z e u)) (listed by z e at u) fit
     by_verdict (DeniedBy i) true z e is at u fit = answers (DeniedBy i) z e refl is at u fit
     by_verdict (DeniedBy i) false z e is at u fit = refused (DeniedBy i) z e refl is at u fit
     by_verdict NoAllow true z e is at u fit = answers NoAllow z e refl is at u fit

@@ -34,7 +34,7 @@ use Rattle.world.specs.World.{World}
 use Rattle.world_groups.specs.Served.{is_member, members}
 use Rattle.world_subscriptions.specs.Addressing.{delivery_to}
 use Rattle.hub.specs.Sound.{IsSound, user_at, may_subscribe, HasAllowance, is_to_receive}
-use Rattle.hub.specs.Replies.{may_answer, replies_after}
+use Rattle.hub.specs.Replies.{may_respond, replies_after}
 use Rattle.hub.specs.History.{State, is_history_full}
 use Rattle.hub.specs.InForce.{IsInForce, policy_after, epoch_after}
 use Rattle.hub.specs.Run.{EachStep}
@@ -66,7 +66,7 @@ abbrev pub allows : World → ℕ → Command → Bool
 allows w now (Connect conn name password echo) = is_some (user_with_password w.policy name password)
 allows w now (Sub conn p queue sid) = may_subscribe (user_at w conn) p queue
 allows w now (Unsub conn sid most) = true
-allows w now (Pub conn m word) = may_publish (user_at w conn) m.subject || may_answer w now conn m.subject
+allows w now (Pub conn m word) = may_publish (user_at w conn) m.subject || may_respond w now conn m.subject
 allows w now (Take conn most) = true
 allows w now (Close conn) = true
 allows w now (Reload doc) = true
@@ -96,7 +96,7 @@ abbrev pub IsAllowance : World → ℕ → ℕ → List Token → User → By �
 IsAllowance w now conn s u AllowsAll = (publish_verdict u.rules s ≡ Allowed AllowsAll) × IsJustifiedPublish s u.rules.publish (Allowed AllowsAll)
 IsAllowance w now conn s u (Index i) = (publish_verdict u.rules s ≡ Allowed (Index i)) × IsJustifiedPublish s u.rules.publish (Allowed (Index i))
 IsAllowance w now conn s u Grant =
-    (is_allowed (publish_verdict u.rules s) ≡ false) × IsJustifiedPublish s u.rules.publish (publish_verdict u.rules s) × (may_answer w now conn s ≡ true)
+    (is_allowed (publish_verdict u.rules s) ≡ false) × IsJustifiedPublish s u.rules.publish (publish_verdict u.rules s) × (may_respond w now conn s ≡ true)
 
 -- What is denied is denied with reason, and what is allowed is allowed with reason: each deny entry lacks some of what
 -- was asked, and no allow list is given, or one of its entries is the least that has all of it. Of a Pub it is the one
@@ -161,7 +161,7 @@ room_in (Some z) = z.outbox.capacity - length z.outbox.waiting
 
 -- A session after deliveries of a message that a connection has published: its outbox holds what it held, and as many of
 -- them, oldest first, as it had room for; one was missed if it has missed one before, or there was no room for all; and
--- its grants are those after the answer, if it is one, and after what has entered.
+-- its grants are those after the response, if it is one, and after what has entered.
 abbrev pub receives : ℕ → By → ℕ → Message → List Delivery → Session → Session
 receives now by conn m ds z = record z {
   outbox = record z.outbox { waiting = z.outbox.waiting ++ take (room_in (Some z)) ds };

@@ -5,14 +5,14 @@ use Rattle.policy_doc.specs.declared.document.Terms.{Terms}
 use Rattle.reply_grants.specs.Grants.{Grant}
 use Rattle.reply_grants.specs.Replies.{Table, grants_of}
 
--- fewer answers than the terms allow have passed
+-- fewer responses than the terms allow have passed
 abbrev pub is_open : Option ℕ → ℕ → Bool
 is_open None count = true
 is_open (Some max) count = nat_lt count max
 
 -- the same, or none has passed yet
-abbrev pub has_answer_left : Option ℕ → ℕ → Bool
-has_answer_left max count = (count == 0) || is_open max count
+abbrev pub has_response_left : Option ℕ → ℕ → Bool
+has_response_left max count = (count == 0) || is_open max count
 
 -- the moments don't fall from the oldest to the youngest
 abbrev pub IsAfter : Grant → Grant → Type 0
@@ -28,10 +28,10 @@ pub record AreKept (now : ℕ) (terms : Terms) (gs : List Grant) : Type 0 where
   pub rising : AllPairs IsAfter gs
   -- none is noted after the kept moment
   pub past : All (λ (g : Grant). g.noted ≤ now) gs
-  -- each has an answer left, or has had none
-  pub unspent : All (λ (g : Grant). has_answer_left terms.max g.count ≡ true) gs
+  -- each has a response left, or has had none
+  pub unspent : All (λ (g : Grant). has_response_left terms.max g.count ≡ true) gs
 
--- who may not answer has no table
+-- who may not respond has no table
 abbrev pub IsKeptTable : ℕ → Option Terms → Table → Type 0
 IsKeptTable now None table = table ≡ None
 IsKeptTable now (Some terms) table = AreKept now terms (grants_of table)

@@ -1,4 +1,4 @@
--- What the guarantee says of answers: who may answer on a reply subject, and what becomes of the grants
+-- What the guarantee says of responses: who may respond on a reply subject, and what becomes of the grants
 -- (docs/GUARANTEE.md, "Reply grants").
 use Rattle.std.specs.Prelude.{◌==◌, ◌-◌, ◌&&◌, ℕ, Bool, true, false, List, [], Option, Some, None, if◌then◌else◌, nat_lt, nat_le}
 use Rattle.std.specs.List.{list_any}
@@ -18,9 +18,9 @@ use Rattle.world.specs.World.{World}
 use Rattle.hub.specs.Kept.{is_open}
 use Rattle.hub.specs.Sound.{user_at}
 
--- ---- who may answer
+-- ---- who may respond
 
--- on what terms a user may answer, if there is one
+-- on what terms a user may respond, if there is one
 abbrev pub terms_in : Option User → Option Terms
 terms_in None = None
 terms_in (Some u) = u.rules.allow_responses
@@ -36,16 +36,16 @@ is_young None age = true
 is_young (Some expires) age = nat_le age expires
 
 -- a grant that is live on these terms, for a subject
-abbrev pub answers : ℕ → List Token → Terms → Grant → Bool
-answers now s terms g = same_subject s g.subject && (is_open terms.max g.count && is_young terms.expires (now - g.noted))
+abbrev pub is_live_for : ℕ → List Token → Terms → Grant → Bool
+is_live_for now s terms g = same_subject s g.subject && (is_open terms.max g.count && is_young terms.expires (now - g.noted))
 
 abbrev pub has_grant : ℕ → List Token → Option Terms → List Grant → Bool
 has_grant now s None gs = false
-has_grant now s (Some terms) gs = list_any (answers now s terms) gs
+has_grant now s (Some terms) gs = list_any (is_live_for now s terms) gs
 
 -- whether the user of a connection has a live grant for a subject, on the terms that it has in the policy in force
-abbrev pub may_answer : World → ℕ → ℕ → List Token → Bool
-may_answer w now conn s = has_grant now s (terms_in (user_at w conn)) (grants_at (session_of w.sessions conn))
+abbrev pub may_respond : World → ℕ → ℕ → List Token → Bool
+may_respond w now conn s = has_grant now s (terms_in (user_at w conn)) (grants_at (session_of w.sessions conn))
 
 -- ---- what becomes of the grants at a publish
 
@@ -54,9 +54,9 @@ is_by_grant AllowsAll = false
 is_by_grant (Index i) = false
 is_by_grant ByGrant = true
 
--- an answer of this session that a grant has allowed
-abbrev pub is_answer : By → ℕ → Session → Bool
-is_answer by conn z = is_by_grant by && (z.conn == conn)
+-- a response of this session, which a grant has allowed
+abbrev pub is_response : By → ℕ → Session → Bool
+is_response by conn z = is_by_grant by && (z.conn == conn)
 
 -- where so many deliveries of a message enter, at least one, its reply is noted, if it has one and the user has terms
 abbrev pub noted_at : ℕ → ℕ → Option (List Token) → Option Terms → Table → Table
@@ -64,10 +64,10 @@ noted_at now entered None terms table = table
 noted_at now entered (Some s) None table = table
 noted_at now entered (Some s) (Some terms) table = if nat_lt 0 entered then noted (note_of s table) now table else table
 
--- An answer is counted on its grant; then the reply is noted, once, however many of the session's deliveries enter; then
--- the grant of the answer goes, where as many have passed as may.
+-- A response is counted on its grant; then the reply is noted, once, however many of the session's deliveries enter; then
+-- the grant of the response goes, where as many have passed as may.
 abbrev pub replies_after : ℕ → By → ℕ → Message → ℕ → Session → Table
 replies_after now by conn m entered z =
-    if is_answer by conn z
+    if is_response by conn z
     then ended_in m.subject z.user.rules.allow_responses (noted_at now entered m.reply z.user.rules.allow_responses (answered_in m.subject z.replies))
     else noted_at now entered m.reply z.user.rules.allow_responses z.replies

@@ -26,10 +26,10 @@ pub record IsPart (p : Part) : Type 0 where
 abbrev pub first_number : Part → ℕ
 first_number p = min (p.opening.number + 1) 18446744073709551615
 
--- what a hub holds
-abbrev pub held : State → Part
-held s = record { opening = s.opening; entries = s.entries; closing = s.world }
+-- what a hub holds of its history: the tail, behind all segments
+abbrev pub tail_of : State → Part
+tail_of s = record { opening = s.opening; entries = s.entries; closing = s.world }
 
--- once what was held is handed out, a hub goes on from the present world
+-- once the tail is handed out, a hub goes on from the present world
 abbrev pub rotated : State → State
 rotated s = record s { opening = s.world; entries = [] }

@@ -65,7 +65,7 @@ pub record IsSound (w : World) : Type 0 where
   -- an outbox holds no more than the hub's capacity
   pub outboxes : All (λ (z : Session). (z.outbox.capacity ≡ w.capacity) × (length z.outbox.waiting ≤ w.capacity)) w.sessions
   -- the grants of a session: none without terms; at most 1,024, of different subjects, in the order in which they were
-  -- noted, none after the kept moment, and each with an answer left
+  -- noted, none after the kept moment, and each with a response left
   pub grants : All (λ (z : Session). IsKeptTable w.moment z.user.rules.allow_responses z.replies) w.sessions
   -- the policy in force refuses no standing subscription: its connection has a session, whose user may have it
   pub subscriptions : All (λ (s : Subscription). may_subscribe (user_at w s.conn) s.subject s.queue ≡ true) w.subscriptions

@@ -73,7 +73,7 @@ impl Hub {
     ghost use Rattle.world.specs.World as worlds;
     ghost use Rattle.hub.specs.Sound.{IsSound};
     ghost use Rattle.hub.specs.History.{opening_state, is_history_full, stepped, IsOpening, IsLegalRun, IsStep};
-    ghost use Rattle.hub.specs.Segments.{IsReached, held, rotated};
+    ghost use Rattle.hub.specs.Segments.{IsReached, rotated, tail_of};
 
     /// A hub over a policy, with nobody connected and nothing to remember. `NoMemory` hands the policy back. Clients
     /// choose the tokens of subjects, so the tables of tokens are hashed under keys that they can't know.
@@ -268,7 +268,7 @@ impl Hub {
     /// copy of the tables, however long the history is. On `NoMemory` nothing has changed.
     #[tactic(auto, unfolding(crate::specs::History::IsLegalRun))]
     pub fn rotate(&mut self) -> Result<Segment, NoMemory>
-        ensures segment { IfOk result (λ segment. segment ≡ held self.old) }
+        ensures segment { IfOk result (λ segment. segment ≡ tail_of self.old) }
         ensures ok { OnOk result (self.new ≡ rotated self.old) }
         ensures err { OnErr result (self.new ≡ self.old) }
     {

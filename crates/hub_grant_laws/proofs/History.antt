@@ -51,12 +51,12 @@ use Rattle.hub.specs.History.{IsEntry, IsLegalRun}
 use Rattle.hub.specs.Guarantee.{room_in, items_of, items_with_room}
 use Rattle.hub.specs.Guarantee.{found_full}
 use Rattle.hub.specs.Kept.{IsKeptTable}
-use Rattle.hub.specs.Replies.{is_by_grant, is_answer as is_counted}
+use Rattle.hub.specs.Replies.{is_by_grant, is_response as is_counted}
 use Rattle.hub.proofs.Finds.{find-passes, find-none, AllPairs-head, AllPairs-tail}
 use Rattle.hub.proofs.Grants.{not-false, kept_none, kept_later, kept_after, kept_judged}
 use Rattle.hub.proofs.Soundness.{IsApart, HasTable}
 use Rattle.hub.proofs.Deliveries.{found, notes_of, receives_of, as_sent, met, outboxes, items_after, with_room}
-use Rattle.hub_grant_laws.specs.Noted.{is_reply, asks_on, is_entered_at, answers_by, ends_for, latest, IsNoted, AreNoted}
+use Rattle.hub_grant_laws.specs.Noted.{is_reply, asks_on, is_entered_at, responds_by, ends_for, latest, IsNoted, AreNoted}
 use Rattle.hub_grant_laws.proofs.Noted.{latest-more, after-publish, after-other, after-judged}
 
 -- ---- what an entry tells of deliveries
@@ -139,7 +139,7 @@ told number epoch now c o = entry_with number epoch o (record { now = now; what 
 record IsSilent (c : Command) (o : Outcome) (conn : ℕ) : Type 0 where
   pub lasts : ends_for conn c o ≡ false
   pub request : (s : List Token) → (asks_on s c && list_any (is_entered_at conn) (items_in o)) ≡ false
-  pub answer : (s : List Token) → answers_by conn s c o ≡ false
+  pub answer : (s : List Token) → responds_by conn s c o ≡ false
 
 -- without terms there is no table
 bare : (now : ℕ) (terms : Option Terms) (table : Table) → IsKeptTable now terms table → terms ≡ None → table ≡ None

@@ -42,7 +42,7 @@ use Rattle.world.specs.Granting.{or_granted, verdict_on, counted_on, ended_on}
 use Rattle.world.specs.Routing.{own_view, may_hear, lets_through, is_admitted, admitted}
 use Rattle.world.specs.Reload.{user_after, verdict_for, may_stand, stands_on, removal, removal_after}
 use Rattle.world.specs.Transition.{connected, subscribed, published, in_session, in_new_session, moved, numbered, transition}
-use Rattle.hub.specs.Replies.{is_answer}
+use Rattle.hub.specs.Replies.{is_response}
 use Rattle.hub.proofs.Finds.{find-map, AllPairs-map}
 use Rattle.hub.proofs.Soundness.{IsApart, HasTable, tables-next}
 use Rattle.hub.proofs.Deliveries.{sent, notes_of, receives_of, as_sent, met, outboxes, items_after}
@@ -172,7 +172,7 @@ received_same now by conn m subs zs kept =
     entered z = length (take (room_in (Some z)) (map (delivery_to m) (of_connection z.conn subs)))
 
     one : (z : Session) → HasTable now z → with_live now (get (with_live now z)) ≡ with_live now (get z)
-    one z is = ap (λ (t : Table). record (receives_of now by conn m subs z) { replies = t }) (sym (after_same now (entered z) (is_answer by conn z) m.subject m.reply (terms_of z) z.replies is))
+    one z is = ap (λ (t : Table). record (receives_of now by conn m subs z) { replies = t }) (sym (after_same now (entered z) (is_response by conn z) m.subject m.reply (terms_of z) z.replies is))
 
 -- ---- each command
 

@@ -13,7 +13,7 @@ use Rattle.events.specs.declared.answer.Entry.{Entry}
 use Rattle.world_sessions.specs.Replying.{note_of}
 use Rattle.hub.specs.Replies.{noted_at}
 use Rattle.hub.proofs.Grants.{not-false}
-use Rattle.hub_grant_laws.specs.Noted.{is_reply, is_request, is_answer, is_end, answers_on, latest, IsNoted}
+use Rattle.hub_grant_laws.specs.Noted.{is_reply, is_request, is_response, is_end, responses_on, latest, IsNoted}
 
 -- ---- one entry more
 
@@ -21,11 +21,11 @@ pub latest-more : (es : List Entry) (a : Entry) → latest (es ++ a ∷ []) ≡ 
 latest-more [] a = omega arith
 latest-more (e ∷ es) a = omega (arith, latest-more es a)
 
-answers-more : (conn : ℕ) (s : List Token) (es : List Entry) (a : Entry) → answers_on conn s (es ++ a ∷ []) ≡ answers_on conn s es + cond (is_answer conn s a) 1 0
-answers-more conn s es a =
-    ap (λ (l : List Entry). length l) (filter-append (is_answer conn s) es (a ∷ []))
-    ∙ length-append (filter (is_answer conn s) es) (filter (is_answer conn s) (a ∷ []))
-    ∙ ap (λ n. answers_on conn s es + n) (one (is_answer conn s a))
+responses-more : (conn : ℕ) (s : List Token) (es : List Entry) (a : Entry) → responses_on conn s (es ++ a ∷ []) ≡ responses_on conn s es + cond (is_response conn s a) 1 0
+responses-more conn s es a =
+    ap (λ (l : List Entry). length l) (filter-append (is_response conn s) es (a ∷ []))
+    ∙ length-append (filter (is_response conn s) es) (filter (is_response conn s) (a ∷ []))
+    ∙ ap (λ n. responses_on conn s es + n) (one (is_response conn s a))
   where
     one : (b : Bool) → length (cond b (a ∷ []) []) ≡ cond b 1 0
     one true = refl
@@ -33,7 +33,7 @@ answers-more conn s es a =
 
 -- a grant has counted the entry, which is no request for it
 more : (es : List Entry) (a : Entry) (conn : ℕ) (g : Grant) (count : ℕ) → IsNoted es conn g → is_end conn a ≡ false → is_request conn g.subject a ≡ false →
-    ((n : ℕ) → g.count ≡ min (2 ^ 64 - 1) n → count ≡ min (2 ^ 64 - 1) (n + cond (is_answer conn g.subject a) 1 0)) → IsNoted (es ++ a ∷ []) conn (record g { count = count })
+    ((n : ℕ) → g.count ≡ min (2 ^ 64 - 1) n → count ≡ min (2 ^ 64 - 1) (n + cond (is_response conn g.subject a) 1 0)) → IsNoted (es ++ a ∷ []) conn (record g { count = count })
 more es a conn g count is lasts other counts = record {
   before = is.before;
   made = is.made;
@@ -45,7 +45,7 @@ more es a conn g count is lasts other counts = record {
     session = All-push (λ (e : Entry). is_end conn e ≡ false) is.since a is.request.session lasts;
   };
   noted = is.noted;
-  count = counts (answers_on conn g.subject is.since) is.count ∙ ap (min (2 ^ 64 - 1)) (sym (answers-more conn g.subject is.since a));
+  count = counts (responses_on conn g.subject is.since) is.count ∙ ap (min (2 ^ 64 - 1)) (sym (responses-more conn g.subject is.since a));
 }
 
 count-none : (bound r n k : ℕ) → k ≡ 0 → r ≡ min bound n → r ≡ min bound (n + k)
@@ -58,11 +58,11 @@ count-one bound r n k one is = omega (arith, one, is)
 abbrev IsNotedUnless : List Entry → Entry → ℕ → Grant → Type 0
 IsNotedUnless es a conn g = is_request conn g.subject a ≡ false → IsNoted (es ++ a ∷ []) conn g
 
-unanswered : (es : List Entry) (a : Entry) (conn : ℕ) (g : Grant) → is_end conn a ≡ false → is_answer conn g.subject a ≡ false → IsNoted es conn g → IsNotedUnless es a conn g
+unanswered : (es : List Entry) (a : Entry) (conn : ℕ) (g : Grant) → is_end conn a ≡ false → is_response conn g.subject a ≡ false → IsNoted es conn g → IsNotedUnless es a conn g
 unanswered es a conn g lasts none is other =
     more es a conn g g.count is lasts other (λ n. count-none (2 ^ 64 - 1) g.count n _ (ap (λ b. cond b 1 0) none))
 
-counted : (es : List Entry) (a : Entry) (conn : ℕ) (g : Grant) → is_end conn a ≡ false → is_answer conn g.subject a ≡ true → IsNoted es conn g → IsNotedUnless es a conn (answered g)
+counted : (es : List Entry) (a : Entry) (conn : ℕ) (g : Grant) → is_end conn a ≡ false → is_response conn g.subject a ≡ true → IsNoted es conn g → IsNotedUnless es a conn (answered g)
 counted es a conn g lasts one is other =
     more es a conn g (answered g).count is lasts other (λ n. count-one (2 ^ 64 - 1) g.count n _ (ap (λ b. cond b 1 0) one))
 
@@ -88,19 +88,19 @@ fresh es a conn s now asks is = record {
 -- the grants of one connection, and what the entry of a publish tells of it: whether the publish was its answer, on this
 -- subject, and whether so many of its deliveries have entered, with this reply
 module _ (es : List Entry) (a : Entry) (conn : ℕ) (lasts : is_end conn a ≡ false) where
-  answered-one : (s : List Token) (g : Grant) → ((t : List Token) → is_answer conn t a ≡ same_subject s t) → IsNoted es conn g → IsNotedUnless es a conn (cond (is_for s g) (answered g) g)
+  answered-one : (s : List Token) (g : Grant) → ((t : List Token) → is_response conn t a ≡ same_subject s t) → IsNoted es conn g → IsNotedUnless es a conn (cond (is_for s g) (answered g) g)
   answered-one s g tells is = here (is_for s g) refl
     where
       here : (b : Bool) → is_for s g ≡ b → IsNotedUnless es a conn (cond b (answered g) g)
       here true own = counted es a conn g lasts (tells g.subject ∙ own) is
       here false own = unanswered es a conn g lasts (tells g.subject ∙ own) is
 
-  answered-table : (s : List Token) (table : Table) → ((t : List Token) → is_answer conn t a ≡ same_subject s t) → All (IsNoted es conn) (grants_of table) → All (IsNotedUnless es a conn) (grants_of (answered_in s table))
+  answered-table : (s : List Token) (table : Table) → ((t : List Token) → is_response conn t a ≡ same_subject s t) → All (IsNoted es conn) (grants_of table) → All (IsNotedUnless es a conn) (grants_of (answered_in s table))
   answered-table s None tells all = All-nil (IsNotedUnless es a conn)
   answered-table s (Some gs) tells all =
       All-map (IsNotedUnless es a conn) (λ (g : Grant). cond (is_for s g) (answered g) g) gs (λ k d h. answered-one s (get_or gs k d) tells (all k d h))
 
-  plain-table : (table : Table) → ((t : List Token) → is_answer conn t a ≡ false) → All (IsNoted es conn) (grants_of table) → All (IsNotedUnless es a conn) (grants_of table)
+  plain-table : (table : Table) → ((t : List Token) → is_response conn t a ≡ false) → All (IsNoted es conn) (grants_of table) → All (IsNotedUnless es a conn) (grants_of table)
   plain-table table tells all = All-weaker (IsNoted es conn) (IsNotedUnless es a conn) (λ g is. unanswered es a conn g lasts (tells g.subject) is) (grants_of table) all
 
   -- no request
@@ -136,7 +136,7 @@ module _ (es : List Entry) (a : Entry) (conn : ℕ) (lasts : is_end conn a ≡ f
 
   -- the table after a publish, be it an answer or not
   pub after-publish : (now entered : ℕ) (answer : Bool) (s : List Token) (reply : Option (List Token)) (terms : Option Terms) (table : Table) →
-      ((t : List Token) → is_answer conn t a ≡ (answer && same_subject s t)) → ((t : List Token) → is_request conn t a ≡ (is_reply t reply && nat_lt 0 entered)) → (terms ≡ None → table ≡ None) →
+      ((t : List Token) → is_response conn t a ≡ (answer && same_subject s t)) → ((t : List Token) → is_request conn t a ≡ (is_reply t reply && nat_lt 0 entered)) → (terms ≡ None → table ≡ None) →
       now ≡ latest (es ++ a ∷ []) → All (IsNoted es conn) (grants_of table) →
       All (IsNoted (es ++ a ∷ []) conn) (grants_of (cond answer (ended_in s terms (noted_at now entered reply terms (answered_in s table))) (noted_at now entered reply terms table)))
   after-publish now entered true s reply terms table answers requests bare is all =
@@ -154,7 +154,7 @@ module _ (es : List Entry) (a : Entry) (conn : ℕ) (lasts : is_end conn a ≡ f
       noted-table now entered reply terms table requests bare is (plain-table table answers all)
 
   -- and after any other event
-  pub after-other : (table : Table) → ((t : List Token) → is_answer conn t a ≡ false) → ((t : List Token) → is_request conn t a ≡ false) → All (IsNoted es conn) (grants_of table) → All (IsNoted (es ++ a ∷ []) conn) (grants_of table)
+  pub after-other : (table : Table) → ((t : List Token) → is_response conn t a ≡ false) → ((t : List Token) → is_request conn t a ≡ false) → All (IsNoted es conn) (grants_of table) → All (IsNoted (es ++ a ∷ []) conn) (grants_of table)
   after-other table answers requests all = same-table table requests (plain-table table answers all)
 
 -- a reload drops some

@@ -1,4 +1,4 @@
--- In every legal run from an opening whoever may answer, and whoever has answered by a grant, has an open request.
+-- In every legal run from an opening whoever may respond, and whoever has responded by a grant, has an open request.
 use Rattle.std.proofs.Common.{◌≡◌, ◌∙◌, ◌==◌, ◌&&◌, ◌||◌, ℕ, ◌+◌, ◌-◌, ◌^◌, ◌<◌, Bool, true, false, not, cond, List, [], ◌∷◌, Option, Some, None, Result, Ok, Err, ap, sym, refl, subst, arith, max}
 use Rattle.std.specs.Prelude.{position, All, IfSome, IsSomeAnd, ◌≤◌, min}
 use Rattle.std.specs.List.{list_any}
@@ -29,15 +29,15 @@ use Rattle.world.specs.World.{World, opening_world, advanced}
 use Rattle.world.specs.Granting.{or_granted, verdict_on}
 use Rattle.world.specs.Transition.{published, in_session, moved, numbered}
 use Rattle.hub.specs.Kept.{is_open}
-use Rattle.hub.specs.Replies.{is_by_grant, terms_in, grants_at, is_young, answers, has_grant}
+use Rattle.hub.specs.Replies.{is_by_grant, terms_in, grants_at, is_young, is_live_for, has_grant}
 use Rattle.hub.specs.Sound.{user_at}
 use Rattle.hub.proofs.Finds.{find-passes, find-All}
 use Rattle.hub.proofs.Grants.{granted_is}
-use Rattle.hub_grant_laws.specs.Noted.{answers_by, answers_on, terms_at, IsLastRequest, IsNoted, IsOpenRequest, MayAnswerHasRequest, AnswerHasRequest}
+use Rattle.hub_grant_laws.specs.Noted.{responds_by, responses_on, terms_at, IsLastRequest, IsNoted, IsOpenRequest, MayRespondHasRequest, ResponseHasRequest}
 use Rattle.hub_grant_laws.proofs.Tables.{both-front, both-back}
 use Rattle.hub_grant_laws.proofs.History.{HasNoted, Told, clock_is, run-told, told-opening, are_noted}
 
--- ---- who may answer
+-- ---- who may respond
 
 within : (now : ℕ) (limit : Option ℕ) (noted moment : ℕ) → noted ≡ moment → is_young limit (now - noted) ≡ true → IfSome limit (λ (most : ℕ). now - moment ≤ most)
 within now None noted moment is h = tt
@@ -47,14 +47,14 @@ below : (max : Option ℕ) (count answers : ℕ) → count ≡ answers → is_op
 below None count answers is h = tt
 below (Some most) count answers is h = let less = ltb-true count most h in omega (arith, is, less)
 
-open-request : (es : List Entry) (now conn : ℕ) (s : List Token) (terms : Terms) (gs : List Grant) → All (IsNoted es conn) gs → list_any (answers now s terms) gs ≡ true → IsOpenRequest es now conn s terms
+open-request : (es : List Entry) (now conn : ℕ) (s : List Token) (terms : Terms) (gs : List Grant) → All (IsNoted es conn) gs → list_any (is_live_for now s terms) gs ≡ true → IsOpenRequest es now conn s terms
 open-request es now conn s terms [] noted some = absurd (cc)
-open-request es now conn s terms (g ∷ gs) noted some = here (answers now s terms g) refl (open-request es now conn s terms gs (All-tail (IsNoted es conn) g gs noted))
+open-request es now conn s terms (g ∷ gs) noted some = here (is_live_for now s terms g) refl (open-request es now conn s terms gs (All-tail (IsNoted es conn) g gs noted))
   where
     first : IsNoted es conn g
     first = All-head (IsNoted es conn) g gs noted
 
-    this : answers now s terms g ≡ true → IsOpenRequest es now conn s terms
+    this : is_live_for now s terms g ≡ true → IsOpenRequest es now conn s terms
     this is =
         let alive = both-back (same_subject s g.subject) _ is in
         let same : g.subject ≡ s = sym ((pointwise_decides bytes_decides s g.subject).0 (both-front (same_subject s g.subject) _ is)) in
@@ -63,13 +63,13 @@ open-request es now conn s terms (g ∷ gs) noted some = here (answers now s ter
           made = first.made;
           since = first.since;
           request = subst (λ r. IsLastRequest es conn r first.before first.made first.since) same first.request;
-          answers = below terms.max g.count _ (first.count ∙ ap (λ r. min (2 ^ 64 - 1) (answers_on conn r first.since)) same) (both-front (is_open terms.max g.count) _ alive);
+          responses = below terms.max g.count _ (first.count ∙ ap (λ r. min (2 ^ 64 - 1) (responses_on conn r first.since)) same) (both-front (is_open terms.max g.count) _ alive);
           age = within now terms.expires g.noted _ first.noted (both-back (is_open terms.max g.count) _ alive);
         }
 
-    here : (b : Bool) → answers now s terms g ≡ b → (list_any (answers now s terms) gs ≡ true → IsOpenRequest es now conn s terms) → IsOpenRequest es now conn s terms
+    here : (b : Bool) → is_live_for now s terms g ≡ b → (list_any (is_live_for now s terms) gs ≡ true → IsOpenRequest es now conn s terms) → IsOpenRequest es now conn s terms
     here true is later = this is
-    here false is later = later (ap (λ b. b || list_any (answers now s terms) gs) (sym is) ∙ some)
+    here false is later = later (ap (λ b. b || list_any (is_live_for now s terms) gs) (sym is) ∙ some)
 
 -- where there is a live grant
 by_terms : (es : List Entry) (now conn : ℕ) (s : List Token) (terms : Option Terms) (gs : List Grant) → All (IsNoted es conn) gs → has_grant now s terms gs ≡ true → IsSomeAnd terms (IsOpenRequest es now conn s)
@@ -86,11 +86,11 @@ noted_at-conn es zs conn all = here (session_of zs conn) refl
         subst (λ n. All (IsNoted es n) (grants_of z.replies)) (eqb-true z.conn conn (find-passes (λ (y : Session). y.conn == conn) zs z e))
         (find-All (HasNoted es) (λ (y : Session). y.conn == conn) zs z all e)
 
-pub may_answer-request : MayAnswerHasRequest
-may_answer-request policy capacity es w run now conn s may =
+pub may_respond-request : MayRespondHasRequest
+may_respond-request policy capacity es w run now conn s may =
     by_terms es now conn s (terms_in (user_at w conn)) (grants_at (session_of w.sessions conn)) (noted_at-conn es w.sessions conn (are_noted policy capacity es w run)) may
 
--- ---- who has answered
+-- ---- who has responded
 
 -- the lists never say that a grant allows
 not_by_lists : (lists : Lists) (s : List Token) → publish_verdict lists s ≡ Allowed ByGrant → ⊥
@@ -117,7 +117,7 @@ granted-by false v not_so h = absurd (not_so (here (not (is_allowed v)) h))
     here true e = e
     here false e = e
 
--- an answer that is told is by a grant, of the connection, on the subject
+-- a response that is told is by a grant, of the connection, on the subject
 abbrev IsTold : ℕ → ℕ → List Token → List Token → By → Type 0
 IsTold conn c s subject by = is_by_grant by && (conn == c) && same_subject subject s ≡ true
 
@@ -131,15 +131,15 @@ told-grant conn c s subject ByGrant h = (
 )
 
 module _ (es : List Entry) (w : World) (now : ℕ) (t : Told es w.moment w.sessions) where
-  -- what the outcome tells as an answer had an open request
+  -- what the outcome tells as a response had an open request
   abbrev HasRequest : Command → Outcome → Type 0
-  HasRequest c o = (conn : ℕ) (s : List Token) → answers_by conn s c o ≡ true → IsSomeAnd (terms_at (session_of w.sessions conn)) (IsOpenRequest es (max w.moment now) conn s)
+  HasRequest c o = (conn : ℕ) (s : List Token) → responds_by conn s c o ≡ true → IsSomeAnd (terms_at (session_of w.sessions conn)) (IsOpenRequest es (max w.moment now) conn s)
 
   abbrev HasRequestIn : Command → Result (Outcome × World) HubRefusal → Type 0
   HasRequestIn c (Err refusal) = Unit {0}
   HasRequestIn c (Ok r) = HasRequest c r.0
 
-  none-told : (c : Command) → ((conn : ℕ) (s : List Token) (o : Outcome) → answers_by conn s c o ≡ false) → HasRequestIn c (numbered (w.number + 1) (moved (advanced w now) c))
+  none-told : (c : Command) → ((conn : ℕ) (s : List Token) (o : Outcome) → responds_by conn s c o ≡ false) → HasRequestIn c (numbered (w.number + 1) (moved (advanced w now) c))
   none-told c none = here (numbered (w.number + 1) (moved (advanced w now) c))
     where
       unlike : false ≡ true → ⊥
@@ -185,8 +185,8 @@ module _ (es : List Entry) (w : World) (now : ℕ) (t : Told es w.moment w.sessi
   step-request (Close conn) = none-told (Close conn) (λ n s o. refl)
   step-request (Reload doc) = none-told (Reload doc) (λ n s o. refl)
 
-pub answer-request : AnswerHasRequest
-answer-request policy capacity es w run a next is conn s h =
+pub response-request : ResponseHasRequest
+response-request policy capacity es w run a next is conn s h =
     let t : Told es w.moment w.sessions = run-told [] es (opening_world policy capacity) w (told-opening policy capacity) run in
     let has : HasRequestIn es w a.event.now t a.event.what (Ok (a.outcome, next)) = subst (HasRequestIn es w a.event.now t a.event.what) is.outcome (step-request es w a.event.now t a.event.what) in
     subst (λ now. IsSomeAnd (terms_at (session_of w.sessions conn)) (IsOpenRequest es now conn s)) (clock_is es w a.event.now t a refl) (has conn s h)

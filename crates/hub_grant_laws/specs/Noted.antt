@@ -19,12 +19,12 @@ use Rattle.world_sessions.specs.declared.session.Session.{Session}
 use Rattle.world.specs.World.{World, opening_world}
 use Rattle.hub.specs.Counts.{items_told}
 use Rattle.hub.specs.History.{IsEntry, IsLegalRun}
-use Rattle.hub.specs.Replies.{is_by_grant, terms_in, may_answer}
+use Rattle.hub.specs.Replies.{is_by_grant, terms_in, may_respond}
 use Rattle.hub.specs.Sound.{user_at}
 
 -- ---- what an entry tells
 
--- whether a message is to be answered on the subject
+-- whether a message asks for a response on the subject
 abbrev pub is_reply : List Token → Option (List Token) → Bool
 is_reply s None = false
 is_reply s (Some reply) = same_subject reply s
@@ -39,18 +39,18 @@ abbrev pub is_entered_at : ℕ → Item → Bool
 is_entered_at conn (Entered c sid) = c == conn
 is_entered_at conn (Full c sid) = false
 
--- a request: a message that is to be answered on the subject has entered for the connection
+-- a request: a message that asks for a response on the subject has entered for the connection
 abbrev pub is_request : ℕ → List Token → Entry → Bool
 is_request conn s e = asks_on s e.event.what && list_any (is_entered_at conn) (items_told e)
 
 -- whether a grant has allowed the connection to publish on the subject
-abbrev pub answers_by : ℕ → List Token → Command → Outcome → Bool
-answers_by conn s (Pub c m word) (Published by items) = is_by_grant by && (conn == c) && same_subject m.subject s
-answers_by conn s _ _ = false
+abbrev pub responds_by : ℕ → List Token → Command → Outcome → Bool
+responds_by conn s (Pub c m word) (Published by items) = is_by_grant by && (conn == c) && same_subject m.subject s
+responds_by conn s _ _ = false
 
--- an answer: the connection has published on the subject, by a grant
-abbrev pub is_answer : ℕ → List Token → Entry → Bool
-is_answer conn s e = answers_by conn s e.event.what e.outcome
+-- a response: the connection has published on the subject, by a grant
+abbrev pub is_response : ℕ → List Token → Entry → Bool
+is_response conn s e = responds_by conn s e.event.what e.outcome
 
 -- whether the session of the connection has gone, by its Close or by a Reload that reports it gone
 abbrev pub ends_for : ℕ → Command → Outcome → Bool
@@ -62,9 +62,9 @@ ends_for conn _ _ = false
 abbrev pub is_end : ℕ → Entry → Bool
 is_end conn e = ends_for conn e.event.what e.outcome
 
--- how many answers of the connection on the subject entries tell of
-abbrev pub answers_on : ℕ → List Token → List Entry → ℕ
-answers_on conn s es = length (filter (is_answer conn s) es)
+-- how many responses of the connection on the subject entries tell of
+abbrev pub responses_on : ℕ → List Token → List Entry → ℕ
+responses_on conn s es = length (filter (is_response conn s) es)
 
 -- the latest moment that an event of the entries had, or 0, the moment of an opening
 abbrev pub latest : List Entry → ℕ
@@ -82,7 +82,7 @@ pub record IsLastRequest (es : List Entry) (conn : ℕ) (s : List Token) (before
   pub session : All (λ (e : Entry). is_end conn e ≡ false) since
 
 -- A grant of a connection's session was noted at the last request on its subject, at the moment that the clock had
--- then, and has counted the answers since.
+-- then, and has counted the responses since.
 pub record IsNoted (es : List Entry) (conn : ℕ) (g : Grant) : Type 0 where
   pub before : List Entry
   pub made : Entry
@@ -90,36 +90,36 @@ pub record IsNoted (es : List Entry) (conn : ℕ) (g : Grant) : Type 0 where
   pub request : IsLastRequest es conn g.subject before made since
   pub noted : g.noted ≡ latest (before ++ made ∷ [])
   -- the count stays at 2^64 - 1
-  pub count : g.count ≡ min (2 ^ 64 - 1) (answers_on conn g.subject since)
+  pub count : g.count ≡ min (2 ^ 64 - 1) (responses_on conn g.subject since)
 
 -- In every legal run from an opening each grant of each session was noted so.
 abbrev pub AreNoted : Type 0
 AreNoted = (policy : PolicyDoc) (capacity : ℕ) (es : List Entry) (w : World) → IsLegalRun (opening_world policy capacity) es w →
     All (λ (z : Session). All (IsNoted es z.conn) (grants_of z.replies)) w.sessions
 
--- A request stands open at a moment, on these terms: fewer answers have passed since than may, and it isn't older than
+-- A request stands open at a moment, on these terms: fewer responses have passed since than may, and it isn't older than
 -- it may be.
 pub record IsOpenRequest (es : List Entry) (now conn : ℕ) (s : List Token) (terms : Terms) : Type 0 where
   pub before : List Entry
   pub made : Entry
   pub since : List Entry
   pub request : IsLastRequest es conn s before made since
-  -- of more than 2^64 - 1 answers that many are counted
-  pub answers : IfSome terms.max (λ (most : ℕ). min (2 ^ 64 - 1) (answers_on conn s since) < most)
+  -- of more than 2^64 - 1 responses that many are counted
+  pub responses : IfSome terms.max (λ (most : ℕ). min (2 ^ 64 - 1) (responses_on conn s since) < most)
   pub age : IfSome terms.expires (λ (limit : ℕ). now - latest (before ++ made ∷ []) ≤ limit)
 
--- So whoever may answer has an open request, on the terms that its user has in the policy in force.
-abbrev pub MayAnswerHasRequest : Type 0
-MayAnswerHasRequest = (policy : PolicyDoc) (capacity : ℕ) (es : List Entry) (w : World) → IsLegalRun (opening_world policy capacity) es w →
-    (now conn : ℕ) (s : List Token) → may_answer w now conn s ≡ true → IsSomeAnd (terms_in (user_at w conn)) (IsOpenRequest es now conn s)
+-- So whoever may respond has an open request, on the terms that its user has in the policy in force.
+abbrev pub MayRespondHasRequest : Type 0
+MayRespondHasRequest = (policy : PolicyDoc) (capacity : ℕ) (es : List Entry) (w : World) → IsLegalRun (opening_world policy capacity) es w →
+    (now conn : ℕ) (s : List Token) → may_respond w now conn s ≡ true → IsSomeAnd (terms_in (user_at w conn)) (IsOpenRequest es now conn s)
 
--- on what terms the user of a session may answer
+-- on what terms the user of a session may respond
 abbrev pub terms_at : Option Session → Option Terms
 terms_at None = None
 terms_at (Some z) = z.user.rules.allow_responses
 
--- And each answer had an open request at its own moment, on the terms of its session's user.
-abbrev pub AnswerHasRequest : Type 0
-AnswerHasRequest = (policy : PolicyDoc) (capacity : ℕ) (es : List Entry) (w : World) → IsLegalRun (opening_world policy capacity) es w →
-    (a : Entry) (next : World) → IsEntry w a next → (conn : ℕ) (s : List Token) → is_answer conn s a ≡ true →
+-- And each response had an open request at its own moment, on the terms of its session's user.
+abbrev pub ResponseHasRequest : Type 0
+ResponseHasRequest = (policy : PolicyDoc) (capacity : ℕ) (es : List Entry) (w : World) → IsLegalRun (opening_world policy capacity) es w →
+    (a : Entry) (next : World) → IsEntry w a next → (conn : ℕ) (s : List Token) → is_response conn s a ≡ true →
     IsSomeAnd (terms_at (session_of w.sessions conn)) (IsOpenRequest es (latest (es ++ a ∷ [])) conn s)

@@ -1,22 +1,23 @@
 //! What holds of the definitions alone.
 ghost use Rattle.hub_grant_laws.specs.Dropping.{MakesNoDifference, NeverMakesDifference};
-ghost use Rattle.hub_grant_laws.specs.Noted.{AnswerHasRequest, AreNoted, MayAnswerHasRequest};
+ghost use Rattle.hub_grant_laws.specs.Noted.{ResponseHasRequest, AreNoted, MayRespondHasRequest};
 
-/// A hub keeps grants that have died of age until something else takes them out. One that drops what is dead at the
-/// beginning of each event, from a world where the same is live, answers each event the same.
+/// Tells that it makes no difference when dead grants are dropped. A hub keeps grants that have died of age until something
+/// else takes them out; one that drops them at the beginning of each event, from a world where the same is live, answers
+/// each event the same.
 pub fn any_event()
     ensures { MakesNoDifference }
 {}
 
-/// So it answers every list of events the same.
+/// Tells the same of every list of events.
 pub fn any_events()
     ensures { NeverMakesDifference }
 {}
 
-/// In every history each grant of a session was noted at the last request on its subject, and has counted the answers
-/// since. So whoever may answer has an open request, and each answer had one.
+/// Tells of every history that each grant of a session was noted at the last request on its subject, and has counted the
+/// responses since. So whoever may respond has an open request, and each response had one.
 pub fn any_history()
     ensures noted { AreNoted }
-    ensures may_answer { MayAnswerHasRequest }
-    ensures answers { AnswerHasRequest }
+    ensures may_respond { MayRespondHasRequest }
+    ensures responses { ResponseHasRequest }
 {}

@@ -1,5 +1,5 @@
-//! Laws above the hub, of grants to answer: what they tell of the history, and that it makes no difference when dead
-//! ones are dropped.
+//! Laws above the hub, of reply grants: what they tell of the history, and that it makes no difference when dead ones are
+//! dropped.
 #![tactic(auto)]
 
 mod laws;

@@ -7,7 +7,7 @@ use Rattle.std.proofs.lemmas.Bool.{ltb-true, leb-true, eqb-true}
 use Rattle.std.proofs.lemmas.List.Elements.{All-push}
 use Rattle.world.specs.World.{World}
 use Rattle.hub.specs.History.{State, IsLegalRun}
-use Rattle.hub.specs.Segments.{Part, held}
+use Rattle.hub.specs.Segments.{Part, tail_of}
 use Rattle.hub_segments.specs.Joins.{parts_of, place, is_empty, may_precede, may_be_before, Begins, is_judged}
 use Rattle.hub_segments.specs.Search.{is_before}
 use Rattle.hub_segments.proofs.Joined.{Kind, kind}
@@ -28,15 +28,15 @@ and-first : (a b : Bool) → (a && b) ≡ true → a ≡ true
 and-first true b e = refl
 and-first false b e = absurd (cc)
 
--- what is held stands before a judged part only where it ends as it begins
-held-ends : (s : State) (q : Part) → Kind (held s) → is_judged s q ≡ true → may_precede (held s) q ≡ true → s.opening ≡ s.world
-held-ends s q (inl k) judged precedes = sym k.1
-held-ends s q (inr k) judged precedes = absurd (by (nat_lt (place (held s)) (place q)) (is_empty q) (place (held s) == place q) refl refl refl precedes)
+-- the tail stands before a judged part only where it ends as it begins
+tail-ends : (s : State) (q : Part) → Kind (tail_of s) → is_judged s q ≡ true → may_precede (tail_of s) q ≡ true → s.opening ≡ s.world
+tail-ends s q (inl k) judged precedes = sym k.1
+tail-ends s q (inr k) judged precedes = absurd (by (nat_lt (place (tail_of s)) (place q)) (is_empty q) (place (tail_of s) == place q) refl refl refl precedes)
   where
-    low : place q ≤ place (held s)
-    low = leb-true _ _ (subst (λ (b : Bool). (b || nat_le (place q) (place (held s))) ≡ true) k.2 judged)
+    low : place q ≤ place (tail_of s)
+    low = leb-true _ _ (subst (λ (b : Bool). (b || nat_le (place q) (place (tail_of s))) ≡ true) k.2 judged)
 
-    by : (a b c : Bool) → nat_lt (place (held s)) (place q) ≡ a → is_empty q ≡ b → (place (held s) == place q) ≡ c → (a || (b && c)) ≡ true → ⊥
+    by : (a b c : Bool) → nat_lt (place (tail_of s)) (place q) ≡ a → is_empty q ≡ b → (place (tail_of s) == place q) ≡ c → (a || (b && c)) ≡ true → ⊥
     by true b c e f g h = let lt = ltb-true _ _ e in let le = low in omega (arith, lt, le)
     by false true true e f g h =
         let same = eqb-true _ _ g in
@@ -51,33 +51,33 @@ pub begins-not : (segments : List Part) (s : State) (q : Part) (i : ℕ) (x : Pa
     (q.opening ≡ opening) → place q ≡ at → is_empty q ≡ empty → IsNearest (parts_of segments s) at nearest →
     ((is_before (place x) nearest at empty ≡ true → opening ≡ x.closing) → ⊥) → Begins (parts_of segments s) q → ⊥
 begins-not segments s q i x opening nearest at empty li is opening_is at_is empty_is near wrong begins =
-    let all = All-front (λ (p : Part). may_be_before (parts_of segments s) q p ≡ true → q.opening ≡ p.closing) segments (held s) begins in
+    let all = All-front (λ (p : Part). may_be_before (parts_of segments s) q p ≡ true → q.opening ≡ p.closing) segments (tail_of s) begins in
     let here = subst (λ (p : Part). may_be_before (parts_of segments s) q p ≡ true → q.opening ≡ p.closing) (sym is) (all i x li) in
     wrong (λ before. sym opening_is ∙ here (before-is (parts_of segments s) q x nearest at empty at_is empty_is near ∙ before))
 
--- where each segment that may be the part before ends there, what is held decides
-pub begins-held : (segments : List Part) (s : State) (q : Part) (opening : World) (nearest at : ℕ) (empty : Bool) (b : Bool) → IsLegalRun s.opening s.entries s.world →
+-- where each segment that may be the part before ends there, the tail decides
+pub begins-tail : (segments : List Part) (s : State) (q : Part) (opening : World) (nearest at : ℕ) (empty : Bool) (b : Bool) → IsLegalRun s.opening s.entries s.world →
     (q.opening ≡ opening) → place q ≡ at → is_empty q ≡ empty → is_judged s q ≡ true → IsNearest (parts_of segments s) at nearest →
     All (λ (p : Part). is_before (place p) nearest at empty ≡ true → opening ≡ p.closing) segments →
-    Decides b (is_before (place (held s)) nearest at empty ≡ true → opening ≡ s.opening) → Decides b (Begins (parts_of segments s) q)
-begins-held segments s q opening nearest at empty b legal opening_is at_is empty_is judged near all decides = (λ yes'. fits yes', λ begins. decides.1 (back begins))
+    Decides b (is_before (place (tail_of s)) nearest at empty ≡ true → opening ≡ s.opening) → Decides b (Begins (parts_of segments s) q)
+begins-tail segments s q opening nearest at empty b legal opening_is at_is empty_is judged near all decides = (λ yes'. fits yes', λ begins. decides.1 (back begins))
   where
     ps : List Part
     ps = parts_of segments s
 
-    ends : may_be_before (parts_of segments s) q (held s) ≡ true → s.opening ≡ s.world
-    ends before = held-ends s q (kind s.opening s.entries s.world legal) judged (and-first (may_precede (held s) q) _ before)
+    ends : may_be_before (parts_of segments s) q (tail_of s) ≡ true → s.opening ≡ s.world
+    ends before = tail-ends s q (kind s.opening s.entries s.world legal) judged (and-first (may_precede (tail_of s) q) _ before)
 
     same : (p : Part) → may_be_before (parts_of segments s) q p ≡ is_before (place p) nearest at empty
     same p = before-is (parts_of segments s) q p nearest at empty at_is empty_is near
 
     fits : b ≡ true → Begins (parts_of segments s) q
-    fits is = All-push (λ (p : Part). may_be_before (parts_of segments s) q p ≡ true → q.opening ≡ p.closing) segments (held s)
+    fits is = All-push (λ (p : Part). may_be_before (parts_of segments s) q p ≡ true → q.opening ≡ p.closing) segments (tail_of s)
         (λ i d li before. opening_is ∙ all i d li (sym (same (get_or segments i d)) ∙ before))
-        (λ before. opening_is ∙ decides.0 is (sym (same (held s)) ∙ before) ∙ ends before)
+        (λ before. opening_is ∙ decides.0 is (sym (same (tail_of s)) ∙ before) ∙ ends before)
 
-    back : Begins (parts_of segments s) q → is_before (place (held s)) nearest at empty ≡ true → opening ≡ s.opening
+    back : Begins (parts_of segments s) q → is_before (place (tail_of s)) nearest at empty ≡ true → opening ≡ s.opening
     back begins before =
-        let may = same (held s) ∙ before in
-        let here = All-back (λ (p : Part). may_be_before (parts_of segments s) q p ≡ true → q.opening ≡ p.closing) segments (held s) begins may in
+        let may = same (tail_of s) ∙ before in
+        let here = All-back (λ (p : Part). may_be_before (parts_of segments s) q p ≡ true → q.opening ≡ p.closing) segments (tail_of s) begins may in
         sym opening_is ∙ here ∙ sym (ends may)

@@ -9,7 +9,7 @@ use Rattle.std.proofs.lemmas.List.Elements.{All-head, All-tail}
 use Rattle.events.specs.declared.answer.Entry.{Entry}
 use Rattle.world.specs.World.{World}
 use Rattle.hub.specs.History.{State, IsOpening, IsLegalRun}
-use Rattle.hub.specs.Segments.{Part, IsPart, IsReached, held, first_number}
+use Rattle.hub.specs.Segments.{Part, IsPart, IsReached, first_number, tail_of}
 use Rattle.hub_segments.specs.Joins.{parts_of, has_number, due, is_empty, place, may_precede, is_between, may_be_before, is_judged, IsRight, AreOneHistory}
 use Rattle.hub.proofs.Finds.{any-none}
 use Rattle.hub_segments.proofs.Pushed.{All-back}
@@ -595,25 +595,25 @@ slices-all ps d last judged f u p lp (inr k) =
 lower : (s : State) (p q : Part) → place p ≤ place q → is_judged s q ≡ true → is_judged s p ≡ true
 lower s p q le jq = by (length s.entries == 0) jq
   where
-    by : (b : Bool) → (b || nat_le (place q) (place (held s))) ≡ true → (b || nat_le (place p) (place (held s))) ≡ true
+    by : (b : Bool) → (b || nat_le (place q) (place (tail_of s))) ≡ true → (b || nat_le (place p) (place (tail_of s))) ≡ true
     by true h = refl
     by false h = let at = leb-true _ _ h in le-leb _ _ (omega (arith, at, le))
 
-owned : (s : State) → is_judged s (held s) ≡ true
+owned : (s : State) → is_judged s (tail_of s) ≡ true
 owned s = by (length s.entries == 0)
   where
-    by : (b : Bool) → (b || nat_le (place (held s)) (place (held s))) ≡ true
+    by : (b : Bool) → (b || nat_le (place (tail_of s)) (place (tail_of s))) ≡ true
     by true = refl
     by false = le-leb _ _ (omega arith)
 
 -- what has entries is judged
-entered-by : (segments : List Part) (s : State) → IsCounted (parts_of segments s) s.world.number → (h : ℕ) → h < length (parts_of segments s) → get_or (parts_of segments s) h (held s) ≡ held s →
-    Kind (held s) → (q : ℕ) → q < length (parts_of segments s) → Kind (get_or (parts_of segments s) q (held s)) →
-    (get_or (parts_of segments s) q (held s)).opening.number < (get_or (parts_of segments s) q (held s)).closing.number → is_judged s (get_or (parts_of segments s) q (held s)) ≡ true
-entered-by segments s one h lh is (inl k) q lq kq grows = ap (λ b. b || nat_le (place (get_or (parts_of segments s) q (held s))) (place (held s))) k.2
+entered-by : (segments : List Part) (s : State) → IsCounted (parts_of segments s) s.world.number → (h : ℕ) → h < length (parts_of segments s) → get_or (parts_of segments s) h (tail_of s) ≡ tail_of s →
+    Kind (tail_of s) → (q : ℕ) → q < length (parts_of segments s) → Kind (get_or (parts_of segments s) q (tail_of s)) →
+    (get_or (parts_of segments s) q (tail_of s)).opening.number < (get_or (parts_of segments s) q (tail_of s)).closing.number → is_judged s (get_or (parts_of segments s) q (tail_of s)) ≡ true
+entered-by segments s one h lh is (inl k) q lq kq grows = ap (λ b. b || nat_le (place (get_or (parts_of segments s) q (tail_of s))) (place (tail_of s))) k.2
 entered-by segments s one h lh is (inr k) q lq kq grows =
     let ps = parts_of segments s in
-    let d = held s in
+    let d = tail_of s in
     let last = s.world.number in
     let odd = entered-kind (get_or ps q d) kq grows in
     let odd_d = k.0 in
@@ -627,14 +627,14 @@ entered-by segments s one h lh is (inr k) q lq kq grows =
     let at = ap (λ (p : Part). p.opening.number) is in
     omega (arith, above, odd, odd_d, e, at))
   where
-    by : (b : Bool) → nat_le (place (get_or (parts_of segments s) q (held s))) (place (held s)) ≡ b → (place (held s) < place (get_or (parts_of segments s) q (held s)) → ⊥) → is_judged s (get_or (parts_of segments s) q (held s)) ≡ true
+    by : (b : Bool) → nat_le (place (get_or (parts_of segments s) q (tail_of s))) (place (tail_of s)) ≡ b → (place (tail_of s) < place (get_or (parts_of segments s) q (tail_of s)) → ⊥) → is_judged s (get_or (parts_of segments s) q (tail_of s)) ≡ true
     by true e never = ap (λ b. (length s.entries == 0) || b) e ∙ or-true (length s.entries == 0)
     by false e never = absurd (never (leb-false _ _ e))
 
-pub facts : (segments : List Part) (s : State) → All IsPart (parts_of segments s) → ((n : ℕ) → IsRight segments s n) → Facts (parts_of segments s) (held s) s.world.number (is_judged s)
+pub facts : (segments : List Part) (s : State) → All IsPart (parts_of segments s) → ((n : ℕ) → IsRight segments s n) → Facts (parts_of segments s) (tail_of s) s.world.number (is_judged s)
 facts segments s all right =
     let ps = parts_of segments s in
-    let d = held s in
+    let d = tail_of s in
     let own : IsPart d = All-back IsPart segments d all in
     let len = length-append segments (d ∷ []) in
     let within : length segments < length ps = omega (arith, len) in
@@ -655,10 +655,10 @@ facts segments s all right =
     }
 
 -- so the parts are one history
-pub one-history : (segments : List Part) (s : State) → Facts (parts_of segments s) (held s) s.world.number (is_judged s) → AreOneHistory segments s
+pub one-history : (segments : List Part) (s : State) → Facts (parts_of segments s) (tail_of s) s.world.number (is_judged s) → AreOneHistory segments s
 one-history segments s f =
     let ps = parts_of segments s in
-    let d = held s in
+    let d = tail_of s in
     let last = s.world.number in
     let u = upto-last ps d last (is_judged s) f last 0 (omega arith) (omega arith) (upto-none ps d last (is_judged s) f) in
     let end = ends-there ps d last (is_judged s) f u (kind-at ps d last (is_judged s) f f.here f.within) in

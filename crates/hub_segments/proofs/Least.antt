@@ -7,7 +7,7 @@ use Rattle.std.proofs.lemmas.Bool.{lt-ltb, le-ltb, le-leb, lt-leb, ltb-true, ltb
 use Rattle.std.proofs.lemmas.List.{take_more}
 use Rattle.std.proofs.lemmas.List.Elements.{All-head, All-tail, All-push}
 use Rattle.hub.specs.History.{State}
-use Rattle.hub.specs.Segments.{Part, held, first_number}
+use Rattle.hub.specs.Segments.{Part, first_number, tail_of}
 use Rattle.hub.proofs.Lists.{filter_same_on}
 use Rattle.hub.proofs.Finds.{any-none}
 use Rattle.hub_segments.specs.Joins.{parts_of, has_number, due, is_judged, Begins, IsRight}
@@ -95,7 +95,7 @@ next-in-place : (segments : List Part) (s : State) (n : ℕ) → All (λ p. meet
 next-in-place segments s n none some here =
     let ps = parts_of segments s in
     let same : filter (has_number (suc n)) ps ≡ filter (has_number n) ps = filter_same_on (has_number (suc n)) (has_number n) ps (λ i d lt. next-part n (get_or ps i d) (none i d lt)) in
-    let own = meets-neither n (held s) (All-back (λ p. meets n p ≡ false) segments (held s) none) in
+    let own = meets-neither n (tail_of s) (All-back (λ p. meets n p ≡ false) segments (tail_of s) none) in
     ap length same ∙ here ∙ sym (next-due s.world.number n some own.1)
 
 count-none : {X : Type 0} (t : X → Bool) (xs : List X) → All (λ x. t x ≡ false) xs → length (filter t xs) ≡ 0
@@ -152,9 +152,9 @@ in-place segments s least f (suc n) below = by (list_any (meets n) (parts_of seg
 
     by : (b : Bool) → list_any (meets n) (parts_of segments s) ≡ b → IsInPlace segments s n → IsInPlace segments s (suc n)
     by true e here =
-        let one = any-one (meets n) (parts_of segments s) (held s) e in
-        let q = get_or (parts_of segments s) one.0 (held s) in
-        at q (f.clear one.0 (held s) one.1) (q.opening.number == n) (q.closing.number == n) refl refl one.2
+        let one = any-one (meets n) (parts_of segments s) (tail_of s) e in
+        let q = get_or (parts_of segments s) one.0 (tail_of s) in
+        at q (f.clear one.0 (tail_of s) one.1) (q.opening.number == n) (q.closing.number == n) refl refl one.2
     by false e here = from (n == 0) refl (any-none (meets n) (parts_of segments s) e) here
 
 right-below : (segments : List Part) (s : State) (least : Option ℕ) → Found segments s least (parts_of segments s) → (n : ℕ) → IsBelow n least → IsRight segments s n
@@ -167,7 +167,7 @@ right-below segments s least f n below = record {
 right-above : (segments : List Part) (s : State) → AreNumbered (parts_of segments s) → (n : ℕ) → 18446744073709551616 ≤ n → IsRight segments s n
 right-above segments s numbered n high =
     let ps = parts_of segments s in
-    let last = All-back (λ (p : Part). p.closing.number < 18446744073709551616) segments (held s) numbered in
+    let last = All-back (λ (p : Part). p.closing.number < 18446744073709551616) segments (tail_of s) numbered in
     let none : length (filter (has_number n) ps) ≡ 0 = count-none (has_number n) ps (λ i d li. above (get_or ps i d) (numbered i d li)) in
     record {
       once = none ∙ sym (due-none s.world.number (omega (arith, last, high)));
@@ -230,11 +230,11 @@ found-more segments s least fault done q f begun wrong clear = record {
 -- what is right at a number is right of each part
 pub begun-segment : (segments : List Part) (s : State) (i : ℕ) (d : Part) → i < length segments → (n : ℕ) → IsRight segments s n → IsBegun segments s (get_or segments i d) n
 begun-segment segments s i d li n right =
-    All-front (λ (q : Part). is_judged s q ≡ true → first_number q ≡ n → Begins (parts_of segments s) q) segments (held s) right.begins i d li
+    All-front (λ (q : Part). is_judged s q ≡ true → first_number q ≡ n → Begins (parts_of segments s) q) segments (tail_of s) right.begins i d li
 
-pub begun-held : (segments : List Part) (s : State) (n : ℕ) → IsRight segments s n → IsBegun segments s (held s) n
-begun-held segments s n right =
-    All-back (λ (q : Part). is_judged s q ≡ true → first_number q ≡ n → Begins (parts_of segments s) q) segments (held s) right.begins
+pub begun-tail : (segments : List Part) (s : State) (n : ℕ) → IsRight segments s n → IsBegun segments s (tail_of s) n
+begun-tail segments s n right =
+    All-back (λ (q : Part). is_judged s q ≡ true → first_number q ≡ n → Begins (parts_of segments s) q) segments (tail_of s) right.begins
 
 -- one segment more
 pub found-segment : (segments : List Part) (s : State) (least fault less : Option ℕ) (i : ℕ) (q : Part) → i < length segments → q ≡ get_or segments i q → less ≡ lesser least fault →
@@ -245,11 +245,11 @@ found-segment segments s least fault less i q li is lesser_is f wrong clear =
     let rows : take (i + 1) segments ≡ take i segments ++ q ∷ [] = take_more segments i q li ∙ ap (λ (p : Part). take i segments ++ p ∷ []) (sym is) in
     subst (λ (o : Option ℕ). Found segments s o (take (i + 1) segments)) (sym lesser_is) (subst (Found segments s (lesser least fault)) (sym rows) next)
 
--- and what is held
-pub found-held : (segments : List Part) (s : State) (least fault less : Option ℕ) (done : List Part) → done ≡ segments → less ≡ lesser least fault →
-    Found segments s least done → IfSome fault (IsFaultOf segments s (held s)) → IsClear segments s fault (held s) → Found segments s less (parts_of segments s)
-found-held segments s least fault less done all lesser_is f wrong clear =
-    let next = found-more segments s least fault segments (held s) (subst (Found segments s least) all f) (begun-held segments s) wrong clear in
+-- and the tail
+pub found-tail : (segments : List Part) (s : State) (least fault less : Option ℕ) (done : List Part) → done ≡ segments → less ≡ lesser least fault →
+    Found segments s least done → IfSome fault (IsFaultOf segments s (tail_of s)) → IsClear segments s fault (tail_of s) → Found segments s less (parts_of segments s)
+found-tail segments s least fault less done all lesser_is f wrong clear =
+    let next = found-more segments s least fault segments (tail_of s) (subst (Found segments s least) all f) (begun-tail segments s) wrong clear in
     subst (λ (o : Option ℕ). Found segments s o (parts_of segments s)) (sym lesser_is) next
 
 -- a fault that a part shows

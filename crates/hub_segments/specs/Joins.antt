@@ -4,11 +4,11 @@ use Rattle.std.specs.List.{list_any}
 use Rattle.events.specs.declared.answer.Entry.{Entry}
 use Rattle.world.specs.World.{World}
 use Rattle.hub.specs.History.{State, IsOpening, IsLegalRun}
-use Rattle.hub.specs.Segments.{Part, held, first_number}
+use Rattle.hub.specs.Segments.{Part, first_number, tail_of}
 
 -- all parts: the segments, and what the hub holds
 abbrev pub parts_of : List Part → State → List Part
-parts_of segments s = segments ++ held s ∷ []
+parts_of segments s = segments ++ tail_of s ∷ []
 
 -- ---- numbers
 
@@ -44,10 +44,10 @@ may_be_before ps q p = may_precede p q && not (list_any (is_between p q) ps)
 abbrev pub Begins : List Part → Part → Type 0
 Begins ps q = All (λ (p : Part). may_be_before ps q p ≡ true → q.opening ≡ p.closing) ps
 
--- What stands after held entries isn't judged. Where it has entries itself, its first number is in two parts or above the
+-- What stands after entries of the tail isn't judged. Where it has entries itself, its first number is in two parts or above the
 -- last, and so wrong all the same.
 abbrev pub is_judged : State → Part → Bool
-is_judged s q = (length s.entries == 0) || nat_le (place q) (place (held s))
+is_judged s q = (length s.entries == 0) || nat_le (place q) (place (tail_of s))
 
 -- ---- one history
 

@@ -2,13 +2,13 @@
 ghost use Rattle.std.specs.Prelude.{◌≡◌, ◌<◌, ◌+◌, ◌&&◌, ◌||◌, ℕ, true, OnOk, IfSome, MatchOption, All, filter, length, nat_lt};
 ghost use Rattle.std.specs.Bool.{Decides};
 ghost use Rattle.std.specs.List.{list_any};
-ghost use Rattle.hub.specs.Segments.{Part, IsPart, held};
+ghost use Rattle.hub.specs.Segments.{Part, IsPart, tail_of};
 ghost use Rattle.hub_segments.specs.Joins.{parts_of, has_number, is_empty, place, Begins, is_judged, IsRight, IsLeastFault, AreOneHistory};
 ghost use Rattle.hub_segments.specs.Search.{lesser, is_before, IsBelow, IsInPlace, IsBegun, IsClear, IsFaultOf, AreNumbered};
 
 use crate::part::{
-    has_number, held_first_number, held_place, holds_nothing, holds_number, is_empty, is_judged,
-    place,
+    has_number, holds_nothing, holds_number, is_empty, is_judged, place, tail_first_number,
+    tail_place,
 };
 use hub::{Hub, Segment};
 use world::PlainWorld;
@@ -18,7 +18,7 @@ use world::PlainWorld;
 /// hub holds; or it is above that, and stands in a segment; or it is the first number of a part that doesn't begin in the
 /// world in which the part before it ends. What the hub holds has its first number as a segment has. Parts stand by the
 /// number of their opening world, empty ones first. A segment without entries adds nothing and isn't missed, and one that
-/// stands after held entries isn't judged. It takes no memory.
+/// stands behind a tail with entries isn't judged. It takes no memory.
 pub fn joins(segments: &[Segment], hub: &Hub) -> Result<(), u64>
     ensures least { IsLeastFault segments.now hub.now result }
     ensures history { OnOk result (AreOneHistory segments.now hub.now) }
@@ -54,7 +54,7 @@ fn least_fault(segments: &[Segment], hub: &Hub) -> Option<u64>
         let fault = segment_fault(segments, hub, segment);
         least = lesser(least, fault);
     }
-    let fault = held_fault(segments, hub);
+    let fault = tail_fault(segments, hub);
     lesser(least, fault)
 }
 
@@ -83,13 +83,13 @@ fn segment_fault(segments: &[Segment], hub: &Hub, segment: &Segment) -> Option<u
 }
 
 /// The least number at which what the hub holds shows that something is wrong.
-fn held_fault(segments: &[Segment], hub: &Hub) -> Option<u64>
-    ensures wrong { IfSome result (IsFaultOf segments.now hub.now (held hub.now)) }
-    ensures clear { IsClear segments.now hub.now result (held hub.now) }
+fn tail_fault(segments: &[Segment], hub: &Hub) -> Option<u64>
+    ensures wrong { IfSome result (IsFaultOf segments.now hub.now (tail_of hub.now)) }
+    ensures clear { IsClear segments.now hub.now result (tail_of hub.now) }
 {
     let first = misplaced_after(segments, hub, hub.opening().number());
     let next = misplaced_after(segments, hub, hub.number());
-    let unbegun = held_unbegun(segments, hub);
+    let unbegun = tail_unbegun(segments, hub);
     lesser(lesser(first, next), unbegun)
 }
 
@@ -145,14 +145,14 @@ fn segment_unbegun(segments: &[Segment], hub: &Hub, segment: &Segment) -> Option
 }
 
 /// The first number of what the hub holds, where that doesn't begin in the world in which the part before it ends.
-fn held_unbegun(segments: &[Segment], hub: &Hub) -> Option<u64>
-    ensures wrong { IfSome result (λ n. IsBegun segments.now hub.now (held hub.now) n → ⊥) }
-    ensures clear { (n : ℕ) → IsBelow n result → IsBegun segments.now hub.now (held hub.now) n }
+fn tail_unbegun(segments: &[Segment], hub: &Hub) -> Option<u64>
+    ensures wrong { IfSome result (λ n. IsBegun segments.now hub.now (tail_of hub.now) n → ⊥) }
+    ensures clear { (n : ℕ) → IsBelow n result → IsBegun segments.now hub.now (tail_of hub.now) n }
 {
-    if held_begins(segments, hub) {
+    if tail_begins(segments, hub) {
         None
     } else {
-        Some(held_first_number(hub))
+        Some(tail_first_number(hub))
     }
 }
 
@@ -166,10 +166,10 @@ fn segment_begins(segments: &[Segment], hub: &Hub, segment: &Segment) -> bool
 }
 
 /// Whether what the hub holds begins in the world in which the part before it ends.
-fn held_begins(segments: &[Segment], hub: &Hub) -> bool
-    ensures { Decides result (Begins (parts_of segments.now hub.now) (held hub.now)) }
+fn tail_begins(segments: &[Segment], hub: &Hub) -> bool
+    ensures { Decides result (Begins (parts_of segments.now hub.now) (tail_of hub.now)) }
 {
-    let (at, empty) = (held_place(hub), holds_nothing(hub));
+    let (at, empty) = (tail_place(hub), holds_nothing(hub));
     begins(segments, hub, hub.opening(), at, empty)
 }
 
@@ -179,7 +179,7 @@ fn begins(segments: &[Segment], hub: &Hub, opening: &PlainWorld, at: u128, empty
     ensures { (q : Part) → q.opening ≡ opening.now → place q ≡ at → is_empty q ≡ empty → is_judged hub.now q ≡ true
         → Decides result (Begins (parts_of segments.now hub.now) q) }
 {
-    // Tells the prover that what is held is a legal run.
+    // Tells the prover that the tail is a legal run.
     hub.known();
     let nearest = nearest_below(segments, hub, at);
     for segment in segments {
@@ -187,7 +187,7 @@ fn begins(segments: &[Segment], hub: &Hub, opening: &PlainWorld, at: u128, empty
             return false;
         }
     }
-    held_leads_to(hub, opening, at, empty, nearest)
+    tail_leads_to(hub, opening, at, empty, nearest)
 }
 
 /// Whether a segment, where it may be the part before one at a place, ends in the world in which that begins.
@@ -198,10 +198,10 @@ fn leads_to(segment: &Segment, opening: &PlainWorld, at: u128, empty: bool, near
 }
 
 /// Whether what the hub holds, where it may be the part before one at a place, begins in the world in which that does.
-fn held_leads_to(hub: &Hub, opening: &PlainWorld, at: u128, empty: bool, nearest: u128) -> bool
-    ensures { Decides result (is_before (place (held hub.now)) nearest at empty ≡ true → opening.now ≡ hub.now.opening) }
+fn tail_leads_to(hub: &Hub, opening: &PlainWorld, at: u128, empty: bool, nearest: u128) -> bool
+    ensures { Decides result (is_before (place (tail_of hub.now)) nearest at empty ≡ true → opening.now ≡ hub.now.opening) }
 {
-    !is_before(held_place(hub), nearest, at, empty) || opening.same(hub.opening())
+    !is_before(tail_place(hub), nearest, at, empty) || opening.same(hub.opening())
 }
 
 /// Whether what stands at a place may be the part before one at another place, below which the nearest part is given.
@@ -219,7 +219,7 @@ fn nearest_below(segments: &[Segment], hub: &Hub, at: u128) -> u128
     for segment in segments {
         nearest = nearer(nearest, place(segment), at);
     }
-    nearer(nearest, held_place(hub), at)
+    nearer(nearest, tail_place(hub), at)
 }
 
 /// The greater of two places, where the second is below another.

@@ -1,6 +1,6 @@
 //! What is asked of a part of a history: of a segment, or of what a hub holds.
 ghost use Rattle.std.specs.Prelude.{◌≡◌, ◌+◌, ◌*◌, if◌then◌else◌};
-ghost use Rattle.hub.specs.Segments.{first_number, held};
+ghost use Rattle.hub.specs.Segments.{first_number, tail_of};
 ghost use Rattle.hub_segments.specs.Joins.{has_number, is_empty, is_judged, place};
 
 use hub::{Hub, Segment};
@@ -14,7 +14,7 @@ pub(crate) fn has_number(segment: &Segment, number: u64) -> bool
 
 /// Whether an entry that the hub holds has that number.
 pub(crate) fn holds_number(hub: &Hub, number: u64) -> bool
-    ensures { result ≡ has_number number (held hub.now) }
+    ensures { result ≡ has_number number (tail_of hub.now) }
 {
     hub.opening().number() < number && number <= hub.number()
 }
@@ -28,7 +28,7 @@ pub(crate) fn is_empty(segment: &Segment) -> bool
 
 /// Whether the hub holds no entries.
 pub(crate) fn holds_nothing(hub: &Hub) -> bool
-    ensures { result ≡ is_empty (held hub.now) }
+    ensures { result ≡ is_empty (tail_of hub.now) }
 {
     hub.history().is_empty()
 }
@@ -41,8 +41,8 @@ pub(crate) fn place(segment: &Segment) -> u128
 }
 
 /// Where what the hub holds stands among the parts of a history.
-pub(crate) fn held_place(hub: &Hub) -> u128
-    ensures { result ≡ place (held hub.now) }
+pub(crate) fn tail_place(hub: &Hub) -> u128
+    ensures { result ≡ place (tail_of hub.now) }
 {
     place_of(hub.opening().number(), holds_nothing(hub))
 }
@@ -56,15 +56,15 @@ fn place_of(number: u64, empty: bool) -> u128
 }
 
 /// The number of the first entry that the hub holds, as a segment has it.
-pub(crate) fn held_first_number(hub: &Hub) -> u64
-    ensures { result ≡ first_number (held hub.now) }
+pub(crate) fn tail_first_number(hub: &Hub) -> u64
+    ensures { result ≡ first_number (tail_of hub.now) }
 {
     hub.opening().number().saturating_add(1)
 }
 
-/// Whether the segment doesn't stand after held entries.
+/// Whether the segment doesn't stand behind a tail with entries.
 pub(crate) fn is_judged(segment: &Segment, hub: &Hub) -> bool
     ensures { result ≡ is_judged hub.now segment.now }
 {
-    holds_nothing(hub) || place(segment) <= held_place(hub)
+    holds_nothing(hub) || place(segment) <= tail_place(hub)
 }

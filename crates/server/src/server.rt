@@ -15,7 +15,7 @@ use server_gates::Gate;
 use server_loop::Access;
 use server_prints::Prints;
 use session_conn::Words;
-use shared_hub::{Blank, Run, Seat, Shared};
+use shared_hub::{Blank, Run, Seat, SharedHub};
 use std::alloc::{AllocGlobal, Global};
 use std::hash::RandomState;
 use std::marker::Brand;
@@ -129,8 +129,12 @@ fn serve_run<
     requires opening { hub.world.number ≡ L.opening }
     requires seats { (seats ≡ L.seats) × (L.seats ≡ L.parts) }
 {
-    match Shared::<L>::with_seats(rt.alloc(), blank, hub, seats) {
-        Ok((shared, seats)) => serve_seats(rt, &shared, seats, opened, lent),
+    match SharedHub::<L>::with_seats(rt.alloc(), blank, hub, seats) {
+        Ok((shared, seats)) => {
+            serve_seats(
+                rt, &shared, seats, limits, listener, gates, policies, prints,
+            )
+        }
         Err(_) => Err(Fault::NoMemory),
     }
 }
@@ -144,7 +148,7 @@ fn serve_seats<
     P: Policies + Send,
 >(
     rt: &R,
-    shared: &Shared<L>,
+    shared: &SharedHub<L>,
     seats: Vec<Seat<L>>,
     opened: Opened,
     lent: Lent<'_, F, P>,

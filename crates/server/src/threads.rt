@@ -9,7 +9,7 @@ use server_mail::{Flags, Mailbox, ServerState, millis, open_mailbox};
 use server_prints::Prints;
 use server_reloads::Reloads;
 use session_conn::Words;
-use shared_hub::{Run, Seat, Shared};
+use shared_hub::{Run, Seat, SharedHub};
 use std::alloc::Global;
 use std::collections::VecDeque;
 use std::net::Net;
@@ -50,16 +50,16 @@ trait Duties<J, O> {
 struct Common<'a, L: Run, R> {
     rt: &'a R,
     alloc: Global,
-    shared: &'a Shared<L>,
-    state: &'a ServerState<'a>,
+    shared: &'a SharedHub<L>,
+    house: &'a House<'a>,
     prints: &'a Prints,
 }
 
 fn common_of<'a, L: Run, R>(
     rt: &'a R,
     alloc: Global,
-    shared: &'a Shared<L>,
-    state: &'a ServerState<'a>,
+    shared: &'a SharedHub<L>,
+    house: &'a House<'a>,
     prints: &'a Prints,
 ) -> Common<'a, L, R> {
     Common {
@@ -125,9 +125,12 @@ pub(crate) fn serve<
 >(
     rt: &'x R,
     alloc: Global,
-    shared: &'x Shared<L>,
-    opened: Opened,
-    starts: ThreadStarts<'_, L, G, W, P>,
+    listener: TcpListener,
+    shared: &'x SharedHub<L>,
+    accesses: Vec<Access<L, G, W>>,
+    own: (Seat<L>, G),
+    limits: Limits,
+    policies: &mut P,
     prints: &'x Prints,
 ) -> Result<(), ServeFault> {
     let Opened { listener, limits } = opened;

@@ -7,7 +7,7 @@ use server_mail::{Mail, OutgoingMail, ServerState};
 use server_pacing::{PIECE, Slice};
 use server_port::ServerPort;
 use session_conn::Words;
-use shared_hub::{Run, Seat, Shared};
+use shared_hub::{Run, Seat, SharedHub};
 use std::alloc::Global;
 use std::sync::Wait;
 
@@ -83,23 +83,23 @@ impl<'a, L: Run, R: Wait, G: Gate + Drop, W: Words + Drop> Drop for Worker<'a, L
 fn port_of<'a, L: Run, R: Wait, G: Gate + Drop, W: Drop>(
     rt: &'a R,
     alloc: Global,
-    shared: &'a Shared<L>,
-    state: &'a ServerState<'a>,
-    index: usize,
-    access: Access<L, G, W>,
-) -> Option<(ServerPort<'a, L, R, G>, W)> {
-    let Access { seat, gate, words } = access;
-    let outgoing = OutgoingMail::new(alloc, state.mailboxes.len(), Some(index))?;
-    let (history, kept) = (state.limits.history, state.kept());
-    let port = ServerPort::new(rt, alloc, shared, seat, gate, outgoing, history, kept);
-    Some((port, words))
-}
-
-/// Returns a buffer for a piece. Without memory it returns `None`.
-fn piece_buffer(alloc: Global) -> Option<Vec<u8>> {
-    let mut buf = Vec::new(alloc);
-    buf.resize(PIECE, 0).ok()?;
-    Some(buf)
+    shared: &'a SharedHub<L>,
+    house: &'a House<'a>,
+    behind: (Seat<L>, G),
+    notices: Notices,
+) -> ServerPort<'a, L, R, G> {
+    let (seat, gate) = behind;
+    let history = house.limits.history;
+    ServerPort::new(
+        rt,
+        alloc,
+        shared,
+        seat,
+        gate,
+        notices,
+        history,
+        house.kept(),
+    )
 }
 
 impl<'a, L: Run, R: Wait, G: Gate + Drop, W: Words + Drop> Worker<'a, L, R, G, W> {
@@ -107,8 +107,8 @@ impl<'a, L: Run, R: Wait, G: Gate + Drop, W: Words + Drop> Worker<'a, L, R, G, W
     pub fn new(
         rt: &'a R,
         alloc: Global,
-        shared: &'a Shared<L>,
-        state: &'a ServerState<'a>,
+        shared: &'a SharedHub<L>,
+        house: &'a House<'a>,
         start: Start<L, G, W>,
     ) -> Option<Worker<'a, L, R, G, W>> {
         let buf = piece_buffer(alloc)?;

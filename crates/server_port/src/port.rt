@@ -3,8 +3,8 @@ ghost use Rattle.std.specs.Prelude.{◌≡◌};
 use crate::course::{Course, Why};
 use server_gates::{Gate, Point};
 use server_history::{Kept, Rotation};
-use server_mail::OutgoingMail;
-use shared_hub::{Run, Seat, Shared, Told};
+use server_mail::Notices;
+use shared_hub::{Run, Seat, SharedHub, Told};
 use std::alloc::Global;
 use std::mem;
 use std::sync::Wait;
@@ -13,7 +13,7 @@ use std::sync::Wait;
 pub struct ServerPort<'a, L: Run, R: Wait, G: Gate + Drop> {
     pub(crate) rt: &'a R,
     pub(crate) alloc: Global,
-    pub(crate) shared: &'a Shared<L>,
+    pub(crate) shared: &'a SharedHub<L>,
     pub(crate) seat: Seat<L>,
     pub(crate) gate: G,
     pub(crate) is_spent: bool,
@@ -58,7 +58,7 @@ impl<'a, L: Run, R: Wait, G: Gate + Drop> ServerPort<'a, L, R, G> {
     pub fn new(
         rt: &'a R,
         alloc: Global,
-        shared: &'a Shared<L>,
+        shared: &'a SharedHub<L>,
         seat: Seat<L>,
         gate: G,
         outgoing: OutgoingMail,

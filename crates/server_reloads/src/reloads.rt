@@ -8,7 +8,7 @@ use server_gates::{Gate, Point};
 use server_mail::{OutgoingMail, ServerState};
 use server_port::ServerPort;
 use server_prints::Prints;
-use shared_hub::{Run, Seat, Shared};
+use shared_hub::{Run, Seat, SharedHub};
 use std::alloc::Global;
 use std::sync::Wait;
 use std::time::{Clock, Duration};
@@ -42,8 +42,8 @@ impl<'a, L: Run, R: Wait + Clock, G: Gate + Drop> Reloads<'a, L, R, G> {
     pub fn new(
         rt: &'a R,
         alloc: Global,
-        shared: &'a Shared<L>,
-        state: &'a ServerState<'a>,
+        shared: &'a SharedHub<L>,
+        house: &'a House<'a>,
         own: (Seat<L>, G),
         prints: &'a Prints,
     ) -> Option<Reloads<'a, L, R, G>> {

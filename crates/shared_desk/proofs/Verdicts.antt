@@ -30,7 +30,7 @@ use Rattle.hub.specs.History.{State}
 use Rattle.hub.specs.InForce.{policy_after}
 use Rattle.hub.specs.Replies.{terms_in, grants_at, has_grant}
 use Rattle.hub.specs.Guarantee.{IsAllowance, IsRouted, IsEffect, HasReason, accepts, allows}
-use Rattle.shared_receipts.specs.Receipts.{same_by, same_verdict, has_verdict, may_answer, may_have, some_allows, is_of_policy}
+use Rattle.shared_receipts.specs.Receipts.{same_by, same_verdict, has_verdict, may_respond, may_have, some_allows, is_of_policy}
 
 -- a verdict is the same as itself
 same_by-refl : (b : By) → same_by b b ≡ true
@@ -77,13 +77,13 @@ has_terms now s None gs h = absurd (cc)
 has_terms now s (Some terms) gs h = refl
 
 answer-any : (w : World) (now conn : ℕ) (m : Message) (word : ℕ) (o : Option User) → user_at w conn ≡ o → IsSomeAnd o (λ (u : User). IsAllowance w now conn m.subject u ByGrant) →
-    list_any (may_answer (Pub conn m word)) (users_of w.policy) ≡ true
+    list_any (may_respond (Pub conn m word)) (users_of w.policy) ≡ true
 answer-any w now conn m word None e h = absurd h
 answer-any w now conn m word (Some u) e h =
     let gs = grants_at (session_of w.sessions conn) in
     let terms : is_some u.rules.allow_responses ≡ true =
     has_terms now m.subject u.rules.allow_responses gs (sym (ap (λ (x : Option User). has_grant now m.subject (terms_in x) gs) e) ∙ h.2) in
-    behind-any w.policy (may_answer (Pub conn m word)) (session_of w.sessions conn) u e (ap (λ b. b && not (is_allowed (publish_verdict u.rules m.subject))) terms ∙ ap not h.0)
+    behind-any w.policy (may_respond (Pub conn m word)) (session_of w.sessions conn) u e (ap (λ b. b && not (is_allowed (publish_verdict u.rules m.subject))) terms ∙ ap not h.0)
 
 told-by : (w : World) (now conn : ℕ) (m : Message) (word : ℕ) (by : By) → IsSomeAnd (user_at w conn) (λ (u : User). IsAllowance w now conn m.subject u by) → some_allows w.policy (Pub conn m word) by ≡ true
 told-by w now conn m word AllowsAll h =

@@ -80,7 +80,7 @@ pub struct Desk<L: Run> {
 impl<L: Run> Desk<L> {
     ghost use Rattle.std.specs.Prelude.{◌≡◌, ◌+◌, ◌≤◌, ◌++◌, ◌∷◌, [], IfOk, OnOk, OnErr, MatchResult, map, vec_len, vec_capacity, length, ◌<◌, List};
     ghost use Rattle.hub.specs.History.{IsLegalRun, IsStep};
-    ghost use Rattle.hub.specs.Segments.{held, rotated};
+    ghost use Rattle.hub.specs.Segments.{rotated, tail_of};
     ghost use Rattle.hub.specs.Sound.{IsSound};
     ghost use Rattle.hub.specs.Guarantee.{IsRouted, KeepsGuarantee};
     ghost use Rattle.shared_desk.specs.Entering.{IsEntered};
@@ -190,7 +190,7 @@ impl<L: Run> Desk<L> {
     /// Hands out the entries that the hub holds, and goes on with none, as `Hub::rotate` tells. It enters nothing, so the
     /// seat is as before. `NoMemory` changes nothing.
     pub fn rotate(&mut self, seat: Seat<L>) -> (Seat<L>, Result<Segment, NoMemory>)
-        ensures segment { IfOk result.1 (λ segment. segment ≡ held self.old.hub) }
+        ensures segment { IfOk result.1 (λ segment. segment ≡ tail_of self.old.hub) }
         ensures ok { OnOk result.1 (self.new.hub ≡ rotated self.old.hub) }
         ensures err { OnErr result.1 (self.new.hub ≡ self.old.hub) }
         ensures book { self.new.book.total ≡ self.old.book.total }
@@ -203,7 +203,7 @@ impl<L: Run> Desk<L> {
 
     /// `rotate` with a seat that is lent.
     pub fn rotate_as(&mut self, _seat: &Seat<L>) -> Result<Segment, NoMemory>
-        ensures segment { IfOk result (λ segment. segment ≡ held self.old.hub) }
+        ensures segment { IfOk result (λ segment. segment ≡ tail_of self.old.hub) }
         ensures ok { OnOk result (self.new.hub ≡ rotated self.old.hub) }
         ensures err { OnErr result (self.new.hub ≡ self.old.hub) }
         ensures book { self.new.book.total ≡ self.old.book.total }

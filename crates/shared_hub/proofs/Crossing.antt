@@ -34,7 +34,7 @@ use Rattle.events.proofs.answer.Entry.TheSendSync as entry
 use Rattle.base.proofs.shared.Shared.TheSendSync as shared
 use Rattle.world.proofs.plain.PlainWorld.TheSendSync as plain
 use Rattle.shared_desk.specs.contracts.desk.Desk as desk
-use Rattle.shared_hub.specs.contracts.shared.Shared as shared_row
+use Rattle.shared_hub.specs.contracts.shared_hub.SharedHub as shared_row
 use Rattle.std.proofs.sync.ledger.Book.TheSendSync as book
 use Rattle.shared_waits.proofs.waits.Waits.TheSendSync as waits
 use Rattle.std.proofs.sync.Mutex.TheSendSync as mutex
@@ -42,7 +42,7 @@ use Rattle.shared_desk.specs.declared.desk.Run.{Ghosts as Runs}
 use Rattle.std.specs.declared.sync.ledger.Ledger.{Ghosts as Ledgers}
 use Rattle.std.specs.contracts.sync.ledger.Share as share_row
 use Rattle.std.proofs.sync.ledger.Share.TheSendSync as share
-use Rattle.shared_hub.specs.contracts.shared.Rest as rest_row
+use Rattle.shared_hub.specs.contracts.shared_hub.Rest as rest_row
 use Rattle.world_ids.specs.contracts.trees.Trees as trees
 use Rattle.world_subscriptions.specs.contracts.table.Table as table
 use Rattle.world_subscriptions.specs.contracts.subscriptions.Subscriptions as subs

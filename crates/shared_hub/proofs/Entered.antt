@@ -8,7 +8,7 @@ use Rattle.std.proofs.lemmas.Option.{none-some, slice_get_within, slice_get_read
 use Rattle.events.specs.declared.answer.Entry.{Entry}
 use Rattle.world.specs.World.{World}
 use Rattle.hub.specs.History.{State, IsLegalRun}
-use Rattle.hub.specs.Segments.{Part, held}
+use Rattle.hub.specs.Segments.{Part, tail_of}
 use Rattle.hub.proofs.Parts.{run-number}
 use Rattle.hub_segments.specs.Joins.{parts_of, has_number, due, IsRight, AreOneHistory}
 use Rattle.shared_receipts.specs.Receipts.{Receipt}
@@ -97,14 +97,14 @@ absent segments s history n j none = absent-by segments s history n j none (nat_
 
 -- ---- a look through the parts
 
--- of the parts the segments, and what is held
+-- of the parts the segments, and the tail
 of-segments : (P : Part → Type 0) (ps : List Part) (q : Part) → All P (ps ++ q ∷ []) → All P ps
 of-segments P [] q all = λ k d lt. absurd (omega (arith, lt))
 of-segments P (p ∷ ps) q all = All-cons P p ps (All-head P p (ps ++ q ∷ []) all) (of-segments P ps q (All-tail P p (ps ++ q ∷ []) all))
 
-of-held : (P : Part → Type 0) (ps : List Part) (q : Part) → All P (ps ++ q ∷ []) → P q
-of-held P [] q all = All-head P q [] all
-of-held P (p ∷ ps) q all = of-held P ps q (All-tail P p (ps ++ q ∷ []) all)
+of-tail : (P : Part → Type 0) (ps : List Part) (q : Part) → All P (ps ++ q ∷ []) → P q
+of-tail P [] q all = All-head P q [] all
+of-tail P (p ∷ ps) q all = of-tail P ps q (All-tail P p (ps ++ q ∷ []) all)
 
 abbrev Slice : List Entry → Part → Type 0
 Slice history p = take (length p.entries) (drop p.opening.number history) ≡ p.entries
@@ -120,13 +120,13 @@ lacks-more n ps i p lt same lacks before =
 -- what is found in a segment
 pub segment_found : (segments : List Part) (s : State) (history : List Entry) (n i : ℕ) (p : Part) (x : Entry) → IsJoined segments s history → i < length segments → p ≡ get_or segments i p → IsLookUp p n (Some x) → Some x ≡ entry_after 0 history n
 segment_found segments s history n i p x j lt same look =
-    let all = of-segments (Slice history) segments (held s) j.parts in
+    let all = of-segments (Slice history) segments (tail_of s) j.parts in
     sym (found history p n x (subst (Slice history) (sym same) (all i p lt)) look)
 
 -- what is found behind the segments
-pub held_found : (segments : List Part) (s : State) (history : List Entry) (n : ℕ) (o : Option Entry) → IsJoined segments s history → All (λ (p : Part). has_number n p ≡ false) segments → IsLookUp (held s) n o → o ≡ entry_after 0 history n
-held_found segments s history n None j none look = sym (absent segments s history n j (All-push (Lacks n) segments (held s) none look))
-held_found segments s history n (Some x) j none look = sym (found history (held s) n x (of-held (Slice history) segments (held s) j.parts) look)
+pub tail_found : (segments : List Part) (s : State) (history : List Entry) (n : ℕ) (o : Option Entry) → IsJoined segments s history → All (λ (p : Part). has_number n p ≡ false) segments → IsLookUp (tail_of s) n o → o ≡ entry_after 0 history n
+tail_found segments s history n None j none look = sym (absent segments s history n j (All-push (Lacks n) segments (tail_of s) none look))
+tail_found segments s history n (Some x) j none look = sym (found history (tail_of s) n x (of-tail (Slice history) segments (tail_of s) j.parts) look)
 
 -- ---- the whole
 

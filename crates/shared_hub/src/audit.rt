@@ -3,7 +3,7 @@ ghost use Rattle.std.specs.Prelude.{◌≡◌, List, MatchResult};
 ghost use Rattle.std.specs.Bool.{Decides};
 ghost use Rattle.std.specs.Option.{option_copied};
 ghost use Rattle.events.specs.declared.answer.Entry.{Entry};
-ghost use Rattle.hub.specs.Segments.{held};
+ghost use Rattle.hub.specs.Segments.{tail_of};
 ghost use Rattle.shared_hub.specs.Audits.{Stands, HasNone, IsFound, IsJoined, AreEntered, IsFault, IsLookUp, entry_after};
 
 use crate::Receipt;
@@ -77,7 +77,7 @@ fn entry_at<'a>(segments: &'a [Segment], hub: &'a Hub, number: u64) -> Option<&'
             return Some(entry);
         }
     }
-    held_entry(hub, number)
+    tail_entry(hub, number)
 }
 
 /// The entry with a number in a segment.
@@ -89,8 +89,8 @@ fn segment_entry(segment: &Segment, number: u64) -> Option<&Answer>
 }
 
 /// The entry with a number among those that the hub holds.
-fn held_entry(hub: &Hub, number: u64) -> Option<&Answer>
-    ensures { IsLookUp (held hub.now) number (option_copied result) }
+fn tail_entry(hub: &Hub, number: u64) -> Option<&Answer>
+    ensures { IsLookUp (tail_of hub.now) number (option_copied result) }
 {
     hub.known();
     entry_after(hub.opening().number(), hub.history(), number)

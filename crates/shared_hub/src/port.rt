@@ -1,6 +1,6 @@
 ghost use Rattle.std.specs.Prelude.{◌≡◌};
 
-use crate::{Receipt, Run, Seat, Shared};
+use crate::{Receipt, Run, Seat, SharedHub};
 use base::NoMemory;
 use hub::{Answer, Event, HubRefusal, Port, PublishRefusal, Segment};
 use std::alloc::Global;
@@ -12,7 +12,7 @@ use std::sync::Wait;
 pub struct SharedPort<'a, L: Run, R: Wait> {
     rt: &'a R,
     alloc: Global,
-    shared: &'a Shared<L>,
+    shared: &'a SharedHub<L>,
     seat: Seat<L>,
     receipts: Vec<Receipt>,
 }
@@ -24,7 +24,7 @@ impl<'a, L: Run, R: Wait> SharedPort<'a, L, R> {
     pub fn new(
         rt: &'a R,
         alloc: Global,
-        shared: &'a Shared<L>,
+        shared: &'a SharedHub<L>,
         seat: Seat<L>,
     ) -> SharedPort<'a, L, R>
         ensures count { result.seat.count ≡ seat.count }
@@ -48,7 +48,7 @@ impl<'a, L: Run, R: Wait> SharedPort<'a, L, R> {
         mem::replace(&mut self.receipts, Vec::new(self.alloc))
     }
 
-    /// Hands out the entries that the hub holds, as `Shared::rotate` does. The seat and the receipts that are kept are as
+    /// Hands out the entries that the hub holds, as `SharedHub::rotate` does. The seat and the receipts that are kept are as
     /// before.
     pub fn rotate(&mut self) -> Result<Segment, NoMemory>
         ensures seat { self.new.seat ≡ self.old.seat }

@@ -1,6 +1,6 @@
 ghost use Rattle.std.specs.Prelude.{◌≡◌};
 
-use crate::{Run, Seat, Shared, Told};
+use crate::{Run, Seat, SharedHub, Told};
 use base::NoMemory;
 use hub::{Answer, Event, HubRefusal, Port, PublishRefusal, Segment};
 use std::sync::Wait;
@@ -17,7 +17,7 @@ pub trait Notes {
 #[derive(Drop)]
 pub struct SeatPort<'a, L: Run, R: Wait, N: Notes + Drop> {
     rt: &'a R,
-    shared: &'a Shared<L>,
+    shared: &'a SharedHub<L>,
     seat: Seat<L>,
     notes: N,
     told: Told,
@@ -27,7 +27,7 @@ impl<'a, L: Run, R: Wait, N: Notes + Drop> SeatPort<'a, L, R, N> {
     /// A port of a seat.
     pub fn new(
         rt: &'a R,
-        shared: &'a Shared<L>,
+        shared: &'a SharedHub<L>,
         seat: Seat<L>,
         notes: N,
         told: Told,
@@ -59,7 +59,7 @@ impl<'a, L: Run, R: Wait, N: Notes + Drop> SeatPort<'a, L, R, N> {
         &mut self.notes
     }
 
-    /// Hands out the entries that the hub holds, as `Shared::rotate` does. The seat is as before.
+    /// Hands out the entries that the hub holds, as `SharedHub::rotate` does. The seat is as before.
     pub fn rotate(&mut self) -> Result<Segment, NoMemory>
         ensures { self.new.seat ≡ self.old.seat }
     {

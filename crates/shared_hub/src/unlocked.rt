@@ -2,7 +2,7 @@
 ghost use Rattle.std.specs.Prelude.{◌≡◌};
 
 use crate::audit::{AuditFault, judge};
-use crate::shared::{Rest, Shared};
+use crate::shared_hub::{Rest, SharedHub};
 use crate::{Audit, Desk, Receipt, Run, Seat};
 use hub::Segment;
 use std::alloc::Global;
@@ -46,8 +46,8 @@ impl<L: Run> Unlocked<L> {
     }
 
     /// Puts the hub under a lock again.
-    pub fn lock(self) -> Shared<L> {
-        Shared::of(self.desk, self.rest)
+    pub fn lock(self) -> SharedHub<L> {
+        SharedHub::of(self.desk, self.rest)
     }
 
     /// The closing audit, with all seats, all segments that the hub has handed out, and any receipts. With an audit, its hub

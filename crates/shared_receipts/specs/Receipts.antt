@@ -49,16 +49,16 @@ abbrev pub may_have : Command → User → Bool
 may_have (Sub conn p queue sid) u = is_allowed (subscribe_verdict u.rules p queue)
 may_have _ u = false
 
--- whether a user may publish what a command asks for as an answer alone: it has terms, and its lists refuse
-abbrev pub may_answer : Command → User → Bool
-may_answer (Pub conn m word) u = is_some u.rules.allow_responses && not (is_allowed (publish_verdict u.rules m.subject))
-may_answer _ u = false
+-- whether a user may publish what a command asks for as a response alone: it has terms, and its lists refuse
+abbrev pub may_respond : Command → User → Bool
+may_respond (Pub conn m word) u = is_some u.rules.allow_responses && not (is_allowed (publish_verdict u.rules m.subject))
+may_respond _ u = false
 
--- Whether the policy has a user whose Pub was allowed by this: by its lists, with that verdict, or as an answer.
+-- Whether the policy has a user whose Pub was allowed by this: by its lists, with that verdict, or as a response.
 abbrev pub some_allows : PolicyDoc → Command → By → Bool
 some_allows doc c AllowsAll = list_any (has_verdict c (Allowed AllowsAll)) (users_of doc)
 some_allows doc c (Index i) = list_any (has_verdict c (Allowed (Index i))) (users_of doc)
-some_allows doc c Grant = list_any (may_answer c) (users_of doc)
+some_allows doc c Grant = list_any (may_respond c) (users_of doc)
 
 -- Whether the policy has a user with the verdict that an outcome tells. Subscribed, Denied and Published tell one.
 abbrev pub is_of_policy : PolicyDoc → Command → Outcome → Bool

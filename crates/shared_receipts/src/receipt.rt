@@ -2,7 +2,7 @@ ghost use Rattle.std.specs.Prelude.{◌≡◌};
 ghost use Rattle.std.specs.List.{list_any};
 ghost use Rattle.permissions.specs.Verdicts.{subscribe_verdict};
 ghost use Rattle.policy_ready.specs.Users.{users_of};
-ghost use Rattle.shared_receipts.specs.Receipts.{has_verdict, may_answer, may_have, same_verdict, some_allows, is_of_policy as of_policy};
+ghost use Rattle.shared_receipts.specs.Receipts.{has_verdict, may_respond, may_have, same_verdict, some_allows, is_of_policy as of_policy};
 
 use events::{Answer, Command, Entry, Outcome};
 use permissions::{By, Verdict};
@@ -119,22 +119,22 @@ fn some_has_verdict(ready: &Ready, command: &Command, verdict: Verdict) -> bool
         .any(|user| has_verdict(command, verdict, user))
 }
 
-/// Whether the Pub of some user was allowed by this: by its lists, or as an answer.
+/// Whether the Pub of some user was allowed by this: by its lists, or as a response.
 fn some_allows(ready: &Ready, command: &Command, by: By) -> bool
     ensures { result ≡ some_allows ready.now command.now by }
 {
     match by {
         By::All => some_has_verdict(ready, command, Verdict::Allowed(By::All)),
         By::Index(index) => some_has_verdict(ready, command, Verdict::Allowed(By::Index(index))),
-        By::Grant => some_may_answer(ready, command),
+        By::Grant => some_may_respond(ready, command),
     }
 }
 
-/// Whether some user may publish what a command asks for as an answer alone.
-fn some_may_answer(ready: &Ready, command: &Command) -> bool
-    ensures { result ≡ list_any (may_answer command.now) (users_of ready.now) }
+/// Whether some user may publish what a command asks for as a response alone.
+fn some_may_respond(ready: &Ready, command: &Command) -> bool
+    ensures { result ≡ list_any (may_respond command.now) (users_of ready.now) }
 {
-    ready.users().iter().any(|user| may_answer(command, user))
+    ready.users().iter().any(|user| may_respond(command, user))
 }
 
 /// The user's verdict on a subscription to a pattern, as a member of that queue group or of none.
@@ -181,9 +181,9 @@ fn has_verdict(command: &Command, verdict: Verdict, user: &User) -> bool
     }
 }
 
-/// Whether the user may publish what a command asks for as an answer alone: it has terms, and its lists refuse.
-fn may_answer(command: &Command, user: &User) -> bool
-    ensures { result ≡ may_answer command.now user.now }
+/// Whether the user may publish what a command asks for as a response alone: it has terms, and its lists refuse.
+fn may_respond(command: &Command, user: &User) -> bool
+    ensures { result ≡ may_respond command.now user.now }
 {
     match command {
         Command::Pub { message, .. } => {

@@ -1,4 +1,4 @@
-//! The closing audits of a run. What they judge stays behind one handle, so that nothing large is held where one is refused.
+//! The closing audits of a run. What they judge stays behind one handle, so that nothing large is alive where one is refused.
 ghost use Rattle.std.specs.Prelude.{◌≡◌};
 
 use base::{Copying, Shared as Handle};
@@ -22,43 +22,43 @@ impl Totals {
 }
 
 /// Whether an audit is refused for want of the last seat, which is withheld from it.
-pub(crate) fn misses_a_seat<L: Run>(alloc: Global, held: &mut Option<Parts<L>>) -> bool
+pub(crate) fn misses_a_seat<L: Run>(alloc: Global, slot: &mut Option<Parts<L>>) -> bool
     requires { L.seats ≡ L.parts }
 {
-    let withheld = take_seat(held);
-    let refused = is_refused(alloc, held, AuditFault::SeatMissing);
-    put_seat(held, withheld) && refused
+    let withheld = take_seat(slot);
+    let refused = is_refused(alloc, slot, AuditFault::SeatMissing);
+    put_seat(slot, withheld) && refused
 }
 
 /// Whether an audit is refused for a gap at this number, where the one segment is withheld from it.
-pub(crate) fn has_a_gap<L: Run>(alloc: Global, held: &mut Option<Parts<L>>, number: u64) -> bool
+pub(crate) fn has_a_gap<L: Run>(alloc: Global, slot: &mut Option<Parts<L>>, number: u64) -> bool
     requires { L.seats ≡ L.parts }
 {
-    let withheld = take_segment(held);
-    let refused = is_refused(alloc, held, AuditFault::SegmentGap(number));
-    put_segment(held, withheld) && refused
+    let withheld = take_segment(slot);
+    let refused = is_refused(alloc, slot, AuditFault::SegmentGap(number));
+    put_segment(slot, withheld) && refused
 }
 
 /// Whether an audit is refused for the second receipt, of a Subscribed, remade with this number and handed in behind all
 /// others.
 pub(crate) fn refuses_remade<L: Run>(
     alloc: Global,
-    held: &mut Option<Parts<L>>,
+    slot: &mut Option<Parts<L>>,
     number: u64,
 ) -> bool
     requires { L.seats ≡ L.parts }
 {
-    let made = add_remade(alloc, held, number);
-    let refused = is_refused(alloc, held, AuditFault::ReceiptMismatch(number));
-    drop_receipt(held);
+    let made = add_remade(alloc, slot, number);
+    let refused = is_refused(alloc, slot, AuditFault::ReceiptMismatch(number));
+    drop_receipt(slot);
     made && refused
 }
 
 /// What the audit of all tells, unless it is refused.
-pub(crate) fn audited<L: Run>(alloc: Global, held: &mut Option<Parts<L>>) -> Option<Totals>
+pub(crate) fn audited<L: Run>(alloc: Global, slot: &mut Option<Parts<L>>) -> Option<Totals>
     requires { L.seats ≡ L.parts }
 {
-    match held.take() {
+    match slot.take() {
         None => None,
         Some(parts) => match finish(alloc, parts) {
             Ok(audit) => Some(totals_of(audit)),
@@ -67,24 +67,24 @@ pub(crate) fn audited<L: Run>(alloc: Global, held: &mut Option<Parts<L>>) -> Opt
     }
 }
 
-/// Whether an audit is refused with this fault. What was handed in is held again.
-fn is_refused<L: Run>(alloc: Global, held: &mut Option<Parts<L>>, fault: AuditFault) -> bool
+/// Whether an audit is refused with this fault. Puts what was handed in back.
+fn is_refused<L: Run>(alloc: Global, slot: &mut Option<Parts<L>>, fault: AuditFault) -> bool
     requires { L.seats ≡ L.parts }
 {
-    match held.take() {
+    match slot.take() {
         None => false,
         Some(parts) => match finish(alloc, parts) {
             Ok(_) => false,
             Err((found, parts)) => {
-                put_back(held, parts);
+                put_back(slot, parts);
                 found == fault
             }
         },
     }
 }
 
-fn put_back<L: Run>(held: &mut Option<Parts<L>>, parts: Parts<L>) {
-    *held = Some(parts);
+fn put_back<L: Run>(slot: &mut Option<Parts<L>>, parts: Parts<L>) {
+    *slot = Some(parts);
 }
 
 /// An audit without its clauses: what a test asserts, it computes.
@@ -116,49 +116,49 @@ fn entries_of(hub: &Hub, segments: &[Segment]) -> usize {
     entries
 }
 
-fn take_seat<L: Run>(held: &mut Option<Parts<L>>) -> Option<Seat<L>> {
-    match held {
+fn take_seat<L: Run>(slot: &mut Option<Parts<L>>) -> Option<Seat<L>> {
+    match slot {
         None => None,
         Some(parts) => parts.seats.pop(),
     }
 }
 
-fn put_seat<L: Run>(held: &mut Option<Parts<L>>, seat: Option<Seat<L>>) -> bool {
+fn put_seat<L: Run>(slot: &mut Option<Parts<L>>, seat: Option<Seat<L>>) -> bool {
     match seat {
         None => false,
-        Some(seat) => match held {
+        Some(seat) => match slot {
             None => false,
             Some(parts) => parts.seats.push(seat).is_ok(),
         },
     }
 }
 
-fn take_segment<L: Run>(held: &mut Option<Parts<L>>) -> Option<Segment> {
-    match held {
+fn take_segment<L: Run>(slot: &mut Option<Parts<L>>) -> Option<Segment> {
+    match slot {
         None => None,
         Some(parts) => parts.segments.pop(),
     }
 }
 
-fn put_segment<L: Run>(held: &mut Option<Parts<L>>, segment: Option<Segment>) -> bool {
+fn put_segment<L: Run>(slot: &mut Option<Parts<L>>, segment: Option<Segment>) -> bool {
     match segment {
         None => false,
-        Some(segment) => match held {
+        Some(segment) => match slot {
             None => false,
             Some(parts) => parts.segments.push(segment).is_ok(),
         },
     }
 }
 
-fn add_remade<L: Run>(alloc: Global, held: &mut Option<Parts<L>>, number: u64) -> bool {
-    match held {
+fn add_remade<L: Run>(alloc: Global, slot: &mut Option<Parts<L>>, number: u64) -> bool {
+    match slot {
         None => false,
         Some(parts) => push_remade(alloc, &mut parts.receipts, number),
     }
 }
 
-fn drop_receipt<L: Run>(held: &mut Option<Parts<L>>) {
-    if let Some(parts) = held {
+fn drop_receipt<L: Run>(slot: &mut Option<Parts<L>>) {
+    if let Some(parts) = slot {
         parts.receipts.pop();
     }
 }

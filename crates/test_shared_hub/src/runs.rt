@@ -4,7 +4,7 @@ ghost use Rattle.std.specs.Prelude.{◌≡◌, length};
 use crate::audits::{Totals, audited, has_a_gap, misses_a_seat, refuses_remade};
 use crate::worker::{Place, Row, Site, Stock, Worker};
 use hub::{Caps, Hub};
-use shared_hub::{Blank, Parts, Receipt, Run, Seat, Shared, Unlocked};
+use shared_hub::{Blank, Parts, Receipt, Run, Seat, SharedHub, Unlocked};
 use std::alloc::Global;
 use std::hash::RandomState;
 use std::marker::Brand;
@@ -59,7 +59,7 @@ fn shared<L: Run + Send + Sync, R: Threads + Wait + Sync>(
     requires parts { (blank.parts ≡ L.parts) × (L.seats ≡ L.parts) × (L.seats ≡ length jobs.now) }
     requires opening { hub.world.number ≡ L.opening }
 {
-    match Shared::<L>::with_seats(alloc, blank, hub, jobs.len() as u64) {
+    match SharedHub::<L>::with_seats(alloc, blank, hub, jobs.len() as u64) {
         Err(_) => Err("memory lacked"),
         Ok((shared, seats)) => {
             let workers = worked(rt, alloc, &shared, seated(alloc, seats, jobs));
@@ -107,7 +107,7 @@ fn add_worker<L: Run>(
 fn worked<L: Run + Send + Sync, R: Threads + Wait + Sync>(
     rt: &R,
     alloc: Global,
-    lock: &Shared<L>,
+    lock: &SharedHub<L>,
     mut workers: Vec<Worker<L>>,
 ) -> Vec<Worker<L>> {
     let place = Place { rt, alloc, lock };
@@ -134,38 +134,38 @@ fn judged<L: Run>(
 ) -> Result<Totals, &'static str>
     requires { L.seats ≡ L.parts }
 {
-    let mut held = gathered(alloc, run, workers.as_mut_slice());
-    let told = outcome(alloc, &mut held, plan);
+    let mut slot = gathered(alloc, run, workers.as_mut_slice());
+    let told = outcome(alloc, &mut slot, plan);
     told
 }
 
 fn outcome<L: Run>(
     alloc: Global,
-    held: &mut Option<Parts<L>>,
+    slot: &mut Option<Parts<L>>,
     plan: Plan,
 ) -> Result<Totals, &'static str>
     requires { L.seats ≡ L.parts }
 {
-    if held.is_none() {
+    if slot.is_none() {
         return Err("a thread was told otherwise than its rows say");
     }
-    if !is_as_planned(alloc, held, plan) {
+    if !is_as_planned(alloc, slot, plan) {
         return Err("an audit that is to be refused was not");
     }
-    match audited(alloc, held) {
+    match audited(alloc, slot) {
         None => Err("the last audit was refused"),
         Some(totals) => Ok(totals),
     }
 }
 
 /// Whether the audits are refused that are to be.
-fn is_as_planned<L: Run>(alloc: Global, held: &mut Option<Parts<L>>, plan: Plan) -> bool
+fn is_as_planned<L: Run>(alloc: Global, slot: &mut Option<Parts<L>>, plan: Plan) -> bool
     requires { L.seats ≡ L.parts }
 {
     match plan {
         Plan::None => true,
-        Plan::Forged(number) => misses_a_seat(alloc, held) && refuses_remade(alloc, held, number),
-        Plan::Gap(number) => has_a_gap(alloc, held, number),
+        Plan::Forged(number) => misses_a_seat(alloc, slot) && refuses_remade(alloc, slot, number),
+        Plan::Gap(number) => has_a_gap(alloc, slot, number),
     }
 }
 

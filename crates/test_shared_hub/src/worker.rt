@@ -1,6 +1,6 @@
 //! What the threads of the tests do.
 use hub::{Command, Delivery, Event, Outcome, Port, Ready, Segment};
-use shared_hub::{Receipt, Run, Seat, Shared, SharedPort};
+use shared_hub::{Receipt, Run, Seat, SharedHub, SharedPort};
 use std::alloc::Global;
 use std::sync::Wait;
 use test_samples::{Given, connect, publish, ready_of, sub};
@@ -53,7 +53,7 @@ pub(crate) trait Site<W> {
 pub(crate) struct Place<'a, L: Run, R> {
     pub(crate) rt: &'a R,
     pub(crate) alloc: Global,
-    pub(crate) lock: &'a Shared<L>,
+    pub(crate) lock: &'a SharedHub<L>,
 }
 
 impl<L: Run, R: Wait> Site<Worker<L>> for Place<'_, L, R> {
@@ -83,7 +83,7 @@ pub(crate) struct Stock {
 
 impl<L: Run> Worker<L> {
     /// Does what its rows ask, through a port.
-    fn work<R: Wait>(&mut self, rt: &R, alloc: Global, lock: &Shared<L>) {
+    fn work<R: Wait>(&mut self, rt: &R, alloc: Global, lock: &SharedHub<L>) {
         let Some(seat) = self.seat.take() else {
             return;
         };

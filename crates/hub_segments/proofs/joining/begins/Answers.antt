@@ -1,4 +1,4 @@
--- a segment that ends elsewhere, and what is held
+-- a segment that ends elsewhere, and the tail
 use Rattle.std.proofs.Common.{◌≡◌, All, true, subst}
 use Rattle.std.proofs.lemmas.Bool.Decides.{not_from_Decides}
 use Rattle.std.proofs.lemmas.List.{take_all}
@@ -6,7 +6,7 @@ use Rattle.std.proofs.lemmas.List.Elements.{All-more}
 use Rattle.hub.specs.Segments.{Part}
 use Rattle.hub_segments.specs.Joins.{place}
 use Rattle.hub_segments.specs.Search.{is_before}
-use Rattle.hub_segments.proofs.Before.{begins-not, begins-held}
+use Rattle.hub_segments.proofs.Before.{begins-not, begins-tail}
 use Rattle.hub_segments.proofs.joining.begins.Goals as goal
 
 pub returns-then-not-leads_to : goal.returns-then-not-leads_to
@@ -25,5 +25,5 @@ loop-segment-preserved c =
 pub returns : goal.returns
 returns c = λ q opening at empty judged.
     let P : Part → Type 0 = λ p. is_before (place p) c.nearest_below-nearest.result c.args.at c.args.empty ≡ true → c.args.opening.now ≡ p.closing in
-    begins-held c.args.segments.now c.args.hub.now q c.args.opening.now c.nearest_below-nearest.result c.args.at c.args.empty c.held_leads_to.result c.known.ensures.legal
-    opening at empty judged c.nearest_below-nearest.ensures (subst (All P) (take_all _ _ c.loop-segment-test.false) c.loop-segment.invariant) c.held_leads_to.ensures
+    begins-tail c.args.segments.now c.args.hub.now q c.args.opening.now c.nearest_below-nearest.result c.args.at c.args.empty c.tail_leads_to.result c.known.ensures.legal
+    opening at empty judged c.nearest_below-nearest.ensures (subst (All P) (take_all _ _ c.loop-segment-test.false) c.loop-segment.invariant) c.tail_leads_to.ensures

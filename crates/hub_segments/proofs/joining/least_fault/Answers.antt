@@ -1,7 +1,7 @@
--- each segment, and then what is held
+-- each segment, and then the tail
 use Rattle.std.proofs.Common.{take}
 use Rattle.std.proofs.lemmas.List.{take_all}
-use Rattle.hub_segments.proofs.Least.{found-segment, found-held, right-found}
+use Rattle.hub_segments.proofs.Least.{found-segment, found-tail, right-found}
 use Rattle.hub_segments.proofs.joining.least_fault.Goals as goal
 
 pub loop-segment-preserved : goal.loop-segment-preserved
@@ -11,11 +11,11 @@ loop-segment-preserved c =
 
 pub returns-clause-wrong : goal.returns-clause-wrong
 returns-clause-wrong c =
-    (found-held c.args.segments.now c.args.hub.now c.loop-segment.least c.held_fault-fault.result c.lesser.result (take c.loop-segment.segment-index c.args.segments.now) (take_all _ _ c.loop-segment-test.false) c.lesser.ensures
-    c.loop-segment.invariant c.held_fault-fault.ensures.wrong c.held_fault-fault.ensures.clear).wrong
+    (found-tail c.args.segments.now c.args.hub.now c.loop-segment.least c.tail_fault-fault.result c.lesser.result (take c.loop-segment.segment-index c.args.segments.now) (take_all _ _ c.loop-segment-test.false) c.lesser.ensures
+    c.loop-segment.invariant c.tail_fault-fault.ensures.wrong c.tail_fault-fault.ensures.clear).wrong
 
 pub returns-clause-below : goal.returns-clause-below
 returns-clause-below c =
     right-found c.args.segments.now c.args.hub.now c.lesser.result
-    (found-held c.args.segments.now c.args.hub.now c.loop-segment.least c.held_fault-fault.result c.lesser.result (take c.loop-segment.segment-index c.args.segments.now) (take_all _ _ c.loop-segment-test.false) c.lesser.ensures
-    c.loop-segment.invariant c.held_fault-fault.ensures.wrong c.held_fault-fault.ensures.clear) c.requires
+    (found-tail c.args.segments.now c.args.hub.now c.loop-segment.least c.tail_fault-fault.result c.lesser.result (take c.loop-segment.segment-index c.args.segments.now) (take_all _ _ c.loop-segment-test.false) c.lesser.ensures
+    c.loop-segment.invariant c.tail_fault-fault.ensures.wrong c.tail_fault-fault.ensures.clear) c.requires

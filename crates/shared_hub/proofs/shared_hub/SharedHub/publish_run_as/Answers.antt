@@ -3,7 +3,7 @@ use Rattle.shared_runs.proofs.Runs.{run_along}
 use Rattle.shared_desk.specs.Publishing.{IsPublished}
 use Rattle.shared_hub.specs.Entering.{IsOfferedBy}
 use Rattle.shared_hub.proofs.Offered.{offered_by}
-use Rattle.shared_hub.proofs.shared.Shared.publish_run_as.Goals as goal
+use Rattle.shared_hub.proofs.shared_hub.SharedHub.publish_run_as.Goals as goal
 
 pub returns-clause-run : goal.returns-clause-run
 returns-clause-run g c =

@@ -14,12 +14,12 @@ use std::sync::ledger::{Blank, Share};
 use std::sync::{Mutex, Wait};
 
 /// One hub that threads share. Each event is entered while its one lock is held; all else is done outside.
-pub struct Shared<L: Run> {
+pub struct SharedHub<L: Run> {
     desk: Mutex<Desk<L>>,
     rest: Rest<L>,
 }
 
-impl<L: Run> Drop for Shared<L> {
+impl<L: Run> Drop for SharedHub<L> {
     fn drop(self) {
         let Self { desk: _, rest: _ } = self;
     }
@@ -37,7 +37,7 @@ pub(crate) struct Rest<L: Run> {
     ghost nothing: { share.amount ≡ 0 },
 }
 
-impl<L: Run> Shared<L> {
+impl<L: Run> SharedHub<L> {
     ghost use Rattle.std.specs.Prelude.{◌≡◌, ◌+◌, ◌<◌, ◌≤◌, ◌++◌, IfOk, IfErr, All, List, vec_len, map};
     ghost use Rattle.shared_hub.specs.Entering.{IsSubmitted, IsAnswered, IsOfferedBy, IsLonger};
     ghost use Rattle.shared_runs.specs.Runs.{IsRun};
@@ -51,7 +51,7 @@ impl<L: Run> Shared<L> {
         blank: Blank,
         hub: Hub,
         seats: u64,
-    ) -> Result<(Shared<L>, Vec<Seat<L>>), (Hub, NoMemory)>
+    ) -> Result<(SharedHub<L>, Vec<Seat<L>>), (Hub, NoMemory)>
         requires name { blank.name ≡ L.name }
         requires parts { blank.parts ≡ L.parts }
         requires opening { hub.world.number ≡ L.opening }
@@ -66,12 +66,12 @@ impl<L: Run> Shared<L> {
         let (desk, mut rest) = Desk::open(alloc, blank, hub);
         seat_all(&mut rest, &mut made, seats);
         let rest = Rest { seats, share: rest };
-        Ok((Shared::of(desk, rest), made))
+        Ok((SharedHub::of(desk, rest), made))
     }
 
     /// A desk under its lock, with what is left of its ledger.
-    pub(crate) fn of(desk: Desk<L>, rest: Rest<L>) -> Shared<L> {
-        Shared {
+    pub(crate) fn of(desk: Desk<L>, rest: Rest<L>) -> SharedHub<L> {
+        SharedHub {
             desk: Mutex::new(desk),
             rest,
         }
@@ -79,7 +79,7 @@ impl<L: Run> Shared<L> {
 
     /// Takes the hub out of its lock.
     pub fn unlock(self) -> Unlocked<L> {
-        let Shared { desk, rest } = self;
+        let SharedHub { desk, rest } = self;
         Unlocked::of(desk.into_inner(), rest)
     }
 

@@ -1,6 +1,6 @@
 -- as many parts are left as seats, and none that was made has entered anything
 use Rattle.std.proofs.Common.{◌≡◌, ◌+◌, ◌≤◌, All, vec_len, vec_capacity}
-use Rattle.shared_hub.proofs.shared.seat_all.Given as goal
+use Rattle.shared_hub.proofs.shared_hub.seat_all.Given as goal
 
 abbrev pub invariant-loop-next : goal.invariant-loop-next
 invariant-loop-next g l = record {

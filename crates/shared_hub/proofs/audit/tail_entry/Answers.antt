@@ -5,7 +5,7 @@ use Rattle.events.specs.declared.answer.Entry.{Entry}
 use Rattle.world.specs.World.{World}
 use Rattle.shared_hub.specs.Audits.{entry_after}
 use Rattle.shared_hub.proofs.Entered.{look_up}
-use Rattle.shared_hub.proofs.audit.held_entry.Goals as goal
+use Rattle.shared_hub.proofs.audit.tail_entry.Goals as goal
 
 pub returns : goal.returns
 returns c =
