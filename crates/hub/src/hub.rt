@@ -182,7 +182,7 @@ impl Hub {
             Ok((told, kept)) => {
                 // The entry has all that the event has.
                 drop(event);
-                Ok(enter(&mut self.entries, told, kept))
+                Ok(append(&mut self.entries, told, kept))
             }
             Err(refusal) => Err((event, refusal)),
         }
@@ -359,7 +359,7 @@ fn keep(alloc: Global, world: &World) -> Result<Shared<PlainWorld>, NoMemory>
 }
 
 /// Enters what is kept of an event behind all entries, in the place that it has there, and gives what is told.
-fn enter(entries: &mut Vec<Answer>, told: Answer, kept: Answer) -> Answer
+fn append(entries: &mut Vec<Answer>, told: Answer, kept: Answer) -> Answer
     requires room { vec_len entries.old < vec_capacity entries.old }
     requires same { kept ≡ told }
     ensures answer { result ≡ told }

@@ -23,7 +23,7 @@ pub record Inside (S : Type 0) : Type 0 where
 abbrev pub inside : {S : Type 0} → State → Waiting → List ℕ → S → Told → Inside S
 inside hub waits held seat told = record { hub = hub; waits = waits; held = held; seat = seat; told = told }
 
--- What `Desk::publish` tells of an event: it is one step of the hub, which keeps the guarantee, or it is held back. With an
+-- What `Desk::step_if` tells of an event: it is one step of the hub, which keeps the guarantee, or it is held back. With an
 -- answer the seat has one more, and since the ledger was opened at least as many entries were made as the seat has.
 pub record IsPublished {S : Type 0} (count : S → ℕ) (opening : ℕ) (x : Inside S) (e : Event) (r : Came) (y : Inside S) : Type 0 where
   pub step : IsStepIf (terms_at x.waits x.hub e) x.hub e r y.held y.hub

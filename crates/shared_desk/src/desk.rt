@@ -64,7 +64,7 @@ impl<L: Run> Seat<L> {
 }
 
 /// What lies under the lock: the hub, the book that counts its entries since the run opened, and who waits for whom. Each
-/// desk is made of a blank ledger, and changes by `enter`, `publish`, `publish_run`, `answer` and `rotate` alone, so nobody
+/// desk is made of a blank ledger, and changes by `enter`, `step`, `step_if`, `step_run`, `rotate` and what these stand on alone, so nobody
 /// who holds the lock can put another in its place.
 #[derive(Drop)]
 pub struct Desk<L: Run> {
@@ -183,7 +183,7 @@ impl<L: Run> Desk<L> {
         ensures waits { self.new.waits ≡ self.old.waits }
     {
         let mut seat = seat;
-        let result = self.enter_as(&mut seat, event);
+        let result = self.step_with_receipt(&mut seat, event);
         (seat, result)
     }
 
@@ -215,7 +215,7 @@ impl<L: Run> Desk<L> {
 
     /// `enter` with a seat that is lent.
     #[inline(always)]
-    pub fn enter_as(
+    pub fn step_with_receipt(
         &mut self,
         seat: &mut Seat<L>,
         event: Event,
@@ -231,7 +231,7 @@ impl<L: Run> Desk<L> {
             Ok(ready) => ready,
             Err(_) => return Err((event, HubRefusal::NoMemory)),
         };
-        match self.step(seat, event) {
+        match self.step_counted(seat, event) {
             Ok(answer) => Ok(Receipt::of(answer, ready)),
             Err(refused) => Err(refused),
         }
@@ -239,7 +239,11 @@ impl<L: Run> Desk<L> {
 
     /// One step of the hub, which the seat has made.
     #[inline(always)]
-    fn step(&mut self, seat: &mut Seat<L>, event: Event) -> Result<Answer, (Event, HubRefusal)>
+    fn step_counted(
+        &mut self,
+        seat: &mut Seat<L>,
+        event: Event,
+    ) -> Result<Answer, (Event, HubRefusal)>
         ensures step { IsStep self.old.hub event result self.new.hub }
         ensures guarantee { KeepsGuarantee self.old.hub event result self.new.hub }
         ensures count { MatchResult result (λ _. seat.new.count ≡ seat.old.count + 1) (λ _. seat.new.count ≡ seat.old.count) }
@@ -261,7 +265,7 @@ impl<L: Run> Desk<L> {
     /// wait for it, and it waits no more. A refusal is the step's, or want of memory for those that may be let on, and
     /// changes neither desk nor seat.
     #[inline(always)]
-    pub fn answer(
+    pub fn step(
         &mut self,
         seat: &mut Seat<L>,
         event: Event,
@@ -284,7 +288,7 @@ impl<L: Run> Desk<L> {
             self.hub.known();
             return Err((event, refusal));
         }
-        let answer = match self.step(seat, event) {
+        let answer = match self.step_counted(seat, event) {
             Ok(answer) => answer,
             Err(refused) => return Err(refused),
         };
@@ -332,7 +336,7 @@ impl<L: Run> Desk<L> {
     /// is told: it is to be closed, since this message never enters for it before. The publisher is taken out of where it
     /// stood before. A refusal is the step's, or want of memory for the waits.
     #[inline(always)]
-    pub fn publish(
+    pub fn step_if(
         &mut self,
         seat: &mut Seat<L>,
         event: Event,
@@ -380,7 +384,7 @@ impl<L: Run> Desk<L> {
     /// drawn nothing. Answers `None` where each was published and the hold has all answers; else what came of the last that
     /// was offered, and the hold has the answers of those before it.
     #[inline(never)]
-    pub fn publish_run<W: Words>(
+    pub fn step_run<W: Words>(
         &mut self,
         seat: &mut Seat<L>,
         posts: Posts,
@@ -395,7 +399,7 @@ impl<L: Run> Desk<L> {
     {
         while let Some(message) = messages.pop_front() {
             let event = posts.event(message, words.next());
-            match self.publish(seat, event, told) {
+            match self.step_if(seat, event, told) {
                 Err(refused) => return Some(Err(refused)),
                 Ok(answer) => {
                     if let Some(last) = hold.keep(answer) {

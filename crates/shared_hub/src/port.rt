@@ -82,7 +82,10 @@ impl<L: Run, R: Wait> Port for SharedPort<'_, L, R> {
         if self.receipts.reserve(1).is_err() {
             return Err((event, HubRefusal::NoMemory));
         }
-        match self.shared.submit_as(self.rt, &mut self.seat, event) {
+        match self
+            .shared
+            .submit_with_receipt(self.rt, &mut self.seat, event)
+        {
             Ok(receipt) => {
                 let answer = another(self.rt, receipt.parts().0);
                 self.receipts.push_reserved(receipt);

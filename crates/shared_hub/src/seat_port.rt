@@ -12,7 +12,7 @@ pub trait Notes {
 }
 
 /// A port of one seat to a hub that threads share, which keeps no receipts: note is taken of each answer, outside the lock.
-/// What is done under the lock is `Desk::answer` and `Desk::publish`, and what they tell is kept for the port's owner. It is
+/// What is done under the lock is `Desk::step` and `Desk::step_if`, and what they tell is kept for the port's owner. It is
 /// for a server, which runs for good and asks for no audit.
 #[derive(Drop)]
 pub struct SeatPort<'a, L: Run, R: Wait, N: Notes + Drop> {

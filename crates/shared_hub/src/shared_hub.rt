@@ -94,7 +94,7 @@ impl<L: Run> SharedHub<L> {
         ensures { IsSubmitted L.opening seat.count event result.1 result.0.count }
     {
         let mut seat = seat;
-        let result = self.submit_as(rt, &mut seat, event);
+        let result = self.submit_with_receipt(rt, &mut seat, event);
         (seat, result)
     }
 
@@ -134,7 +134,7 @@ impl<L: Run> SharedHub<L> {
 
     /// `submit` with a seat that is lent.
     #[inline(always)]
-    pub(crate) fn submit_as<R: Wait>(
+    pub(crate) fn submit_with_receipt<R: Wait>(
         &self,
         rt: &R,
         seat: &mut Seat<L>,
@@ -142,12 +142,12 @@ impl<L: Run> SharedHub<L> {
     ) -> Result<Receipt, (Event, HubRefusal)>
         ensures { IsSubmitted L.opening seat.old.count event result seat.new.count }
     {
-        self.desk.lock(rt).enter_as(seat, event)
+        self.desk.lock(rt).step_with_receipt(seat, event)
     }
 
-    /// `submit_as` without a receipt, so that no owner of the policy is counted while the lock is held. Publishers that
+    /// `submit_with_receipt` without a receipt, so that no owner of the policy is counted while the lock is held. Publishers that
     /// wait are let on, and of a Take is charged for how many milliseconds its connection's socket took nothing, as
-    /// `Desk::answer` tells.
+    /// `Desk::step` tells.
     #[inline(always)]
     pub fn answer_as<R: Wait>(
         &self,
@@ -160,10 +160,10 @@ impl<L: Run> SharedHub<L> {
         ensures answered { IsAnswered L.opening seat.old.count event result seat.new.count }
         ensures freed { IsLonger told.old.freed.items told.new.freed.items }
     {
-        self.desk.lock(rt).answer(seat, event, refused, told)
+        self.desk.lock(rt).step(seat, event, refused, told)
     }
 
-    /// Offers a message's event while the lock is held: it is answered, or held back, as `Desk::publish` tells.
+    /// Offers a message's event while the lock is held: it is answered, or held back, as `Desk::step_if` tells.
     #[inline(always)]
     pub fn publish_as<R: Wait>(
         &self,
@@ -176,10 +176,10 @@ impl<L: Run> SharedHub<L> {
         ensures err { IfErr result (λ refused. refused.0 ≡ event) }
         ensures freed { told.new.freed.items ≡ told.old.freed.items }
     {
-        self.desk.lock(rt).publish(seat, event, told)
+        self.desk.lock(rt).step_if(seat, event, told)
     }
 
-    /// Offers messages of one connection in one hold of the lock, as `Desk::publish_run` tells.
+    /// Offers messages of one connection in one hold of the lock, as `Desk::step_run` tells.
     #[inline(always)]
     pub fn publish_run_as<R: Wait, W: Words>(
         &self,
@@ -197,7 +197,7 @@ impl<L: Run> SharedHub<L> {
     {
         self.desk
             .lock(rt)
-            .publish_run(seat, posts, messages, words, hold, told)
+            .step_run(seat, posts, messages, words, hold, told)
     }
 
     /// How many deliveries wait for a connection, 0 without a session.

@@ -16,12 +16,12 @@ pub apply_if-requires-clause-sound : goal.apply_if-requires-clause-sound
 apply_if-requires-clause-sound g c = entitled c.self.inside.world c.self.invariant.0
 
 -- what the calls ensure
-is_entered : (g : given.Over) (c : goal.After-enter g) → IsEntered c.self.inside.opening c.self.inside.world c.self.inside.most c.self.inside.entries.items c.args.event c.enter.result c.apply_if.new.self c.enter.new.entries.items
+is_entered : (g : given.Over) (c : goal.After-append g) → IsEntered c.self.inside.opening c.self.inside.world c.self.inside.most c.self.inside.entries.items c.args.event c.append.result c.apply_if.new.self c.append.new.entries.items
 is_entered g c =
     let room : is_history_full c.args.self.now ≡ false = sym c.is_full.ensures ∙ c.if-is_full.false in
     let P : State → Type 0 = λ s. is_history_full s ≡ false in
-    let Q : Entry → Type 0 = λ a. IsEntered c.self.inside.opening c.self.inside.world c.self.inside.most c.self.inside.entries.items c.args.event a c.apply_if.new.self c.enter.new.entries.items in
-    subst Q (sym c.enter.ensures.answer)
+    let Q : Entry → Type 0 = λ a. IsEntered c.self.inside.opening c.self.inside.world c.self.inside.most c.self.inside.entries.items c.args.event a c.apply_if.new.self c.append.new.entries.items in
+    subst Q (sym c.append.ensures.answer)
     (record {
       sound = c.self.invariant.0;
       reached = c.self.invariant.3;
@@ -30,7 +30,7 @@ is_entered g c =
       step = c.in-Ok.ensures.step.0.0;
       answer = c.in-Ok.ensures.step.0.1;
       reason = c.in-Ok.ensures.reason;
-      entered = c.enter.ensures.entered ∙ ap (λ (l : List Entry). l ++ c.in-Ok.told ∷ []) c.reserve.ensures.items;
+      entered = c.append.ensures.entered ∙ ap (λ (l : List Entry). l ++ c.in-Ok.told ∷ []) c.reserve.ensures.items;
     })
 
 pub invariant_of-self-in-Ok : goal.invariant_of-self-in-Ok
@@ -39,14 +39,14 @@ invariant_of-self-in-Ok g c = kept-step _ _ _ _ _ _ _ _ (is_entered g c)
 pub returns-in-Ok-clause-transition : goal.returns-in-Ok-clause-transition
 returns-in-Ok-clause-transition g c =
     let t = g.T.Lenient.terms c.args.lenient.now in
-    let after = state_of c.self.inside.opening c.apply_if.new.self c.self.inside.most c.enter.new.entries.items in
-    let P : State → Type 0 = λ s. IsStepIf t s c.args.event (Ok c.enter.result) c.apply_if.new.held.items after in
-    let letting = ap (λ (a : Entry). held_in t c.self.inside.world.sessions a.outcome) c.enter.ensures.answer ∙ c.in-Ok.ensures.step.1 in
+    let after = state_of c.self.inside.opening c.apply_if.new.self c.self.inside.most c.append.new.entries.items in
+    let P : State → Type 0 = λ s. IsStepIf t s c.args.event (Ok c.append.result) c.apply_if.new.held.items after in
+    let letting = ap (λ (a : Entry). held_in t c.self.inside.world.sessions a.outcome) c.append.ensures.answer ∙ c.in-Ok.ensures.step.1 in
     subst P c.self.view_is (entered-step _ _ _ _ _ _ _ _ (is_entered g c), letting)
 
 pub returns-in-Ok-clause-guarantee : goal.returns-in-Ok-clause-guarantee
 returns-in-Ok-clause-guarantee g c =
-    let P : State → Type 0 = λ s. KeepsGuarantee s c.args.event (Ok c.enter.result) (state_of c.self.inside.opening c.apply_if.new.self c.self.inside.most c.enter.new.entries.items) in
+    let P : State → Type 0 = λ s. KeepsGuarantee s c.args.event (Ok c.append.result) (state_of c.self.inside.opening c.apply_if.new.self c.self.inside.most c.append.new.entries.items) in
     subst P c.self.view_is (entered-guaranteed _ _ _ _ _ _ _ _ (is_entered g c))
 
 -- one that isn't made keeps the guarantee, whether the world refuses it, or memory, or somebody holds it back

@@ -10,4 +10,4 @@ longer (Err e) freed before after ok err = ([], err ∙ sym (append-nil before))
 
 pub returns-clause-freed : goal.returns-clause-freed
 returns-clause-freed g c =
-    longer c.answer.result _ c.args.told.now.freed.items c.answer.new.told.freed.items c.answer.ensures.freed c.answer.ensures.none
+    longer c.step.result _ c.args.told.now.freed.items c.step.new.told.freed.items c.step.ensures.freed c.step.ensures.none

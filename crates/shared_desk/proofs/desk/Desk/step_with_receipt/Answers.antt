@@ -3,9 +3,9 @@ use Rattle.std.proofs.Common.{◌≡◌, true, subst, sym}
 use Rattle.policy_doc.specs.declared.document.PolicyDoc.{PolicyDoc}
 use Rattle.shared_receipts.specs.Receipts.{is_of_policy}
 use Rattle.shared_desk.proofs.Verdicts.{genuine}
-use Rattle.shared_desk.proofs.desk.Desk.enter_as.Goals as goal
+use Rattle.shared_desk.proofs.desk.Desk.step_with_receipt.Goals as goal
 
 pub of-requires : goal.of-requires
 of-requires g c =
-    let P : PolicyDoc → Type 0 = λ doc. is_of_policy doc c.in-Ok-step.answer.event.what c.in-Ok-step.answer.outcome ≡ true in
-    subst P (sym c.in-Ok.ensures) (genuine _ _ _ _ c.in-Ok-step.ensures.guarantee)
+    let P : PolicyDoc → Type 0 = λ doc. is_of_policy doc c.in-Ok-step_counted.answer.event.what c.in-Ok-step_counted.answer.outcome ≡ true in
+    subst P (sym c.in-Ok.ensures) (genuine _ _ _ _ c.in-Ok-step_counted.ensures.guarantee)

@@ -1,7 +1,7 @@
 -- what is refused for want of memory keeps the guarantee
 use Rattle.std.proofs.Common.{Err, refl}
 use Rattle.hub.proofs.Guaranteed.{guaranteed}
-use Rattle.shared_desk.proofs.desk.Desk.answer.Goals as goal
+use Rattle.shared_desk.proofs.desk.Desk.step.Goals as goal
 
 pub returns-then-is_err-clause-guarantee : goal.returns-then-is_err-clause-guarantee
 returns-then-is_err-clause-guarantee g c =

@@ -7,7 +7,7 @@ use Rattle.shared_runs.proofs.Runs.{run_more, run_ended, run_all}
 use Rattle.shared_desk.specs.Bounds.{terms_at}
 use Rattle.shared_desk.specs.Publishing.{IsPublished, inside}
 use Rattle.shared_desk.proofs.Offering.{handed_back}
-use Rattle.shared_desk.proofs.desk.Desk.publish_run.Goals as goal
+use Rattle.shared_desk.proofs.desk.Desk.step_run.Goals as goal
 
 pub loop-message-init : goal.loop-message-init
 loop-message-init g c = record { freed = refl; rest = refl; run = ([], sym (append-nil _), λ more end rest p' w' h. h) }
@@ -19,22 +19,22 @@ returns-in-Err-clause-run g c =
       past.1,
       run_ended (IsPublished (λ s. s.count) g.L.Run.opening) g.W.Words.draws c.args.posts.conn c.args.posts.now c.args.messages.now.items
           (inside c.args.self.now.hub c.args.self.now.waits c.args.self.now.held.items c.args.seat.now c.args.told.now) c.args.words.now past.0 c.loop-message.messages.items c.in-Some.message c.pop_front.new.self.items
-          (inside c.loop-message.self.hub c.loop-message.self.waits c.loop-message.self.held.items c.loop-message.seat c.loop-message.told) c.loop-message.words c.next.result c.next.new.self c.event-event.result (Err c.in-Err.refused) (inside c.publish.new.self.hub c.publish.new.self.waits c.publish.new.self.held.items c.publish.new.seat c.publish.new.told)
-          c.in-Some.ensures.items c.event-event.ensures past.2 c.next.ensures (record { step = c.in-Err.ensures.step; guarantee = c.in-Err.ensures.guarantee; counted = c.in-Err.ensures.count; number = tt; waits = c.in-Err.ensures.waits; until = c.in-Err.ensures.until; slow = c.in-Err.ensures.slow; size = c.in-Err.ensures.size }) (handed_back (terms_at c.loop-message.self.waits c.loop-message.self.hub c.event-event.result) c.loop-message.self.hub c.event-event.result c.in-Err.refused c.publish.new.self.held.items c.publish.new.self.hub c.in-Err.ensures.step),
+          (inside c.loop-message.self.hub c.loop-message.self.waits c.loop-message.self.held.items c.loop-message.seat c.loop-message.told) c.loop-message.words c.next.result c.next.new.self c.event-event.result (Err c.in-Err.refused) (inside c.step_if.new.self.hub c.step_if.new.self.waits c.step_if.new.self.held.items c.step_if.new.seat c.step_if.new.told)
+          c.in-Some.ensures.items c.event-event.ensures past.2 c.next.ensures (record { step = c.in-Err.ensures.step; guarantee = c.in-Err.ensures.guarantee; counted = c.in-Err.ensures.count; number = tt; waits = c.in-Err.ensures.waits; until = c.in-Err.ensures.until; slow = c.in-Err.ensures.slow; size = c.in-Err.ensures.size }) (handed_back (terms_at c.loop-message.self.waits c.loop-message.self.hub c.event-event.result) c.loop-message.self.hub c.event-event.result c.in-Err.refused c.step_if.new.self.held.items c.step_if.new.self.hub c.in-Err.ensures.step),
     )
 
 pub returns-in-Some-keep-clause-run : goal.returns-in-Some-keep-clause-run
 returns-in-Some-keep-clause-run g c =
     let past = c.loop-message.invariant.run in
     let R : Entry → Type 0 = λ x. IsRun (IsPublished (λ s. s.count) g.L.Run.opening) g.W.Words.draws c.args.posts.conn c.args.posts.now c.args.messages.now.items
-    (inside c.args.self.now.hub c.args.self.now.waits c.args.self.now.held.items c.args.seat.now c.args.told.now) c.args.words.now past.0 (Some (Ok x)) c.pop_front.new.self.items (inside c.publish.new.self.hub c.publish.new.self.waits c.publish.new.self.held.items c.publish.new.seat c.publish.new.told) c.next.new.self
+    (inside c.args.self.now.hub c.args.self.now.waits c.args.self.now.held.items c.args.seat.now c.args.told.now) c.args.words.now past.0 (Some (Ok x)) c.pop_front.new.self.items (inside c.step_if.new.self.hub c.step_if.new.self.waits c.step_if.new.self.held.items c.step_if.new.seat c.step_if.new.told) c.next.new.self
     in (
       past.0,
       c.in-Some-keep.ensures.1 ∙ past.1,
       subst R (sym c.in-Some-keep.ensures.0)
           (run_ended (IsPublished (λ s. s.count) g.L.Run.opening) g.W.Words.draws c.args.posts.conn c.args.posts.now c.args.messages.now.items
           (inside c.args.self.now.hub c.args.self.now.waits c.args.self.now.held.items c.args.seat.now c.args.told.now) c.args.words.now past.0 c.loop-message.messages.items c.in-Some.message c.pop_front.new.self.items
-          (inside c.loop-message.self.hub c.loop-message.self.waits c.loop-message.self.held.items c.loop-message.seat c.loop-message.told) c.loop-message.words c.next.result c.next.new.self c.event-event.result (Ok c.in-Ok.answer) (inside c.publish.new.self.hub c.publish.new.self.waits c.publish.new.self.held.items c.publish.new.seat c.publish.new.told)
+          (inside c.loop-message.self.hub c.loop-message.self.waits c.loop-message.self.held.items c.loop-message.seat c.loop-message.told) c.loop-message.words c.next.result c.next.new.self c.event-event.result (Ok c.in-Ok.answer) (inside c.step_if.new.self.hub c.step_if.new.self.waits c.step_if.new.self.held.items c.step_if.new.seat c.step_if.new.told)
           c.in-Some.ensures.items c.event-event.ensures past.2 c.next.ensures (record { step = c.in-Ok.ensures.step; guarantee = c.in-Ok.ensures.guarantee; counted = c.in-Ok.ensures.count; number = c.in-Ok.ensures.number; waits = c.in-Ok.ensures.waits; until = c.in-Ok.ensures.until; slow = c.in-Ok.ensures.slow; size = c.in-Ok.ensures.size }) tt),
     )
 
@@ -51,7 +51,7 @@ loop-message-preserved g c =
         kept.1 ∙ ap (λ (l : List Entry). l ++ c.in-Ok.answer ∷ []) past.1 ∙ append_assoc c.args.hold.now.answers.items past.0 (c.in-Ok.answer ∷ []),
         run_more (IsPublished (λ s. s.count) g.L.Run.opening) g.W.Words.draws c.args.posts.conn c.args.posts.now c.args.messages.now.items
             (inside c.args.self.now.hub c.args.self.now.waits c.args.self.now.held.items c.args.seat.now c.args.told.now) c.args.words.now past.0 c.loop-message.messages.items c.in-Some.message c.pop_front.new.self.items
-            (inside c.loop-message.self.hub c.loop-message.self.waits c.loop-message.self.held.items c.loop-message.seat c.loop-message.told) c.loop-message.words c.next.result c.next.new.self c.event-event.result c.in-Ok.answer (inside c.publish.new.self.hub c.publish.new.self.waits c.publish.new.self.held.items c.publish.new.seat c.publish.new.told)
+            (inside c.loop-message.self.hub c.loop-message.self.waits c.loop-message.self.held.items c.loop-message.seat c.loop-message.told) c.loop-message.words c.next.result c.next.new.self c.event-event.result c.in-Ok.answer (inside c.step_if.new.self.hub c.step_if.new.self.waits c.step_if.new.self.held.items c.step_if.new.seat c.step_if.new.told)
             c.in-Some.ensures.items c.event-event.ensures past.2 c.next.ensures (record { step = c.in-Ok.ensures.step; guarantee = c.in-Ok.ensures.guarantee; counted = c.in-Ok.ensures.count; number = c.in-Ok.ensures.number; waits = c.in-Ok.ensures.waits; until = c.in-Ok.ensures.until; slow = c.in-Ok.ensures.slow; size = c.in-Ok.ensures.size }) kept.0,
       );
     }

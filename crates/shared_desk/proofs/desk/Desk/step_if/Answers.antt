@@ -7,7 +7,7 @@ use Rattle.hub.specs.Holding.{IsStepIf}
 use Rattle.shared_waits.specs.Waiting.{is_out_with}
 use Rattle.shared_desk.specs.Bounds.{terms_at}
 use Rattle.shared_desk.proofs.Offering.{as_before, held_step}
-use Rattle.shared_desk.proofs.desk.Desk.publish.Goals as goal
+use Rattle.shared_desk.proofs.desk.Desk.step_if.Goals as goal
 
 pub returns-in-Ok-clause-step : goal.returns-in-Ok-clause-step
 returns-in-Ok-clause-step g c =

@@ -4,7 +4,7 @@ use Rattle.std.specs.VecDeque.{deque_len}
 use Rattle.events.specs.declared.answer.Entry.{Entry}
 use Rattle.shared_runs.proofs.Runs.{Continues}
 use Rattle.shared_desk.specs.Publishing.{IsPublished, inside}
-use Rattle.shared_desk.proofs.desk.Desk.publish_run.Given as goal
+use Rattle.shared_desk.proofs.desk.Desk.step_run.Given as goal
 
 abbrev pub invariant-loop-message : goal.invariant-loop-message
 invariant-loop-message g l = record {
