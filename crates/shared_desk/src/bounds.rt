@@ -6,7 +6,7 @@ use hub::Command;
 use world_leniency::bytes_of;
 
 /// How many bytes of messages may wait for a connection where a large message enters, with it.
-pub const MOST_BYTES: usize = 67_108_864;
+const MOST_BYTES: usize = 67_108_864;
 
 /// How many bytes a message has, beside its subjects; 0 of what is no message.
 #[inline(always)]

@@ -54,13 +54,6 @@ impl<L: Run> Seat<L> {
     {
         Seat { share, count: 0 }
     }
-
-    /// How many events it has entered that were answered.
-    pub fn count(&self) -> u64
-        ensures { result ≡ self.now.count }
-    {
-        self.count
-    }
 }
 
 /// What lies under the lock: the hub, the book that counts its entries since the run opened, and who waits for whom. Each

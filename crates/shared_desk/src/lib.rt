@@ -10,7 +10,7 @@ mod told;
 mod views;
 
 pub use audit::Audit;
-pub use bounds::{MOST_BYTES, size_of};
+pub use bounds::size_of;
 pub use desk::{Desk, Run, Seat};
 pub use laws::bounded;
 pub use std::sync::ledger::Blank;

@@ -4,13 +4,11 @@
 
 mod audit;
 mod port;
-mod seat_port;
 mod shared_hub;
 mod unlocked;
 
 pub use audit::AuditFault;
 pub use port::SharedPort;
-pub use seat_port::{Notes, SeatPort};
 pub use shared_desk::{Audit, Blank, Desk, Run, Seat, Told, size_of};
 pub use shared_hub::SharedHub;
 pub use shared_receipts::Receipt;

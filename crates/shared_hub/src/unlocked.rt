@@ -38,13 +38,6 @@ impl<L: Run> Unlocked<L> {
         Unlocked { desk, rest }
     }
 
-    /// The desk.
-    pub fn desk(&self) -> &Desk<L>
-        ensures { result.now ≡ self.now.desk }
-    {
-        &self.desk
-    }
-
     /// Puts the hub under a lock again.
     pub fn lock(self) -> SharedHub<L> {
         SharedHub::of(self.desk, self.rest)

@@ -10,5 +10,5 @@ mod patience;
 mod waits;
 
 pub use laws::charges_bounded;
-pub use patience::{AT_ONCE, Patience, SAVED};
-pub use waits::{Outboxes, TOGETHER, Waits};
+pub use patience::Patience;
+pub use waits::{Outboxes, Waits};

@@ -2,10 +2,10 @@
 ghost use Rattle.std.specs.Prelude.{◌≡◌};
 
 /// For how long a receiver may be behind at once without a Take that makes room, in milliseconds.
-pub const AT_ONCE: u64 = 2_000;
+const AT_ONCE: u64 = 2_000;
 
 /// How much patience may be saved, in tenths of a millisecond: ten seconds.
-pub const SAVED: u64 = 100_000;
+const SAVED: u64 = 100_000;
 
 /// What a millisecond takes in which a receiver's socket takes nothing. One in which it isn't behind gives a tenth of that
 /// back.
@@ -54,7 +54,7 @@ impl Patience {
     }
 
     /// Whether it is used up at a moment: the receiver has been behind for `AT_ONCE`, or nothing is left.
-    pub fn is_out(&self, now: u64) -> bool
+    pub(crate) fn is_out(&self, now: u64) -> bool
         ensures { result ≡ is_out now self.now }
     {
         let too_long = match self.since {

@@ -11,7 +11,7 @@ use std::alloc::Global;
 use std::marker::Model;
 
 /// How many publishers are let on at a time while something still waits for their receiver.
-pub const TOGETHER: usize = 64;
+const TOGETHER: usize = 64;
 
 /// The receivers that were found behind, each by its connection.
 type Receivers = IndexMap<u64, Patience>;
