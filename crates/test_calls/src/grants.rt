@@ -10,13 +10,13 @@ fn subject(rt: &HostRuntime, text: &str) -> Result<Subject, Fail> {
 }
 
 #[test]
-fn two_answers_pass_for_one_second(rt: HostRuntime) -> Result<(), Fail> {
+fn two_responses_pass_for_one_second(rt: HostRuntime) -> Result<(), Fail> {
     let terms = Some(Terms {
         max: Some(2),
         expires: Some(1_000),
     });
-    let answered = subject(&rt, "r.1")?;
-    let reply = answered.lend();
+    let inbox = subject(&rt, "r.1")?;
+    let reply = inbox.lend();
     let mut all = Grants::with_room(rt.alloc(), RandomState::new(&rt)?)?;
     assert!(rt; !all.live(&reply, 5_000, terms));
     all.note(subject(&rt, "r.1")?, 5_000);

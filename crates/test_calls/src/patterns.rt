@@ -32,7 +32,7 @@ fn contained(tree: &Sublist, pattern: &Pattern, id: u64) -> &'static str {
     }
 }
 
-fn answer(
+fn told_of(
     rt: &HostRuntime,
     tree: &mut Sublist,
     ask: Ask,
@@ -67,7 +67,7 @@ fn a_pair_stands_once(rt: HostRuntime) -> Result<(), Fail> {
         (Ask::Contains, "orders.>", 2, "stands"),
     ] {
         assert_eq!(rt;
-            answer(&rt, &mut tree, ask, text, id)?,
+            told_of(&rt, &mut tree, ask, text, id)?,
             want,
             "{ask:?} {text} {id}"
         );

@@ -30,7 +30,7 @@ enum Told {
 
 const FULL: Told = Told::Refused(HubRefusal::HistoryFull);
 
-/// The built-in policy, without a clause: so its text is no part of what is known of a hub.
+/// The built-in policy. It has no clause, so that the prover knows nothing of its text.
 fn ready(alloc: Global) -> Option<Ready> {
     Ready::of(alloc, Policy::builtin(alloc).ok()?).ok()
 }
@@ -81,18 +81,19 @@ fn told_segment(segment: &Segment) -> Told {
     Told::Segment(segment.first_number(), segment.entries().len())
 }
 
-fn answer(alloc: Global, hub: &mut Hub, ask: Ask) -> Option<Told> {
+/// What a hub tells of one ask.
+fn told_by(alloc: Global, hub: &mut Hub, ask: Ask) -> Option<Told> {
     match ask {
         Ask::Rotate => Some(told_segment(&rotate(hub).ok()?)),
         _ => Some(step(hub, event(alloc, ask)?)),
     }
 }
 
-/// What is told of each ask, in turn.
+/// What a hub tells of each ask, in turn.
 fn stepped(alloc: Global, hub: &mut Hub, asks: &[Ask]) -> Option<Vec<Told>> {
     let mut all = Vec::new(alloc);
     for ask in asks {
-        all.push(answer(alloc, hub, *ask)?).ok()?;
+        all.push(told_by(alloc, hub, *ask)?).ok()?;
     }
     Some(all)
 }
@@ -124,14 +125,14 @@ fn told_of_all(
     Some(all)
 }
 
-/// What one run tells of all.
+/// What a hub tells of all asks in one run.
 fn ran(alloc: Global, hub: &mut Hub, asks: &[Ask]) -> Option<Vec<Told>> {
     let events = events(alloc, asks)?;
     let answers = run(hub, events)?;
     told_of_all(alloc, answers.as_slice())
 }
 
-/// What a hub has told of all that was asked, how many subscriptions stand then, and what waits for connection 1.
+/// What a hub has told of all asks, how many subscriptions stand then, and what waits for connection 1.
 #[derive(Drop)]
 struct Shown {
     told: Vec<Told>,
@@ -139,7 +140,7 @@ struct Shown {
     waiting: Option<(usize, bool)>,
 }
 
-/// What a hub tells of asks, in one run or one by one.
+/// Shows what a hub tells of asks, in one run or one by one.
 fn show(alloc: Global, hub: &mut Hub, asks: &[Ask], in_one_run: bool) -> Option<Shown> {
     let told = if in_one_run {
         ran(alloc, hub, asks)?
@@ -153,7 +154,7 @@ fn show(alloc: Global, hub: &mut Hub, asks: &[Ask], in_one_run: bool) -> Option<
     })
 }
 
-/// The same of a new hub, which is let go in one place.
+/// Shows the same of a new hub, which is dropped in one place.
 fn show_new(alloc: Global, keys: RandomState, asks: &[Ask], in_one_run: bool) -> Option<Shown> {
     let mut hub = opened(alloc, keys)?;
     let shown = show(alloc, &mut hub, asks, in_one_run);
