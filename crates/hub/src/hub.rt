@@ -1,4 +1,4 @@
-//! One step of the world, which is remembered, and a run of steps.
+//! The hub: a world, and the history of its steps.
 use crate::Segment;
 use base::{Copying, Items, NoMemory, Shared};
 use events::{Answer, Event, HubRefusal, PublishRefusal};
@@ -12,7 +12,7 @@ use std::mem;
 use world::{PlainWorld, Standing, World};
 use world_leniency::{Lenient, LenientToAll};
 
-/// What a hub is given once, at its opening.
+/// The limits that a hub is given at its opening.
 #[derive(Clone, Copy, Debug)]
 pub struct Caps {
     /// How many deliveries may wait for a session, 1 to 65,536.
@@ -75,8 +75,8 @@ impl Hub {
     ghost use Rattle.hub.specs.History.{opening_state, is_history_full, stepped, IsOpening, IsLegalRun, IsStep};
     ghost use Rattle.hub.specs.Segments.{IsReached, rotated, tail_of};
 
-    /// A hub over a policy, with nobody connected and nothing to remember. `NoMemory` hands the policy back. Clients
-    /// choose the tokens of subjects, so the tables of tokens are hashed under keys that they can't know.
+    /// Opens a hub over a policy, with nobody connected and no entries. The tables of tokens are hashed under `keys`:
+    /// clients choose the tokens, and must not know how they are hashed. `NoMemory` hands the policy back.
     #[tactic(auto, unfolding(crate::specs::History::IsLegalRun))]
     pub fn new(
         alloc: Global,
@@ -134,11 +134,11 @@ impl Hub {
         let _ = &self.world;
     }
 
-    /// One event, whole: the outcome and the world after it are the transition's, and the answer is the event's entry,
-    /// which stands behind all others. A refusal changes nothing and hands the event back: `HistoryFull` where the
-    /// history holds as many entries as it may, or number 2^64 - 1 has been given, `SessionTaken` to a Connect of a
-    /// connection with a session, `NoSession` to any other command of one without, `SessionLimit` to a Connect
-    /// while 4,096 sessions stand, `NoMemory` where memory could not be had. The step keeps the routing guarantee.
+    /// Makes the step of one event: the outcome and the world after it are the transition's, and the answer is the
+    /// event's entry, which stands behind all others. A refusal changes nothing and hands the event back: `HistoryFull`
+    /// if the history holds as many entries as it may, or number 2^64 - 1 has been given, `SessionTaken` to a Connect of
+    /// a connection with a session, `NoSession` to any other command of one without, `SessionLimit` to a Connect while
+    /// 4,096 sessions stand, `NoMemory` if there is no memory. The step keeps the routing guarantee.
     #[inline(always)]
     pub fn step(&mut self, event: Event) -> Result<Answer, (Event, HubRefusal)>
         ensures transition { IsStep self.old event result self.new }
@@ -155,11 +155,11 @@ impl Hub {
         }
     }
 
-    /// One event as `step` takes it, unless somebody holds it back: its answer would tell of a full outbox, of a connection
-    /// to which the caller isn't lenient and for which something waits; or its message would enter for a connection for
-    /// which more waits than may by the caller's terms. Then nothing changes, the event is handed back with `Held`, and
-    /// these connections are in `held`, once for each item. So each full outbox of which an answer tells is of a connection
-    /// to which the caller is lenient, or was empty before the message. What is refused isn't held back.
+    /// Makes the step of an event as `step` does, unless a receiver holds the event back: the answer would tell of a full
+    /// outbox, of a connection to which the caller isn't lenient and for which something waits; or the message would enter
+    /// for a connection for which more waits than may by the caller's terms. Then nothing changes, the event is handed back
+    /// with `Held`, and these connections are in `held`, once for each item. So each full outbox of which an answer tells is
+    /// of a connection to which the caller is lenient, or was empty before the message. A refused event isn't held back.
     #[inline(always)]
     pub fn step_if<T: Lenient>(
         &mut self,
@@ -188,8 +188,7 @@ impl Hub {
         }
     }
 
-    /// The refusal of an event for which memory could not be had: the step's own, or `NoMemory` where a step would answer
-    /// it.
+    /// The refusal of an event that finds no memory: the step's own, or `NoMemory` if a step would answer it.
     pub fn refusal(&self, event: &Event) -> HubRefusal
         ensures { IsRefusal (stepped self.now event.entry.now) result }
     {
@@ -200,14 +199,14 @@ impl Hub {
         }
     }
 
-    /// Whether there is no room for an entry, or no number.
+    /// Whether the history has no room for an entry, or no number is left.
     fn is_full(&self) -> bool
         ensures { result ≡ is_history_full self.now }
     {
         self.entries.len() >= self.most || self.world.number() == u64::MAX
     }
 
-    /// Why an event is refused that there is no memory to enter: the world's refusal, or want of memory.
+    /// The refusal of an event that finds no memory for its entry: the world's, or `NoMemory`.
     fn refusal_of(&self, event: &Event) -> HubRefusal
         ensures { IsRefusal (transition self.now.world event.entry.now) result }
     {
@@ -221,8 +220,8 @@ impl Hub {
     ghost use Rattle.hub.specs.Run.{IsRun};
     ghost use Rattle.world.specs.Shown.{standing_of, waiting_of};
 
-    /// Steps of the events in order: the answer or the refusal of each. Where the list of answers finds no
-    /// memory, the events are handed back before the first step.
+    /// Makes the steps of the events in order, and returns the answer or the refusal of each. If there is no memory for
+    /// the list of answers, the events are handed back before the first step.
     ///
     /// The routing guarantee (docs/GUARANTEE.md, "The guarantee"): for every list of events, a command that is not
     /// refused is accepted exactly when the policy in force at its step allows it; a message enters a plain
@@ -245,7 +244,7 @@ impl Hub {
         }
     }
 
-    /// The steps of what is left of the events.
+    /// Makes the step of each event, and returns their answers in a list that has room for them.
     fn run_each(
         &mut self,
         mut events: VecDeque<Event>,
@@ -265,7 +264,7 @@ impl Hub {
 
     /// Hands out the history so far, and goes on with none: the segment has the entries, the world before them and the
     /// present one, from which the hub goes on. The tables stay as they are, and numbers go on. It takes as long as a
-    /// copy of the tables, however long the history is. On `NoMemory` nothing has changed.
+    /// copy of the tables, however long the history is. `NoMemory` changes nothing.
     #[tactic(auto, unfolding(crate::specs::History::IsLegalRun))]
     pub fn rotate(&mut self) -> Result<Segment, NoMemory>
         ensures segment { IfOk result (λ segment. segment ≡ tail_of self.old) }
@@ -323,7 +322,7 @@ impl Hub {
         self.world.epoch()
     }
 
-    /// The standing subscriptions, oldest first. `NoMemory` where memory could not be had.
+    /// The standing subscriptions, oldest first; `NoMemory` if there is no memory for the list.
     pub fn standing(&self) -> Result<Items<Standing>, NoMemory>
         ensures { IfOk result (λ all. all ≡ map standing_of self.now.world.subscriptions) }
     {
@@ -349,7 +348,7 @@ impl Hub {
 
 ghost use Rattle.std.specs.Prelude.{◌≡◌, ◌<◌, ◌++◌, ◌∷◌, [], IfOk, vec_len, vec_capacity};
 
-/// A world as it is, to be shared by the parts of a history that meet there.
+/// Copies a world, to be shared by the parts of a history that meet there.
 fn keep(alloc: Global, world: &World) -> Result<Shared<PlainWorld>, NoMemory>
     ensures { IfOk result (λ kept. kept ≡ world.now) }
 {
@@ -358,7 +357,7 @@ fn keep(alloc: Global, world: &World) -> Result<Shared<PlainWorld>, NoMemory>
     Ok(kept)
 }
 
-/// Enters what is kept of an event behind all entries, in the place that it has there, and gives what is told.
+/// Appends the history's handle of an entry, and returns the caller's.
 fn append(entries: &mut Vec<Answer>, told: Answer, kept: Answer) -> Answer
     requires room { vec_len entries.old < vec_capacity entries.old }
     requires same { kept ≡ told }

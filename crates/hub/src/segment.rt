@@ -65,8 +65,8 @@ impl Segment {
         let _ = &self.entries;
     }
 
-    /// The number of the first entry. Without entries it is the number that comes next; or the last, 2^64 - 1, where that
-    /// was given.
+    /// The number of the first entry. Without entries it is the number that comes next; or the last, 2^64 - 1, if that was
+    /// given.
     pub fn first_number(&self) -> u64
         ensures { result ≡ first_number self.now }
     {
@@ -80,7 +80,7 @@ impl Segment {
         self.entries.as_slice()
     }
 
-    /// The entries, oldest first, for who wants no more of the part.
+    /// Takes the entries out, oldest first.
     pub fn into_entries(self) -> Vec<Answer>
         ensures { result.items ≡ self.entries }
     {

@@ -1,4 +1,4 @@
-//! The least number at which segments and what a hub holds aren't one history.
+//! The least number at which segments and a hub's tail aren't one history.
 ghost use Rattle.std.specs.Prelude.{◌≡◌, ◌<◌, ◌+◌, ◌&&◌, ◌||◌, ℕ, true, OnOk, IfSome, MatchOption, All, filter, length, nat_lt};
 ghost use Rattle.std.specs.Bool.{Decides};
 ghost use Rattle.std.specs.List.{list_any};
@@ -13,12 +13,12 @@ use crate::part::{
 use hub::{Hub, Segment};
 use world::PlainWorld;
 
-/// Whether the segments, in any order, and what the hub holds are one history: `Ok` where they are. Else the least number
-/// at which something is wrong: from 1 up to the hub's last entry it doesn't stand in exactly one segment or in what the
-/// hub holds; or it is above that, and stands in a segment; or it is the first number of a part that doesn't begin in the
-/// world in which the part before it ends. What the hub holds has its first number as a segment has. Parts stand by the
-/// number of their opening world, empty ones first. A segment without entries adds nothing and isn't missed, and one that
-/// stands behind a tail with entries isn't judged. It takes no memory.
+/// Checks that the segments, in any order, and the hub's tail are one history. If they aren't, it returns the least number
+/// at which something is wrong: from 1 up to the hub's last entry the number doesn't stand in exactly one segment or in the
+/// tail; or it is above that, and stands in a segment; or it is the first number of a part that doesn't begin in the world
+/// in which the part before it ends. The tail has its first number as a segment has. Parts stand by the number of their
+/// opening world, empty ones first. A segment without entries adds nothing and isn't missed, and one that stands behind a
+/// tail with entries isn't judged. It takes no memory.
 pub fn joins(segments: &[Segment], hub: &Hub) -> Result<(), u64>
     ensures least { IsLeastFault segments.now hub.now result }
     ensures history { OnOk result (AreOneHistory segments.now hub.now) }
@@ -43,7 +43,7 @@ fn known_parts(segments: &[Segment], hub: &Hub)
     hub.number();
 }
 
-/// The least number at which something is wrong: it is 1, or the first number of a part, or the one after its last.
+/// The least number at which something is wrong: 1, or the first number of a part, or the one after its last.
 fn least_fault(segments: &[Segment], hub: &Hub) -> Option<u64>
     requires { AreNumbered (parts_of segments.now hub.now) }
     ensures wrong { IfSome result (λ n. IsRight segments.now hub.now n → ⊥) }
@@ -58,7 +58,7 @@ fn least_fault(segments: &[Segment], hub: &Hub) -> Option<u64>
     lesser(least, fault)
 }
 
-/// The lesser of two numbers, where there is one.
+/// The lesser of two numbers that may be missing.
 fn lesser(one: Option<u64>, other: Option<u64>) -> Option<u64>
     ensures { result ≡ lesser one other }
 {
@@ -82,7 +82,7 @@ fn segment_fault(segments: &[Segment], hub: &Hub, segment: &Segment) -> Option<u
     lesser(lesser(first, next), unbegun)
 }
 
-/// The least number at which what the hub holds shows that something is wrong.
+/// The least number at which the tail shows that something is wrong.
 fn tail_fault(segments: &[Segment], hub: &Hub) -> Option<u64>
     ensures wrong { IfSome result (IsFaultOf segments.now hub.now (tail_of hub.now)) }
     ensures clear { IsClear segments.now hub.now result (tail_of hub.now) }
@@ -93,7 +93,7 @@ fn tail_fault(segments: &[Segment], hub: &Hub) -> Option<u64>
     lesser(lesser(first, next), unbegun)
 }
 
-/// The number after this one, where it doesn't stand in as many parts as it is to.
+/// The number after this one, if it doesn't stand in as many parts as it should.
 fn misplaced_after(segments: &[Segment], hub: &Hub, number: u64) -> Option<u64>
     ensures wrong { IfSome result (λ n. IsInPlace segments.now hub.now n → ⊥) }
     ensures clear { IsBelow (number + 1) result → IsInPlace segments.now hub.now (number + 1) }
@@ -110,7 +110,7 @@ fn misplaced_after(segments: &[Segment], hub: &Hub, number: u64) -> Option<u64>
     }
 }
 
-/// Whether a number stands in as many parts as it is to: in one from 1 up to the hub's last entry, and in none above.
+/// Whether a number stands in as many parts as it should: in one from 1 up to the hub's last entry, and in none above.
 fn is_in_place(segments: &[Segment], hub: &Hub, number: u64) -> bool
     ensures { Decides result (IsInPlace segments.now hub.now number) }
 {
@@ -122,7 +122,7 @@ fn is_in_place(segments: &[Segment], hub: &Hub, number: u64) -> bool
     count_of(segments, number) == due
 }
 
-/// In how many segments a number stands.
+/// How many segments have a number.
 fn count_of(segments: &[Segment], number: u64) -> usize
     ensures { result ≡ length (filter (has_number number) segments.now) }
 {
@@ -132,7 +132,7 @@ fn count_of(segments: &[Segment], number: u64) -> usize
         .count()
 }
 
-/// The segment's first number, where it doesn't begin in the world in which the part before it ends.
+/// The segment's first number, if it doesn't begin in the world in which the part before it ends.
 fn segment_unbegun(segments: &[Segment], hub: &Hub, segment: &Segment) -> Option<u64>
     ensures wrong { IfSome result (λ n. IsBegun segments.now hub.now segment.now n → ⊥) }
     ensures clear { (n : ℕ) → IsBelow n result → IsBegun segments.now hub.now segment.now n }
@@ -144,7 +144,7 @@ fn segment_unbegun(segments: &[Segment], hub: &Hub, segment: &Segment) -> Option
     }
 }
 
-/// The first number of what the hub holds, where that doesn't begin in the world in which the part before it ends.
+/// The tail's first number, if it doesn't begin in the world in which the part before it ends.
 fn tail_unbegun(segments: &[Segment], hub: &Hub) -> Option<u64>
     ensures wrong { IfSome result (λ n. IsBegun segments.now hub.now (tail_of hub.now) n → ⊥) }
     ensures clear { (n : ℕ) → IsBelow n result → IsBegun segments.now hub.now (tail_of hub.now) n }
@@ -165,7 +165,7 @@ fn segment_begins(segments: &[Segment], hub: &Hub, segment: &Segment) -> bool
     begins(segments, hub, segment.opening(), at, empty)
 }
 
-/// Whether what the hub holds begins in the world in which the part before it ends.
+/// Whether the tail begins in the world in which the part before it ends.
 fn tail_begins(segments: &[Segment], hub: &Hub) -> bool
     ensures { Decides result (Begins (parts_of segments.now hub.now) (tail_of hub.now)) }
 {
@@ -173,8 +173,8 @@ fn tail_begins(segments: &[Segment], hub: &Hub) -> bool
     begins(segments, hub, hub.opening(), at, empty)
 }
 
-/// Whether a part that is judged begins in the world in which the part before it ends. What the hub holds stands before
-/// such a part only where it holds no entry, and so ends in the world in which it begins.
+/// Whether a part that is judged begins in the world in which the part before it ends. The tail stands before such a part
+/// only if it has no entries, and so ends in the world in which it begins.
 fn begins(segments: &[Segment], hub: &Hub, opening: &PlainWorld, at: u128, empty: bool) -> bool
     ensures { (q : Part) → q.opening ≡ opening.now → place q ≡ at → is_empty q ≡ empty → is_judged hub.now q ≡ true
         → Decides result (Begins (parts_of segments.now hub.now) q) }
@@ -190,21 +190,21 @@ fn begins(segments: &[Segment], hub: &Hub, opening: &PlainWorld, at: u128, empty
     tail_leads_to(hub, opening, at, empty, nearest)
 }
 
-/// Whether a segment, where it may be the part before one at a place, ends in the world in which that begins.
+/// Whether a segment, if it may be the part before one at a place, ends in the world in which that begins.
 fn leads_to(segment: &Segment, opening: &PlainWorld, at: u128, empty: bool, nearest: u128) -> bool
     ensures { Decides result (is_before (place segment.now) nearest at empty ≡ true → opening.now ≡ segment.now.closing) }
 {
     !is_before(place(segment), nearest, at, empty) || opening.same(segment.closing())
 }
 
-/// Whether what the hub holds, where it may be the part before one at a place, begins in the world in which that does.
+/// Whether the tail, if it may be the part before one at a place, begins in the world in which that does.
 fn tail_leads_to(hub: &Hub, opening: &PlainWorld, at: u128, empty: bool, nearest: u128) -> bool
     ensures { Decides result (is_before (place (tail_of hub.now)) nearest at empty ≡ true → opening.now ≡ hub.now.opening) }
 {
     !is_before(tail_place(hub), nearest, at, empty) || opening.same(hub.opening())
 }
 
-/// Whether what stands at a place may be the part before one at another place, below which the nearest part is given.
+/// Whether a part at a place may be the one before a part at another place, below which the nearest part is given.
 fn is_before(place: u128, nearest: u128, at: u128, empty: bool) -> bool
     ensures { result ≡ is_before place nearest at empty }
 {
@@ -222,7 +222,7 @@ fn nearest_below(segments: &[Segment], hub: &Hub, at: u128) -> u128
     nearer(nearest, tail_place(hub), at)
 }
 
-/// The greater of two places, where the second is below another.
+/// The greater of two places if the second is below a third; else the first.
 fn nearer(nearest: u128, place: u128, at: u128) -> u128
     ensures { (n : ℕ) → nat_lt n result ≡ (nat_lt n nearest || (nat_lt n place && nat_lt place at)) }
 {

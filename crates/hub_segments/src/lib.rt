@@ -1,4 +1,4 @@
-//! Whether segments of a history and what a hub holds are one history (docs/GUARANTEE.md, "The history").
+//! Checks that segments of a history and a hub's tail are one history (docs/GUARANTEE.md, "The history").
 #![tactic(auto)]
 
 mod joining;

@@ -1,4 +1,4 @@
-//! What is asked of a part of a history: of a segment, or of what a hub holds.
+//! What is asked of a part of a history: of a segment, or of a hub's tail.
 ghost use Rattle.std.specs.Prelude.{◌≡◌, ◌+◌, ◌*◌, if◌then◌else◌};
 ghost use Rattle.hub.specs.Segments.{first_number, tail_of};
 ghost use Rattle.hub_segments.specs.Joins.{has_number, is_empty, is_judged, place};
@@ -12,7 +12,7 @@ pub(crate) fn has_number(segment: &Segment, number: u64) -> bool
     segment.opening().number() < number && number <= segment.closing().number()
 }
 
-/// Whether an entry that the hub holds has that number.
+/// Whether an entry of the hub's tail has that number.
 pub(crate) fn holds_number(hub: &Hub, number: u64) -> bool
     ensures { result ≡ has_number number (tail_of hub.now) }
 {
@@ -26,7 +26,7 @@ pub(crate) fn is_empty(segment: &Segment) -> bool
     segment.entries().is_empty()
 }
 
-/// Whether the hub holds no entries.
+/// Whether the hub's tail has no entries.
 pub(crate) fn holds_nothing(hub: &Hub) -> bool
     ensures { result ≡ is_empty (tail_of hub.now) }
 {
@@ -40,14 +40,14 @@ pub(crate) fn place(segment: &Segment) -> u128
     place_of(segment.opening().number(), is_empty(segment))
 }
 
-/// Where what the hub holds stands among the parts of a history.
+/// Where the hub's tail stands among the parts of a history.
 pub(crate) fn tail_place(hub: &Hub) -> u128
     ensures { result ≡ place (tail_of hub.now) }
 {
     place_of(hub.opening().number(), holds_nothing(hub))
 }
 
-/// By the number of the opening world, empty parts first.
+/// The place of a part: by the number of its opening world, empty parts first.
 fn place_of(number: u64, empty: bool) -> u128
     ensures { result ≡ 2 * number + (if empty then 0 else 1) }
 {
@@ -55,7 +55,7 @@ fn place_of(number: u64, empty: bool) -> u128
     2 * (number as u128) + after
 }
 
-/// The number of the first entry that the hub holds, as a segment has it.
+/// The number of the tail's first entry, as a segment has it.
 pub(crate) fn tail_first_number(hub: &Hub) -> u64
     ensures { result ≡ first_number (tail_of hub.now) }
 {

@@ -22,7 +22,7 @@ pub struct Audit<L: Run> {
 impl<L: Run> Audit<L> {
     ghost use Rattle.std.specs.Prelude.{◌≡◌, ◌+◌, sum};
 
-    /// The audit of a hub whose entries since the run opened are as many as the counts tell.
+    /// Makes the audit of a hub whose entries since the run opened are as many as the counts say.
     pub(crate) fn of(hub: Hub, segments: Vec<Segment>, counts: Items<u64>) -> Audit<L>
         requires { hub.world.number ≡ L.opening + sum counts }
         ensures hub { result.hub ≡ hub }

@@ -5,10 +5,10 @@ ghost use Rattle.shared_desk.specs.Bounds as bounds;
 use hub::Command;
 use world_leniency::bytes_of;
 
-/// How many bytes of messages may wait for a connection where a large message enters, with it.
+/// How many bytes of messages may wait for a connection once a large message has entered.
 const MOST_BYTES: usize = 67_108_864;
 
-/// How many bytes a message has, beside its subjects; 0 of what is no message.
+/// How many bytes a message has, beside its subjects; 0 if the command is no message.
 #[inline(always)]
 pub fn size_of(what: &Command) -> usize
     ensures { result ≡ bounds.size_of what.now }
@@ -27,11 +27,11 @@ pub fn size_of(what: &Command) -> usize
 /// Up to this size no message is large, whatever an outbox holds.
 const SMALL: usize = 1024;
 
-/// As many deliveries as an outbox holds at most.
+/// How many deliveries an outbox holds at most.
 const MOST_DELIVERIES: usize = 65_536;
 
-/// How many bytes may wait where a message of a size enters, if it is large: if as many of its size as an outbox holds have
-/// more bytes than may wait.
+/// How many bytes may wait before a message of this size enters, if it is large: if as many of its size as an outbox holds
+/// have more bytes than may wait.
 #[inline(always)]
 pub(crate) fn room_beside(capacity: usize, size: usize) -> Option<usize>
     ensures { result ≡ bounds.room_beside capacity size }
@@ -43,7 +43,7 @@ pub(crate) fn room_beside(capacity: usize, size: usize) -> Option<usize>
     }
 }
 
-/// `room_beside` by the product of both. Apart, since most messages are small.
+/// Computes `room_beside` by the product of both. It stands apart, since most messages are small.
 #[inline(never)]
 fn room_by_product(capacity: usize, size: usize) -> Option<usize>
     ensures { result ≡ bounds.room_beside capacity size }

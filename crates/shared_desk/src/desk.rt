@@ -20,8 +20,8 @@ use std::marker::Brand;
 use std::slice;
 use std::sync::ledger::{Blank, Book, Ledger, Share};
 
-/// Which run a desk, its seats and their audit belong to: the ledger that counts its entries, and what its hub was when
-/// it opened.
+/// Names the run that a desk, its seats and their audit belong to: the ledger that counts its entries, and the number that
+/// its hub had when it opened.
 pub trait Run: Ledger {
     /// The number of the hub's last entry when the run opened.
     ghost opening: { ℕ };
@@ -46,7 +46,7 @@ pub struct Seat<L: Run> {
 }
 
 impl<L: Run> Seat<L> {
-    /// The seat of one part of the ledger, which has entered nothing.
+    /// Makes a seat, which has entered nothing, of one part of the ledger.
     pub fn of(share: Share<L>) -> Seat<L>
         requires part { share.parts ≡ 1 }
         requires amount { share.amount ≡ 0 }
@@ -57,15 +57,15 @@ impl<L: Run> Seat<L> {
 }
 
 /// What lies under the lock: the hub, the book that counts its entries since the run opened, and who waits for whom. Each
-/// desk is made of a blank ledger, and changes by `enter`, `step`, `step_if`, `step_run`, `rotate` and what these stand on alone, so nobody
-/// who holds the lock can put another in its place.
+/// desk is made of a blank ledger, and changes by its own steps and rotations alone, so nobody who holds the lock can put
+/// another in its place.
 #[derive(Drop)]
 pub struct Desk<L: Run> {
     alloc: Global,
     hub: Hub,
     book: Book<L>,
     waits: Waits,
-    /// Who held the message back that was offered last.
+    /// The receivers that held back the message that was offered last.
     held: Vec<u64>,
     ghost counted: { hub.world.number ≡ L.opening + book.total },
 }
@@ -89,7 +89,7 @@ impl<L: Run> Desk<L> {
     ghost use Rattle.events.specs.declared.answer.Entry.{Entry};
     ghost use Rattle.shared_desk.specs.Waits.{waiting_in, offered, IsHeldBack, until_if, slow_if, IfBy, IsOfferedTo, until_of, slow_of, freed_of, rest_of, IsSettled};
 
-    /// The desk of a hub, with a share of every part, which counts nothing yet. Nobody waits.
+    /// Opens the desk of a hub, with a share of every part of the ledger, which counts nothing yet. Nobody waits.
     pub fn open(alloc: Global, blank: Blank, hub: Hub) -> (Desk<L>, Share<L>)
         requires name { blank.name ≡ L.name }
         requires parts { blank.parts ≡ L.parts }
@@ -127,7 +127,7 @@ impl<L: Run> Desk<L> {
         self.hub.known();
     }
 
-    /// Ends the run: the parts of all seats come together, and what they count is what the book has.
+    /// Ends the run: brings the parts of all seats together, which count what the book has.
     pub fn close(
         self,
         rest: Share<L>,
@@ -159,10 +159,10 @@ impl<L: Run> Desk<L> {
         Audit::of(hub, segments, Items::from_vec(counts))
     }
 
-    /// Enters an event: one step of the hub, whose receipt has the step's entry and the policy then in force. The entries
-    /// before stay, the event's stands behind them, and the seat has one more. A refusal changes neither desk nor seat; it
-    /// is the step's, or want of memory for the receipt, all of which is had before the step. It is for threads that keep
-    /// receipts: no message is held back, and nobody who waits is let on.
+    /// Enters an event by one step of the hub, and returns a receipt of the step's entry and the policy then in force. The
+    /// entries before stay, the event's stands behind them, and the seat has one more. A refusal changes neither desk nor
+    /// seat; it is the step's, or `NoMemory` for the receipt, whose memory is had before the step. It is for threads that
+    /// keep receipts: no message is held back, and nobody who waits is let on.
     pub fn enter(
         &mut self,
         seat: Seat<L>,
@@ -194,7 +194,7 @@ impl<L: Run> Desk<L> {
         (seat, result)
     }
 
-    /// `rotate` with a seat that is lent.
+    /// Rotates as `rotate` does, for a seat that is lent.
     pub fn rotate_as(&mut self, _seat: &Seat<L>) -> Result<Segment, NoMemory>
         ensures segment { IfOk result (λ segment. segment ≡ tail_of self.old.hub) }
         ensures ok { OnOk result (self.new.hub ≡ rotated self.old.hub) }
@@ -206,7 +206,7 @@ impl<L: Run> Desk<L> {
         result
     }
 
-    /// `enter` with a seat that is lent.
+    /// Enters an event as `enter` does, for a seat that is lent.
     #[inline(always)]
     pub fn step_with_receipt(
         &mut self,
@@ -230,7 +230,7 @@ impl<L: Run> Desk<L> {
         }
     }
 
-    /// One step of the hub, which the seat has made.
+    /// Makes one step of the hub, and counts it for the seat.
     #[inline(always)]
     fn step_counted(
         &mut self,
@@ -251,12 +251,12 @@ impl<L: Run> Desk<L> {
         Ok(answer)
     }
 
-    /// Answers an event that is no message: `enter` without a receipt, for a seat that is lent. It is one step of the hub,
-    /// with the routing guarantee, and the seat has one more. A Take tells for how many milliseconds its connection's socket
-    /// took nothing since the Take before; of other events that says nothing. If the connection is behind, that is charged. A
-    /// Take that makes enough room lets publishers on that wait for its connection; the end of a session lets all on that
-    /// wait for it, and it waits no more. A refusal is the step's, or want of memory for those that may be let on, and
-    /// changes neither desk nor seat.
+    /// Makes the step of an event that is no message, without a receipt. It is one step of the hub, with the routing
+    /// guarantee, and the seat has one more. With a Take, `refused` says for how many milliseconds its connection's socket
+    /// took nothing since the Take before; with other events it says nothing. If the connection is behind, that is charged.
+    /// A Take that makes enough room lets publishers on that wait for its connection; the end of a session lets all on that
+    /// wait for it, and it waits no more. A refusal changes neither desk nor seat; it is the step's, or `NoMemory` for those
+    /// that may be let on.
     #[inline(always)]
     pub fn step(
         &mut self,
@@ -289,7 +289,7 @@ impl<L: Run> Desk<L> {
         Ok(answer)
     }
 
-    /// What an answer makes of the waits, where its connection's socket took nothing for so long before it.
+    /// Lets publishers on as an entry allows. Before a Take its connection's socket took nothing for so many milliseconds.
     fn settle(&mut self, entry: &Entry, refused: u64, told: &mut Told)
         requires room { vec_len told.old.freed + length self.old.waits.publishers ≤ vec_capacity told.old.freed }
         ensures settled { IsSettled (waiting_in self.old.hub.world) refused entry.entry.now.event.now entry.entry.now.event.what entry.entry.now.outcome self.old.waits self.new.waits }
@@ -320,14 +320,14 @@ impl<L: Run> Desk<L> {
         }
     }
 
-    /// Offers a message's event: it is one step of the hub, as `answer` tells, unless receivers have no room for it: their
-    /// outboxes are full, and there is patience with them still by the waits at its moment; or it is large, and with it
-    /// more than 64 MiB would wait for them. Then it is held back and nothing has changed, but that its publisher is laid
-    /// down under the first of them and that they are behind since this moment, if they weren't before. So each full outbox
-    /// of which an answer tells was empty before the message, or is of a receiver with which the patience was used up at
-    /// that moment. Where the patience with the first of them is used up, so that the message waits for bytes of it, that
-    /// is told: it is to be closed, since this message never enters for it before. The publisher is taken out of where it
-    /// stood before. A refusal is the step's, or want of memory for the waits.
+    /// Makes the step of a message's event as `step` does, unless receivers have no room for it: their outboxes are full,
+    /// and by the waits there still is patience with them at its moment; or it is large, and with it more than 64 MiB would
+    /// wait for them. Then it is held back and nothing has changed, but that its publisher is laid down under the first of
+    /// them and that they are behind since this moment, if they weren't before. So each full outbox of which an answer tells
+    /// was empty before the message, or is of a receiver with which the patience was used up at that moment. If the patience
+    /// with the first of them is used up, so that the message waits for its bytes, `told` names it: it has to be closed,
+    /// since this message never enters for it before. The publisher is taken out of where it stood before. A refusal is the
+    /// step's, or `NoMemory` for the waits.
     #[inline(always)]
     pub fn step_if(
         &mut self,
@@ -372,10 +372,10 @@ impl<L: Run> Desk<L> {
         }
     }
 
-    /// Offers messages of one connection in order, each with a word that is drawn for it, as `publish` tells of each. The
-    /// first that isn't published ends the run, and so does the one that fills the hold; those behind it are left, and have
-    /// drawn nothing. Answers `None` where each was published and the hold has all answers; else what came of the last that
-    /// was offered, and the hold has the answers of those before it.
+    /// Makes the steps of messages of one connection in order, of each as `step_if` does, with a word that is drawn for it.
+    /// The first that isn't published ends the run, and so does the one that fills the hold; those behind it are left, and
+    /// have drawn nothing. Returns `None` if each was published and the hold has all answers; else what came of the last
+    /// that was offered, and the hold has the answers of those before it.
     #[inline(never)]
     pub fn step_run<W: Words>(
         &mut self,
@@ -415,8 +415,8 @@ impl<L: Run> Desk<L> {
         }
     }
 
-    /// Lays the publisher of a message down that is held back, and tells until when or for whom. Apart, so that what each message
-    /// passes stays small. Without memory the message is refused.
+    /// Lays the publisher of a message down that is held back, and tells until when or for whom. If there is no memory, the
+    /// message is refused. It stands apart so that what each message passes stays small.
     #[inline(never)]
     fn hold(&mut self, event: &Event, told: &mut Told) -> PublishRefusal
         requires some { 0 < length self.old.held.items }
@@ -456,7 +456,7 @@ impl<L: Run> Desk<L> {
 
 ghost use Rattle.shared_desk.specs.Waits as waits;
 
-/// Whose message it is, if it is one.
+/// The connection that publishes the message, if it is one.
 fn publisher_of(what: &Command) -> Option<u64>
     ensures { result ≡ waits.publisher_of what.now }
 {
@@ -471,7 +471,7 @@ fn publisher_of(what: &Command) -> Option<u64>
     }
 }
 
-/// Whose session a reload has ended.
+/// The connections whose sessions a reload has ended.
 fn gone_of(outcome: &Outcome) -> &[u64]
     ensures { result.now ≡ waits.gone_in outcome.now }
 {
@@ -493,7 +493,7 @@ fn gone_of(outcome: &Outcome) -> &[u64]
 ghost use Rattle.hub.specs.InForce.{policy_after};
 ghost use Rattle.std.specs.Prelude.{◌<◌, ◌^◌, IfOk};
 
-/// One more handle on the policy that is in force after an event, if the event is answered.
+/// Makes a handle of the policy that is in force after an event, if the event is answered.
 fn ready_after(alloc: Global, hub: &Hub, event: &Event) -> Result<Ready, NoMemory>
     ensures { IfOk result (λ ready. ready ≡ policy_after hub.now.world event.entry.now.what) }
 {
@@ -508,7 +508,7 @@ fn ready_after(alloc: Global, hub: &Hub, event: &Event) -> Result<Ready, NoMemor
     }
 }
 
-/// Counts one entry of the seat, whose number is at least as many as the book has.
+/// Counts one more entry for the seat. Its number is above the book's count.
 fn count<L: Run>(book: &mut Book<L>, seat: &mut Seat<L>, number: u64)
     requires { book.old.total < number }
     ensures total { book.new.total ≡ book.old.total + 1 }
@@ -523,7 +523,7 @@ fn count<L: Run>(book: &mut Book<L>, seat: &mut Seat<L>, number: u64)
 
 ghost use Rattle.std.specs.Prelude.{[], length, map, sum, vec_capacity};
 
-/// Brings the parts of all seats together, and notes how many entries each has made.
+/// Brings the parts of all seats together, and lists how many entries each has made.
 fn gather<L: Run>(all: &mut Share<L>, mut seats: VecDeque<Seat<L>>, counts: &mut Vec<u64>)
     requires nothing { all.old.amount ≡ 0 }
     requires empty { counts.old.items ≡ [] }

@@ -1,8 +1,8 @@
 //! What holds of the definitions alone.
 ghost use Rattle.shared_desk.specs.Bounds.{HasNoMore, StaysEntering, StaysLeaving};
 
-/// Where each delivery enters on the terms of `Desk::step_if`, and no message has more than 64 MiB, what waits for a
-/// connection has no more than 128 MiB (docs/GUARANTEE.md, "A message that is held back").
+/// Tells that no more than 128 MiB wait for a connection, if each delivery enters on the terms of `Desk::step_if` and no
+/// message has more than 64 MiB (docs/GUARANTEE.md, "A message that is held back").
 #[tactic(auto, using(crate::proofs::Weights::has_no_more))]
 pub fn bounded()
     ensures most { HasNoMore }

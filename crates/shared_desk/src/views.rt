@@ -1,4 +1,4 @@
-//! What the waits ask of the hub, and the hub's step of the waits.
+//! The hub as the waits see it, and the waits as the hub's step sees them.
 ghost use Rattle.std.specs.Prelude.{◌≡◌};
 
 use hub::{Hub, Lenient};
@@ -23,8 +23,8 @@ impl Outboxes for HubOutboxes<'_> {
     }
 }
 
-/// The terms of a step at a moment: it may tell of a full outbox where the patience with its connection is used up then, and
-/// so many bytes may wait where its message enters.
+/// The terms of a step at a moment: it may tell of a full outbox if the patience with its connection is used up then, and so
+/// many bytes may wait where its message enters.
 #[derive(Drop)]
 pub(crate) struct AtMoment<'a> {
     pub waits: &'a Waits,

@@ -1,4 +1,4 @@
-//! What a closing audit looks for.
+//! Why a closing audit is refused, and the search for it.
 ghost use Rattle.std.specs.Prelude.{◌≡◌, List, MatchResult};
 ghost use Rattle.std.specs.Bool.{Decides};
 ghost use Rattle.std.specs.Option.{option_copied};
@@ -16,15 +16,15 @@ use hub_segments::joins;
 pub enum AuditFault {
     /// Not all seats were handed in.
     SeatMissing,
-    /// The segments and what the hub holds are no whole history: this is the least number at which something is wrong.
+    /// The segments and the hub's tail are no whole history: this is the least number at which something is wrong.
     SegmentGap(u64),
     /// The first receipt that doesn't stand in the history, or came earlier in the list, has this number.
     ReceiptMismatch(u64),
-    /// Memory could not be had.
+    /// There is no memory for the counts.
     NoMemory,
 }
 
-/// What is wrong with segments and receipts, if anything is.
+/// Finds what is wrong with segments and receipts, if anything is.
 pub(crate) fn judge(segments: &[Segment], hub: &Hub, receipts: &[Receipt]) -> Result<(), AuditFault>
     ensures { MatchResult result (λ _. AreEntered segments.now hub.now receipts.now) (λ fault. IsFault segments.now hub.now receipts.now fault) }
 {
@@ -37,8 +37,8 @@ pub(crate) fn judge(segments: &[Segment], hub: &Hub, receipts: &[Receipt]) -> Re
     }
 }
 
-/// Looks through receipts from the first on: `None` where each stands in the history that the segments and what the hub
-/// holds are, and no two have one number; else the number of the first that doesn't, or that came earlier in the list.
+/// Finds the first receipt that doesn't stand in the history of segments and tail, or that came earlier in the list, and
+/// returns its number; `None` if each stands there and no two have one number.
 fn first_mismatch(segments: &[Segment], hub: &Hub, receipts: &[Receipt]) -> Option<u64>
     ensures { (history : List Entry) → IsJoined segments.now hub.now history → IsFound history receipts.now result }
 {
@@ -50,7 +50,7 @@ fn first_mismatch(segments: &[Segment], hub: &Hub, receipts: &[Receipt]) -> Opti
     None
 }
 
-/// Whether a receipt behind others stands in the history, and none of them has its number.
+/// Whether a receipt stands in the history, and none of those before it has its number.
 fn is_in_place(segments: &[Segment], hub: &Hub, before: &[Receipt], receipt: &Receipt) -> bool
     ensures { (history : List Entry) → IsJoined segments.now hub.now history → Decides result (Stands history receipt.now × HasNone before.now receipt.now.entry.number) }
 {
@@ -68,7 +68,7 @@ fn is_entered(segments: &[Segment], hub: &Hub, receipt: &Receipt) -> bool
     }
 }
 
-/// The entry with a number, in a segment or held by the hub.
+/// The entry with a number, in a segment or in the hub's tail.
 fn entry_at<'a>(segments: &'a [Segment], hub: &'a Hub, number: u64) -> Option<&'a Answer>
     ensures { (history : List Entry) → IsJoined segments.now hub.now history → option_copied result ≡ entry_after 0 history number }
 {
@@ -88,7 +88,7 @@ fn segment_entry(segment: &Segment, number: u64) -> Option<&Answer>
     entry_after(segment.opening().number(), segment.entries(), number)
 }
 
-/// The entry with a number among those that the hub holds.
+/// The entry with a number in the hub's tail.
 fn tail_entry(hub: &Hub, number: u64) -> Option<&Answer>
     ensures { IsLookUp (tail_of hub.now) number (option_copied result) }
 {

@@ -1,5 +1,5 @@
-//! One hub for many threads: its lock, the seats that enter events, and the receipts of what was answered
-//! (docs/GUARANTEE.md, "Threads").
+//! A hub for many threads: its lock, the seats that enter events, and the receipts of what was answered
+//! (docs/GUARANTEE.md, "Threads"). Above the lock an event is submitted; below it, it is a step of the hub.
 #![tactic(auto)]
 
 mod audit;

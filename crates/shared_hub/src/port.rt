@@ -7,7 +7,7 @@ use std::alloc::Global;
 use std::mem;
 use std::sync::Wait;
 
-/// A port of one seat to a hub that threads share. It keeps the receipt of each answer until it is taken out.
+/// The port of one seat to a hub that threads share. It keeps the receipt of each answer until it is taken out.
 #[derive(Drop)]
 pub struct SharedPort<'a, L: Run, R: Wait> {
     rt: &'a R,
@@ -20,7 +20,7 @@ pub struct SharedPort<'a, L: Run, R: Wait> {
 impl<'a, L: Run, R: Wait> SharedPort<'a, L, R> {
     ghost use Rattle.std.specs.Prelude.{◌≡◌, []};
 
-    /// A port that has kept no receipt.
+    /// Makes a port that keeps no receipt yet.
     pub fn new(
         rt: &'a R,
         alloc: Global,
@@ -48,8 +48,7 @@ impl<'a, L: Run, R: Wait> SharedPort<'a, L, R> {
         mem::replace(&mut self.receipts, Vec::new(self.alloc))
     }
 
-    /// Hands out the entries that the hub holds, as `SharedHub::rotate` does. The seat and the receipts that are kept are as
-    /// before.
+    /// Hands out the hub's entries, as `SharedHub::rotate` does. The seat and the receipts that are kept are as before.
     pub fn rotate(&mut self) -> Result<Segment, NoMemory>
         ensures seat { self.new.seat ≡ self.old.seat }
         ensures receipts { self.new.receipts.items ≡ self.old.receipts.items }
@@ -58,7 +57,7 @@ impl<'a, L: Run, R: Wait> SharedPort<'a, L, R> {
         result
     }
 
-    /// The seat, and the receipts that are kept.
+    /// Takes the port apart into its seat and the receipts that are kept.
     pub fn into_parts(self) -> (Seat<L>, Vec<Receipt>)
         ensures count { result.0.count ≡ self.entry.seat.count }
         ensures all { result.1.items ≡ self.entry.receipts.items }
@@ -103,7 +102,7 @@ impl<L: Run, R: Wait> Port for SharedPort<'_, L, R> {
     }
 }
 
-/// One more handle on an answer. Where as many stand as can be counted, it waits until one is let go.
+/// Makes one more handle of an answer. If there are as many as can be counted, it waits until one is let go.
 #[inline(always)]
 fn another<R: Wait>(rt: &R, answer: &Answer) -> Answer
     ensures { result ≡ answer.now }

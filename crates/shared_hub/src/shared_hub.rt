@@ -1,4 +1,4 @@
-//! The lock, and what may be done through it.
+//! A hub under its lock, and what may be done through it.
 ghost use Rattle.std.specs.Prelude.{◌≡◌, ◌<◌, ◌≤◌, ℕ};
 
 use crate::audit::AuditFault;
@@ -13,7 +13,7 @@ use std::collections::VecDeque;
 use std::sync::ledger::{Blank, Share};
 use std::sync::{Mutex, Wait};
 
-/// One hub that threads share. Each event is entered while its one lock is held; all else is done outside.
+/// A hub that threads share. Each event is entered while its one lock is held; all else is done outside.
 pub struct SharedHub<L: Run> {
     desk: Mutex<Desk<L>>,
     rest: Rest<L>,
@@ -25,7 +25,7 @@ impl<L: Run> Drop for SharedHub<L> {
     }
 }
 
-/// What is left of the ledger once each seat has its part. The parts come together here at the end.
+/// The share of the ledger that is left once each seat has its part. At the end the parts come together here.
 #[derive(Drop)]
 pub(crate) struct Rest<L: Run> {
     /// How many seats there are.
@@ -44,8 +44,8 @@ impl<L: Run> SharedHub<L> {
     ghost use Rattle.events.specs.declared.answer.Entry.{Entry};
     ghost use Rattle.shared_hub.specs.Audits.{IsWhole, IsDue};
 
-    /// A hub under its lock, with so many seats, none of which has entered anything. The blank ledger has a part for each,
-    /// and is spent, also where want of memory hands the hub back.
+    /// Puts a hub under a lock, and returns it with so many seats, none of which has entered anything. The blank ledger has
+    /// a part for each seat. `NoMemory` hands the hub back; the ledger is spent then too.
     pub fn with_seats(
         alloc: Global,
         blank: Blank,
@@ -69,7 +69,7 @@ impl<L: Run> SharedHub<L> {
         Ok((SharedHub::of(desk, rest), made))
     }
 
-    /// A desk under its lock, with what is left of its ledger.
+    /// Puts a desk under a lock, with what is left of its ledger.
     pub(crate) fn of(desk: Desk<L>, rest: Rest<L>) -> SharedHub<L> {
         SharedHub {
             desk: Mutex::new(desk),
@@ -83,8 +83,8 @@ impl<L: Run> SharedHub<L> {
         Unlocked::of(desk.into_inner(), rest)
     }
 
-    /// Enters an event while the lock is held. With a receipt the seat has one more; a refusal hands the event back. What
-    /// the tables and the history were at that moment, `Desk::enter` tells.
+    /// Enters an event while the lock is held. With a receipt the seat has one more; a refusal hands the event back.
+    /// `Desk::enter` says what becomes of tables and history.
     pub fn submit<R: Wait>(
         &self,
         rt: &R,
@@ -98,8 +98,8 @@ impl<L: Run> SharedHub<L> {
         (seat, result)
     }
 
-    /// Hands out the entries that the hub holds while the lock is held, as `Desk::rotate` tells. The seat is as before. A
-    /// segment is dropped outside the lock.
+    /// Hands out the hub's entries while the lock is held, as `Desk::rotate` does. The seat is as before. A segment is
+    /// dropped outside the lock.
     pub fn rotate<R: Wait>(&self, rt: &R, seat: Seat<L>) -> (Seat<L>, Result<Segment, NoMemory>)
         ensures { result.0 ≡ seat }
     {
@@ -107,14 +107,14 @@ impl<L: Run> SharedHub<L> {
         (seat, result)
     }
 
-    /// `rotate` with a seat that is lent.
+    /// Rotates as `rotate` does, for a seat that is lent.
     pub fn rotate_as<R: Wait>(&self, rt: &R, seat: &Seat<L>) -> Result<Segment, NoMemory> {
         let result = self.desk.lock(rt).rotate_as(seat);
         result
     }
 
-    /// The closing audit of what was under the lock, as `Unlocked::finish` tells. Where it is refused, the fault is one of
-    /// the run that is handed back.
+    /// Audits what was under the lock, as `Unlocked::finish` does. If the audit is refused, the fault is one of the run that
+    /// is handed back.
     pub fn finish(
         self,
         alloc: Global,
@@ -132,7 +132,7 @@ impl<L: Run> SharedHub<L> {
         self.unlock().finish(alloc, seats, receipts, segments)
     }
 
-    /// `submit` with a seat that is lent.
+    /// Submits an event as `submit` does, for a seat that is lent.
     #[inline(always)]
     pub(crate) fn submit_with_receipt<R: Wait>(
         &self,
@@ -145,9 +145,9 @@ impl<L: Run> SharedHub<L> {
         self.desk.lock(rt).step_with_receipt(seat, event)
     }
 
-    /// `submit_with_receipt` without a receipt, so that no owner of the policy is counted while the lock is held. Publishers that
-    /// wait are let on, and of a Take is charged for how many milliseconds its connection's socket took nothing, as
-    /// `Desk::step` tells.
+    /// Submits an event that is no message, without a receipt, so that no owner of the policy is counted while the lock is
+    /// held. Publishers that wait are let on, and a Take is charged with the milliseconds in which its connection's socket
+    /// took nothing, as `Desk::step` does.
     #[inline(always)]
     pub fn answer_as<R: Wait>(
         &self,
@@ -163,7 +163,7 @@ impl<L: Run> SharedHub<L> {
         self.desk.lock(rt).step(seat, event, refused, told)
     }
 
-    /// Offers a message's event while the lock is held: it is answered, or held back, as `Desk::step_if` tells.
+    /// Submits a message's event, which is answered or held back, as `Desk::step_if` does.
     #[inline(always)]
     pub fn publish_as<R: Wait>(
         &self,
@@ -179,7 +179,7 @@ impl<L: Run> SharedHub<L> {
         self.desk.lock(rt).step_if(seat, event, told)
     }
 
-    /// Offers messages of one connection in one hold of the lock, as `Desk::step_run` tells.
+    /// Publishes messages of one connection in one hold of the lock, as `Desk::step_run` does.
     #[inline(always)]
     pub fn publish_run_as<R: Wait, W: Words>(
         &self,

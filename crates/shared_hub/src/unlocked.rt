@@ -1,4 +1,4 @@
-//! A run whose hub no thread shares any more, and its closing audit.
+//! A run whose hub is out of its lock, and its closing audit.
 ghost use Rattle.std.specs.Prelude.{◌≡◌};
 
 use crate::audit::{AuditFault, judge};
@@ -14,7 +14,7 @@ pub struct Unlocked<L: Run> {
     rest: Rest<L>,
 }
 
-/// What an audit that is refused hands back.
+/// All that a refused audit was given, handed back.
 #[derive(Drop)]
 pub struct Parts<L: Run> {
     /// The run, as it was.
@@ -31,7 +31,7 @@ impl<L: Run> Unlocked<L> {
     ghost use Rattle.std.specs.Prelude.{◌≡◌, ◌+◌, ◌≤◌, [], IfOk, IfErr, vec_len, vec_capacity, map};
     ghost use Rattle.shared_hub.specs.Audits.{IsWhole, AreEntered, IsDue};
 
-    /// A desk that was under a lock, with what is left of its ledger.
+    /// Makes the run of a desk that was under a lock, with what is left of its ledger.
     pub(crate) fn of(desk: Desk<L>, rest: Rest<L>) -> Unlocked<L>
         ensures { (result.desk ≡ desk) × (result.rest ≡ rest) }
     {
@@ -43,13 +43,12 @@ impl<L: Run> Unlocked<L> {
         SharedHub::of(self.desk, self.rest)
     }
 
-    /// The closing audit, with all seats, all segments that the hub has handed out, and any receipts. With an audit, its hub
-    /// is the run's; the segments, in any order, and what the hub holds are one legal history, which has as many entries
-    /// since the run opened as the seats count together; and each receipt stands in it once, at its number. Else it hands
-    /// back all that it was given: `SeatMissing` where not all seats were handed in; else `SegmentGap` with the least number
-    /// at which the segments and what the hub holds are no such history, as `joins` tells; else `ReceiptMismatch` with the
-    /// number of the first receipt that doesn't stand in it, or came earlier in the list; else `NoMemory` where memory could
-    /// not be had.
+    /// Audits the run, with all seats, all segments that the hub has handed out, and any receipts. With an audit, its hub is
+    /// the run's; the segments, in any order, and the hub's tail are one legal history, which has as many entries since the
+    /// run opened as the seats count together; and each receipt stands in it once, at its number. Else it hands back all
+    /// that it was given: `SeatMissing` if not all seats were handed in; else `SegmentGap` with the least number at which
+    /// the segments and the tail are no such history, as `joins` says; else `ReceiptMismatch` with the number of the first
+    /// receipt that doesn't stand in it, or came earlier in the list; else `NoMemory`.
     pub fn finish(
         self,
         alloc: Global,
@@ -82,7 +81,7 @@ impl<L: Run> Unlocked<L> {
         }
     }
 
-    /// Room for the counts of the seats, unless an audit with these is refused.
+    /// Makes a list with room for the counts of the seats, unless an audit with these parts is refused.
     fn room(
         &self,
         alloc: Global,

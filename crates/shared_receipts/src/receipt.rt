@@ -44,8 +44,8 @@ impl Receipt {
     ghost use Rattle.std.specs.Prelude.{◌≡◌, true, false, MatchOption};
     ghost use Rattle.shared_receipts.specs.Receipts.{receipt, is_of_policy};
 
-    /// The receipt of an answer under a policy. There is one exactly where the policy has a user with the verdict that
-    /// the answer tells, if it tells one.
+    /// Makes the receipt of an answer under a policy. There is one exactly if the policy has a user with the verdict that
+    /// the answer tells, or it tells none.
     pub fn from_parts(answer: Answer, ready: Ready) -> Option<Receipt>
         ensures { MatchOption result (is_of_policy ready answer.event.what answer.outcome ≡ false) (λ made. (made ≡ receipt answer ready) × (is_of_policy ready answer.event.what answer.outcome ≡ true)) }
     {
@@ -56,7 +56,7 @@ impl Receipt {
         }
     }
 
-    /// The receipt of an answer that the policy is known to have given.
+    /// Makes the receipt of an answer that the policy is known to have given.
     pub fn of(answer: Answer, ready: Ready) -> Receipt
         requires { is_of_policy ready answer.event.what answer.outcome ≡ true }
         ensures { result ≡ receipt answer ready }
@@ -198,6 +198,7 @@ fn may_respond(command: &Command, user: &User) -> bool
     }
 }
 
+/// Whether two verdicts are the same.
 fn is_same(one: Verdict, other: Verdict) -> bool
     ensures { result ≡ same_verdict one other }
 {

@@ -1,14 +1,14 @@
 //! For how long publishers wait for a receiver that is behind.
 ghost use Rattle.std.specs.Prelude.{◌≡◌};
 
-/// For how long a receiver may be behind at once without a Take that makes room, in milliseconds.
+/// How long a receiver may be behind at once without a Take that makes room, in milliseconds.
 const AT_ONCE: u64 = 2_000;
 
 /// How much patience may be saved, in tenths of a millisecond: ten seconds.
 const SAVED: u64 = 100_000;
 
-/// What a millisecond takes in which a receiver's socket takes nothing. One in which it isn't behind gives a tenth of that
-/// back.
+/// The charge for a millisecond in which a receiver's socket takes nothing, in tenths of one. A millisecond in which it
+/// isn't behind gives a tenth of that back.
 const TAKEN: u64 = 10;
 
 /// The patience with one receiver, in tenths of a millisecond. Each millisecond in which it isn't behind gives one back, up to
@@ -16,13 +16,13 @@ const TAKEN: u64 = 10;
 /// hand messages over isn't charged. Until such a Take tells, all time in which it is behind counts as charged.
 #[derive(Clone, Copy, Debug)]
 pub struct Patience {
-    /// What was left at the latest change of it.
+    /// How much was left at its latest change.
     left: u64,
     /// When that was.
     at: u64,
-    /// Since when the receiver is behind, if it is.
+    /// The moment since which the receiver is behind, if it is.
     since: Option<u64>,
-    /// With so many deliveries waiting for it, or fewer, its publishers are let on.
+    /// The most deliveries that may wait for it when its publishers are let on.
     most: usize,
 }
 
@@ -42,7 +42,7 @@ impl Patience {
         }
     }
 
-    /// What is left at a moment, if no Take tells otherwise.
+    /// How much is left at a moment, if no Take comes before.
     fn left_at(&self, now: u64) -> u64
         ensures { result ≡ left_at now self.now }
     {
@@ -64,7 +64,7 @@ impl Patience {
         too_long || self.left_at(now) == 0
     }
 
-    /// When it is used up, if the receiver stays behind and no Take tells otherwise.
+    /// The moment at which it is used up, if the receiver stays behind and no Take comes before.
     pub(crate) fn out_at(&self) -> u64
         ensures { result ≡ out_at self.now }
     {
@@ -78,7 +78,7 @@ impl Patience {
         }
     }
 
-    /// The receiver is found behind. Where it is behind already, nothing changes.
+    /// The patience once the receiver is found behind. If it is behind already, nothing changes.
     pub(crate) fn begin(self, now: u64, most: usize) -> Patience
         ensures { result ≡ begun now most self }
     {
@@ -93,7 +93,7 @@ impl Patience {
         }
     }
 
-    /// Its publishers are let on with so many waiting, or fewer, if that isn't so with fewer already.
+    /// The patience whose publishers are let on with so many waiting, or with fewer if that was so before.
     pub(crate) fn lower(self, most: usize) -> Patience
         ensures { result ≡ lowered most self }
     {
@@ -103,9 +103,9 @@ impl Patience {
         }
     }
 
-    /// A Take has left so many waiting, before which the receiver's socket took nothing for so many milliseconds. If it is
-    /// behind, that time is charged, as far as it has passed since the latest change; with few enough waiting it is behind no
-    /// more.
+    /// The patience behind a Take that has left so many waiting, before which the receiver's socket took nothing for so many
+    /// milliseconds. If the receiver is behind, that time is charged, at most what has passed since the latest change; with
+    /// few enough waiting it is behind no more.
     pub(crate) fn take(self, waiting: usize, refused: u64, now: u64) -> Patience
         ensures { result ≡ taken waiting refused now self }
     {
@@ -125,7 +125,7 @@ impl Patience {
         }
     }
 
-    /// Whether its publishers are let on with so many deliveries waiting for it.
+    /// Whether few enough deliveries wait for the receiver that its publishers are let on.
     pub(crate) fn has_room(&self, waiting: usize) -> bool
         ensures { result ≡ nat_le waiting self.now.most }
     {

@@ -19,12 +19,12 @@ type Receivers = IndexMap<u64, Patience>;
 /// The publishers that wait, each with its receiver, in the order in which they were laid down.
 type Publishers = IndexMap<u64, u64>;
 
-/// What waits for connections.
+/// The outboxes of connections.
 pub trait Outboxes {
-    /// How many deliveries wait for one, for clauses.
+    /// How many deliveries wait for a connection, for clauses.
     ghost waiting: { Self → ℕ → ℕ };
 
-    /// How many deliveries wait for one.
+    /// How many deliveries wait for a connection.
     fn waiting(&self, conn: u64) -> usize
         ensures { result ≡ waiting self.now conn };
 }
@@ -49,7 +49,7 @@ impl Model for Waits {
 }
 
 impl Waits {
-    /// Nobody was found behind, and nobody waits.
+    /// Makes waits in which nobody is behind and nobody waits.
     pub fn new(alloc: Global) -> Waits
         ensures { result ≡ nobody }
     {
@@ -66,7 +66,7 @@ impl Waits {
         self.publishers.len()
     }
 
-    /// Whether the patience with a receiver is used up at a moment. It isn't with one that wasn't found behind.
+    /// Whether the patience with a receiver is used up at a moment. It isn't if the receiver wasn't found behind.
     pub fn is_out(&self, conn: u64, now: u64) -> bool
         ensures { result ≡ is_out_with self.now now conn }
     {
@@ -76,7 +76,7 @@ impl Waits {
         }
     }
 
-    /// When the patience with a receiver is used up, if it stays behind.
+    /// The moment at which the patience with a receiver is used up, if it stays behind.
     pub fn until(&self, conn: u64) -> Option<u64>
         ensures { result ≡ ends_at (patience_with self.now conn) }
     {
@@ -97,8 +97,8 @@ impl Waits {
         }
     }
 
-    /// Receivers have no room for a message. They are behind since this moment, if they weren't before, and the publisher
-    /// is laid down under the first of them and under no other. Publishers are let on once half of what waits for their
+    /// Lays a publisher down whose message `held` have no room for: under the first of these receivers and under no other.
+    /// They are behind since this moment, if they weren't before. Publishers are let on once half of what waits for their
     /// receiver has left. `NoMemory` changes nothing.
     pub fn hold<O: Outboxes>(
         &mut self,
@@ -120,9 +120,9 @@ impl Waits {
         Ok(())
     }
 
-    /// A receiver has taken some of its deliveries, and so many still wait for it; since its last Take its socket took nothing
-    /// for so many milliseconds, which are charged if it is behind. Where few enough wait, it is behind no more, and publishers
-    /// that wait for it are let on: all where nothing waits, else the first 64 of them.
+    /// Follows a receiver's Take, behind which so many deliveries wait for it. Since its last Take its socket took nothing
+    /// for so many milliseconds, which are charged if it is behind. If few enough wait, it is behind no more, and publishers
+    /// that wait for it are let on: all if nothing waits, else the first 64 of them.
     pub fn rest(&mut self, conn: u64, waiting: usize, refused: u64, now: u64, freed: &mut Vec<u64>)
         requires room { vec_len freed.old + length self.old.publishers ≤ vec_capacity freed.old }
         ensures freed { freed.new.items ≡ freed.old.items ++ let_on conn waiting self.old }
@@ -139,7 +139,8 @@ impl Waits {
         }
     }
 
-    /// Connections have ended: they aren't behind, and wait for nobody, any more; those that wait for them are let on.
+    /// Removes connections that have ended: they are behind no more and wait for nobody; those that wait for them are let
+    /// on.
     pub fn remove(&mut self, conns: &[u64], freed: &mut Vec<u64>)
         requires room { vec_len freed.old + length self.old.publishers ≤ vec_capacity freed.old }
         ensures receivers { (conn : ℕ) → patience_with self.new conn ≡ after_gone conns.now conn (patience_with self.old conn) }
@@ -151,7 +152,7 @@ impl Waits {
         }
     }
 
-    /// One connection has ended.
+    /// Removes one connection that has ended.
     fn remove_one(&mut self, conn: u64, freed: &mut Vec<u64>)
         requires room { vec_len freed.old + length self.old.publishers ≤ vec_capacity freed.old }
         ensures receivers { (other : ℕ) → patience_with self.new other ≡ (if conn == other then None else patience_with self.old other) }
@@ -178,21 +179,21 @@ fn leave(publishers: &mut Publishers, publisher: u64)
     }
 }
 
-/// Takes all out that wait for a receiver.
+/// Takes out all publishers that wait for a receiver.
 fn leave_all(publishers: &mut Publishers, receiver: u64)
     ensures { publishers.new.entries ≡ elsewhere receiver publishers.old.entries }
 {
     publishers.retain(|_, other| receiver != *other);
 }
 
-/// Takes those out that wait for a receiver and are let on.
+/// Takes out the publishers that wait for a receiver and are let on.
 fn leave_some(publishers: &mut Publishers, receiver: u64, freed: &[u64])
     ensures { publishers.new.entries ≡ all_but receiver freed.now publishers.old.entries }
 {
     publishers.retain(|publisher, other| !(receiver == *other && freed.contains(publisher)));
 }
 
-/// Lets the first 64 on that wait for a receiver.
+/// Lets the first 64 publishers on that wait for a receiver.
 fn let_some_on(publishers: &mut Publishers, receiver: u64, freed: &mut Vec<u64>)
     requires room { vec_len freed.old + length publishers.old.entries ≤ vec_capacity freed.old }
     ensures noted { freed.new.items ≡ freed.old.items ++ take 64 (under receiver publishers.old.entries) }
@@ -215,7 +216,7 @@ fn lay_down(publishers: &mut Publishers, publisher: u64, receiver: u64)
     }
 }
 
-/// Notes the publishers that wait for a receiver.
+/// Lists the publishers that wait for a receiver.
 fn note_all(publishers: &Publishers, receiver: u64, freed: &mut Vec<u64>)
     requires room { vec_len freed.old + length publishers.now.entries ≤ vec_capacity freed.old }
     ensures noted { freed.new.items ≡ freed.old.items ++ under receiver publishers.now.entries }
@@ -228,7 +229,7 @@ fn note_all(publishers: &Publishers, receiver: u64, freed: &mut Vec<u64>)
     }
 }
 
-/// Notes the first 64 of them.
+/// Lists the first 64 publishers that wait for a receiver.
 fn note_first(publishers: &Publishers, receiver: u64, freed: &mut Vec<u64>)
     requires room { vec_len freed.old + length publishers.now.entries ≤ vec_capacity freed.old }
     ensures { freed.new.items ≡ freed.old.items ++ take 64 (under receiver publishers.now.entries) }
@@ -242,7 +243,7 @@ fn note_first(publishers: &Publishers, receiver: u64, freed: &mut Vec<u64>)
     }
 }
 
-/// Puts down the patience with a receiver that has one, or for which there is room.
+/// Sets the patience with a receiver that has one, or for which there is room.
 fn put(receivers: &mut Receivers, conn: u64, patience: Patience)
     requires { (get nat_eq receivers.old conn ≡ None) → 0 < spare receivers.old }
     ensures put { (other : ℕ) → get nat_eq receivers.new other ≡ (if conn == other then Some patience else get nat_eq receivers.old other) }
@@ -254,7 +255,7 @@ fn put(receivers: &mut Receivers, conn: u64, patience: Patience)
     }
 }
 
-/// A receiver is found behind.
+/// Sets a receiver behind, which has no room for a message.
 fn find(receivers: &mut Receivers, conn: u64, now: u64, most: usize)
     requires { 0 < spare receivers.old }
     ensures found { (other : ℕ) → get nat_eq receivers.new other ≡ (if conn == other then Some (found now most (get nat_eq receivers.old conn)) else get nat_eq receivers.old other) }
@@ -267,7 +268,7 @@ fn find(receivers: &mut Receivers, conn: u64, now: u64, most: usize)
     put(receivers, conn, patience);
 }
 
-/// Several are found behind.
+/// Sets several receivers behind.
 fn find_all<O: Outboxes>(receivers: &mut Receivers, held: &[u64], now: u64, outboxes: &O)
     requires { length held.now ≤ spare receivers.old }
     ensures { (conn : ℕ) → get nat_eq receivers.new conn ≡ after_found (O.waiting outboxes.now) now held.now conn (get nat_eq receivers.old conn) }
@@ -277,7 +278,7 @@ fn find_all<O: Outboxes>(receivers: &mut Receivers, held: &[u64], now: u64, outb
     }
 }
 
-/// The publishers of a receiver are let on with so many waiting for it, or fewer.
+/// Lowers the number of deliveries with which the publishers of a receiver are let on.
 fn lower(receivers: &mut Receivers, receiver: u64, most: usize)
     ensures { (conn : ℕ) → get nat_eq receivers.new conn ≡ after_lowered receiver most conn (get nat_eq receivers.old conn) }
 {
@@ -290,7 +291,7 @@ fn lower(receivers: &mut Receivers, receiver: u64, most: usize)
     }
 }
 
-/// A receiver's Take has left so many. What is due is charged; answers whether its publishers are let on.
+/// Charges a receiver behind a Take that has left so many, and returns whether its publishers are let on.
 fn charge(receivers: &mut Receivers, receiver: u64, waiting: usize, refused: u64, now: u64) -> bool
     ensures receivers { (conn : ℕ) → get nat_eq receivers.new conn ≡ after_taken receiver waiting refused now conn (get nat_eq receivers.old conn) }
     ensures room { result ≡ has_room waiting (get nat_eq receivers.old receiver) }

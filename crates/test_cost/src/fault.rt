@@ -11,7 +11,7 @@ pub enum CostFault {
     NoKeys,
     /// A connection was closed or stopped.
     Stopped,
-    /// Memory could not be had.
+    /// There is no memory.
     NoMemory,
 }
 

@@ -26,7 +26,7 @@ impl RandomSource for Sevens {
     }
 }
 
-/// The words of the command line: `cost SCENARIO MESSAGES`. Prints how many bytes the subscribers were sent.
+/// Runs the scenario of the command line, `cost SCENARIO MESSAGES`, and prints how many bytes the subscribers were sent.
 fn main(rt: HostRuntime) -> ExitCode {
     let printed = match sent(&rt) {
         Ok(sent) => println!(rt; "{sent}"),

@@ -17,8 +17,7 @@ pub fn policy_of(alloc: Global, allows: u64) -> Result<Ready, CostFault> {
     Ready::of(alloc, policy).ok().ok_or(CostFault::NoMemory)
 }
 
-/// What stands before a policy's list, and behind it. Without a clause, so that what is appended is known as no more than a
-/// text.
+/// The texts before and behind a policy's list. It has no clause, so that the prover knows nothing of the texts.
 fn ends() -> (&'static str, &'static str) {
     (
         "{\"accounts\":{\"A\":{\"users\":[{\"user\":\"demo\",\"password\":\"demo\",\"permissions\":{\"publish\":[",

@@ -22,7 +22,7 @@ fn sub(grouped: bool) -> &'static [u8] {
     }
 }
 
-/// Connections that subscribe to the subject of the messages.
+/// Opens the connections that subscribe to the subject of the messages.
 fn open_receivers(
     alloc: Global,
     server: &mut Server,
@@ -37,7 +37,7 @@ fn open_receivers(
     Ok(receivers)
 }
 
-/// Subscriptions of one connection, each to a subject of its own.
+/// Opens a connection with subscriptions, each to a subject of its own.
 fn open_subscriber(
     alloc: Global,
     server: &mut Server,
@@ -52,7 +52,7 @@ fn open_subscriber(
     Ok(())
 }
 
-/// What stands and has nothing to do with the messages.
+/// Opens the sessions and subscriptions that have nothing to do with the messages.
 fn open_others(alloc: Global, server: &mut Server, scenario: Scenario) -> Result<(), CostFault> {
     for _ in 0..scenario.sessions {
         server.open()?;
@@ -92,7 +92,7 @@ fn publish(
     Ok(())
 }
 
-/// A Take for each.
+/// Makes a Take for each receiver.
 fn drain_all(server: &mut Server, receivers: &mut [Conn]) -> Result<(), CostFault> {
     for client in receivers.iter_mut() {
         server.drain(client)?;
@@ -114,8 +114,7 @@ fn play(
     played
 }
 
-/// How many bytes the clients are sent where so many messages are published, in pieces, of which the last is
-/// whole too.
+/// Plays a scenario with so many messages, in whole pieces, and returns how many bytes the clients were sent.
 pub fn publish_in(
     alloc: Global,
     keys: RandomState,

@@ -23,7 +23,7 @@ const TO_ONE: Scenario = Scenario {
 };
 
 impl Scenario {
-    /// The scenario of a name.
+    /// The scenario with a name, if there is one.
     pub fn named(name: &str) -> Option<Scenario> {
         match name {
             "nobody" => Some(Scenario {

@@ -54,7 +54,7 @@ impl Drop for Server {
 impl Server {
     ghost use Rattle.std.specs.Prelude.{◌≡◌, IfOk};
 
-    /// A server with nobody connected, whose only user may publish by so many allow entries, or everything at 0.
+    /// Makes a server with nobody connected, whose only user may publish by so many allow entries, or everything at 0.
     pub fn new(alloc: Global, keys: RandomState, allows: u64) -> Result<Server, CostFault>
         ensures { IfOk result (λ server. server.sent ≡ 0) }
     {
@@ -82,7 +82,7 @@ impl Server {
         self.sent
     }
 
-    /// A connection whose CONNECT was accepted.
+    /// Opens a connection whose CONNECT was accepted.
     pub fn open(&mut self) -> Result<Conn, CostFault> {
         self.last = self.last.saturating_add(1);
         let mut client = Conn::new(self.alloc, self.last);
@@ -90,14 +90,14 @@ impl Server {
         Ok(client)
     }
 
-    /// Bytes of a client.
+    /// Feeds bytes of a client to its connection.
     pub fn feed(&mut self, client: &mut Conn, bytes: &[u8]) -> Result<(), CostFault> {
         let mut port = Direct::new(&mut self.hub);
         let output = client.on_bytes(self.alloc, &mut port, bytes, 0, &mut self.words);
         self.note(&output)
     }
 
-    /// A Take for a client.
+    /// Makes a Take for a client.
     pub fn drain(&mut self, client: &mut Conn) -> Result<(), CostFault> {
         let mut port = Direct::new(&mut self.hub);
         let output = client.drain(self.alloc, &mut port, TAKE, 0);

@@ -21,7 +21,7 @@ impl Totals {
     }
 }
 
-/// Whether an audit is refused for want of the last seat, which is withheld from it.
+/// Whether an audit is refused that lacks the last seat.
 pub(crate) fn misses_a_seat<L: Run>(alloc: Global, slot: &mut Option<Parts<L>>) -> bool
     requires { L.seats ≡ L.parts }
 {
@@ -30,7 +30,7 @@ pub(crate) fn misses_a_seat<L: Run>(alloc: Global, slot: &mut Option<Parts<L>>) 
     put_seat(slot, withheld) && refused
 }
 
-/// Whether an audit is refused for a gap at this number, where the one segment is withheld from it.
+/// Whether an audit that lacks the one segment is refused for a gap at this number.
 pub(crate) fn has_a_gap<L: Run>(alloc: Global, slot: &mut Option<Parts<L>>, number: u64) -> bool
     requires { L.seats ≡ L.parts }
 {
@@ -54,7 +54,7 @@ pub(crate) fn refuses_remade<L: Run>(
     made && refused
 }
 
-/// What the audit of all tells, unless it is refused.
+/// Audits all parts, and returns what that tells, unless it is refused.
 pub(crate) fn audited<L: Run>(alloc: Global, slot: &mut Option<Parts<L>>) -> Option<Totals>
     requires { L.seats ≡ L.parts }
 {

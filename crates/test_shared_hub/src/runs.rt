@@ -13,7 +13,7 @@ use std::thread;
 use std::thread::Threads;
 use test_samples::{Given, ready_of};
 
-/// Which audits are to be refused before that of all parts.
+/// Which audits should be refused before that of all parts.
 #[derive(Clone, Copy)]
 pub(crate) enum Plan {
     None,
@@ -23,7 +23,7 @@ pub(crate) enum Plan {
     Gap(u64),
 }
 
-/// What the last audit of a run tells that has a thread for each job, over a hub whose policy allows all.
+/// Runs a thread for each job, over a hub whose policy allows all, and returns what the last audit tells.
 pub(crate) fn run<R: Threads + Wait + Sync>(
     rt: &R,
     alloc: Global,
@@ -68,7 +68,7 @@ fn shared<L: Run + Send + Sync, R: Threads + Wait + Sync>(
     }
 }
 
-/// A worker for each job, with a seat. Where memory lacks for one, its seat is missed in the end.
+/// Makes a worker for each job, with a seat. If there is no memory for one, its seat is missed in the end.
 fn seated<L: Run>(
     alloc: Global,
     mut seats: Vec<Seat<L>>,
@@ -103,7 +103,7 @@ fn add_worker<L: Run>(
     workers.push(worker).ok();
 }
 
-/// The workers after their work, each in a thread of its own.
+/// Returns the workers after their work, each in a thread of its own.
 fn worked<L: Run + Send + Sync, R: Threads + Wait + Sync>(
     rt: &R,
     alloc: Global,
@@ -125,7 +125,7 @@ fn work_each<R: Threads + Sync, W: Send, S: Site<W> + Sync>(rt: &R, site: &S, wo
     );
 }
 
-/// What the audits of a run tell.
+/// Makes the audits of a run, and returns what they tell.
 fn judged<L: Run>(
     alloc: Global,
     run: Unlocked<L>,
@@ -158,7 +158,7 @@ fn outcome<L: Run>(
     }
 }
 
-/// Whether the audits are refused that are to be.
+/// Whether the audits are refused that should be.
 fn is_as_planned<L: Run>(alloc: Global, slot: &mut Option<Parts<L>>, plan: Plan) -> bool
     requires { L.seats ≡ L.parts }
 {

@@ -16,7 +16,7 @@ pub(crate) enum Ask {
     Pub(&'static str),
     /// A Take, which is to give one message, with this payload.
     Take(&'static str),
-    /// A policy is prepared, and laid on those that were prepared before.
+    /// Preparing a policy, which is laid on those that were prepared before.
     Prepare(Given),
     /// A reload of the policy that lies on top.
     Reload,
@@ -24,7 +24,7 @@ pub(crate) enum Ask {
     Rotate,
 }
 
-/// What it is told.
+/// What the thread is told.
 #[derive(Clone, Copy, PartialEq, Eq)]
 pub(crate) enum Said {
     Connected,
@@ -36,11 +36,11 @@ pub(crate) enum Said {
     /// A reload that ended one subscription.
     RemovedOne,
     Rotated,
-    /// Anything else, or that memory lacked.
+    /// Anything else, or that there was no memory.
     Otherwise,
 }
 
-/// An ask, and what the thread is to be told.
+/// An ask, and what the thread should be told.
 pub(crate) type Row = (Ask, Said);
 
 /// Where workers work. What starts their threads knows no more of it, so that its closure captures one thing.
@@ -95,7 +95,7 @@ impl<L: Run> Worker<L> {
     }
 }
 
-/// What a thread needs of its port. What uses it has no clause of the port's to look through.
+/// What a thread needs of its port. Its users have no clause of the port's to look through.
 trait Desk {
     /// Submits a command. A Take is to give this payload.
     fn submit(&mut self, what: Command, payload: &str) -> Said;
@@ -116,7 +116,7 @@ impl<L: Run, R: Wait> Desk for SharedPort<'_, L, R> {
     }
 }
 
-/// Does what the rows ask, until it is told otherwise than they say: whether that never was.
+/// Runs the rows; true if each was told as it says. It stops at the first that wasn't.
 fn is_right<D: Desk>(
     desk: &mut D,
     alloc: Global,
