@@ -28,10 +28,10 @@ use Rattle.events.specs.declared.answer.Outcome.{Outcome}
 use Rattle.events.specs.declared.answer.Outcome.TheVariants.{Connected, AuthViolation, Subscribed, SameSid, SubLimit, Denied, Taken}
 use Rattle.events.specs.declared.refusal.HubRefusal.{HubRefusal}
 use Rattle.events.specs.declared.refusal.HubRefusal.TheVariants.{SessionLimit}
-use Rattle.world_sessions.specs.Sessions.{session_of}
-use Rattle.world_sessions.specs.Delivered.{delivered}
-use Rattle.world_sessions.specs.Replying.{with_note}
-use Rattle.world_sessions.specs.declared.session.Session.{Session}
+use Rattle.world_deliveries.specs.Sessions.{session_of}
+use Rattle.world_deliveries.specs.Delivered.{delivered}
+use Rattle.world_deliveries.specs.Replying.{with_note}
+use Rattle.world_deliveries.specs.declared.session.Session.{Session}
 use Rattle.world_subscriptions.specs.Addressing.{addressed_to}
 use Rattle.world_subscriptions.specs.Subscriptions.{is_under, stands, has_all, subscription_of}
 use Rattle.world_subscriptions.specs.Limit.{is_entry_for, has_entered, has_ended, counted, limit_of, limited}

@@ -18,14 +18,14 @@ use Rattle.events.specs.declared.answer.Addressed.{Addressed}
 use Rattle.events.specs.declared.answer.Delivery.{Delivery}
 use Rattle.events.specs.declared.answer.Item.{Item}
 use Rattle.events.specs.declared.answer.Item.TheVariants.{Entered, Full}
-use Rattle.world_sessions.specs.Sessions.{session_of, with_session}
-use Rattle.world_sessions.specs.Delivered.{noting, offered, after_offer, item_of, delivered, has_room}
-use Rattle.world_sessions.specs.Replying.{terms_of, note_of, note_for, with_note, answering, ending}
-use Rattle.world_sessions.specs.declared.session.Session.{Session}
+use Rattle.world_deliveries.specs.Sessions.{session_of, with_session}
+use Rattle.world_deliveries.specs.Delivered.{noting, offered, after_offer, item_of, delivered, has_room}
+use Rattle.world_deliveries.specs.Replying.{terms_of, note_of, note_for, with_note, answering, ending}
+use Rattle.world_deliveries.specs.declared.session.Session.{Session}
 use Rattle.world_subscriptions.specs.Subscriptions.{of_connection}
 use Rattle.world_rows.specs.declared.subscription.Subscription.{Subscription}
 use Rattle.world_subscriptions.specs.Addressing.{delivery_to, addressed_to}
-use Rattle.world_sessions.proofs.Changes.{only, with_session-map, session_of-changed, session_of-other, offered-conn}
+use Rattle.world_deliveries.proofs.Changes.{only, with_session-map, session_of-changed, session_of-other, offered-conn}
 use Rattle.world.specs.Granting.{counted_on, ended_on}
 use Rattle.world.proofs.Publishing.{same_met}
 use Rattle.hub.specs.Replies.{noted_at}

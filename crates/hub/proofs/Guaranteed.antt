@@ -25,13 +25,13 @@ use Rattle.events.specs.declared.answer.Outcome.{Outcome}
 use Rattle.events.specs.declared.answer.Outcome.TheVariants.{Connected, AuthViolation, Subscribed, SameSid, SubLimit, Denied, Unsubscribed, Published, Taken, Closed}
 use Rattle.events.specs.declared.refusal.HubRefusal.{HubRefusal}
 use Rattle.events.specs.declared.refusal.HubRefusal.TheVariants.{HistoryFull, NoSession, SessionTaken, SessionLimit, NoMemory}
-use Rattle.world_sessions.specs.Sessions.{session_of, with_session, new_session, drained}
+use Rattle.world_deliveries.specs.Sessions.{session_of, with_session, new_session, drained}
 use Rattle.reply_grants.specs.Replies.{grants_of}
 use Rattle.reply_grants.specs.declared.replies.Note.{Note}
 use Rattle.events.specs.declared.answer.Addressed.{Addressed}
-use Rattle.world_sessions.specs.Delivered.{delivered}
-use Rattle.world_sessions.specs.Replying.{terms_of, is_granted, with_note}
-use Rattle.world_sessions.specs.declared.session.Session.{Session}
+use Rattle.world_deliveries.specs.Delivered.{delivered}
+use Rattle.world_deliveries.specs.Replying.{terms_of, is_granted, with_note}
+use Rattle.world_deliveries.specs.declared.session.Session.{Session}
 use Rattle.world_subscriptions.specs.Subscriptions.{is_under, stands, has_all, subscription_of, of_connection}
 use Rattle.world_subscriptions.specs.Limit.{has_entered, unended, counted, limit_of, limited}
 use Rattle.world_rows.specs.declared.subscription.Subscription.{Subscription}
@@ -57,7 +57,7 @@ use Rattle.hub.proofs.Soundness.{next, HasTable, KeepsSession, KeepsSubscription
 use Rattle.hub.proofs.Reasons.{delivery_justified}
 use Rattle.hub.proofs.Groups.{are_served}
 use Rattle.hub.proofs.Reloads.{in_force, sound-reload}
-use Rattle.world_sessions.proofs.Changes.{only, with_session-map}
+use Rattle.world_deliveries.proofs.Changes.{only, with_session-map}
 use Rattle.hub.proofs.Deliveries.{receives_of, notes_of, as_sent, items_after, met, outboxes, one_each, with_room}
 
 -- where the tables turn a command away

@@ -24,8 +24,8 @@ use Rattle.events.specs.declared.answer.Outcome.TheVariants.{Connected, AuthViol
 use Rattle.events.specs.declared.answer.Entry.{Entry}
 use Rattle.events.specs.declared.refusal.HubRefusal.{HubRefusal}
 use Rattle.events.specs.declared.refusal.HubRefusal.TheVariants.{HistoryFull, NoSession, SessionTaken, SessionLimit, NoMemory}
-use Rattle.world_sessions.specs.Sessions.{session_of, new_session, drained}
-use Rattle.world_sessions.specs.declared.session.Session.{Session}
+use Rattle.world_deliveries.specs.Sessions.{session_of, new_session, drained}
+use Rattle.world_deliveries.specs.declared.session.Session.{Session}
 use Rattle.world_subscriptions.specs.Subscriptions.{stands, of_connection, has_all, subscription_of}
 use Rattle.world_subscriptions.specs.Limit.{counted, limited}
 use Rattle.world_rows.specs.declared.subscription.Subscription.{Subscription}

@@ -9,9 +9,9 @@ use Rattle.policy_ready.specs.declared.ready.User.{User}
 use Rattle.events.specs.declared.event.Command.{Command}
 use Rattle.events.specs.declared.event.Command.TheVariants.{Connect, Sub, Unsub, Pub, Take, Close, Reload}
 use Rattle.events.specs.declared.answer.Removed.{Removed}
-use Rattle.world_sessions.specs.Sessions.{session_of}
+use Rattle.world_deliveries.specs.Sessions.{session_of}
 use Rattle.world_sessions.specs.Renewal.{with_user}
-use Rattle.world_sessions.specs.declared.session.Session.{Session}
+use Rattle.world_deliveries.specs.declared.session.Session.{Session}
 use Rattle.world_rows.specs.declared.subscription.Subscription.{Subscription}
 use Rattle.world.specs.World.{World}
 use Rattle.world.specs.Reload.{removed_by}

@@ -11,9 +11,9 @@ use Rattle.reply_grants.specs.Grants.{Grant}
 use Rattle.reply_grants.specs.Replies.{Table, grants_of, noted, answered_in, ended_in}
 use Rattle.policy_ready.specs.declared.ready.User.{User}
 use Rattle.events.specs.Messages.{Message}
-use Rattle.world_sessions.specs.Sessions.{session_of}
-use Rattle.world_sessions.specs.Replying.{note_of}
-use Rattle.world_sessions.specs.declared.session.Session.{Session}
+use Rattle.world_deliveries.specs.Sessions.{session_of}
+use Rattle.world_deliveries.specs.Replying.{note_of}
+use Rattle.world_deliveries.specs.declared.session.Session.{Session}
 use Rattle.world.specs.World.{World}
 use Rattle.hub.specs.Kept.{is_open}
 use Rattle.hub.specs.Sound.{user_at}

@@ -31,12 +31,12 @@ use Rattle.events.specs.declared.answer.Outcome.{Outcome}
 use Rattle.events.specs.declared.answer.Outcome.TheVariants.{Connected, AuthViolation, Subscribed, SameSid, SubLimit, Denied, Unsubscribed, Published, Taken, Closed, Reloaded}
 use Rattle.events.specs.declared.refusal.HubRefusal.{HubRefusal}
 use Rattle.events.specs.declared.refusal.HubRefusal.TheVariants.{SessionLimit}
-use Rattle.world_sessions.specs.Sessions.{session_of, new_session, drained}
-use Rattle.world_sessions.specs.Delivered.{delivered}
+use Rattle.world_deliveries.specs.Sessions.{session_of, new_session, drained}
+use Rattle.world_deliveries.specs.Delivered.{delivered}
 use Rattle.world_sessions.specs.Renewal.{user_again_of, stays, goes, with_user, renewed, remaining, connection_of, closed_conns}
-use Rattle.world_sessions.specs.declared.session.Session.{Session}
+use Rattle.world_deliveries.specs.declared.session.Session.{Session}
 use Rattle.world_sessions.proofs.Ascending.{among-ascending}
-use Rattle.world_sessions.proofs.Changes.{only, apart-map, with_session-map}
+use Rattle.world_deliveries.proofs.Changes.{only, apart-map, with_session-map}
 use Rattle.world_subscriptions.specs.Subscriptions.{stands, has_all, subscription_of, of_connection}
 use Rattle.world_subscriptions.specs.Addressing.{delivery_to}
 use Rattle.world_rows.specs.declared.subscription.Subscription.{Subscription}

@@ -25,13 +25,13 @@ use Rattle.events.specs.declared.answer.Item.{Item}
 use Rattle.events.specs.declared.answer.Outcome.{Outcome}
 use Rattle.events.specs.declared.answer.Outcome.TheVariants.{Connected, AuthViolation, Subscribed, SameSid, SubLimit, Denied, Unsubscribed, Published, Taken, Closed, Reloaded}
 use Rattle.events.specs.declared.refusal.HubRefusal.TheVariants.{SessionLimit}
-use Rattle.world_sessions.specs.Sessions.{session_of, with_session, new_session, drained}
-use Rattle.world_sessions.specs.Delivered.{delivered, room_in}
-use Rattle.world_sessions.specs.Planned.{planned}
-use Rattle.world_sessions.specs.Replying.{terms_of, note_for, with_note}
+use Rattle.world_deliveries.specs.Sessions.{session_of, with_session, new_session, drained}
+use Rattle.world_deliveries.specs.Delivered.{delivered, room_in}
+use Rattle.world_deliveries.specs.Planned.{planned}
+use Rattle.world_deliveries.specs.Replying.{terms_of, note_for, with_note}
 use Rattle.world_sessions.specs.Renewal.{user_again_of, stays, goes, with_user, renewed, remaining, connection_of, closed_conns, ascending}
-use Rattle.world_sessions.specs.declared.session.Session.{Session}
-use Rattle.world_sessions.proofs.Plans.{planned-delivered}
+use Rattle.world_deliveries.specs.declared.session.Session.{Session}
+use Rattle.world_deliveries.proofs.Plans.{planned-delivered}
 use Rattle.world_subscriptions.specs.Subscriptions.{has_subject, stands, has_all, subscription_of, of_connection}
 use Rattle.world_subscriptions.specs.Addressing.{addressed_to, delivery_to}
 use Rattle.world_subscriptions.specs.Limit.{unended, counted, limited}

@@ -10,7 +10,7 @@ use Rattle.policy_doc.specs.declared.document.Terms.{Terms}
 use Rattle.reply_grants.specs.Grants.{Grant, is_live, is_for, has_live, without, answered, after_note}
 use Rattle.reply_grants.specs.Replies.{Table, grants_of, noted, answered_in, ended_in, judged}
 use Rattle.events.specs.declared.answer.Entry.{Entry}
-use Rattle.world_sessions.specs.Replying.{note_of}
+use Rattle.world_deliveries.specs.Replying.{note_of}
 use Rattle.hub.specs.Replies.{noted_at}
 use Rattle.hub.proofs.Grants.{not-false}
 use Rattle.hub_grant_laws.specs.Noted.{is_reply, is_request, is_response, is_end, responses_on, latest, IsNoted}

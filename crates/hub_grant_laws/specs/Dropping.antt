@@ -7,8 +7,8 @@ use Rattle.events.specs.declared.event.Event.{Event}
 use Rattle.events.specs.declared.answer.Entry.{Entry}
 use Rattle.events.specs.declared.answer.Outcome.{Outcome}
 use Rattle.events.specs.declared.refusal.HubRefusal.{HubRefusal}
-use Rattle.world_sessions.specs.Replying.{terms_of}
-use Rattle.world_sessions.specs.declared.session.Session.{Session}
+use Rattle.world_deliveries.specs.Replying.{terms_of}
+use Rattle.world_deliveries.specs.declared.session.Session.{Session}
 use Rattle.world.specs.World.{World, opening_world, advanced}
 use Rattle.world.specs.Transition.{transition, moved, numbered}
 use Rattle.hub.specs.History.{IsLegalRun}

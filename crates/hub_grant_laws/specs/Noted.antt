@@ -14,8 +14,8 @@ use Rattle.events.specs.declared.answer.Item.TheVariants.{Entered, Full}
 use Rattle.events.specs.declared.answer.Entry.{Entry}
 use Rattle.events.specs.declared.answer.Outcome.{Outcome}
 use Rattle.events.specs.declared.answer.Outcome.TheVariants.{Published, Closed, Reloaded}
-use Rattle.world_sessions.specs.Sessions.{session_of}
-use Rattle.world_sessions.specs.declared.session.Session.{Session}
+use Rattle.world_deliveries.specs.Sessions.{session_of}
+use Rattle.world_deliveries.specs.declared.session.Session.{Session}
 use Rattle.world.specs.World.{World, opening_world}
 use Rattle.hub.specs.Counts.{items_told}
 use Rattle.hub.specs.History.{IsEntry, IsLegalRun}

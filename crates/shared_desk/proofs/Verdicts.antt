@@ -22,8 +22,8 @@ use Rattle.events.specs.declared.event.Command.TheVariants.{Connect, Sub, Unsub,
 use Rattle.events.specs.declared.answer.Outcome.{Outcome}
 use Rattle.events.specs.declared.answer.Outcome.TheVariants.{Connected, AuthViolation, Subscribed, SameSid, SubLimit, Denied, Unsubscribed, Published, Taken, Closed, Reloaded}
 use Rattle.events.specs.declared.answer.Entry.{Entry}
-use Rattle.world_sessions.specs.Sessions.{session_of}
-use Rattle.world_sessions.specs.declared.session.Session.{Session}
+use Rattle.world_deliveries.specs.Sessions.{session_of}
+use Rattle.world_deliveries.specs.declared.session.Session.{Session}
 use Rattle.world.specs.World.{World}
 use Rattle.hub.specs.Sound.{user_behind, user_at, may_subscribe}
 use Rattle.hub.specs.History.{State}

@@ -6,7 +6,7 @@ use Rattle.std.proofs.lemmas.Bool.{ltb-false}
 use Rattle.std.proofs.lemmas.List.{length-append, length-drop}
 use Rattle.std.proofs.lemmas.List.Sums.{sum_by-cons, sum_by_push, sum_by-take-drop}
 use Rattle.events.specs.declared.answer.Delivery.{Delivery}
-use Rattle.world_sessions.specs.declared.session.Session.{Session}
+use Rattle.world_deliveries.specs.declared.session.Session.{Session}
 use Rattle.world_leniency.specs.Held.{weight_of, is_over}
 use Rattle.shared_desk.specs.Bounds.{is_large, large_weight, IsBounded, HasNoMore, StaysEntering, StaysLeaving}
 

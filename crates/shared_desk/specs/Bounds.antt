@@ -5,7 +5,7 @@ use Rattle.events.specs.declared.event.Event.{Event}
 use Rattle.events.specs.declared.event.Command.{Command}
 use Rattle.events.specs.declared.event.Command.TheVariants.{Connect, Sub, Unsub, Pub, Take, Close, Reload}
 use Rattle.events.specs.declared.answer.Delivery.{Delivery}
-use Rattle.world_sessions.specs.declared.session.Session.{Session}
+use Rattle.world_deliveries.specs.declared.session.Session.{Session}
 use Rattle.world_leniency.specs.Held.{Terms, bytes_of, weight_of, is_over}
 use Rattle.hub.specs.History.{State}
 use Rattle.shared_waits.specs.Waiting.{Waiting, is_out_with}

@@ -9,7 +9,7 @@ use Rattle.events.specs.declared.answer.Outcome.{Outcome}
 use Rattle.events.specs.declared.answer.Outcome.TheVariants.{Connected, AuthViolation, Subscribed, SameSid, SubLimit, Denied, Unsubscribed, Published, Taken, Closed, Reloaded}
 use Rattle.events.specs.declared.refusal.HubRefusal.{HubRefusal}
 use Rattle.events.specs.declared.refusal.PublishRefusal.TheVariants.{Held}
-use Rattle.world_sessions.specs.declared.session.Session.{Session}
+use Rattle.world_deliveries.specs.declared.session.Session.{Session}
 use Rattle.world_leniency.specs.Held.{Terms, to_all, held_among}
 use Rattle.world_leniency.proofs.Kept.{none_holds}
 use Rattle.world.specs.World.{World, advanced}

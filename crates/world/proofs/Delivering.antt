@@ -5,10 +5,10 @@ use Rattle.events.specs.Messages.{Message}
 use Rattle.events.specs.declared.answer.Addressed.{Addressed}
 use Rattle.events.specs.declared.answer.Item.{Item}
 use Rattle.events.specs.declared.answer.Item.TheVariants.{Entered, Full}
-use Rattle.world_sessions.specs.Sessions.{session_of, with_session}
-use Rattle.world_sessions.specs.Delivered.{delivered, after_offer, has_room}
-use Rattle.world_sessions.specs.Replying.{with_note, answering, ending}
-use Rattle.world_sessions.specs.declared.session.Session.{Session}
+use Rattle.world_deliveries.specs.Sessions.{session_of, with_session}
+use Rattle.world_deliveries.specs.Delivered.{delivered, after_offer, has_room}
+use Rattle.world_deliveries.specs.Replying.{with_note, answering, ending}
+use Rattle.world_deliveries.specs.declared.session.Session.{Session}
 use Rattle.world_subscriptions.specs.Addressing.{addressed_to}
 use Rattle.world_subscriptions.specs.Limit.{unended, counted}
 use Rattle.world_subscriptions.specs.Turns.{Tells, TellEach, entered_ids, in_turn}

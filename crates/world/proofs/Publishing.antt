@@ -9,12 +9,12 @@ use Rattle.events.specs.Messages.{Message}
 use Rattle.events.specs.declared.answer.Addressed.{Addressed}
 use Rattle.events.specs.declared.answer.Item.{Item}
 use Rattle.events.specs.declared.answer.Outcome.TheVariants.{Published}
-use Rattle.world_sessions.specs.Sessions.{session_of, with_session}
-use Rattle.world_sessions.specs.Delivered.{delivered, room_in}
-use Rattle.world_sessions.specs.Planned.{rooms_of, planned}
-use Rattle.world_sessions.specs.Replying.{with_note, answering}
-use Rattle.world_sessions.specs.declared.session.Session.{Session}
-use Rattle.world_sessions.proofs.Plans.{planned-delivered}
+use Rattle.world_deliveries.specs.Sessions.{session_of, with_session}
+use Rattle.world_deliveries.specs.Delivered.{delivered, room_in}
+use Rattle.world_deliveries.specs.Planned.{rooms_of, planned}
+use Rattle.world_deliveries.specs.Replying.{with_note, answering}
+use Rattle.world_deliveries.specs.declared.session.Session.{Session}
+use Rattle.world_deliveries.proofs.Plans.{planned-delivered}
 use Rattle.world_subscriptions.specs.Addressing.{addressed_to}
 use Rattle.world_subscriptions.specs.Limit.{unended, counted}
 use Rattle.world_rows.specs.declared.subscription.Subscription.{Subscription}

@@ -8,11 +8,11 @@ use Rattle.events.specs.declared.answer.Item.{Item}
 use Rattle.events.specs.declared.answer.Outcome.{Outcome}
 use Rattle.events.specs.declared.answer.Outcome.TheVariants.{Published}
 use Rattle.events.specs.declared.refusal.HubRefusal.{HubRefusal}
-use Rattle.world_sessions.specs.Sessions.{session_of, with_session, drained}
-use Rattle.world_sessions.specs.Delivered.{delivered}
-use Rattle.world_sessions.specs.Replying.{with_note, answering, ending}
+use Rattle.world_deliveries.specs.Sessions.{session_of, with_session, drained}
+use Rattle.world_deliveries.specs.Delivered.{delivered}
+use Rattle.world_deliveries.specs.Replying.{with_note, answering, ending}
 use Rattle.world_sessions.specs.Renewal.{remaining, user_again_of}
-use Rattle.world_sessions.specs.declared.session.Session.{Session}
+use Rattle.world_deliveries.specs.declared.session.Session.{Session}
 use Rattle.events.specs.declared.answer.Addressed.{Addressed}
 use Rattle.world_subscriptions.specs.Subscriptions.{stands, subscription_of}
 use Rattle.world_subscriptions.specs.Limit.{unended, counted, limited}

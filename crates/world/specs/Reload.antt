@@ -10,9 +10,9 @@ use Rattle.policy_ready.specs.declared.ready.User.{User}
 use Rattle.events.specs.declared.answer.Removed.{Removed}
 use Rattle.events.specs.declared.answer.Outcome.{Outcome}
 use Rattle.events.specs.declared.answer.Outcome.TheVariants.{Reloaded}
-use Rattle.world_sessions.specs.Sessions.{session_of}
+use Rattle.world_deliveries.specs.Sessions.{session_of}
 use Rattle.world_sessions.specs.Renewal.{user_again_of, remaining, closed_conns, HaveOneUser}
-use Rattle.world_sessions.specs.declared.session.Session.{Session}
+use Rattle.world_deliveries.specs.declared.session.Session.{Session}
 use Rattle.world_rows.specs.declared.subscription.Subscription.{Subscription}
 use Rattle.world.specs.World.{World}
 

@@ -3,9 +3,9 @@ use Rattle.std.specs.Prelude.{◌&&◌, ℕ, List, Bool, filter, map}
 use Rattle.events.specs.Messages.{Message}
 use Rattle.events.specs.declared.answer.Addressed.{Addressed}
 use Rattle.events.specs.declared.answer.Item.{Item}
-use Rattle.world_sessions.specs.Delivered.{delivered}
-use Rattle.world_sessions.specs.Replying.{with_note}
-use Rattle.world_sessions.specs.declared.session.Session.{Session}
+use Rattle.world_deliveries.specs.Delivered.{delivered}
+use Rattle.world_deliveries.specs.Replying.{with_note}
+use Rattle.world_deliveries.specs.declared.session.Session.{Session}
 use Rattle.world_subscriptions.specs.Subscriptions.{has_subject}
 use Rattle.world_subscriptions.specs.Addressing.{addressed_to}
 use Rattle.world_subscriptions.specs.Limit.{unended, counted}

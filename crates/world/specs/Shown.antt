@@ -1,8 +1,8 @@
 -- What the world shows of its tables.
 use Rattle.std.specs.Prelude.{ℕ, Bool, length, Option}
 use Rattle.std.specs.Option.{option_map}
-use Rattle.world_sessions.specs.Sessions.{session_of}
-use Rattle.world_sessions.specs.declared.session.Session.{Session}
+use Rattle.world_deliveries.specs.Sessions.{session_of}
+use Rattle.world_deliveries.specs.declared.session.Session.{Session}
 use Rattle.world_rows.specs.declared.subscription.Subscription.{Subscription}
 use Rattle.world.specs.World.{World}
 use Rattle.world.specs.declared.standing.Standing.{Standing}

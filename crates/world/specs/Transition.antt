@@ -15,8 +15,8 @@ use Rattle.events.specs.declared.answer.Outcome.{Outcome}
 use Rattle.events.specs.declared.answer.Outcome.TheVariants.{Connected, AuthViolation, Subscribed, SameSid, SubLimit, Denied, Unsubscribed, Published, Taken, Closed, Reloaded}
 use Rattle.events.specs.declared.refusal.HubRefusal.{HubRefusal}
 use Rattle.events.specs.declared.refusal.HubRefusal.TheVariants.{NoSession, SessionTaken, SessionLimit, NoMemory}
-use Rattle.world_sessions.specs.Sessions.{session_of, with_session, new_session, drained}
-use Rattle.world_sessions.specs.declared.session.Session.{Session}
+use Rattle.world_deliveries.specs.Sessions.{session_of, with_session, new_session, drained}
+use Rattle.world_deliveries.specs.declared.session.Session.{Session}
 use Rattle.world_subscriptions.specs.Subscriptions.{stands, has_all, subscription_of}
 use Rattle.world_subscriptions.specs.Limit.{unended, limited}
 use Rattle.world_rows.specs.declared.subscription.Subscription.{Subscription}

@@ -1,7 +1,7 @@
 -- The world: all that the tables hold (docs/GUARANTEE.md, "The world").
 use Rattle.std.specs.Prelude.{ℕ, List, [], max}
 use Rattle.policy_doc.specs.declared.document.PolicyDoc.{PolicyDoc}
-use Rattle.world_sessions.specs.declared.session.Session.{Session}
+use Rattle.world_deliveries.specs.declared.session.Session.{Session}
 use Rattle.world_rows.specs.declared.subscription.Subscription.{Subscription}
 
 pub record World : Type 0 where

@@ -1,7 +1,7 @@
 //! What was decided is done.
 ghost use Rattle.std.specs.Prelude.{◌≡◌, ◌≤◌, ◌⊎◌, None, map};
 ghost use Rattle.world_receivers.specs.Known.{Holds};
-ghost use Rattle.world_sessions.specs.Delivered.{delivered};
+ghost use Rattle.world_deliveries.specs.Delivered.{delivered};
 ghost use Rattle.world_subscriptions.specs.Limit.{unended, counted};
 ghost use Rattle.world.specs.Changes.{AreAddressed, handed_over, items_in};
 

@@ -102,8 +102,8 @@ ghost use Rattle.world.specs.Changes.{answered_by};
 impl World {
     ghost use Rattle.std.specs.Prelude.{◌≡◌, ℕ, IfOk, OnOk, map};
     ghost use Rattle.events.specs.declared.event.Command.TheVariants as command;
-    ghost use Rattle.world_sessions.specs.Delivered.{delivered};
-    ghost use Rattle.world_sessions.specs.Replying.{with_note};
+    ghost use Rattle.world_deliveries.specs.Delivered.{delivered};
+    ghost use Rattle.world_deliveries.specs.Replying.{with_note};
     ghost use Rattle.world.specs.Transition.{moved, IsReasoned};
     ghost use Rattle.world.specs.Changes.{IsDecided};
     ghost use Rattle.world.specs.Reload.{AreEntitled};

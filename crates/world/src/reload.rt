@@ -4,7 +4,7 @@ ghost use Rattle.std.specs.List.{filter_map};
 ghost use Rattle.std.specs.Option.{option_copied};
 ghost use Rattle.world_sessions.specs.Renewal.{AreSameLists};
 ghost use Rattle.policy_doc.specs.declared.document.PolicyDoc.{PolicyDoc};
-ghost use Rattle.world_sessions.specs.declared.session.Session.{Session};
+ghost use Rattle.world_deliveries.specs.declared.session.Session.{Session};
 ghost use Rattle.world.specs.Changes.{lost_id};
 ghost use Rattle.world.specs.Reload.{user_after, verdict_after, verdict_before, may_stand, stands_on, removal_after, AreEntitled, IsReasonedVerdict};
 

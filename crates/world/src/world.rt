@@ -58,8 +58,8 @@ impl Model for World {
 impl World {
     ghost use Rattle.std.specs.Prelude.{◌≡◌, ◌==◌, ◌<◌, ◌≤◌, ◌+◌, ℕ, Ok, [], false, IfOk, IfErr, All, map};
     ghost use Rattle.events.specs.declared.answer.Outcome.{Outcome};
-    ghost use Rattle.world_sessions.specs.Sessions.{session_of};
-    ghost use Rattle.world_sessions.specs.declared.session.Session.{Session};
+    ghost use Rattle.world_deliveries.specs.Sessions.{session_of};
+    ghost use Rattle.world_deliveries.specs.declared.session.Session.{Session};
     ghost use Rattle.world_rows.specs.declared.subscription.Subscription.{Subscription};
     ghost use Rattle.world.specs.World as worlds;
     ghost use Rattle.world.specs.World.{opening_world, advanced};

@@ -7,7 +7,7 @@ use policy_ready::User;
 use reply_grants::PlainGrant;
 use std::alloc::Global;
 use std::marker::Model;
-use world_sessions::Session;
+use world_deliveries::Session;
 
 /// A session as it was at a moment. A clause sees the session. What waited for its client is a list, so that it takes
 /// no more memory than that.
@@ -37,7 +37,7 @@ impl Drop for PlainSession {
 }
 
 impl Model for PlainSession {
-    ghost use Rattle.world_sessions.specs.declared.session.Session as sessions;
+    ghost use Rattle.world_deliveries.specs.declared.session.Session as sessions;
 
     ghost Value = { sessions.Session };
 

@@ -4,8 +4,8 @@ use Rattle.std.specs.List.{list_any, cons_option}
 use Rattle.std.proofs.lemmas.List.{append-nil}
 use Rattle.events.specs.declared.answer.Item.{Item}
 use Rattle.events.specs.declared.answer.Item.TheVariants.{Entered, Full}
-use Rattle.world_sessions.specs.Sessions.{session_of}
-use Rattle.world_sessions.specs.declared.session.Session.{Session}
+use Rattle.world_deliveries.specs.Sessions.{session_of}
+use Rattle.world_deliveries.specs.declared.session.Session.{Session}
 use Rattle.world_leniency.specs.Held.{Terms, to_all, is_full, is_over, held_among}
 
 none_held : (t : Terms) (zs : List Session) (items : List Item) → t.room ≡ None → list_any is_full items ≡ false → held_among t zs items ≡ []

@@ -5,8 +5,8 @@ use Rattle.events.specs.Messages.{Message}
 use Rattle.events.specs.declared.answer.Delivery.{Delivery}
 use Rattle.events.specs.declared.answer.Item.{Item}
 use Rattle.events.specs.declared.answer.Item.TheVariants.{Entered, Full}
-use Rattle.world_sessions.specs.Sessions.{session_of}
-use Rattle.world_sessions.specs.declared.session.Session.{Session}
+use Rattle.world_deliveries.specs.Sessions.{session_of}
+use Rattle.world_deliveries.specs.declared.session.Session.{Session}
 
 -- on what terms a step may be made
 pub record Terms : Type 0 where

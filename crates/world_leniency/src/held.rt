@@ -2,7 +2,7 @@
 ghost use Rattle.std.specs.Prelude.{◌≡◌, ◌++◌, ◌∷◌, [], OnOk};
 ghost use Rattle.std.specs.List.{list_any};
 ghost use Rattle.std.specs.Option.{option_copied};
-ghost use Rattle.world_sessions.specs.Sessions.{session_of};
+ghost use Rattle.world_deliveries.specs.Sessions.{session_of};
 ghost use Rattle.world_leniency.specs.Held.{is_full, has_nothing, holds_back, held_among};
 
 use crate::Lenient;

@@ -13,9 +13,9 @@ use Rattle.events.specs.declared.answer.Item.{Item}
 use Rattle.queue_choice.specs.Choices.{chosen}
 use Rattle.world_groups.specs.Served.{is_named, is_member, members, is_the, is_served_by, is_served, served}
 use Rattle.world_groups.proofs.Chosen.{filter-map, same_tests, chosen-map}
-use Rattle.world_sessions.specs.Sessions.{session_of, with_session}
-use Rattle.world_sessions.specs.Delivered.{delivered, offered, after_offer, has_room}
-use Rattle.world_sessions.specs.declared.session.Session.{Session}
+use Rattle.world_deliveries.specs.Sessions.{session_of, with_session}
+use Rattle.world_deliveries.specs.Delivered.{delivered, offered, after_offer, has_room}
+use Rattle.world_deliveries.specs.declared.session.Session.{Session}
 use Rattle.world_subscriptions.specs.Subscriptions.{has_subject}
 use Rattle.world_subscriptions.specs.Limit.{unended, counted, has_entered, has_ended}
 use Rattle.world_rows.specs.declared.subscription.Subscription.{Subscription}

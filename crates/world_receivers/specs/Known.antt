@@ -6,8 +6,8 @@ use Rattle.events.specs.declared.answer.Addressed.{Addressed}
 use Rattle.queue_choice.specs.Choices.{chosen}
 use Rattle.world_groups.specs.Grouped.{if_any}
 use Rattle.world_groups.specs.Served.{served}
-use Rattle.world_sessions.specs.Sessions.{session_of}
-use Rattle.world_sessions.specs.declared.session.Session.{Session}
+use Rattle.world_deliveries.specs.Sessions.{session_of}
+use Rattle.world_deliveries.specs.declared.session.Session.{Session}
 use Rattle.world_rows.specs.declared.subscription.Subscription.{Subscription}
 use Rattle.world_receivers.specs.Open.{open_among}
 use Rattle.world_receivers.specs.Receivers.{receiver_of, addressed_at}

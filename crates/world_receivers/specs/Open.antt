@@ -2,8 +2,8 @@
 use Rattle.std.specs.Prelude.{◌&&◌, ◌||◌, ◌==◌, ℕ, List, Bool, false, Option, Some, None, filter, not}
 use Rattle.subjects.specs.Subject.{Token}
 use Rattle.permissions.specs.Verdicts.{delivery_verdict, is_allowed}
-use Rattle.world_sessions.specs.Sessions.{session_of}
-use Rattle.world_sessions.specs.declared.session.Session.{Session}
+use Rattle.world_deliveries.specs.Sessions.{session_of}
+use Rattle.world_deliveries.specs.declared.session.Session.{Session}
 use Rattle.world_subscriptions.specs.Subscriptions.{has_subject}
 use Rattle.world_rows.specs.declared.subscription.Subscription.{Subscription}
 

@@ -1,6 +1,6 @@
 //! The deliveries of a message.
 ghost use Rattle.std.specs.Prelude.{◌≡◌, Some, IfOk};
-ghost use Rattle.world_sessions.specs.Sessions.{session_of};
+ghost use Rattle.world_deliveries.specs.Sessions.{session_of};
 ghost use Rattle.world_receivers.specs.Known.{Holds};
 ghost use Rattle.world_receivers.specs.Receivers.{addressed_among};
 

@@ -1,5 +1,1 @@
-pub mod Sessions
-pub mod Delivered
-pub mod Planned
-pub mod Replying
 pub mod Renewal

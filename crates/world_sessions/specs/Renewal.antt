@@ -5,7 +5,8 @@ use Rattle.policy_doc.specs.declared.document.PolicyDoc.{PolicyDoc}
 use Rattle.reply_grants.specs.Replies.{judged}
 use Rattle.policy_ready.specs.Users.{user_again}
 use Rattle.policy_ready.specs.declared.ready.User.{User}
-use Rattle.world_sessions.specs.declared.session.Session.{Session}
+use Rattle.world_deliveries.specs.declared.session.Session.{Session}
+pub use Rattle.world_deliveries.specs.Sessions.{connection_of}
 
 -- the user that a policy has in place of a session's
 abbrev pub user_again_of : PolicyDoc → Session → Option User
@@ -42,9 +43,6 @@ with_number n (m ∷ ms) = if nat_le n m then n ∷ m ∷ ms else m ∷ with_num
 abbrev pub ascending : List ℕ → List ℕ
 ascending [] = []
 ascending (n ∷ ns) = with_number n (ascending ns)
-
-abbrev pub connection_of : Session → ℕ
-connection_of z = z.conn
 
 abbrev pub goes : PolicyDoc → Session → Bool
 goes doc z = not (stays doc z)

@@ -1,12 +1,9 @@
-//! The sessions in order of connecting, each found by its connection at once, and the deliveries that wait for them.
+//! The sessions in order of connecting, each found by its connection at once, and what a reload makes of them.
 #![tactic(auto)]
 
-mod noting;
-mod plan;
 mod renewal;
 mod same_lists;
-mod session;
 mod sessions;
 
-pub use session::Session;
 pub use sessions::Sessions;
+pub use world_deliveries::Session;

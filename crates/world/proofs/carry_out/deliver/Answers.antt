@@ -1,7 +1,7 @@
 -- those that a message has entered for count it, and it is still known whom the next is for where none of them has ended
 use Rattle.std.proofs.Common.{◌≡◌, ◌∙◌, List, Option, map, ap, sym, subst, inl, inr, arith}
 use Rattle.events.specs.declared.answer.Addressed.{Addressed}
-use Rattle.world_sessions.specs.declared.session.Session.{Session}
+use Rattle.world_deliveries.specs.declared.session.Session.{Session}
 use Rattle.world_subscriptions.specs.Limit.{unended, counted}
 use Rattle.world_subscriptions.specs.Turns.{entered_ids, in_turn}
 use Rattle.world_rows.specs.declared.subscription.Subscription.{Subscription}

@@ -2,7 +2,7 @@
 use Rattle.std.proofs.Common.{◌≡◌, ◌∙◌, List, map, filter, ap, refl}
 use Rattle.subjects.specs.Subject.{Token, tokens_of}
 use Rattle.subjects.proofs.Text.{again}
-use Rattle.world_sessions.specs.Sessions.{session_of}
+use Rattle.world_deliveries.specs.Sessions.{session_of}
 use Rattle.world_subscriptions.specs.Subscriptions.{has_subject, having}
 use Rattle.world_receivers.specs.Open.{is_open}
 use Rattle.world_receivers.proofs.Tests.{both}

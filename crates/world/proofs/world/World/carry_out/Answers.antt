@@ -1,6 +1,6 @@
 -- a Take leaves it known whom messages are for
 use Rattle.std.proofs.Common.{◌∙◌, sym, subst, refl, ap}
-use Rattle.world_sessions.specs.Sessions.{drained}
+use Rattle.world_deliveries.specs.Sessions.{drained}
 use Rattle.world_receivers.proofs.Stays.{AreSeated, seats_with, holds_taken}
 use Rattle.world.specs.Changes.{done}
 use Rattle.world.specs.declared.change.Change.{Change}

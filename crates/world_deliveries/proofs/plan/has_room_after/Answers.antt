@@ -1,0 +1,13 @@
+-- nothing is put down, and the room is that of the session at the place
+use Rattle.std.proofs.Common.{sym, ap, ◌∙◌}
+use Rattle.world_deliveries.specs.declared.session.Session.{Session}
+use Rattle.world_deliveries.specs.Delivered.{room_in}
+use Rattle.std.proofs.Common.{Some}
+use Rattle.world_deliveries.proofs.Plans.{roomy_here, none_from}
+use Rattle.world_deliveries.proofs.plan.has_room_after.Goals as goal
+
+pub returns-in-Some : goal.returns-in-Some
+returns-in-Some c more = (
+  none_from c.args.next.now.noted (sym c.is_some.ensures ∙ c.if-is_some.false),
+  roomy_here c.args.before c.args.next.now.conn c.room.result c.in-Some.place c.args.list.now c.index-list-place.result (sym c.in-Some.ensures) c.index-list-place.is (c.room.ensures ∙ sym (ap (λ (z : Session). room_in (Some z)) c.index-list-place.is)) more,
+)

@@ -1,0 +1,4 @@
+pub mod Sessions
+pub mod Delivered
+pub mod Planned
+pub mod Replying

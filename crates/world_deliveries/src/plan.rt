@@ -1,0 +1,278 @@
+//! What deliveries will meet, and what is to be noted with them, before one is handed over.
+ghost use Rattle.std.specs.Prelude.{◌≡◌, ℕ, ◌<◌, ◌≤◌, ◌-◌, ◌==◌, ◌∷◌, [], IfOk, OnOk, IsTrue, length, map, position, nat_lt, slice_index_or, if◌then◌else◌};
+ghost use Rattle.std.specs.Option.{option_copied};
+ghost use Rattle.world_deliveries.specs.Sessions.{session_of};
+ghost use Rattle.world_deliveries.specs.Delivered.{has_room, room_in, delivered};
+ghost use Rattle.world_deliveries.specs.Planned.{room_at, rooms_of, with_room, planned, entered, IsRoomy, AreRoomy};
+ghost use Rattle.world_deliveries.specs.Sessions.{connection_of};
+ghost use Rattle.world_deliveries.specs.Replying.{note_for, with_note};
+
+use crate::Session;
+use crate::noting::note_for;
+use base::NoMemory;
+use events::{Addressed, Item};
+use std::alloc::Global;
+use std::hash::RandomState;
+use subjects::SubjectRef;
+use world_connections::Connections;
+
+/// The place of the session of a connection: mostly that of the hint.
+#[inline(always)]
+pub fn place_in(conns: &Connections, list: &[Session], conn: u64) -> Option<usize>
+    requires { conns.now ≡ map connection_of list.now }
+    ensures { result ≡ position (λ (z : Session). z.conn == conn) list.now }
+{
+    conns.known();
+    let hint = conns.hint(conn);
+    match list.get(hint) {
+        None => {}
+        Some(session) => {
+            if session.conn == conn {
+                return Some(hint);
+            }
+        }
+    }
+    let place = conns.find(conn);
+    place
+}
+
+/// Whether one more delivery has room in a session's outbox.
+#[tactic(auto, using(crate::proofs::Plans::has_room_is))]
+fn has_room(session: Option<&Session>) -> bool
+    ensures { result ≡ has_room (option_copied session.entry) }
+{
+    match session {
+        None => false,
+        Some(session) => 0 < session.outbox.room(),
+    }
+}
+
+/// Puts down beside a delivery what its session is to note.
+#[inline(always)]
+fn put_note(
+    alloc: Global,
+    keys: RandomState,
+    reply: Option<&SubjectRef<'_>>,
+    session: Option<&Session>,
+    next: &mut Addressed,
+) -> Result<(), NoMemory>
+    ensures { OnOk result (next.new ≡ record next.old { noted = note_for (option_copied reply.entry) (option_copied session.entry) }) }
+{
+    match reply {
+        None => {
+            next.noted = None;
+            Ok(())
+        }
+        Some(reply) => {
+            let noted = note_for(alloc, keys, reply, session)?;
+            next.noted = noted;
+            Ok(())
+        }
+    }
+}
+
+/// What a single delivery meets at the session that it is for. Beside it is put down what that is to note.
+#[inline(always)]
+pub fn plan_one(
+    alloc: Global,
+    keys: RandomState,
+    session: Option<&Session>,
+    next: &mut Addressed,
+    reply: Option<&SubjectRef<'_>>,
+) -> Result<Item, NoMemory>
+    ensures item { IfOk result (λ item. item ≡ (if has_room (option_copied session.entry) then Item.Entered next.new.conn next.new.delivery.sid else Item.Full next.new.conn next.new.delivery.sid)) }
+    ensures noted { OnOk result (next.new ≡ record next.old { noted = note_for (option_copied reply.entry) (option_copied session.entry) }) }
+{
+    put_note(alloc, keys, reply, session, next)?;
+    let has_room = has_room(session);
+    let item = item(next, has_room)?;
+    Ok(item)
+}
+
+/// Notes how much room a connection has, and gives its session.
+fn note_room<'a>(
+    conns: &Connections,
+    list: &'a [Session],
+    rooms: &mut [usize],
+    conn: u64,
+) -> Option<&'a Session>
+    requires keys { conns.now ≡ map connection_of list.now }
+    requires within { length list.now ≤ length rooms.old }
+    ensures session { option_copied result ≡ session_of list.now conn }
+    ensures room { (other : ℕ) → room_at list.now rooms.new other ≡ with_room conn (room_in (session_of list.now conn)) (room_at list.now rooms.old) other }
+{
+    match place_in(conns, list, conn) {
+        None => None,
+        Some(place) => {
+            let session = &list[place];
+            let room = session.outbox.room();
+            rooms[place] = room;
+            Some(session)
+        }
+    }
+}
+
+/// Takes one from the room of a connection, and answers whether there was any.
+fn take_room(conns: &Connections, list: &[Session], rooms: &mut [usize], conn: u64) -> bool
+    requires keys { conns.now ≡ map connection_of list.now }
+    requires within { length list.now ≤ length rooms.old }
+    ensures had { result ≡ nat_lt 0 (room_at list.now rooms.old conn) }
+    ensures after { (other : ℕ) → room_at list.now rooms.new other ≡ with_room conn (room_at list.now rooms.old conn - 1) (room_at list.now rooms.old) other }
+{
+    match place_in(conns, list, conn) {
+        None => false,
+        Some(place) => {
+            let room = rooms[place];
+            rooms[place] = room.saturating_sub(1);
+            0 < room
+        }
+    }
+}
+
+/// Notes the room of each connection that a delivery is for, and puts down beside each delivery what its session is to
+/// note.
+fn note_rooms(
+    alloc: Global,
+    keys: RandomState,
+    conns: &Connections,
+    list: &[Session],
+    rooms: &mut [usize],
+    all: &mut [Addressed],
+    reply: Option<&SubjectRef<'_>>,
+) -> Result<(), NoMemory>
+    requires keys { conns.now ≡ map connection_of list.now }
+    requires within { length list.now ≤ length rooms.old }
+    ensures rooms { OnOk result ((k : ℕ) (d : Addressed) → k < length all.old →
+        room_at list.now rooms.new (slice_index_or all.old k d).conn ≡ rooms_of list.now (slice_index_or all.old k d).conn) }
+    ensures noted { OnOk result (all.new ≡ map (with_note list.now (option_copied reply.entry)) all.old) }
+{
+    for next in all.iter_mut() {
+        let session = note_room(conns, list, rooms, next.conn);
+        put_note(alloc, keys, reply, session, next)?;
+    }
+    Ok(())
+}
+
+/// What a delivery meets where there is room, or where there is none.
+fn item(next: &Addressed, has_room: bool) -> Result<Item, NoMemory>
+    ensures { IfOk result (λ item. item ≡ (if has_room then Item.Entered next.now.conn next.now.delivery.sid else Item.Full next.now.conn next.now.delivery.sid)) }
+{
+    let conn = next.conn;
+    let sid = next.delivery.sid.again()?;
+    if has_room {
+        Ok(Item::Entered { conn, sid })
+    } else {
+        Ok(Item::Full { conn, sid })
+    }
+}
+
+/// What each delivery meets, where the rooms are noted.
+fn plan_each(
+    alloc: Global,
+    conns: &Connections,
+    list: &[Session],
+    rooms: &mut [usize],
+    all: &[Addressed],
+) -> Result<Vec<Item>, NoMemory>
+    requires keys { conns.now ≡ map connection_of list.now }
+    requires within { length list.now ≤ length rooms.old }
+    ensures { IfOk result (λ items. items.items ≡ planned all.now (room_at list.now rooms.old)) }
+{
+    let mut items = Vec::with_capacity(alloc, all.len())?;
+    for next in all {
+        let has_room = take_room(conns, list, rooms, next.conn);
+        items.push(item(next, has_room)?)?;
+    }
+    Ok(items)
+}
+
+/// Whether nothing is put down beside a delivery, and its session has room for it after so many others.
+#[inline(always)]
+fn has_room_after(conns: &Connections, list: &[Session], next: &Addressed, before: usize) -> bool
+    requires { conns.now ≡ map connection_of list.now }
+    ensures { IsTrue result → IsRoomy before next.now (rooms_of list.now) }
+{
+    if next.noted.is_some() {
+        return false;
+    }
+    match place_in(conns, list, next.conn) {
+        None => false,
+        Some(place) => before < list[place].outbox.room(),
+    }
+}
+
+/// Whether nothing is put down beside any delivery, and each has room even where all those before it are for the same
+/// session.
+fn have_room(conns: &Connections, list: &[Session], all: &[Addressed]) -> bool
+    requires { conns.now ≡ map connection_of list.now }
+    ensures { IsTrue result → AreRoomy all.now (rooms_of list.now) }
+{
+    for (before, next) in all.iter().enumerate() {
+        if !has_room_after(conns, list, next, before) {
+            return false;
+        }
+    }
+    true
+}
+
+/// What deliveries meet that all enter.
+fn enter_all(alloc: Global, all: &[Addressed]) -> Result<Vec<Item>, NoMemory>
+    ensures { IfOk result (λ items. items.items ≡ map entered all.now) }
+{
+    let mut items = Vec::with_capacity(alloc, all.len())?;
+    for next in all {
+        items.push_reserved(item(next, true)?);
+    }
+    Ok(items)
+}
+
+/// What each delivery of a message with this reply will meet, told by the room that is left for each. Beside each is put
+/// down what its session is to note. Apart, so that a plan where all have room stays small.
+#[inline(never)]
+fn plan_by_rooms(
+    alloc: Global,
+    keys: RandomState,
+    conns: &Connections,
+    list: &[Session],
+    rooms: &mut [usize],
+    all: &mut [Addressed],
+    reply: Option<&SubjectRef<'_>>,
+) -> Result<Vec<Item>, NoMemory>
+    requires keys { conns.now ≡ map connection_of list.now }
+    requires within { length list.now ≤ length rooms.old }
+    ensures items { IfOk result (λ items. (now : ℕ) → items.items ≡ (delivered now all.new list.now).1) }
+    ensures noted { OnOk result (all.new ≡ map (with_note list.now (option_copied reply.entry)) all.old) }
+{
+    note_rooms(alloc, keys, conns, list, rooms, all, reply)?;
+    let items = plan_each(alloc, conns, list, rooms, all)?;
+    Ok(items)
+}
+
+/// What each delivery of a message with this reply will meet, where they are handed over in turn. Beside each is put
+/// down what its session is to note. Where all have room and there is no reply, no room has to be counted.
+#[inline(never)]
+pub fn plan_all(
+    alloc: Global,
+    keys: RandomState,
+    conns: &Connections,
+    list: &[Session],
+    rooms: &mut [usize],
+    all: &mut [Addressed],
+    reply: Option<&SubjectRef<'_>>,
+) -> Result<Vec<Item>, NoMemory>
+    requires keys { conns.now ≡ map connection_of list.now }
+    requires within { length list.now ≤ length rooms.old }
+    ensures items { IfOk result (λ items. (now : ℕ) → items.items ≡ (delivered now all.new list.now).1) }
+    ensures noted { OnOk result (all.new ≡ map (with_note list.now (option_copied reply.entry)) all.old) }
+{
+    match reply {
+        None if have_room(conns, list, all) => {
+            let items = enter_all(alloc, all)?;
+            Ok(items)
+        }
+        _ => {
+            let items = plan_by_rooms(alloc, keys, conns, list, rooms, all, reply)?;
+            Ok(items)
+        }
+    }
+}
