@@ -21,8 +21,11 @@ names_of [] = []
 names_of (m ∷ ms) = name_of m ∷ filter (λ name. not (same_name (name_of m) name)) (names_of ms)
 
 -- of a group with n members by age, member number (word mod 2^32) mod n, counted from 0
+abbrev pub chosen_number : ℕ → ℕ → ℕ
+chosen_number word n = word % 2 ^ 32 % n
+
 abbrev pub chosen : {X : Type 0} → ℕ → List X → Option X
-chosen word members = slice_get members (word % 2 ^ 32 % length members)
+chosen word members = slice_get members (chosen_number word (length members))
 
 -- one of each queue group is chosen: each queue name that a member has exactly once, and who is chosen is a member
 pub record IsOneOfEach (members choices : List Member) : Type 0 where

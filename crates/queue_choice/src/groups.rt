@@ -1,4 +1,5 @@
 use crate::choice::Member;
+use crate::number::chosen_number;
 use base::NoMemory;
 use indexmap::IndexSet;
 use std::alloc::Global;
@@ -43,16 +44,15 @@ impl<'a> Group<'a> {
         Ok(())
     }
 
-    /// The member that a word chooses: the word's low 32 bits decide.
+    /// Returns the member that a word chooses.
     pub fn choose(&self, word: u64) -> Member<'a>
         ensures { Some result ≡ chosen word self.now }
     {
-        let count = self.younger.len() as u64 + 1;
-        let number = word % 0x1_0000_0000 % count;
+        let number = chosen_number(word, self.younger.len() + 1);
         if number == 0 {
             self.oldest
         } else {
-            self.younger[number as usize - 1]
+            self.younger[number - 1]
         }
     }
 }

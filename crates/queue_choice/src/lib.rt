@@ -3,5 +3,7 @@
 
 mod choice;
 mod groups;
+mod number;
 
 pub use choice::{Choice, Member, choose};
+pub use number::chosen_number;

@@ -8,7 +8,7 @@ ghost use Rattle.world_groups.specs.Chosen.{Rising, named, named_member, is_queu
 
 use base::NoMemory;
 use indexmap::IndexSet;
-use queue_choice::{Choice, Member, choose};
+use queue_choice::{Choice, Member, choose, chosen_number};
 use std::alloc::Global;
 use std::hash::RandomState;
 use subjects::Subject;
@@ -81,12 +81,12 @@ fn member_at(all: &[&SharedSubscription], number: usize) -> Option<u64>
 fn member_for(all: &[&SharedSubscription], word: u64) -> Option<u64>
     ensures { result ≡ option_map (λ s. s.id) (chosen word (filter is_queued (map (λ s. s.now) all.now))) }
 {
-    let count = count_members(all) as u64;
+    let count = count_members(all);
     if count == 0 {
         return None;
     }
-    let number = word % 0x1_0000_0000 % count;
-    member_at(all, number as usize)
+    let number = chosen_number(word, count);
+    member_at(all, number)
 }
 
 /// Whether a subscription is plain, or the one that is chosen.

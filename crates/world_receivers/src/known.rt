@@ -9,6 +9,7 @@ ghost use Rattle.world_receivers.specs.Receivers.{addressed_at};
 use crate::receiver::{Receiver, address_each, receivers_of};
 use base::NoMemory;
 use events::{Addressed, Message};
+use queue_choice::chosen_number;
 use std::alloc::Global;
 use world_groups::{Grouping, grouping_of};
 use world_subscriptions::SharedSubscription;
@@ -33,12 +34,11 @@ fn address_chosen(
 ) -> Result<(), NoMemory>
     ensures { OnOk result (all.new.items ≡ all.old.items ++ map (addressed_at message.now) (if_any (chosen word receivers.now))) }
 {
-    let count = receivers.len() as u64;
+    let count = receivers.len();
     if count == 0 {
         return Ok(());
     }
-    let number = word % 0x1_0000_0000 % count;
-    match receivers.get(number as usize) {
+    match receivers.get(chosen_number(word, count)) {
         None => Ok(()),
         Some(receiver) => {
             all.push(receiver.address(message)?)?;
