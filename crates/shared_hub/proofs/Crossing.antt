@@ -28,8 +28,7 @@ use Rattle.hub.specs.contracts.hub.Hub.TheInside as hub_in
 use Rattle.hub.specs.contracts.hub.Hub as hub
 use Rattle.policy_ready.proofs.ready.Ready.TheSendSync as ready
 use Rattle.world_sessions.proofs.sessions.Sessions.TheSendSync as sessions
-use Rattle.events.proofs.answer.Addressed.TheSendSync as addressed
-use Rattle.world_receivers.proofs.known.Known.TheSendSync as known
+use Rattle.world_receivers.proofs.receivers.Receivers.TheSendSync as receivers
 use Rattle.events.proofs.answer.Entry.TheSendSync as entry
 use Rattle.base.proofs.shared.Shared.TheSendSync as shared
 use Rattle.world.proofs.plain.PlainWorld.TheSendSync as plain
@@ -47,7 +46,7 @@ use Rattle.world_ids.specs.contracts.trees.Trees as trees
 use Rattle.world_subscriptions.specs.contracts.table.Table as table
 use Rattle.world_subscriptions.specs.contracts.subscriptions.Subscriptions as subs
 use Rattle.world_ids.proofs.sids.Sids.TheSendSync as sids
-use Rattle.world_ids.proofs.memos.Memos.TheSendSync as memos
+use Rattle.world_ids.proofs.id_cache.IdCache.TheSendSync as id_cache
 use Rattle.world_rows.proofs.rows.Rows.TheSendSync as rows
 
 node_send : IsSend (node.the_field).row
@@ -63,7 +62,7 @@ fold_send : IsSend (by_default.the_row fold.the_row)
 fold_send = search (sendable, crosses) depth 12
 
 trees_send : IsSend (trees.the_field).row
-trees_send = struct_send (shape trees.the_type) (global.the_field_send, (state.the_field_send, (hash_map.the_send (vec_row.the_row u8 heap_row.the_row ghosts) tree.the_row (by_default.the_row fold.the_row) heap_row.the_row fold.the_row _ _ _ _ ghosts u8s_send tree_send fold_send global.the_send frees, (memos.the_field_send, tt))))
+trees_send = struct_send (shape trees.the_type) (global.the_field_send, (state.the_field_send, (hash_map.the_send (vec_row.the_row u8 heap_row.the_row ghosts) tree.the_row (by_default.the_row fold.the_row) heap_row.the_row fold.the_row _ _ _ _ ghosts u8s_send tree_send fold_send global.the_send frees, (id_cache.the_field_send, tt))))
 
 tables_send : IsSend (trees.the_field).row → IsSend table_in.the_row
 tables_send t = recorded_send _ _ _ (table_in.the_type).to_one (struct_send (shape table_in.the_type)
@@ -80,7 +79,7 @@ subs_out_send t = search (sendable, t) depth 6
 
 world_send : IsSend subs.the_row → IsSend world_in.the_row
 world_send t = recorded_send _ _ _ (world_in.the_type).to_one (struct_send (shape world_in.the_type)
-    (global.the_field_send, (state.the_field_send, (ready.the_send, (search sendable, (search sendable, (search sendable, (search sendable, (sessions.the_send, (t, (search (sendable, crosses, addressed.the_send) depth 12, (known.the_field_send, (search (sendable, crosses) depth 12, tt)))))))))))))
+    (global.the_field_send, (state.the_field_send, (ready.the_send, (search sendable, (search sendable, (search sendable, (search sendable, (sessions.the_send, (t, (receivers.the_field_send, tt)))))))))))
 
 world_out_send : IsSend world_in.the_row → IsSend world.the_row
 world_out_send t = search (sendable, t) depth 6

@@ -1,6 +1,6 @@
 //! What was decided is done.
 ghost use Rattle.std.specs.Prelude.{◌≡◌, ◌≤◌, ◌⊎◌, None, map};
-ghost use Rattle.world_receivers.specs.Known.{Holds};
+ghost use Rattle.world_receivers.specs.Cached.{IsCurrent};
 ghost use Rattle.world_deliveries.specs.Delivered.{delivered};
 ghost use Rattle.world_subscriptions.specs.Limit.{unended, counted};
 ghost use Rattle.world.specs.Changes.{AreAddressed, handed_over, items_in};
@@ -12,7 +12,7 @@ use base::NoMemory;
 use events::{Addressed, Item, Outcome};
 use policy_ready::{Ready, User};
 use std::collections::VecDeque;
-use world_receivers::Known;
+use world_receivers::Receivers;
 use world_sessions::Sessions;
 use world_subscriptions::Subscriptions;
 
@@ -39,15 +39,15 @@ impl World {
         match change {
             Change::Nothing => Ok(()),
             Change::Open(session) => {
-                self.known.forget();
+                self.receivers.clear_cache();
                 self.sessions.push(session.into_inner())
             }
             Change::Stand(wanted) => {
-                self.known.forget();
+                self.receivers.clear_cache();
                 self.subscriptions.add(self.number + 1, wanted.into_inner())
             }
             Change::Limit { conn, sid, most } => {
-                self.known.forget();
+                self.receivers.clear_cache();
                 self.subscriptions.limit(conn, &sid, most);
                 Ok(())
             }
@@ -56,13 +56,13 @@ impl World {
                 deliver(
                     &mut self.sessions,
                     &mut self.subscriptions,
-                    &mut self.known,
+                    &mut self.receivers,
                     &mut all,
                     self.moment,
                     answered,
                     items_in(told),
                 );
-                self.deliveries = Some(all);
+                self.receivers.keep_memory(all);
                 Ok(())
             }
             Change::Drain { conn, most } => {
@@ -84,7 +84,7 @@ impl World {
     fn leave(&mut self, conn: u64)
         ensures { (told : Outcome) → self.new ≡ done self.old (change.Leave conn) told }
     {
-        self.known.forget();
+        self.receivers.clear_cache();
         self.sessions.remove(conn);
         self.subscriptions.remove(conn);
     }
@@ -96,8 +96,8 @@ impl World {
         requires epoch { self.old.epoch < 340282366920938463463374607431768211455 }
         ensures { (told : Outcome) → self.new ≡ done self.old (change.Install ready users lost) told }
     {
-        // What was known goes with the policy under which it was so.
-        self.known = Known::new(self.alloc);
+        // What is cached goes with the policy under which it was so.
+        self.receivers = Receivers::new(self.alloc, self.keys);
         remove_lost(&mut self.subscriptions, lost.as_slice());
         self.sessions.renew(&ready, users, self.moment);
         self.ready = ready;
@@ -105,22 +105,22 @@ impl World {
     }
 }
 
-/// Nothing is known any more of whom messages are for, where fewer subscriptions are left than stood before.
-fn forget_if_fewer(known: &mut Known, standing: usize, left: usize)
-    ensures { (known.new.whom ≡ None) ⊎ ((known.new ≡ known.old) × (standing ≤ left)) }
+/// Clears the cache of receivers where fewer subscriptions are left than there were before.
+fn clear_if_fewer(receivers: &mut Receivers, before: usize, left: usize)
+    ensures { (receivers.new.cache.whom ≡ None) ⊎ ((receivers.new.cache ≡ receivers.old.cache) × (before ≤ left)) }
 {
-    if left < standing {
-        known.forget();
+    if left < before {
+        receivers.clear_cache();
     }
 }
 
-/// Counts the deliveries of a message that have entered, as the items tell, and hands them over. Where a subscription has
-/// ended by it, it is found out anew whom the publisher's next message is for.
+/// Counts the deliveries of a message that have entered, as the items tell, and hands them over. Where a subscription ends
+/// by it, whom the publisher's next message is for is found anew.
 #[inline(always)]
 fn deliver(
     sessions: &mut Sessions,
     subscriptions: &mut Subscriptions,
-    known: &mut Known,
+    receivers: &mut Receivers,
     all: &mut Vec<Addressed>,
     now: u64,
     answered: Option<Answered>,
@@ -128,16 +128,16 @@ fn deliver(
 )
     requires met { items.now ≡ (delivered now all.old.items sessions.old).1 }
     requires addressed { AreAddressed sessions.old all.old.items subscriptions.old }
-    requires known { Holds sessions.old subscriptions.old known.old }
+    requires cached { IsCurrent sessions.old subscriptions.old receivers.old.cache }
     ensures sessions { sessions.new ≡ handed_over now answered all.old.items sessions.old }
     ensures subscriptions { subscriptions.new ≡ unended (map (counted items.now) subscriptions.old) }
-    ensures known { Holds sessions.new subscriptions.new known.new }
+    ensures cached { IsCurrent sessions.new subscriptions.new receivers.new.cache }
 {
-    let standing = subscriptions.len();
+    let before = subscriptions.len();
     subscriptions.known();
     subscriptions.count(all.as_slice(), items);
     hand_over(sessions, all, now, answered);
-    forget_if_fewer(known, standing, subscriptions.len());
+    clear_if_fewer(receivers, before, subscriptions.len());
 }
 
 /// Hands deliveries over in turn, of a message that may be an answer: that is counted before, and its grant goes after

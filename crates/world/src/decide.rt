@@ -12,7 +12,6 @@ use permissions::{By, Verdict};
 use policy_ready::Ready;
 use std::alloc::Global;
 use subjects::{Pattern, Subject};
-use world_receivers::address_all;
 use world_sessions::Session;
 use world_subscriptions::NewSubscription;
 
@@ -36,14 +35,6 @@ fn refused(verdict: Verdict) -> Decided
     ensures change { result.change ≡ change.Nothing }
 {
     unchanged(Outcome::Denied(verdict))
-}
-
-/// Room for deliveries, which is put back once they are handed over.
-fn room_in(alloc: Global, kept: &mut Option<Vec<Addressed>>) -> Vec<Addressed> {
-    match kept.take() {
-        Some(room) => room,
-        None => Vec::new(alloc),
-    }
 }
 
 /// A subscription is to stand: what it holds has one more owner.
@@ -237,24 +228,18 @@ impl World {
         ensures reason { IfOk result (λ d. IsReasoned self.old (command.Pub conn message.now word) d.outcome) }
         ensures same { self.new ≡ self.old }
     {
-        let room = room_in(self.alloc, &mut self.deliveries);
         let (by, answered, mut all) = match self.sessions.find(conn) {
             None => return Err(HubRefusal::NoSession),
             Some(session) => match on_publish(session, &message.subject(), self.moment) {
                 Verdict::Allowed(by) => (
                     by,
                     answered_by(by, session.conn, message)?,
-                    address_all(
-                        self.alloc,
-                        self.keys,
+                    self.receivers.address(
                         &self.sessions,
                         &mut self.subscriptions,
                         session,
                         message,
                         word,
-                        &mut self.known,
-                        &mut self.ids,
-                        room,
                     )?,
                 ),
                 Verdict::DeniedBy(index) => return Ok(refused(Verdict::DeniedBy(index))),
@@ -264,7 +249,7 @@ impl World {
         };
         if is_for_nobody(all.as_slice(), &answered) {
             self.subscriptions.known();
-            self.deliveries = Some(all);
+            self.receivers.keep_memory(all);
             let nobody = Met::from_vec(Vec::new(self.alloc));
             return Ok(unchanged(Outcome::Published(by, nobody)));
         }

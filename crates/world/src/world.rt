@@ -4,13 +4,13 @@ use crate::change::{Change, Decided};
 use crate::decide::SESSIONS;
 use crate::standing::{Standing, standing_all};
 use base::{Copying, Items, NoMemory, Shared};
-use events::{Addressed, Answer, Command, Entry, Event, HubRefusal, Outcome, PublishRefusal};
+use events::{Answer, Command, Entry, Event, HubRefusal, Outcome, PublishRefusal};
 use policy_ready::Ready;
 use std::alloc::Global;
 use std::hash::RandomState;
 use std::marker::Model;
 use world_leniency::{Lenient, LenientToAll, note_held};
-use world_receivers::Known;
+use world_receivers::Receivers;
 use world_sessions::Sessions;
 use world_subscriptions::Subscriptions;
 
@@ -27,17 +27,12 @@ pub struct World {
     pub(crate) number: u64,
     pub(crate) sessions: Sessions,
     pub(crate) subscriptions: Subscriptions,
-    // Room for the deliveries of a message, which each step takes and puts back.
-    pub(crate) deliveries: Option<Vec<Addressed>>,
-    // Whom the last publisher's messages are for, if that was found.
-    pub(crate) known: Known,
-    // Room for the ids that a message finds, which each step uses again.
-    pub(crate) ids: Vec<u64>,
+    pub(crate) receivers: Receivers,
 }
 
 impl Model for World {
     ghost use Rattle.std.specs.Prelude.{◌≤◌};
-    ghost use Rattle.world_receivers.specs.Known.{Holds};
+    ghost use Rattle.world_receivers.specs.Cached.{IsCurrent};
     ghost use Rattle.world.specs.World as worlds;
 
     ghost Value = { worlds.World };
@@ -52,7 +47,7 @@ impl Model for World {
       number = w.number;
     } };
 
-    ghost invariant = { λ w. (1 ≤ w.capacity) × Holds w.sessions w.subscriptions w.known };
+    ghost invariant = { λ w. (1 ≤ w.capacity) × IsCurrent w.sessions w.subscriptions w.receivers.cache };
 }
 
 impl World {
@@ -92,9 +87,7 @@ impl World {
             number: 0,
             sessions: Sessions::new(alloc),
             subscriptions: Subscriptions::new(alloc, keys),
-            deliveries: None,
-            known: Known::new(alloc),
-            ids: Vec::new(alloc),
+            receivers: Receivers::new(alloc, keys),
         })
     }
 

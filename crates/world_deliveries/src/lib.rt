@@ -5,5 +5,5 @@ mod noting;
 mod plan;
 mod session;
 
-pub use plan::{place_in, plan_all, plan_one};
+pub use plan::{ByConnection, place_in, plan_all, plan_one};
 pub use session::Session;

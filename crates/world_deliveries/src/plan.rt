@@ -16,15 +16,22 @@ use std::hash::RandomState;
 use subjects::SubjectRef;
 use world_connections::Connections;
 
+/// The sessions in order, and their connections in the same order, by which the place of each is found.
+#[derive(Clone, Copy)]
+pub struct ByConnection<'a> {
+    pub conns: &'a Connections,
+    pub list: &'a [Session],
+}
+
 /// The place of the session of a connection: mostly that of the hint.
 #[inline(always)]
-pub fn place_in(conns: &Connections, list: &[Session], conn: u64) -> Option<usize>
-    requires { conns.now ≡ map connection_of list.now }
-    ensures { result ≡ position (λ (z : Session). z.conn == conn) list.now }
+pub fn place_in(by: ByConnection<'_>, conn: u64) -> Option<usize>
+    requires { by.conns.now ≡ map connection_of by.list.now }
+    ensures { result ≡ position (λ (z : Session). z.conn == conn) by.entry.list.now }
 {
-    conns.known();
-    let hint = conns.hint(conn);
-    match list.get(hint) {
+    by.conns.known();
+    let hint = by.conns.hint(conn);
+    match by.list.get(hint) {
         None => {}
         Some(session) => {
             if session.conn == conn {
@@ -32,7 +39,7 @@ pub fn place_in(conns: &Connections, list: &[Session], conn: u64) -> Option<usiz
             }
         }
     }
-    let place = conns.find(conn);
+    let place = by.conns.find(conn);
     place
 }
 
@@ -91,20 +98,19 @@ pub fn plan_one(
 
 /// Notes how much room a connection has, and gives its session.
 fn note_room<'a>(
-    conns: &Connections,
-    list: &'a [Session],
+    by: ByConnection<'a>,
     rooms: &mut [usize],
     conn: u64,
 ) -> Option<&'a Session>
-    requires keys { conns.now ≡ map connection_of list.now }
-    requires within { length list.now ≤ length rooms.old }
-    ensures session { option_copied result ≡ session_of list.now conn }
-    ensures room { (other : ℕ) → room_at list.now rooms.new other ≡ with_room conn (room_in (session_of list.now conn)) (room_at list.now rooms.old) other }
+    requires keys { by.conns.now ≡ map connection_of by.list.now }
+    requires within { length by.list.now ≤ length rooms.old }
+    ensures session { option_copied result ≡ session_of by.entry.list.now conn }
+    ensures room { (other : ℕ) → room_at by.entry.list.now rooms.new other ≡ with_room conn (room_in (session_of by.entry.list.now conn)) (room_at by.entry.list.now rooms.old) other }
 {
-    match place_in(conns, list, conn) {
+    match place_in(by, conn) {
         None => None,
         Some(place) => {
-            let session = &list[place];
+            let session = &by.list[place];
             let room = session.outbox.room();
             rooms[place] = room;
             Some(session)
@@ -113,13 +119,13 @@ fn note_room<'a>(
 }
 
 /// Takes one from the room of a connection, and answers whether there was any.
-fn take_room(conns: &Connections, list: &[Session], rooms: &mut [usize], conn: u64) -> bool
-    requires keys { conns.now ≡ map connection_of list.now }
-    requires within { length list.now ≤ length rooms.old }
-    ensures had { result ≡ nat_lt 0 (room_at list.now rooms.old conn) }
-    ensures after { (other : ℕ) → room_at list.now rooms.new other ≡ with_room conn (room_at list.now rooms.old conn - 1) (room_at list.now rooms.old) other }
+fn take_room(by: ByConnection<'_>, rooms: &mut [usize], conn: u64) -> bool
+    requires keys { by.conns.now ≡ map connection_of by.list.now }
+    requires within { length by.list.now ≤ length rooms.old }
+    ensures had { result ≡ nat_lt 0 (room_at by.entry.list.now rooms.old conn) }
+    ensures after { (other : ℕ) → room_at by.entry.list.now rooms.new other ≡ with_room conn (room_at by.entry.list.now rooms.old conn - 1) (room_at by.entry.list.now rooms.old) other }
 {
-    match place_in(conns, list, conn) {
+    match place_in(by, conn) {
         None => false,
         Some(place) => {
             let room = rooms[place];
@@ -134,20 +140,19 @@ fn take_room(conns: &Connections, list: &[Session], rooms: &mut [usize], conn: u
 fn note_rooms(
     alloc: Global,
     keys: RandomState,
-    conns: &Connections,
-    list: &[Session],
+    by: ByConnection<'_>,
     rooms: &mut [usize],
     all: &mut [Addressed],
     reply: Option<&SubjectRef<'_>>,
 ) -> Result<(), NoMemory>
-    requires keys { conns.now ≡ map connection_of list.now }
-    requires within { length list.now ≤ length rooms.old }
+    requires keys { by.conns.now ≡ map connection_of by.list.now }
+    requires within { length by.list.now ≤ length rooms.old }
     ensures rooms { OnOk result ((k : ℕ) (d : Addressed) → k < length all.old →
-        room_at list.now rooms.new (slice_index_or all.old k d).conn ≡ rooms_of list.now (slice_index_or all.old k d).conn) }
-    ensures noted { OnOk result (all.new ≡ map (with_note list.now (option_copied reply.entry)) all.old) }
+        room_at by.entry.list.now rooms.new (slice_index_or all.old k d).conn ≡ rooms_of by.entry.list.now (slice_index_or all.old k d).conn) }
+    ensures noted { OnOk result (all.new ≡ map (with_note by.entry.list.now (option_copied reply.entry)) all.old) }
 {
     for next in all.iter_mut() {
-        let session = note_room(conns, list, rooms, next.conn);
+        let session = note_room(by, rooms, next.conn);
         put_note(alloc, keys, reply, session, next)?;
     }
     Ok(())
@@ -169,18 +174,17 @@ fn item(next: &Addressed, has_room: bool) -> Result<Item, NoMemory>
 /// What each delivery meets, where the rooms are noted.
 fn plan_each(
     alloc: Global,
-    conns: &Connections,
-    list: &[Session],
+    by: ByConnection<'_>,
     rooms: &mut [usize],
     all: &[Addressed],
 ) -> Result<Vec<Item>, NoMemory>
-    requires keys { conns.now ≡ map connection_of list.now }
-    requires within { length list.now ≤ length rooms.old }
-    ensures { IfOk result (λ items. items.items ≡ planned all.now (room_at list.now rooms.old)) }
+    requires keys { by.conns.now ≡ map connection_of by.list.now }
+    requires within { length by.list.now ≤ length rooms.old }
+    ensures { IfOk result (λ items. items.items ≡ planned all.now (room_at by.entry.list.now rooms.old)) }
 {
     let mut items = Vec::with_capacity(alloc, all.len())?;
     for next in all {
-        let has_room = take_room(conns, list, rooms, next.conn);
+        let has_room = take_room(by, rooms, next.conn);
         items.push(item(next, has_room)?)?;
     }
     Ok(items)
@@ -188,27 +192,27 @@ fn plan_each(
 
 /// Whether nothing is put down beside a delivery, and its session has room for it after so many others.
 #[inline(always)]
-fn has_room_after(conns: &Connections, list: &[Session], next: &Addressed, before: usize) -> bool
-    requires { conns.now ≡ map connection_of list.now }
-    ensures { IsTrue result → IsRoomy before next.now (rooms_of list.now) }
+fn has_room_after(by: ByConnection<'_>, next: &Addressed, before: usize) -> bool
+    requires { by.conns.now ≡ map connection_of by.list.now }
+    ensures { IsTrue result → IsRoomy before next.now (rooms_of by.entry.list.now) }
 {
     if next.noted.is_some() {
         return false;
     }
-    match place_in(conns, list, next.conn) {
+    match place_in(by, next.conn) {
         None => false,
-        Some(place) => before < list[place].outbox.room(),
+        Some(place) => before < by.list[place].outbox.room(),
     }
 }
 
 /// Whether nothing is put down beside any delivery, and each has room even where all those before it are for the same
 /// session.
-fn have_room(conns: &Connections, list: &[Session], all: &[Addressed]) -> bool
-    requires { conns.now ≡ map connection_of list.now }
-    ensures { IsTrue result → AreRoomy all.now (rooms_of list.now) }
+fn have_room(by: ByConnection<'_>, all: &[Addressed]) -> bool
+    requires { by.conns.now ≡ map connection_of by.list.now }
+    ensures { IsTrue result → AreRoomy all.now (rooms_of by.entry.list.now) }
 {
     for (before, next) in all.iter().enumerate() {
-        if !has_room_after(conns, list, next, before) {
+        if !has_room_after(by, next, before) {
             return false;
         }
     }
@@ -232,19 +236,18 @@ fn enter_all(alloc: Global, all: &[Addressed]) -> Result<Vec<Item>, NoMemory>
 fn plan_by_rooms(
     alloc: Global,
     keys: RandomState,
-    conns: &Connections,
-    list: &[Session],
+    by: ByConnection<'_>,
     rooms: &mut [usize],
     all: &mut [Addressed],
     reply: Option<&SubjectRef<'_>>,
 ) -> Result<Vec<Item>, NoMemory>
-    requires keys { conns.now ≡ map connection_of list.now }
-    requires within { length list.now ≤ length rooms.old }
-    ensures items { IfOk result (λ items. (now : ℕ) → items.items ≡ (delivered now all.new list.now).1) }
-    ensures noted { OnOk result (all.new ≡ map (with_note list.now (option_copied reply.entry)) all.old) }
+    requires keys { by.conns.now ≡ map connection_of by.list.now }
+    requires within { length by.list.now ≤ length rooms.old }
+    ensures items { IfOk result (λ items. (now : ℕ) → items.items ≡ (delivered now all.new by.entry.list.now).1) }
+    ensures noted { OnOk result (all.new ≡ map (with_note by.entry.list.now (option_copied reply.entry)) all.old) }
 {
-    note_rooms(alloc, keys, conns, list, rooms, all, reply)?;
-    let items = plan_each(alloc, conns, list, rooms, all)?;
+    note_rooms(alloc, keys, by, rooms, all, reply)?;
+    let items = plan_each(alloc, by, rooms, all)?;
     Ok(items)
 }
 
@@ -254,24 +257,23 @@ fn plan_by_rooms(
 pub fn plan_all(
     alloc: Global,
     keys: RandomState,
-    conns: &Connections,
-    list: &[Session],
+    by: ByConnection<'_>,
     rooms: &mut [usize],
     all: &mut [Addressed],
     reply: Option<&SubjectRef<'_>>,
 ) -> Result<Vec<Item>, NoMemory>
-    requires keys { conns.now ≡ map connection_of list.now }
-    requires within { length list.now ≤ length rooms.old }
-    ensures items { IfOk result (λ items. (now : ℕ) → items.items ≡ (delivered now all.new list.now).1) }
-    ensures noted { OnOk result (all.new ≡ map (with_note list.now (option_copied reply.entry)) all.old) }
+    requires keys { by.conns.now ≡ map connection_of by.list.now }
+    requires within { length by.list.now ≤ length rooms.old }
+    ensures items { IfOk result (λ items. (now : ℕ) → items.items ≡ (delivered now all.new by.entry.list.now).1) }
+    ensures noted { OnOk result (all.new ≡ map (with_note by.entry.list.now (option_copied reply.entry)) all.old) }
 {
     match reply {
-        None if have_room(conns, list, all) => {
+        None if have_room(by, all) => {
             let items = enter_all(alloc, all)?;
             Ok(items)
         }
         _ => {
-            let items = plan_by_rooms(alloc, keys, conns, list, rooms, all, reply)?;
+            let items = plan_by_rooms(alloc, keys, by, rooms, all, reply)?;
             Ok(items)
         }
     }

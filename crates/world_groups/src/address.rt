@@ -53,8 +53,8 @@ fn passing<'a, K: Keeps>(
     Ok(found)
 }
 
-/// Those of an account that have a subject and pass a test, oldest first. Their ids are found in `ids`, whose room is used
-/// again. `NoMemory` where memory could not be had.
+/// Those of an account that have a subject and pass a test, oldest first. Their ids are found in `ids`, whose
+/// memory is used again. `NoMemory` where memory could not be had.
 pub fn passing_of<'a, K: Keeps>(
     alloc: Global,
     subscriptions: &'a Subscriptions,
@@ -122,32 +122,43 @@ fn address_all_plain<K: Keeps>(
     Ok(true)
 }
 
-/// Addresses a message to those of an account that have its subject, pass a test and are served, oldest first, and puts
+/// A message that is to be addressed.
+#[derive(Clone, Copy, Debug)]
+pub struct Routed<'a> {
+    /// The name of the account in which it was published.
+    pub account: &'a [u8],
+    /// The message.
+    pub message: &'a Message,
+    /// What chooses a member of each queue group.
+    pub word: u64,
+}
+
+/// Addresses a message to those of its account that have its subject, pass a test and are served, oldest first, and puts
 /// these deliveries in the place of what was in `all`: to the plain ones, and to the member of each queue group that the
-/// word chooses. The ids are found in `ids`, whose room is used again. `NoMemory` where memory could not be had.
+/// word chooses. The ids are found in `ids`, whose memory is used again. Queue names are hashed under these keys.
+/// `NoMemory` where memory could not be had.
 pub fn address_served<K: Keeps>(
-    alloc: Global,
     keys: RandomState,
     subscriptions: &Subscriptions,
-    account: &[u8],
-    message: &Message,
-    word: u64,
+    routed: Routed<'_>,
     test: &K,
     ids: &mut Vec<u64>,
     all: &mut Vec<Addressed>,
 ) -> Result<(), NoMemory>
-    ensures { OnOk result (all.new.items ≡ map (addressed_to message.now)
-        (served word (filter (K.keeps test.now) (having account.now message.now.subject subscriptions.now)))) }
+    ensures { OnOk result (all.new.items ≡ map (addressed_to routed.entry.message.now)
+        (served routed.entry.word (filter (K.keeps test.now) (having routed.entry.account.now routed.entry.message.now.subject subscriptions.now)))) }
 {
+    let message = routed.message;
     subscriptions.known();
-    subscriptions.having(account, &message.subject(), ids)?;
+    subscriptions.having(routed.account, &message.subject(), ids)?;
     all.clear();
     if address_all_plain(subscriptions, ids.as_slice(), test, message, all)? {
         return Ok(());
     }
     all.clear();
+    let alloc = *all.allocator();
     let mut found = passing(alloc, subscriptions, ids.as_slice(), test)?;
-    keep_chosen(alloc, keys, &mut found, word)?;
+    keep_chosen(alloc, keys, &mut found, routed.word)?;
     address_each(message, found.as_slice(), all)?;
     Ok(())
 }

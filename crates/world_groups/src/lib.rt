@@ -6,5 +6,5 @@ mod address;
 mod grouping;
 mod groups;
 
-pub use address::{address_served, passing_of};
+pub use address::{Routed, address_served, passing_of};
 pub use grouping::{Grouping, grouping_of};

@@ -11,7 +11,7 @@ use Rattle.subjects.specs.Subject.{Token, same_token}
 use Rattle.sublist.specs.declared.tree.Sublist.{Sublist}
 use Rattle.sublist.specs.Tree.{same_path}
 use Rattle.sublist.specs.Pairs as pairs
-use Rattle.world_ids.specs.Held.{in_tree}
+use Rattle.world_ids.specs.Entries.{in_tree}
 
 abbrev pub Entries : Type 0
 Entries = List (Vec ℕ Global × Sublist)

@@ -1,5 +1,5 @@
-pub mod Held
-pub mod Memo
+pub mod CachedIds
+pub mod Entries
 pub mod Sids
 pub mod Told
 pub mod Trees

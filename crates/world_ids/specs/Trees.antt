@@ -3,12 +3,12 @@ use Rattle.std.specs.Prelude.{◌≡◌, ◌==◌, ◌&&◌, ◌||◌, not, ℕ,
 use Rattle.subjects.specs.Subject.{Token, same_token}
 use Rattle.sublist.specs.Tree.{same_path}
 use Rattle.sublist.specs.Pairs as pairs
-use Rattle.world_ids.specs.Held as held
+use Rattle.world_ids.specs.Entries as entries
 use Rattle.world_ids.specs.declared.trees.Trees.{Trees}
 
 -- whether the account's tree has the pair of this pattern and this id
 abbrev pub holds : Trees → List ℕ → List Token → ℕ → Bool
-holds trees account p id = held.held trees.by_account.entries account p id
+holds trees account p id = entries.has_pair trees.by_account.entries account p id
 
 -- they hold nothing
 abbrev pub IsEmpty : Trees → Type 0
@@ -28,4 +28,4 @@ IsWithout old account p id new = (a : List ℕ) (q : List Token) (i : ℕ) → h
 
 -- what they hold of an account are the pairs of the list, whose ids rise
 abbrev pub IsIndexOf : pairs.Pairs → List ℕ → Trees → Type 0
-IsIndexOf listing account trees = held.IsIndexOf listing account trees.by_account.entries
+IsIndexOf listing account trees = entries.IsIndexOf listing account trees.by_account.entries

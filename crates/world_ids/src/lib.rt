@@ -1,8 +1,8 @@
 //! The ids of subscriptions, found by their account and a subject, and by their connection and sid.
 #![tactic(auto)]
 
-mod memo;
-mod memos;
+mod cached_ids;
+mod id_cache;
 mod sids;
 mod trees;
 

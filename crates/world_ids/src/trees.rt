@@ -3,10 +3,10 @@ ghost use Rattle.std.specs.Prelude.{◌≡◌, ◌==◌, ◌&&◌, ℕ, List, If
 ghost use Rattle.subjects.specs.Subject.{Token};
 ghost use Rattle.sublist.specs.Tree.{same_path};
 ghost use Rattle.sublist.specs.Pairs as pairs;
-ghost use Rattle.world_ids.specs.Held.{IsTold};
+ghost use Rattle.world_ids.specs.Entries.{IsTold};
 ghost use Rattle.world_ids.specs.Told.{AreTold};
 
-use crate::memos::Memos;
+use crate::id_cache::IdCache;
 use base::NoMemory;
 use std::alloc::Global;
 use std::collections::HashMap;
@@ -22,8 +22,8 @@ pub struct Trees {
     // Accounts stand in the policy and no client makes one, so their names need no hidden keys.
     by_account: HashMap<Vec<u8>, Sublist>,
     // What was found in the trees as they are.
-    memos: Memos,
-    ghost told: { AreTold memos by_account.entries },
+    cache: IdCache,
+    ghost told: { AreTold cache by_account.entries },
 }
 
 impl Drop for Trees {
@@ -32,7 +32,7 @@ impl Drop for Trees {
             alloc: _,
             keys: _,
             by_account: _,
-            memos: _,
+            cache: _,
         } = self;
     }
 }
@@ -50,7 +50,7 @@ impl Trees {
             alloc,
             keys,
             by_account: HashMap::new(alloc),
-            memos: Memos::new(alloc),
+            cache: IdCache::new(alloc),
         }
     }
 
@@ -59,7 +59,7 @@ impl Trees {
         ensures ok { OnOk result (IsWith self.old account.now pattern.now id self.new) }
         ensures err { OnErr result (IsSame self.old self.new) }
     {
-        self.memos.forget();
+        self.cache.clear();
         match self.by_account.get_mut(account) {
             Some(tree) => match add(tree, pattern, id) {
                 Ok(()) => Ok(()),
@@ -80,24 +80,24 @@ impl Trees {
     pub fn remove(&mut self, account: &[u8], pattern: &Pattern, id: u64)
         ensures { IsWithout self.old account.now pattern.now id self.new }
     {
-        self.memos.forget();
+        self.cache.clear();
         match self.by_account.get_mut(account) {
             None => {}
             Some(tree) => take_out(tree, pattern, id),
         }
     }
 
-    /// Keeps what `matching` answers for a subject in mind, where it was asked for before and memory allows: then the next
+    /// Caches what `matching` answers for a subject, where it was asked for before and memory allows: then the next
     /// `matching` needs no search. The trees hold what they held.
     pub fn remember(&mut self, account: &[u8], subject: &SubjectRef<'_>)
         ensures { IsSame self.old self.new }
     {
         let _ = subject.tokens();
         let text = subject.bytes();
-        if self.memos.turn(account, text) {
+        if self.cache.select(account, text) {
             let mut found = Vec::new(self.alloc);
             match search(&self.by_account, account, subject, &mut found) {
-                Ok(()) => self.memos.put(account, text, found),
+                Ok(()) => self.cache.put(account, text, found),
                 Err(_) => {}
             }
         }
@@ -114,7 +114,7 @@ impl Trees {
         ensures { OnOk result ((listing : Pairs) → IsIndexOf listing account.now self.now → found.new.items ≡ matching_ids listing subject.now) }
     {
         let _ = subject.tokens();
-        match self.memos.find(account, subject.bytes()) {
+        match self.cache.find(account, subject.bytes()) {
             None => search(&self.by_account, account, subject, found),
             Some(ids) => {
                 found.clear();

@@ -1,4 +1,4 @@
--- What is known stays so while messages are delivered, counted and taken: who may be sent a message, and whom it is for,
+-- What is cached stays current while messages are delivered, counted and taken: who may be sent a message, and whom it is for,
 -- goes neither by what waits for a session nor by what a subscription has received.
 use Rattle.std.proofs.Common.{◌≡◌, ◌∙◌, ◌==◌, ◌&&◌, ◌||◌, ◌%◌, ◌^◌, ◌≤◌, ℕ, Bool, true, false, cond, not, List, [], ◌∷◌, length, nat_lt, Option, Some, None, map, filter, ap, sym, refl, subst, inl, inr, arith}
 use Rattle.std.specs.Option.{option_map}
@@ -21,10 +21,10 @@ use Rattle.world_subscriptions.specs.Limit.{unended, counted, has_entered, has_e
 use Rattle.world_rows.specs.declared.subscription.Subscription.{Subscription}
 use Rattle.world_receivers.specs.Open.{lets_through, may_hear, is_open, open_among}
 use Rattle.world_receivers.specs.Receivers.{receiver_of}
-use Rattle.world_receivers.specs.Known.{picked, IsKnown, IsWhom, IsWhomFor, Holds}
+use Rattle.world_receivers.specs.Cached.{picked, Says, IsWhom, IsWhomFor, IsCurrent}
 use Rattle.world_receivers.specs.declared.receiver.Receiver.{Receiver}
-use Rattle.world_receivers.specs.declared.known.Known.{Known}
-use Rattle.world_receivers.specs.declared.known.Whom.{Whom}
+use Rattle.world_receivers.specs.declared.cache.ReceiverCache.{ReceiverCache}
+use Rattle.world_receivers.specs.declared.cache.Whom.{Whom}
 
 -- ---- sessions
 
@@ -120,7 +120,7 @@ module _ (f : Subscription → Subscription) (same : (s : Subscription) → made
   receivers-map (x ∷ xs) = (λ i. receiver_of (same x i) ∷ receivers-map xs i)
 
   whom-map : (whom : Whom) (xs : List Subscription) → IsWhom whom xs → IsWhom whom (map f xs)
-  whom-map whom xs is = λ known word. ap (map receiver_of) (served-map word xs) ∙ receivers-map (served word xs) ∙ is known word
+  whom-map whom xs is = λ says word. ap (map receiver_of) (served-map word xs) ∙ receivers-map (served word xs) ∙ is says word
 
   module _ (zs after : List Session) (seated : AreSeated zs after) (subs : List Subscription) where
     open-map : (z y : Session) → seat y ≡ seat z → (s : List Token) → open_among after (map f subs) y y.user.account s ≡ map f (open_among zs subs z z.user.account s)
@@ -145,11 +145,11 @@ module _ (f : Subscription → Subscription) (same : (s : Subscription) → made
             or_else None d = d
             or_else (Some q) d = q
 
--- ---- what is known
+-- ---- what is cached
 
-pub holds_taken : (known : Known) (zs after : List Session) (subs : List Subscription) → AreSeated zs after → Holds zs subs known → Holds after subs known
-holds_taken known zs after subs seated holds =
-    subst (λ (ss : List Subscription). Holds after ss known) (map-same subs) (whom-stays (λ s. s) (λ s. refl) zs after seated subs known.whom known.conn known.subject.items holds)
+pub current_taken : (cache : ReceiverCache) (zs after : List Session) (subs : List Subscription) → AreSeated zs after → IsCurrent zs subs cache → IsCurrent after subs cache
+current_taken cache zs after subs seated current =
+    subst (λ (ss : List Subscription). IsCurrent after ss cache) (map-same subs) (whom-stays (λ s. s) (λ s. refl) zs after seated subs cache.whom cache.conn cache.subject.items current)
   where
     map-same : (xs : List Subscription) → map (λ s. s) xs ≡ xs
     map-same [] = refl
@@ -163,12 +163,12 @@ counted-made items s = either (has_entered items s && nat_lt s.received 18446744
     either false x y first second = second
 
 -- where none of those that have counted a message has ended
-pub holds_counted : (known : Known) (zs after : List Session) (subs left : List Subscription) (items : List Item) →
-    AreSeated zs after → left ≡ unended (map (counted items) subs) → length subs ≤ length left → Holds zs subs known → Holds after left known
-holds_counted known zs after subs left items seated are as_many holds =
-    subst (λ (ss : List Subscription). Holds after ss known)
+pub current_counted : (cache : ReceiverCache) (zs after : List Session) (subs left : List Subscription) (items : List Item) →
+    AreSeated zs after → left ≡ unended (map (counted items) subs) → length subs ≤ length left → IsCurrent zs subs cache → IsCurrent after left cache
+current_counted cache zs after subs left items seated are as_many current =
+    subst (λ (ss : List Subscription). IsCurrent after ss cache)
     (sym (are ∙ all_stay (λ (s : Subscription). not (has_ended s)) (map (counted items) subs) (omega (arith, as_many, ap length are, length-map subs (counted items)))))
-    (whom-stays (counted items) (counted-made items) zs after seated subs known.whom known.conn known.subject.items holds)
+    (whom-stays (counted items) (counted-made items) zs after seated subs cache.whom cache.conn cache.subject.items current)
   where
     fewer : {X : Type 0} (p : X → Bool) (xs : List X) → length (filter p xs) ≤ length xs
     fewer p [] = omega arith

@@ -1,4 +1,4 @@
--- What is known tells whom a message is for.
+-- What is cached tells whom a message is for.
 use Rattle.std.proofs.Common.{◌≡◌, ◌∙◌, ◌⊎◌, ℕ, List, [], ◌∷◌, Option, Some, None, map, ap, sym, refl, subst, inl, inr}
 use Rattle.subjects.specs.Subject.{Token, tokens_of}
 use Rattle.events.specs.Messages.{Message}
@@ -10,10 +10,10 @@ use Rattle.world_subscriptions.specs.Addressing.{addressed_to}
 use Rattle.world_rows.specs.declared.subscription.Subscription.{Subscription}
 use Rattle.world_receivers.specs.Open.{open_among}
 use Rattle.world_receivers.specs.Receivers.{receiver_of, addressed_at, addressed_among}
-use Rattle.world_receivers.specs.Known.{picked, IsWhom, IsWhomFor, Holds, Tells}
+use Rattle.world_receivers.specs.Cached.{picked, IsWhom, IsWhomFor, IsCurrent, Tells}
 use Rattle.world_receivers.specs.declared.receiver.Receiver.{Receiver}
-use Rattle.world_receivers.specs.declared.known.Known.{Known}
-use Rattle.world_receivers.specs.declared.known.Whom.{Whom}
+use Rattle.world_receivers.specs.declared.cache.ReceiverCache.{ReceiverCache}
+use Rattle.world_receivers.specs.declared.cache.Whom.{Whom}
 
 -- a message on its way to the receiver of a subscription is on its way to that
 addressed_each : (m : Message) (subs : List Subscription) → map (addressed_at m) (map receiver_of subs) ≡ map (addressed_to m) subs
@@ -21,26 +21,26 @@ addressed_each m [] = refl
 addressed_each m (s ∷ subs) = ap (λ (rest : List Addressed). addressed_to m s ∷ rest) (addressed_each m subs)
 
 -- so the deliveries that it tells are those of the message
-pub told_are : (known : Known) (conn : ℕ) (text : List ℕ) (m : Message) (word : ℕ) (all : List Addressed) (zs : List Session) (subs : List Subscription) (z : Session) →
-    Tells known conn text m word all → Holds zs subs known → session_of zs conn ≡ Some z → tokens_of text ≡ m.subject → all ≡ addressed_among zs subs z m word
-told_are known conn text m word all zs subs z tells holds there same =
-    let said : IsWhomFor (Some tells.whom) known.conn known.subject.items zs subs = subst (λ (o : Option Whom). IsWhomFor o known.conn known.subject.items zs subs) tells.whom_is holds in
-    let whom : IsWhom tells.whom (open_among zs subs z z.user.account (tokens_of known.subject.items)) = said z (ap (session_of zs) tells.conn_is ∙ there) in
+pub told_are : (cache : ReceiverCache) (conn : ℕ) (text : List ℕ) (m : Message) (word : ℕ) (all : List Addressed) (zs : List Session) (subs : List Subscription) (z : Session) →
+    Tells cache conn text m word all → IsCurrent zs subs cache → session_of zs conn ≡ Some z → tokens_of text ≡ m.subject → all ≡ addressed_among zs subs z m word
+told_are cache conn text m word all zs subs z tells current there same =
+    let said : IsWhomFor (Some tells.whom) cache.conn cache.subject.items zs subs = subst (λ (o : Option Whom). IsWhomFor o cache.conn cache.subject.items zs subs) tells.whom_is current in
+    let whom : IsWhom tells.whom (open_among zs subs z z.user.account (tokens_of cache.subject.items)) = said z (ap (session_of zs) tells.conn_is ∙ there) in
     tells.deliveries
-    ∙ ap (map (addressed_at m)) (sym (whom tells.is_known word))
-    ∙ addressed_each m (served word (open_among zs subs z z.user.account (tokens_of known.subject.items)))
+    ∙ ap (map (addressed_at m)) (sym (whom tells.says word))
+    ∙ addressed_each m (served word (open_among zs subs z z.user.account (tokens_of cache.subject.items)))
     ∙ ap (λ (s : List Token). map (addressed_to m) (served word (open_among zs subs z z.user.account s))) (ap tokens_of tells.text_is ∙ same)
 
--- what stays as it is holds, and where nothing is known that holds too
-pub still_holds : (old new : Known) (zs : List Session) (subs : List Subscription) → Holds zs subs old → (new ≡ old) ⊎ (new.whom ≡ None) → Holds zs subs new
-still_holds old new zs subs holds (inl same) = subst (λ (k : Known). Holds zs subs k) (sym same) holds
-still_holds old new zs subs holds (inr none) = subst (λ (o : Option Whom). IsWhomFor o new.conn new.subject.items zs subs) (sym none) tt
+-- a cache that stays as it is stays current, and an empty one is
+pub still_current : (old new : ReceiverCache) (zs : List Session) (subs : List Subscription) → IsCurrent zs subs old → (new ≡ old) ⊎ (new.whom ≡ None) → IsCurrent zs subs new
+still_current old new zs subs current (inl same) = subst (λ (k : ReceiverCache). IsCurrent zs subs k) (sym same) current
+still_current old new zs subs current (inr none) = subst (λ (o : Option Whom). IsWhomFor o new.conn new.subject.items zs subs) (sym none) tt
 
--- and what was learned of those that the publisher's message may be sent to
-pub learned_holds : (new : Known) (zs : List Session) (subs found : List Subscription) (z : Session) (s : List Token) →
+-- and so is one that is filled with those that the publisher's message may be sent to
+pub filled_current : (new : ReceiverCache) (zs : List Session) (subs found : List Subscription) (z : Session) (s : List Token) →
     ((whom : Whom) → new.whom ≡ Some whom → IsWhom whom found) → session_of zs new.conn ≡ Some z → found ≡ open_among zs subs z z.user.account s → tokens_of new.subject.items ≡ s →
-    Holds zs subs new
-learned_holds new zs subs found z s learned there are same = here new.whom refl
+    IsCurrent zs subs new
+filled_current new zs subs found z s filled there are same = here new.whom refl
   where
     one : (y : Session) → session_of zs new.conn ≡ Some y → y ≡ z
     one y is = ap (λ (o : Option Session). or_else o y) (sym is ∙ there)
@@ -54,4 +54,4 @@ learned_holds new zs subs found z s learned there are same = here new.whom refl
     here (Some whom) e = λ y is.
         subst (λ (x : Session). IsWhom whom (open_among zs subs x x.user.account (tokens_of new.subject.items))) (sym (one y is))
         (subst (λ (t : List Token). IsWhom whom (open_among zs subs z z.user.account t)) (sym same)
-        (subst (IsWhom whom) are (learned whom e)))
+        (subst (IsWhom whom) are (filled whom e)))

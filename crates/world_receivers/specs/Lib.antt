@@ -1,3 +1,3 @@
 pub mod Open
 pub mod Receivers
-pub mod Known
+pub mod Cached

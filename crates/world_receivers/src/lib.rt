@@ -1,11 +1,10 @@
 //! Whom a message is for: the subscriptions that may be sent it, less those that queue groups leave out. What was found
-//! for a publisher and a subject is kept for its next message on that subject.
+//! for a publisher and a subject is cached for its next message on that subject.
 #![tactic(auto)]
 
-mod address;
-mod known;
+mod cache;
 mod open;
 mod receiver;
+mod receivers;
 
-pub use address::address_all;
-pub use known::Known;
+pub use receivers::Receivers;

@@ -10,7 +10,7 @@ use std::hash::RandomState;
 use std::marker::Model;
 use subjects::SubjectRef;
 use world_connections::Connections;
-use world_deliveries::{place_in, plan_all, plan_one};
+use world_deliveries::{ByConnection, place_in, plan_all, plan_one};
 
 /// The sessions, each found by its connection at once. A clause sees them as a list, in order of connecting.
 #[derive(Drop)]
@@ -84,7 +84,11 @@ impl Sessions {
     fn place_of(&self, conn: u64) -> Option<usize>
         ensures { MatchOption result (IsNowhere conn self.now) (IsPlace conn self.now) }
     {
-        let place = place_in(&self.conns, self.list.as_slice(), conn);
+        let by = ByConnection {
+            conns: &self.conns,
+            list: self.list.as_slice(),
+        };
+        let place = place_in(by, conn);
         place
     }
 
@@ -148,8 +152,11 @@ impl Sessions {
             return Ok(Met::one(item));
         }
         let rooms = self.rooms.as_mut_slice();
-        let list = self.list.as_slice();
-        let items = plan_all(self.alloc, keys, &self.conns, list, rooms, all, reply)?;
+        let by = ByConnection {
+            conns: &self.conns,
+            list: self.list.as_slice(),
+        };
+        let items = plan_all(self.alloc, keys, by, rooms, all, reply)?;
         Ok(Met::from_vec(items))
     }
 

@@ -8,6 +8,6 @@ use Rattle.world_deliveries.proofs.plan.note_rooms.Given as goal
 
 abbrev pub invariant-loop-next : goal.invariant-loop-next
 invariant-loop-next l =
-    ((k : ℕ) (d : Addressed) → k < l.next-index → room_at l.list l.rooms (get_or l.initial.all k d).conn ≡ rooms_of l.list (get_or l.initial.all k d).conn)
-    × (take l.next-index l.all ++ map (with_note l.list (option_copied l.reply)) (drop l.next-index l.all) ≡ map (with_note l.list (option_copied l.reply)) l.initial.all)
+    ((k : ℕ) (d : Addressed) → k < l.next-index → room_at l.by.list.now l.rooms (get_or l.initial.all k d).conn ≡ rooms_of l.by.list.now (get_or l.initial.all k d).conn)
+    × (take l.next-index l.all ++ map (with_note l.by.list.now (option_copied l.reply)) (drop l.next-index l.all) ≡ map (with_note l.by.list.now (option_copied l.reply)) l.initial.all)
     × (drop l.next-index l.all ≡ drop l.next-index l.initial.all)

@@ -9,14 +9,14 @@ use Rattle.world_deliveries.proofs.plan.place_in.Goals as goal
 
 pub returns-then-session-conn : goal.returns-then-session-conn
 returns-then-session-conn c =
-    place_hinted c.args.conns.now c.args.conn c.hint-hint.result c.args.list.now c.in-Some.session.now
-    (AllPairs-from_IsDistinct Decides-eqb c.args.conns.now c.known.ensures)
+    place_hinted c.args.by.conns.now c.args.conn c.hint-hint.result c.args.by.list.now c.in-Some.session.now
+    (AllPairs-from_IsDistinct Decides-eqb c.args.by.conns.now c.known.ensures)
     c.requires
-    (slice_get_read c.args.list.now (length c.args.list.now) c.hint-hint.result c.in-Some.session.now refl (ltb-true _ _ (sym c.in-Some.ensures.lookup.0)) c.in-Some.ensures.lookup.1)
+    (slice_get_read c.args.by.list.now (length c.args.by.list.now) c.hint-hint.result c.in-Some.session.now refl (ltb-true _ _ (sym c.in-Some.ensures.lookup.0)) c.in-Some.ensures.lookup.1)
     c.if-session-conn.true
 
 pub returns : goal.returns
 returns c =
     c.find-place.ensures
     ∙ ap (λ (ks : List ℕ). position (λ k. c.args.conn == k) ks) c.requires
-    ∙ position_by_key c.args.conn c.args.list.now
+    ∙ position_by_key c.args.conn c.args.by.list.now

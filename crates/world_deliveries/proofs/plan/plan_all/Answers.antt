@@ -9,9 +9,9 @@ use Rattle.world_deliveries.proofs.plan.plan_all.Goals as goal
 pub returns-in_ok-items-in-None-clause-items : goal.returns-in_ok-items-in-None-clause-items
 returns-in_ok-items-in-None-clause-items c now =
     c.in_ok-items-in-None.ensures
-    ∙ roomy-delivered now c.args.all.now c.args.list.now (c.have_room.ensures c.if-have_room.true)
+    ∙ roomy-delivered now c.args.all.now c.args.by.list.now (c.have_room.ensures c.if-have_room.true)
 
 pub returns-in_ok-items-in-None-clause-noted : goal.returns-in_ok-items-in-None-clause-noted
 returns-in_ok-items-in-None-clause-noted c =
-    roomy-noted c.args.all.now c.args.list.now (λ k d h. (c.have_room.ensures c.if-have_room.true k d h).0)
-    ∙ ap (λ (o : Option (List Token)). map (with_note c.args.list.now o) c.args.all.now) (ap option_copied (sym c.in-None.is))
+    roomy-noted c.args.all.now c.args.by.list.now (λ k d h. (c.have_room.ensures c.if-have_room.true k d h).0)
+    ∙ ap (λ (o : Option (List Token)). map (with_note c.args.by.list.now o) c.args.all.now) (ap option_copied (sym c.in-None.is))

@@ -9,7 +9,7 @@ use Rattle.world_deliveries.proofs.plan.plan_by_rooms.Goals as goal
 
 pub returns-clause-items : goal.returns-clause-items
 returns-clause-items c now =
-    let zs = c.args.list.now in
+    let zs = c.args.by.list.now in
     let rooms = c.note_rooms.new.rooms in
     c.in_ok-items.ensures
     ∙ subst (λ (all : List Addressed). planned all (room_at zs rooms) ≡ (delivered now all zs).1) (sym c.in_ok-note_rooms.ensures.noted)

@@ -11,7 +11,7 @@ pub loop-next-preserved : goal.loop-next-preserved
 loop-next-preserved c =
     let a = c.next-item.result in
     let all = c.args.all.now in
-    let zs = c.args.list.now in
+    let zs = c.args.by.list.now in
     let i = c.loop-next.next-index in
     let rest : List Addressed = drop (i + 1) all in
     let made = c.in_ok-push.ensures.items ∙ ap (λ (x : Item). c.loop-next.items.items ++ x ∷ []) (c.in_ok-item.ensures ∙ ap (λ b. cond b (Entered a.conn a.delivery.sid) (Full a.conn a.delivery.sid)) c.take_room-has_room.ensures.had) in

@@ -1,5 +1,5 @@
 use Rattle.std.proofs.Common.{ap, ◌∙◌}
-use Rattle.world_ids.specs.Held.{in_tree}
+use Rattle.world_ids.specs.Entries.{in_tree}
 use Rattle.world_ids.proofs.Found.{none_found}
 use Rattle.world_ids.proofs.trees.search.Goals as goal
 

@@ -1,7 +1,7 @@
--- a Take leaves it known whom messages are for
+-- a Take leaves the cache of receivers current
 use Rattle.std.proofs.Common.{◌∙◌, sym, subst, refl, ap}
 use Rattle.world_deliveries.specs.Sessions.{drained}
-use Rattle.world_receivers.proofs.Stays.{AreSeated, seats_with, holds_taken}
+use Rattle.world_receivers.proofs.Stays.{AreSeated, seats_with, current_taken}
 use Rattle.world.specs.Changes.{done}
 use Rattle.world.specs.declared.change.Change.{Change}
 use Rattle.world.proofs.world.World.carry_out.Goals as goal
@@ -10,7 +10,7 @@ pub invariant_of-self-in-Drain : goal.invariant_of-self-in-Drain
 invariant_of-self-in-Drain c =
     let h = c.self-in-Drain.inside in (
       c.self-in-Drain.invariant.0,
-      holds_taken h.known h.sessions c.drain.new.self h.subscriptions
+      current_taken h.receivers.cache h.sessions c.drain.new.self h.subscriptions
           (subst (AreSeated h.sessions) (sym c.drain.ensures) (seats_with (drained c.in-Drain.most) c.in-Drain.conn (λ z. refl) h.sessions)) c.self-in-Drain.invariant.1,
     )
 

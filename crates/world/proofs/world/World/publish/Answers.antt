@@ -22,8 +22,8 @@ use Rattle.world.proofs.Publishing.{published_is, nobody_is}
 use Rattle.world.proofs.Reasons.{publish_reason}
 use Rattle.world.proofs.world.World.publish.Goals as goal
 
-pub address_all-requires-clause-publisher : goal.address_all-requires-clause-publisher
-address_all-requires-clause-publisher c =
+pub address-requires-clause-publisher : goal.address-requires-clause-publisher
+address-requires-clause-publisher c =
     let zs = c.self.inside.sessions in
     let z = c.in-Some.session.now in
     ap (session_of zs) (eqb-true z.conn c.args.conn (find-passes (λ (y : Session). y.conn == c.args.conn) zs z (sym c.in-Some.ensures))) ∙ sym c.in-Some.ensures
@@ -40,7 +40,7 @@ returns-clause-decided c =
     (Ok record { outcome = Published c.in-Allowed.by c.in_ok-items.items; change = Deliver c.from_vec.result c.in_ok-answered_by-in-Allowed.field-0 }) in
     let planned : c.plan.new.all.items ≡ deliveries before c.in-Some.session.now (own_view c.in-Some.session.now c.args.message.now) c.args.word =
     c.in_ok-items.ensures.noted
-    ∙ ap (map (with_note h.sessions c.args.message.now.reply)) c.in_ok-address_all-in-Allowed.ensures.all in
+    ∙ ap (map (with_note h.sessions c.args.message.now.reply)) c.in_ok-address-in-Allowed.ensures.all in
     subst P c.self.view_is (published_is before _ _ _ c.args.word c.subject.result c.in-Allowed.by c.in_ok-answered_by-in-Allowed.field-0 c.from_vec.result c.in_ok-items.items
     c.in-Some.ensures
     c.subject.ensures
@@ -63,15 +63,15 @@ returns-then-is_for_nobody-clause-decided c =
     let nobody = c.is_for_nobody.ensures c.if-is_for_nobody.true in
     let noted : List Addressed → List Addressed = map (with_note h.sessions c.args.message.now.reply) in
     let told = c.unchanged.ensures in
-    let decided : Q before (Published c.in-Allowed.by []) Nothing = nobody_is before _ _ _ c.args.word c.subject.result c.in-Allowed.by c.in_ok-answered_by-in-Allowed.field-0 (noted c.in_ok-address_all-in-Allowed.field-0.items)
+    let decided : Q before (Published c.in-Allowed.by []) Nothing = nobody_is before _ _ _ c.args.word c.subject.result c.in-Allowed.by c.in_ok-answered_by-in-Allowed.field-0 (noted c.in_ok-address-in-Allowed.field-0.items)
     c.in-Some.ensures
     c.subject.ensures
     c.in-Allowed.ensures.verdict
     c.in_ok-answered_by-in-Allowed.ensures
     nobody.1
-    (ap noted c.in_ok-address_all-in-Allowed.ensures.all)
+    (ap noted c.in_ok-address-in-Allowed.ensures.all)
     (ap noted (sym c.as_slice.ensures.value ∙ nobody.0))
-    (subst (λ (subs : List Subscription). unended subs ≡ subs) c.address_all.ensures.same c.known.ensures.going) in
+    (subst (λ (subs : List Subscription). unended subs ≡ subs) c.address.ensures.same c.known.ensures.going) in
     subst (λ outcome. Q c.args.self.now outcome c.unchanged.result.change)
     (sym (told.outcome ∙ ap (Published c.in-Allowed.by) (c.from_vec-nobody.ensures ∙ c.new.ensures.items)))
     (subst (λ change. Q c.args.self.now (Published c.in-Allowed.by []) change) (sym told.change)

@@ -18,13 +18,13 @@ in_tree p id None = false
 in_tree p id (Some tree) = pairs.stands tree p id
 
 -- whether the account's tree has the pair of this pattern and this id
-abbrev pub held : Entries → List ℕ → List Token → ℕ → Bool
-held entries account p id = in_tree p id (lookup (λ k. same_token account k.items) entries)
+abbrev pub has_pair : Entries → List ℕ → List Token → ℕ → Bool
+has_pair entries account p id = in_tree p id (lookup (λ k. same_token account k.items) entries)
 
 -- what they hold of an account are the pairs of the list, whose ids rise
 pub record IsIndexOf (listing : pairs.Pairs) (account : List ℕ) (entries : Entries) : Type 0 where
   pub ascending : IsStrictlySortedBy nat_cmp (keys_of listing)
-  pub each : (p : List Token) (id : ℕ) → held entries account p id ≡ pairs.listed listing p id
+  pub each : (p : List Token) (id : ℕ) → has_pair entries account p id ≡ pairs.listed listing p id
 
 -- these are the ids of the account's pairs whose pattern has the subject
 abbrev pub IsTold : List ℕ → List Token → List ℕ → Entries → Type 0

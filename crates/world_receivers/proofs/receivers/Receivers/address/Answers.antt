@@ -1,4 +1,4 @@
--- the deliveries are those that are known, or those for whom it was found to be for
+-- the deliveries are those to whom is cached, or to whom it was found to be for
 use Rattle.std.proofs.Common.{◌≡◌, ◌∙◌, ℕ, List, map, filter, ap}
 use Rattle.subjects.specs.Subject.{Token, tokens_of}
 use Rattle.subjects.proofs.Text.{again}
@@ -10,12 +10,12 @@ use Rattle.world_groups.specs.Served.{served}
 use Rattle.world_receivers.specs.Open.{is_open}
 use Rattle.world_receivers.proofs.Tests.{both}
 use Rattle.world_receivers.proofs.Told.{told_are}
-use Rattle.world_receivers.proofs.address.address_all.Goals as goal
+use Rattle.world_receivers.proofs.receivers.Receivers.address.Goals as goal
 
 pub returns-then-branch-clause-all : goal.returns-then-branch-clause-all
 returns-then-branch-clause-all c =
-    told_are c.args.known.now _ _ c.args.message.now c.args.word _ c.args.sessions.now c.args.subscriptions.now c.args.publisher.now
-    (c.in_ok-address.ensures c.if-branch.true) c.requires.holds c.requires.publisher
+    told_are c.args.self.now.cache _ _ c.args.message.now c.args.word _ c.args.sessions.now c.args.subscriptions.now c.args.publisher.now
+    (c.in_ok-address.ensures c.if-branch.true) c.requires.cached c.requires.publisher
     (ap tokens_of c.bytes.ensures ∙ again c.subject-subject.result c.tokens.ensures.grammar ∙ c.subject-subject.ensures)
 
 pub returns-clause-all : goal.returns-clause-all

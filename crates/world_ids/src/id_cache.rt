@@ -1,51 +1,51 @@
-//! The ids that subjects were found to have, so that the next message of a subject needs no search.
+//! A cache of the ids that subjects were found to have, so that the next message of a subject needs no search.
 ghost use Rattle.std.specs.Prelude.{◌≡◌, ◌≤◌, IfOk, All};
-ghost use Rattle.world_ids.specs.declared.memo.Memo.{Memo};
+ghost use Rattle.world_ids.specs.declared.cached_ids.CachedIds.{CachedIds};
 
-use crate::memo::Memo;
+use crate::cached_ids::CachedIds;
 use base::NoMemory;
 use std::alloc::Global;
 
-/// How many memos there are.
+/// How many slots the cache has.
 const SLOTS: usize = 256;
 
-/// How many ids a memo may have, so that all of them take half a megabyte at most. Where a subject has more, the search
-/// is little beside what the message costs.
+/// How many ids of a subject are cached, so that all slots take half a megabyte at most. Where a subject has more, the
+/// search is little beside what the message costs.
 const MOST_IDS: usize = 256;
 
 /// What each word of a subject multiplies its sum by: an odd number whose bits spread.
 const SPREAD: u64 = 11400714819323198485;
 
-/// Memos of what was found in one generation of what was searched, each in the slot of its subject. A subject has a
-/// memo once it was asked for twice in a row, as far as the others of its slot go.
+/// Caches what was found in one generation of what was searched, each subject's ids in its slot. They are cached once a
+/// subject was asked for twice in a row, as far as the others of its slot go.
 ///
-/// The slot goes by a plain sum of the bytes. Who finds subjects of one sum gets them searched anew each time, as without
-/// memos, and nothing else; so no key has to be hidden.
+/// The slot goes by a plain sum of the bytes. Whoever finds subjects of one sum gets them searched anew each time, as
+/// without a cache, and nothing else; so no key has to be hidden.
 #[derive(Drop)]
-pub(crate) struct Memos {
+pub(crate) struct IdCache {
     alloc: Global,
-    slots: Vec<Memo>,
+    slots: Vec<CachedIds>,
     // The sum that was last asked for in each slot.
     asked: Vec<u64>,
     generation: u64,
-    // The sum of the subject that was turned to, and its slot.
+    // The sum of the selected subject, and its slot.
     sum: u64,
     at: usize,
     ghost begun: { 1 ≤ generation },
-    ghost past: { All (λ (memo : Memo). memo.generation ≤ generation) slots.items },
+    ghost past: { All (λ (cached : CachedIds). cached.generation ≤ generation) slots.items },
 }
 
-impl Memos {
+impl IdCache {
     ghost use Rattle.std.specs.Prelude.{IfSome};
-    ghost use Rattle.world_ids.specs.Held.{Entries, IsTold};
+    ghost use Rattle.world_ids.specs.Entries.{Entries, IsTold};
     ghost use Rattle.world_ids.specs.Told.{AreTold, IsSaid};
     ghost use Rattle.subjects.specs.Subject.{tokens_of};
 
-    /// No memos. It takes no memory.
-    pub fn new(alloc: Global) -> Memos
+    /// Returns an empty cache. It takes no memory.
+    pub fn new(alloc: Global) -> IdCache
         ensures { (entries : Entries) → AreTold result entries }
     {
-        Memos {
+        IdCache {
             alloc,
             slots: Vec::new(alloc),
             asked: Vec::new(alloc),
@@ -55,8 +55,8 @@ impl Memos {
         }
     }
 
-    /// Turns to the slot of a subject. Answers whether its ids are to be found, and put there.
-    pub fn turn(&mut self, account: &[u8], text: &[u8]) -> bool
+    /// Selects the slot of a subject. Returns whether its ids are to be found, and put there.
+    pub fn select(&mut self, account: &[u8], text: &[u8]) -> bool
         ensures { (entries : Entries) → AreTold self.old entries → AreTold self.new entries }
     {
         self.sum = sum_of(account, text);
@@ -64,11 +64,11 @@ impl Memos {
         !self.has_sum() && self.is_asked_again()
     }
 
-    /// Whether a memo of that sum stands.
+    /// Returns whether ids are cached under that sum.
     fn has_sum(&self) -> bool {
         match self.slots.get(self.at) {
             None => false,
-            Some(memo) => memo.has_sum(self.generation, self.sum),
+            Some(cached) => cached.has_sum(self.generation, self.sum),
         }
     }
 
@@ -95,23 +95,23 @@ impl Memos {
     {
         self.lay_out();
         if ids.len() > MOST_IDS {
-            self.set(Memo::blank(self.alloc, self.generation, self.sum));
+            self.set(CachedIds::blank(self.alloc, self.generation, self.sum));
             return;
         }
-        match Memo::of(self.alloc, self.generation, self.sum, account, text, ids) {
+        match CachedIds::of(self.alloc, self.generation, self.sum, account, text, ids) {
             Err(_) => {}
-            Ok(memo) => self.set(memo),
+            Ok(cached) => self.set(cached),
         }
     }
 
-    /// Puts a memo into the slot that was turned to.
-    fn set(&mut self, memo: Memo)
-        requires { memo.generation ≤ self.old.generation }
-        ensures { (entries : Entries) → AreTold self.old entries → (memo.generation ≡ self.old.generation → IsSaid memo entries) → AreTold self.new entries }
+    /// Puts cached ids into the selected slot.
+    fn set(&mut self, cached: CachedIds)
+        requires { cached.generation ≤ self.old.generation }
+        ensures { (entries : Entries) → AreTold self.old entries → (cached.generation ≡ self.old.generation → IsSaid cached entries) → AreTold self.new entries }
     {
         match self.slots.get_mut(self.at) {
             None => {}
-            Some(slot) => *slot = memo,
+            Some(slot) => *slot = cached,
         }
     }
 
@@ -128,15 +128,15 @@ impl Memos {
         }
     }
 
-    /// The ids of a subject, if it was turned to and has a memo.
+    /// Returns the ids of a subject, if it is selected and they are cached.
     pub fn find(&self, account: &[u8], text: &[u8]) -> Option<&[u64]>
         ensures { IfSome result (λ ids. (entries : Entries) → AreTold self.now entries → IsTold account.now (tokens_of text.now) ids.now entries) }
     {
         match self.slots.get(self.at) {
             None => None,
-            Some(memo) => {
-                if memo.is_of(self.generation, account, text) {
-                    Some(memo.ids())
+            Some(cached) => {
+                if cached.is_of(self.generation, account, text) {
+                    Some(cached.ids())
                 } else {
                     None
                 }
@@ -144,8 +144,8 @@ impl Memos {
         }
     }
 
-    /// Begins another generation: no memo says anything from now on.
-    pub fn forget(&mut self)
+    /// Clears the cache: it begins another generation.
+    pub fn clear(&mut self)
         ensures { (entries : Entries) → AreTold self.new entries }
     {
         match self.generation.checked_add(1) {
@@ -155,13 +155,13 @@ impl Memos {
     }
 }
 
-/// A memo that says nothing for each slot.
-fn blank_slots(alloc: Global) -> Result<Vec<Memo>, NoMemory>
-    ensures { IfOk result (λ slots. All (λ (memo : Memo). memo.generation ≡ 0) slots.items) }
+/// Returns cached ids that say nothing, for each slot.
+fn blank_slots(alloc: Global) -> Result<Vec<CachedIds>, NoMemory>
+    ensures { IfOk result (λ slots. All (λ (cached : CachedIds). cached.generation ≡ 0) slots.items) }
 {
     let mut slots = Vec::with_capacity(alloc, SLOTS)?;
     for _slot in 0..SLOTS {
-        slots.push(Memo::blank(alloc, 0, 0))?;
+        slots.push(CachedIds::blank(alloc, 0, 0))?;
     }
     Ok(slots)
 }

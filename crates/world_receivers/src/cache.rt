@@ -1,9 +1,9 @@
-//! Whom the messages of a publisher on a subject are for, once that was found.
+//! A cache of whom the messages of a publisher on a subject are for.
 ghost use Rattle.std.specs.Prelude.{◌≡◌, ◌++◌, OnOk, map};
 ghost use Rattle.queue_choice.specs.Choices.{chosen};
 ghost use Rattle.world_groups.specs.Chosen.{Rising};
 ghost use Rattle.world_groups.specs.Grouped.{if_any};
-ghost use Rattle.world_receivers.specs.Known.{IsWhom};
+ghost use Rattle.world_receivers.specs.Cached.{IsWhom};
 ghost use Rattle.world_receivers.specs.Receivers.{addressed_at};
 
 use crate::receiver::{Receiver, address_each, receivers_of};
@@ -14,18 +14,18 @@ use std::alloc::Global;
 use world_groups::{Grouping, grouping_of};
 use world_subscriptions::SharedSubscription;
 
-/// Whom of the receivers that a message may be sent to it is for.
+/// Whom a message is for, of the receivers that it may be sent to.
 #[derive(Drop)]
 enum Whom {
     /// Each of them.
     Each(Vec<Receiver>),
     /// The one that the message's word chooses: they are the members of one queue group.
     One(Vec<Receiver>),
-    /// Members of several queue groups, or others besides: it is found out for each message.
+    /// Members of several queue groups, or others besides: it is found for each message.
     Various,
 }
 
-/// Adds the delivery of a message to the receiver that its word chooses.
+/// Adds the delivery of a message to the receiver that its word chooses. `NoMemory` where memory could not be had.
 fn address_chosen(
     message: &Message,
     receivers: &[Receiver],
@@ -47,8 +47,8 @@ fn address_chosen(
     }
 }
 
-/// Whom of these subscriptions a message is for that may be sent to them. Where memory could not be had it is found out
-/// for each message.
+/// Returns whom of these subscriptions a message is for that may be sent to them. Without memory it is found for each
+/// message.
 fn whom_of(alloc: Global, found: &[&SharedSubscription]) -> Whom
     requires { Rising (map (λ s. s.now) found.now) }
     ensures { IsWhom result (map (λ s. s.now) found.now) }
@@ -63,16 +63,16 @@ fn whom_of(alloc: Global, found: &[&SharedSubscription]) -> Whom
     }
 }
 
-/// Whom the messages of a publisher on a subject are for, where that was found. It stands as long as the subscriptions,
-/// and what permits them, do.
-pub struct Known {
+/// Caches whom the messages of one publisher on one subject are for. It is current as long as the sessions, the
+/// subscriptions and what permits them stay as they are.
+pub(crate) struct ReceiverCache {
     alloc: Global,
     conn: u64,
     subject: Vec<u8>,
     whom: Option<Whom>,
 }
 
-impl Drop for Known {
+impl Drop for ReceiverCache {
     #[inline(always)]
     fn drop(self) {
         let Self {
@@ -84,17 +84,17 @@ impl Drop for Known {
     }
 }
 
-impl Known {
+impl ReceiverCache {
     ghost use Rattle.std.specs.Prelude.{◌==◌, ◌&&◌, ◌⊎◌, IfOk, true, None, Some, nat_eq};
     ghost use Rattle.std.specs.Cmp.Lexicographic.{pointwise};
     ghost use Rattle.subjects.specs.Subject.{text_of};
-    ghost use Rattle.world_receivers.specs.Known.{Holds, Tells};
+    ghost use Rattle.world_receivers.specs.Cached.{Tells};
 
-    /// Nothing is known. It takes no memory.
-    pub fn new(alloc: Global) -> Known
+    /// Returns an empty cache. It takes no memory.
+    pub fn new(alloc: Global) -> ReceiverCache
         ensures { result.whom ≡ None }
     {
-        Known {
+        ReceiverCache {
             alloc,
             conn: 0,
             subject: Vec::new(alloc),
@@ -102,25 +102,25 @@ impl Known {
         }
     }
 
-    /// Nothing is known any more. The next message is the first of its publisher and subject again.
-    pub fn forget(&mut self)
+    /// Empties the cache. The next message is the first of its publisher and subject again.
+    pub fn clear(&mut self)
         ensures { self.new.whom ≡ None }
     {
         self.whom = None;
         self.subject.clear();
     }
 
-    /// Whether it is of this publisher and the text of this subject.
+    /// Returns whether it is of this publisher and the text of this subject.
     fn is_of(&self, conn: u64, text: &[u8]) -> bool
         ensures { result ≡ ((self.now.conn == conn) && pointwise nat_eq self.now.subject.items text.now) }
     {
         self.conn == conn && self.subject.as_slice() == text
     }
 
-    /// Puts the deliveries of a publisher's message in the place of what was in `all`, where it is known whom it is for.
-    /// Answers whether it is.
+    /// Puts the deliveries of a publisher's message in the place of what was in `all`, if its receivers are cached.
+    /// Returns whether they are. `NoMemory` where memory could not be had.
     #[inline(always)]
-    pub(crate) fn address(
+    pub fn address(
         &self,
         conn: u64,
         text: &[u8],
@@ -149,11 +149,11 @@ impl Known {
         }
     }
 
-    /// Turns to a publisher and the text of a subject, of which nothing was known. Answers whether it was turned to them
-    /// already, and whom their messages are for is still to be found.
-    pub(crate) fn turn(&mut self, conn: u64, text: &[u8]) -> bool
-        ensures turned { result ≡ true → (self.new.conn ≡ conn) × (self.new.subject.items ≡ text.now) }
-        ensures known { (self.new ≡ self.old) ⊎ (self.new.whom ≡ None) }
+    /// Selects the publisher and the subject whose receivers are cached next. Returns whether they were selected already,
+    /// and their receivers are still to be found.
+    pub fn select(&mut self, conn: u64, text: &[u8]) -> bool
+        ensures selected { result ≡ true → (self.new.conn ≡ conn) × (self.new.subject.items ≡ text.now) }
+        ensures cached { (self.new ≡ self.old) ⊎ (self.new.whom ≡ None) }
     {
         if self.is_of(conn, text) {
             return self.whom.is_none();
@@ -165,8 +165,8 @@ impl Known {
         false
     }
 
-    /// Learns that a message of the publisher that was turned to, on the subject that was, may be sent to these.
-    pub(crate) fn learn(&mut self, found: &[&SharedSubscription])
+    /// Caches that messages of the selected publisher on the selected subject may be sent to these.
+    pub fn fill(&mut self, found: &[&SharedSubscription])
         requires { Rising (map (λ s. s.now) found.now) }
         ensures conn { self.new.conn ≡ self.old.conn }
         ensures subject { self.new.subject ≡ self.old.subject }

@@ -1,18 +1,18 @@
-//! The ids that one subject was found to have.
+//! The cached ids of one subject.
 ghost use Rattle.std.specs.Prelude.{◌≡◌, ◌==◌, ◌&&◌, IfOk};
 ghost use Rattle.std.specs.Cmp.Lexicographic.{pointwise};
 ghost use Rattle.std.specs.Prelude.{nat_eq};
-ghost use Rattle.world_ids.specs.Memo.{Says};
+ghost use Rattle.world_ids.specs.CachedIds.{Says};
 
 use base::NoMemory;
 use std::alloc::Global;
 
-/// That these ids were found for an account and the text of a subject, in one generation of what was searched. One of
-/// generation 0 says nothing.
+/// The ids that were found for an account and the text of a subject, in one generation of what was searched. Those of
+/// generation 0 say nothing.
 #[derive(Drop)]
-pub(crate) struct Memo {
+pub(crate) struct CachedIds {
     generation: u64,
-    // Of which sum it was made, and in which generation.
+    // Under which sum they were cached, and in which generation.
     sum: u64,
     made_in: u64,
     account: Vec<u8>,
@@ -20,12 +20,12 @@ pub(crate) struct Memo {
     ids: Vec<u64>,
 }
 
-impl Memo {
-    /// One that says nothing, of a subject with too many ids, or of none. It takes no memory.
-    pub fn blank(alloc: Global, made_in: u64, sum: u64) -> Memo
+impl CachedIds {
+    /// Returns cached ids that say nothing, of a subject with too many, or of none. It takes no memory.
+    pub fn blank(alloc: Global, made_in: u64, sum: u64) -> CachedIds
         ensures { result.generation ≡ 0 }
     {
-        Memo {
+        CachedIds {
             generation: 0,
             sum,
             made_in,
@@ -35,7 +35,7 @@ impl Memo {
         }
     }
 
-    /// One that says that these ids were found.
+    /// Returns these ids, which were found for the account and the text. `NoMemory` where memory could not be had.
     pub fn of(
         alloc: Global,
         generation: u64,
@@ -43,12 +43,12 @@ impl Memo {
         account: &[u8],
         text: &[u8],
         ids: Vec<u64>,
-    ) -> Result<Memo, NoMemory>
-        ensures { IfOk result (λ memo. Says generation account.now text.now ids.items memo) }
+    ) -> Result<CachedIds, NoMemory>
+        ensures { IfOk result (λ cached. Says generation account.now text.now ids.items cached) }
     {
         let account = Vec::from_slice(alloc, account)?;
         let subject = Vec::from_slice(alloc, text)?;
-        Ok(Memo {
+        Ok(CachedIds {
             generation,
             sum,
             made_in: generation,
@@ -58,12 +58,12 @@ impl Memo {
         })
     }
 
-    /// Whether it was made in this generation, of this sum.
+    /// Returns whether they were cached in this generation, under this sum.
     pub fn has_sum(&self, generation: u64, sum: u64) -> bool {
         self.made_in == generation && self.sum == sum
     }
 
-    /// Whether it is of this generation, this account and this text.
+    /// Returns whether they are of this generation, this account and this text.
     pub fn is_of(&self, generation: u64, account: &[u8], text: &[u8]) -> bool
         ensures { result ≡ ((self.now.generation == generation) && (pointwise nat_eq self.now.account.items account.now && pointwise nat_eq self.now.subject.items text.now)) }
     {
@@ -71,7 +71,7 @@ impl Memo {
             && (self.account.as_slice() == account && self.subject.as_slice() == text)
     }
 
-    /// The ids.
+    /// Returns the ids.
     pub fn ids(&self) -> &[u64]
         ensures { result.now ≡ self.now.ids.items }
     {

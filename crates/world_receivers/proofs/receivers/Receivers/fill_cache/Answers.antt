@@ -1,4 +1,4 @@
--- what is learned of a publisher and a subject is of those that may be sent its messages
+-- what is cached of a publisher and a subject is of those that may be sent its messages
 use Rattle.std.proofs.Common.{◌≡◌, ◌∙◌, List, map, filter, ap, refl}
 use Rattle.subjects.specs.Subject.{Token, tokens_of}
 use Rattle.subjects.proofs.Text.{again}
@@ -6,8 +6,8 @@ use Rattle.world_deliveries.specs.Sessions.{session_of}
 use Rattle.world_subscriptions.specs.Subscriptions.{has_subject, having}
 use Rattle.world_receivers.specs.Open.{is_open}
 use Rattle.world_receivers.proofs.Tests.{both}
-use Rattle.world_receivers.proofs.Told.{learned_holds}
-use Rattle.world_receivers.proofs.address.learn.Goals as goal
+use Rattle.world_receivers.proofs.Told.{filled_current}
+use Rattle.world_receivers.proofs.receivers.Receivers.fill_cache.Goals as goal
 
 pub returns-in-Ok : goal.returns-in-Ok
 returns-in-Ok c =
@@ -15,11 +15,11 @@ returns-in-Ok c =
     let subs = c.args.subscriptions.now in
     let z = c.args.publisher.now in
     let s : List Token = c.args.subject.now in
-    let turned = c.if-not-turn.ensures.turned refl in
-    learned_holds c.learn.new.self zs subs (map (λ x. x.now) c.as_slice.result.now) z s c.learn.ensures.whom
-    (ap (session_of zs) (c.learn.ensures.conn ∙ turned.0) ∙ c.requires.publisher)
+    let selected = c.if-not-select.ensures.selected refl in
+    filled_current c.fill.new.self zs subs (map (λ x. x.now) c.as_slice.result.now) z s c.fill.ensures.whom
+    (ap (session_of zs) (c.fill.ensures.conn ∙ selected.0) ∙ c.requires.publisher)
     (ap (map (λ x. x.now)) c.as_slice.ensures.value
     ∙ c.in-Ok.ensures.found
     ∙ ap (λ account. filter (is_open zs z s) (having account s subs)) c.as_slice-account.ensures
     ∙ both (is_open zs z s) (has_subject z.user.account s) subs)
-    (ap tokens_of (ap (λ v. v.items) c.learn.ensures.subject ∙ turned.1 ∙ c.bytes.ensures) ∙ again s c.tokens.ensures.grammar)
+    (ap tokens_of (ap (λ v. v.items) c.fill.ensures.subject ∙ selected.1 ∙ c.bytes.ensures) ∙ again s c.tokens.ensures.grammar)

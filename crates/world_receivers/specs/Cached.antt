@@ -1,4 +1,4 @@
--- What is known of whom the messages of a publisher on a subject are for.
+-- The cache of whom the messages of a publisher on a subject are for.
 use Rattle.std.specs.Prelude.{◌≡◌, ℕ, List, [], Option, Some, None, map}
 use Rattle.subjects.specs.Subject.{tokens_of}
 use Rattle.events.specs.Messages.{Message}
@@ -12,9 +12,9 @@ use Rattle.world_rows.specs.declared.subscription.Subscription.{Subscription}
 use Rattle.world_receivers.specs.Open.{open_among}
 use Rattle.world_receivers.specs.Receivers.{receiver_of, addressed_at}
 use Rattle.world_receivers.specs.declared.receiver.Receiver.{Receiver}
-use Rattle.world_receivers.specs.declared.known.Known.{Known}
-use Rattle.world_receivers.specs.declared.known.Whom.{Whom}
-use Rattle.world_receivers.specs.declared.known.Whom.TheVariants.{Each, One, Various}
+use Rattle.world_receivers.specs.declared.cache.ReceiverCache.{ReceiverCache}
+use Rattle.world_receivers.specs.declared.cache.Whom.{Whom}
+use Rattle.world_receivers.specs.declared.cache.Whom.TheVariants.{Each, One, Various}
 
 -- whom a message with a word is for: each receiver, or the one that the word chooses
 abbrev pub picked : ℕ → Whom → List Receiver
@@ -23,28 +23,29 @@ picked word (One rs) = if_any (chosen word rs.items)
 picked word Various = []
 
 -- whether it says whom
-abbrev pub IsKnown : Whom → Type 0
-IsKnown (Each rs) = Unit {0}
-IsKnown (One rs) = Unit {0}
-IsKnown Various = ⊥
+abbrev pub Says : Whom → Type 0
+Says (Each rs) = Unit {0}
+Says (One rs) = Unit {0}
+Says Various = ⊥
 
 -- it says of the subscriptions that a message may be sent to whom it is for, whatever its word
 abbrev pub IsWhom : Whom → List Subscription → Type 0
-IsWhom whom subs = IsKnown whom → (word : ℕ) → map receiver_of (served word subs) ≡ picked word whom
+IsWhom whom subs = Says whom → (word : ℕ) → map receiver_of (served word subs) ≡ picked word whom
 
 -- it does so of those that the messages of a connection on a subject may be sent to
 abbrev pub IsWhomFor : Option Whom → ℕ → List ℕ → List Session → List Subscription → Type 0
 IsWhomFor None conn text zs subs = Unit {0}
 IsWhomFor (Some whom) conn text zs subs = (z : Session) → session_of zs conn ≡ Some z → IsWhom whom (open_among zs subs z z.user.account (tokens_of text))
 
-abbrev pub Holds : List Session → List Subscription → Known → Type 0
-Holds zs subs known = IsWhomFor known.whom known.conn known.subject.items zs subs
+-- what the cache says of its connection and subject is so
+abbrev pub IsCurrent : List Session → List Subscription → ReceiverCache → Type 0
+IsCurrent zs subs cache = IsWhomFor cache.whom cache.conn cache.subject.items zs subs
 
--- it is known whom a message of the connection on the subject is for, and these are its deliveries
-pub record Tells (known : Known) (conn : ℕ) (text : List ℕ) (m : Message) (word : ℕ) (all : List Addressed) : Type 0 where
-  pub conn_is : known.conn ≡ conn
-  pub text_is : known.subject.items ≡ text
+-- whom a message of the connection on the subject is for is cached, and these are its deliveries
+pub record Tells (cache : ReceiverCache) (conn : ℕ) (text : List ℕ) (m : Message) (word : ℕ) (all : List Addressed) : Type 0 where
+  pub conn_is : cache.conn ≡ conn
+  pub text_is : cache.subject.items ≡ text
   pub whom : Whom
-  pub whom_is : known.whom ≡ Some whom
-  pub is_known : IsKnown whom
+  pub whom_is : cache.whom ≡ Some whom
+  pub says : Says whom
   pub deliveries : all ≡ map (addressed_at m) (picked word whom)
