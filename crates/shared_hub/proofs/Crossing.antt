@@ -20,7 +20,6 @@ use Rattle.std.proofs.option.Option.TheSendSync as option
 use Rattle.std.proofs.boxed.Box.TheSendSync as boxed
 use Rattle.std.proofs.collections.HashMap.TheSendSync as hash_map
 use Rattle.std.proofs.vec.Vec.TheSendSync as vec
-use Rattle.world_subscriptions.specs.contracts.table.Table.TheInside as table_in
 use Rattle.world_subscriptions.specs.contracts.subscriptions.Subscriptions.TheInside as subs_in
 use Rattle.world.specs.contracts.world.World.TheInside as world_in
 use Rattle.world.specs.contracts.world.World as world
@@ -43,7 +42,6 @@ use Rattle.std.specs.contracts.sync.ledger.Share as share_row
 use Rattle.std.proofs.sync.ledger.Share.TheSendSync as share
 use Rattle.shared_hub.specs.contracts.shared_hub.Rest as rest_row
 use Rattle.world_ids.specs.contracts.trees.Trees as trees
-use Rattle.world_subscriptions.specs.contracts.table.Table as table
 use Rattle.world_subscriptions.specs.contracts.subscriptions.Subscriptions as subs
 use Rattle.world_ids.proofs.sids.Sids.TheSendSync as sids
 use Rattle.world_ids.proofs.id_cache.IdCache.TheSendSync as id_cache
@@ -64,15 +62,9 @@ fold_send = search (sendable, crosses) depth 12
 trees_send : IsSend (trees.the_field).row
 trees_send = struct_send (shape trees.the_type) (global.the_field_send, (state.the_field_send, (hash_map.the_send (vec_row.the_row u8 heap_row.the_row ghosts) tree.the_row (by_default.the_row fold.the_row) heap_row.the_row fold.the_row _ _ _ _ ghosts u8s_send tree_send fold_send global.the_send frees, (id_cache.the_field_send, tt))))
 
-tables_send : IsSend (trees.the_field).row → IsSend table_in.the_row
-tables_send t = recorded_send _ _ _ (table_in.the_type).to_one (struct_send (shape table_in.the_type)
-    (global.the_field_send, (rows.the_send, (t, tt))))
-
-table_send : IsSend table_in.the_row → IsSend table.the_row
-table_send t = search (sendable, t) depth 6
-
-subs_send : IsSend table.the_row → IsSend subs_in.the_row
-subs_send t = recorded_send _ _ _ (subs_in.the_type).to_one (struct_send (shape subs_in.the_type) (global.the_field_send, (t, (sids.the_field_send, tt))))
+subs_send : IsSend (trees.the_field).row → IsSend subs_in.the_row
+subs_send t = recorded_send _ _ _ (subs_in.the_type).to_one (struct_send (shape subs_in.the_type)
+    (global.the_field_send, (rows.the_send, (t, (sids.the_field_send, tt)))))
 
 subs_out_send : IsSend subs_in.the_row → IsSend subs.the_row
 subs_out_send t = search (sendable, t) depth 6
@@ -92,7 +84,7 @@ hub_out_send : IsSend hub_in.the_row → IsSend hub.the_row
 hub_out_send t = search (sendable, t) depth 6
 
 hubs_send : IsSend hub.the_row
-hubs_send = hub_out_send (hub_send (world_out_send (world_send (subs_out_send (subs_send (table_send (tables_send trees_send)))))))
+hubs_send = hub_out_send (hub_send (world_out_send (world_send (subs_out_send (subs_send trees_send))))
 
 desk_send : (L : RattleType) (r : Runs L.Denot) (l : Ledgers L.Denot) → IsSend (desk.the_row L r l)
 desk_send L r l = recorded_send _ _ _ (desk.the_type L r l).to_one (struct_send (shape (desk.the_type L r l)) (global.the_field_send, (hubs_send, (book.the_send L l, (waits.the_send, (search (sendable, crosses) depth 12, tt))))))

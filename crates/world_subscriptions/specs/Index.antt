@@ -2,11 +2,13 @@
 use Rattle.std.specs.Prelude.{◌≡◌, ◌==◌, ◌&&◌, not, ℕ, Bool, List, [], ◌∷◌, ◌++◌, Option, Some, None}
 use Rattle.std.specs.Prelude.{find, map}
 use Rattle.std.specs.List.{list_any}
+use Rattle.std.specs.Map.{values_of}
 use Rattle.subjects.specs.Subject.{Token, same_token}
 use Rattle.sublist.specs.Tree.{same_path}
 use Rattle.world_ids.specs.Trees as trees
 use Rattle.world_ids.specs.declared.trees.Trees.{Trees}
 use Rattle.world_rows.specs.declared.subscription.Subscription.{Subscription}
+use Rattle.world_subscriptions.specs.Kept.{IsKept, Apart}
 
 -- whether the subscription has this account, pattern and id
 abbrev pub is_of : Subscription → List ℕ → List Token → ℕ → Bool
@@ -31,6 +33,10 @@ IsWithoutAll old subs new = (account : List ℕ) (p : List Token) (id : ℕ) →
 -- the trees are the list's index: they hold its subscriptions, and nothing else
 pub record AreIndexesOf (subs : List Subscription) (index : Trees) : Type 0 where
   pub each : (account : List ℕ) (p : List Token) (id : ℕ) → trees.holds index account p id ≡ listed subs account p id
+
+-- the rows are kept in order, and the trees are their index
+abbrev pub IsTable : List (ℕ × Subscription) → Trees → Type 0
+IsTable es index = IsKept es × Apart (values_of es) × AreIndexesOf (values_of es) index
 
 -- the ids of subscriptions, in the list's order
 abbrev pub ids_of : List Subscription → List ℕ

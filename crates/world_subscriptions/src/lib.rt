@@ -6,7 +6,6 @@ mod change;
 mod new_subscription;
 mod sids;
 mod subscriptions;
-mod table;
 mod trees;
 
 pub use address::{address_each, addressed_to};

@@ -1,7 +1,7 @@
 ghost use Rattle.std.specs.Prelude.{◌≡◌, ◌==◌, Bool};
 ghost use Rattle.world_rows.specs.declared.subscription.Subscription.{Subscription};
 
-use crate::table::Table;
+use crate::change::{end_at, enter, take_each};
 use crate::{NewSubscription, RowValues, SharedSubscription, Subscription, sids};
 use base::NoMemory;
 use events::{Addressed, Item, Sid};
@@ -9,15 +9,18 @@ use std::alloc::Global;
 use std::hash::RandomState;
 use std::marker::Model;
 use subjects::SubjectRef;
-use world_ids::Sids;
+use world_ids::{Sids, Trees};
+use world_rows::Rows;
 
 /// How many subscriptions of a connection may stand.
 const SUBSCRIPTIONS: usize = 4096;
 
-/// The standing subscriptions. A clause sees them as a list, oldest first. The sids find those of a connection.
+/// The standing subscriptions. A clause sees them as a list, oldest first. The trees find those that have a subject, the
+/// sids those of a connection.
 pub struct Subscriptions {
     alloc: Global,
-    table: Table,
+    by_id: Rows,
+    trees: Trees,
     sids: Sids,
 }
 
@@ -25,7 +28,8 @@ impl Drop for Subscriptions {
     fn drop(self) {
         let Self {
             alloc: _,
-            table: _,
+            by_id: _,
+            trees: _,
             sids: _,
         } = self;
     }
@@ -33,14 +37,16 @@ impl Drop for Subscriptions {
 
 impl Model for Subscriptions {
     ghost use Rattle.std.specs.Prelude.{List};
+    ghost use Rattle.std.specs.Map.{values_of};
     ghost use Rattle.world_rows.specs.declared.subscription.Subscription.{Subscription};
     ghost use Rattle.world_subscriptions.specs.BySid.{AreSidsOf};
+    ghost use Rattle.world_subscriptions.specs.Index.{IsTable};
 
     ghost Value = { List Subscription };
 
-    ghost view = { λ subs. subs.table };
+    ghost view = { λ subs. values_of subs.by_id };
 
-    ghost invariant = { λ subs. AreSidsOf subs.table subs.sids };
+    ghost invariant = { λ subs. IsTable subs.by_id subs.trees × AreSidsOf (values_of subs.by_id) subs.sids };
 }
 
 // What changes which of them stand is never drawn into the world's step: there its large locals would be cleared for each
@@ -60,12 +66,14 @@ impl Subscriptions {
 
     /// No subscriptions. Clients choose the tokens of subjects, and sids, so what finds them is hashed under keys that
     /// they can't know.
+    #[tactic(auto, unfolding(crate::specs::Kept::IsKept, crate::specs::Kept::Apart))]
     pub fn new(alloc: Global, keys: RandomState) -> Subscriptions
         ensures { result ≡ [] }
     {
         Subscriptions {
             alloc,
-            table: Table::new(alloc, keys),
+            by_id: Rows::new(alloc),
+            trees: Trees::new(alloc, keys),
             sids: Sids::new(alloc, keys),
         }
     }
@@ -74,7 +82,7 @@ impl Subscriptions {
     pub fn len(&self) -> usize
         ensures { result ≡ length self.now }
     {
-        self.table.len()
+        self.by_id.len()
     }
 
     /// Tells what holds of all: the ids rise, no two have one connection and sid, and none has ended.
@@ -85,21 +93,21 @@ impl Subscriptions {
         ensures going { unended self.now ≡ self.now }
         ensures apart { Apart self.now }
     {
-        self.table.known();
+        let _ = &self.by_id;
     }
 
     /// Them all, oldest first.
     pub fn values(&self) -> RowValues<'_>
         ensures { result ≡ self.now }
     {
-        self.table.values()
+        self.by_id.values()
     }
 
     /// The subscription of that id.
     pub fn get(&self, id: u64) -> Option<&SharedSubscription>
         ensures { option_copied result ≡ find (λ (s : Subscription). s.id == id) self.now }
     {
-        let found = self.table.get(id);
+        let found = self.by_id.get(id);
         found
     }
 
@@ -114,7 +122,6 @@ impl Subscriptions {
     pub fn has_all(&self, conn: u64) -> bool
         ensures { result ≡ has_all self.now conn }
     {
-        self.table.known();
         SUBSCRIPTIONS <= self.sids.count_of(conn)
     }
 
@@ -123,7 +130,7 @@ impl Subscriptions {
     pub fn remember(&mut self, account: &[u8], subject: &SubjectRef<'_>)
         ensures { self.new ≡ self.old }
     {
-        self.table.remember(account, subject);
+        self.trees.remember(account, subject);
     }
 
     /// Puts the ids of those of an account that have the subject, oldest first, in the place of what was in `ids`.
@@ -136,7 +143,7 @@ impl Subscriptions {
     ) -> Result<(), NoMemory>
         ensures { OnOk result (found_by self.now ids.new.items ≡ having account.now subject.now self.now) }
     {
-        self.table.having(account, subject, ids)?;
+        self.trees.matching(account, subject, ids)?;
         Ok(())
     }
 
@@ -169,7 +176,7 @@ impl Subscriptions {
         };
         let subscription = SharedSubscription::of(self.alloc, made)?;
         sids::insert(&mut self.sids, &subscription)?;
-        match self.table.add(subscription) {
+        match enter(&mut self.by_id, &mut self.trees, subscription) {
             Ok(()) => Ok(()),
             Err(refused) => {
                 sids::remove(&mut self.sids, &refused);
@@ -202,16 +209,18 @@ impl Subscriptions {
     fn limit_one(&mut self, id: u64, most: Option<u64>)
         ensures { self.new ≡ unended (map (only (capped most) id) self.old) }
     {
-        self.table.known();
-        self.table.limit(id, most, &mut self.sids);
+        if self.by_id.cap(id, most) {
+            end_at(&mut self.by_id, &mut self.trees, &mut self.sids, id);
+        }
     }
 
     /// One message more for the subscription of that id, which ends where that was the last that it was to receive.
     fn count_one(&mut self, id: u64)
         ensures { self.new ≡ unended (map (only bumped id) self.old) }
     {
-        self.table.known();
-        self.table.count(id, &mut self.sids);
+        if self.by_id.bump(id) {
+            end_at(&mut self.by_id, &mut self.trees, &mut self.sids, id);
+        }
     }
 
     /// One message more where it has entered.
@@ -251,10 +260,9 @@ impl Subscriptions {
     pub fn remove(&mut self, conn: u64)
         ensures { self.new ≡ filter (λ (s : Subscription). not (s.conn == conn)) self.old }
     {
-        self.table.known();
         match self.sids.take(conn) {
             None => {}
-            Some(own) => self.table.take_each(&own),
+            Some(own) => take_each(&mut self.by_id, &mut self.trees, &own),
         }
     }
 
@@ -262,8 +270,7 @@ impl Subscriptions {
     fn remove_one(&mut self, id: u64)
         ensures { self.new ≡ filter (λ (s : Subscription). not (s.id == id)) self.old }
     {
-        self.table.known();
-        self.table.end(id, &mut self.sids);
+        end_at(&mut self.by_id, &mut self.trees, &mut self.sids, id);
     }
 
     /// Removes those of these ids. No other is touched.

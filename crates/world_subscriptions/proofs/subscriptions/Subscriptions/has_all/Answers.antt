@@ -1,5 +1,6 @@
 use Rattle.std.proofs.Common.{◌∙◌, ap, List}
 use Rattle.std.specs.Prelude.{nat_le}
+use Rattle.std.specs.Map.{values_of}
 use Rattle.world_subscriptions.specs.Subscriptions.{has_all}
 use Rattle.world_rows.specs.declared.subscription.Subscription.{Subscription}
 use Rattle.world_subscriptions.proofs.BySid.{counted_sids}
@@ -7,5 +8,5 @@ use Rattle.world_subscriptions.proofs.subscriptions.Subscriptions.has_all.Goals 
 
 pub returns : goal.returns
 returns c =
-    ap (nat_le 4096) (counted_sids c.count_of.result c.args.conn c.self.inside.sids c.self.inside.table c.count_of.ensures c.known.ensures.apart c.self.invariant)
+    ap (nat_le 4096) (counted_sids c.count_of.result c.args.conn c.self.inside.sids (values_of c.self.inside.by_id) c.count_of.ensures c.self.invariant.0.1 c.self.invariant.1)
     ∙ ap (λ (ss : List Subscription). has_all ss c.args.conn) c.self.view_is
