@@ -33,7 +33,7 @@ pub fn choose<'a>(
     Ok(choices)
 }
 
-/// The chosen member of each group.
+/// Returns the chosen member of each group.
 fn choose_each<'a>(
     alloc: Global,
     groups: &[Group<'a>],

@@ -26,7 +26,7 @@ impl<'a> Group<'a> {
     ghost use Rattle.std.specs.Prelude.{◌≡◌, ◌∷◌, ◌++◌, [], Some, OnOk};
     ghost use Rattle.queue_choice.specs.Choices.{chosen};
 
-    /// A group of one member. It takes no memory.
+    /// Returns a group of one member. It takes no memory.
     fn of(alloc: Global, member: Member<'a>) -> Group<'a>
         ensures { result ≡ member.entry ∷ [] }
     {
@@ -70,7 +70,7 @@ impl<'a> Groups<'a> {
     ghost use Rattle.queue_choice.specs.Choices.{names_of, group};
     ghost use Rattle.queue_choice.specs.Joined.{table_of, joined};
 
-    /// The groups of the members. Of no members it takes no memory.
+    /// Returns the groups of the members. Of no members it takes no memory.
     #[tactic(auto, using(crate::proofs::Tables::all_joined))]
     pub fn of(
         alloc: Global,
@@ -89,7 +89,7 @@ impl<'a> Groups<'a> {
         Ok(groups)
     }
 
-    /// The groups.
+    /// Returns the groups.
     pub fn as_slice(&self) -> &[Group<'a>]
         ensures { result.now ≡ self.now.list.items }
     {

@@ -25,7 +25,7 @@ impl World {
     ghost use Rattle.world.specs.Changes.{done, lost_id, IsFit};
     ghost use Rattle.world.specs.declared.change.Change.TheVariants as change;
 
-    /// Does what was decided of a command of which this is told. Where memory could not be had for a new session or
+    /// Carries out a decided command; `told` is its outcome. Where memory could not be had for a new session or
     /// subscription, nothing has changed.
     #[inline(always)]
     pub(crate) fn carry_out(&mut self, change: Change, told: &Outcome) -> Result<(), NoMemory>
@@ -80,7 +80,7 @@ impl World {
         }
     }
 
-    /// A session goes with its subscriptions.
+    /// Removes a session with its subscriptions.
     fn leave(&mut self, conn: u64)
         ensures { (told : Outcome) → self.new ≡ done self.old (change.Leave conn) told }
     {
@@ -89,7 +89,7 @@ impl World {
         self.subscriptions.remove(conn);
     }
 
-    /// A policy comes into force, with the users of the sessions that stay. The subscriptions of these ids go.
+    /// Puts a policy into force, with the users of the sessions that stay, and removes the subscriptions of these ids.
     fn install(&mut self, ready: Ready, users: VecDeque<User>, lost: Vec<u64>)
         requires users { users.items ≡ filter_map (user_again_of ready) self.old.sessions }
         requires lost { lost.items ≡ filter_map (lost_id ready self.old.sessions) self.old.subscriptions }
@@ -162,7 +162,7 @@ fn hand_over(
     }
 }
 
-/// The items of an outcome.
+/// Returns the items of an outcome.
 pub(crate) fn items_in(outcome: &Outcome) -> &[Item]
     ensures { result.now ≡ items_in outcome.now }
 {

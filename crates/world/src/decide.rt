@@ -18,7 +18,7 @@ use world_subscriptions::NewSubscription;
 /// How many sessions may stand.
 pub(crate) const SESSIONS: usize = 4096;
 
-/// An outcome that changes nothing.
+/// Returns an outcome that changes nothing.
 fn unchanged(outcome: Outcome) -> Decided
     ensures outcome { result.outcome ≡ outcome }
     ensures change { result.change ≡ change.Nothing }
@@ -29,7 +29,7 @@ fn unchanged(outcome: Outcome) -> Decided
     }
 }
 
-/// What the user's permissions refuse.
+/// Returns the denial by a verdict, which changes nothing.
 fn refused(verdict: Verdict) -> Decided
     ensures outcome { result.outcome ≡ outcome.Denied verdict }
     ensures change { result.change ≡ change.Nothing }
@@ -37,7 +37,7 @@ fn refused(verdict: Verdict) -> Decided
     unchanged(Outcome::Denied(verdict))
 }
 
-/// A subscription is to stand: what it holds has one more owner.
+/// Returns the change by which a subscription comes to stand. What it holds has one more owner.
 fn stand(
     alloc: Global,
     conn: u64,
@@ -58,7 +58,7 @@ fn stand(
     Ok(Change::Stand(Boxed::new(alloc, wanted)?))
 }
 
-/// A publish that is to be counted: one that a grant has allowed.
+/// Returns the publish, if a grant has allowed it: then it is to be counted.
 fn answered_by(by: By, conn: u64, message: &Message) -> Result<Option<Answered>, NoMemory>
     ensures { IfOk result (λ answered. answered ≡ answered_by by conn message.now) }
 {
@@ -72,7 +72,7 @@ fn answered_by(by: By, conn: u64, message: &Message) -> Result<Option<Answered>,
     }
 }
 
-/// Whether a message has no delivery and is no answer.
+/// Returns whether a message has no delivery and is no answer.
 fn is_for_nobody(all: &[Addressed], answered: &Option<Answered>) -> bool
     ensures { IsTrue result → (all.now ≡ []) × (answered.now ≡ None) }
 {
@@ -99,7 +99,8 @@ impl World {
     ghost use Rattle.world.specs.Changes.{IsDecided};
     ghost use Rattle.world.specs.Reload.{AreEntitled};
 
-    /// What a command comes to: what is told, and what is to be done; or why it is refused. Nothing has changed yet.
+    /// Decides what a command comes to: its outcome, and what is to be done; or why it is refused. Nothing has changed
+    /// yet.
     #[inline(always)]
     pub(crate) fn decide(&mut self, command: &Command) -> Result<Decided, HubRefusal>
         requires sound { AreEntitled self.old.sessions self.old.subscriptions }
@@ -132,7 +133,7 @@ impl World {
         }
     }
 
-    /// A session for the user with that name and password, while there is room for one more.
+    /// Decides a Connect: a session for the user with that name and password, while there is room for one more.
     fn connect(
         &self,
         conn: u64,
@@ -161,7 +162,8 @@ impl World {
         }
     }
 
-    /// A subscription, where the user's permissions allow it, its id is free and the connection may have one more.
+    /// Decides a SUB: a subscription, where the user's permissions allow it, its id is free and the connection may have
+    /// one more.
     fn subscribe(
         &self,
         conn: u64,
@@ -206,7 +208,7 @@ impl World {
         }
     }
 
-    /// A limit, or an end, for the connection's subscription of that id.
+    /// Decides an UNSUB: a limit, or an end, for the connection's subscription of that id.
     fn unsubscribe(&self, conn: u64, sid: &Sid, most: Option<u64>) -> Result<Decided, HubRefusal>
         ensures decided { IsDecided self.now (moved self.now (command.Unsub conn sid.now most)) result }
         ensures reason { IfOk result (λ d. IsReasoned self.now (command.Unsub conn sid.now most) d.outcome) }
@@ -221,7 +223,7 @@ impl World {
         })
     }
 
-    /// A message to whom it is for, where the user's permissions allow it.
+    /// Decides a PUB: a message to whom it is for, where the user's permissions allow it.
     #[inline(always)]
     fn publish(&mut self, conn: u64, message: &Message, word: u64) -> Result<Decided, HubRefusal>
         ensures decided { IsDecided self.old (moved self.old (command.Pub conn message.now word)) result }
@@ -263,7 +265,7 @@ impl World {
         })
     }
 
-    /// What the deliveries of a message will meet. Beside each is put down what its session is to note.
+    /// Returns what the deliveries of a message will meet. Also sets each one's `noted`, what its session is to note.
     #[inline(always)]
     fn plan(&mut self, message: &Message, all: &mut Vec<Addressed>) -> Result<Met, NoMemory>
         ensures items { IfOk result (λ items. (now : ℕ) → items ≡ (delivered now all.new.items self.old.sessions).1) }
@@ -278,7 +280,7 @@ impl World {
         Ok(items)
     }
 
-    /// The oldest deliveries of a session's outbox.
+    /// Decides a Take: the oldest deliveries of a session's outbox.
     fn take(&mut self, conn: u64, most: usize) -> Result<Decided, HubRefusal>
         ensures decided { IsDecided self.old (moved self.old (command.Take conn most)) result }
         ensures reason { IfOk result (λ d. IsReasoned self.old (command.Take conn most) d.outcome) }
@@ -295,7 +297,7 @@ impl World {
         })
     }
 
-    /// The end of a session.
+    /// Decides a Close: the end of a session.
     fn close(&self, conn: u64) -> Result<Decided, HubRefusal>
         ensures decided { IsDecided self.now (moved self.now (command.Close conn)) result }
         ensures reason { IfOk result (λ d. IsReasoned self.now (command.Close conn) d.outcome) }
@@ -309,7 +311,7 @@ impl World {
         })
     }
 
-    /// Another policy: whose sessions stay, and which subscriptions they lose.
+    /// Decides a reload: whose sessions stay, and which subscriptions they lose.
     fn reload(&self, ready: &Ready) -> Result<Decided, HubRefusal>
         requires sound { AreEntitled self.now.sessions self.now.subscriptions }
         ensures decided { IsDecided self.now (moved self.now (command.Reload ready.now)) result }

@@ -26,7 +26,7 @@ pub(crate) struct Lost {
     pub ids: Vec<u64>,
 }
 
-/// Whom a session that stays acts for.
+/// Returns whom a session that stays acts for.
 fn user_for<'r>(ready: &'r Ready, session: Option<&Session>) -> Option<&'r User>
     ensures { option_copied result ≡ user_after ready.now (option_copied session.entry) }
 {
@@ -36,7 +36,7 @@ fn user_for<'r>(ready: &'r Ready, session: Option<&Session>) -> Option<&'r User>
     }
 }
 
-/// The verdict of the policy on a subscription, if its session stays.
+/// Returns the verdict of the policy on a subscription, if its session stays.
 fn verdict_on(
     ready: &Ready,
     sessions: &Sessions,
@@ -92,15 +92,15 @@ fn add_if_lost(
     }
 }
 
-/// The verdict of any policy on a subscription has its reason. It does nothing when it runs.
+/// Tells the prover that the verdict of any policy on a subscription has its reason. It does nothing when it runs.
 fn has_reason(subscription: &SharedSubscription)
     ensures { (doc : PolicyDoc) (zs : List Session) → IsReasonedVerdict doc zs subscription.now }
 {
     each_has_reason(subscription.subject().get());
 }
 
-/// The subscriptions that don't stand on. Only those of users whose subscribe lists change are judged: the others may stand
-/// as they are.
+/// Returns the subscriptions that don't stand on. Only those of users whose subscribe lists change are judged: the
+/// others may stand as they are.
 #[tactic(auto, using(world_groups::proofs::Lists::filter_map_first))]
 pub(crate) fn lost_by(
     alloc: Global,

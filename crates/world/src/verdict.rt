@@ -7,7 +7,7 @@ use permissions::{By, Compiled, Verdict};
 use subjects::{Pattern, Subject, SubjectRef};
 use world_sessions::Session;
 
-/// The verdict on a subscription to a pattern, as a member of that queue group or of none.
+/// Returns the verdict on a subscription to a pattern, as a member of that queue group or of none.
 pub(crate) fn on_subscription(
     rules: &Compiled,
     pattern: &Pattern,
@@ -22,7 +22,7 @@ pub(crate) fn on_subscription(
     }
 }
 
-/// The verdict on a publish at a moment: the lists', and where they refuse, a live grant's.
+/// Returns the verdict on a publish at a moment: the lists', and where they refuse, a live grant's.
 pub(crate) fn on_publish(session: &Session, subject: &SubjectRef<'_>, now: u64) -> Verdict
     ensures verdict { result ≡ verdict_on now session.now subject.now }
     ensures justified { IsJustifiedPublish subject.now session.now.user.rules.publish (publish_verdict session.now.user.rules subject.now) }

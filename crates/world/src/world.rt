@@ -64,8 +64,9 @@ impl World {
     ghost use Rattle.world.specs.Reload.{AreEntitled};
     ghost use Rattle.world.specs.Shown.{standing_of, waiting_of};
 
-    /// The tables over a policy, with nobody connected. `outbox` is how many deliveries may wait for a session. Clients
-    /// choose the tokens of subjects and the names of queues, so what finds them is hashed under keys that they can't know.
+    /// Returns the tables over a policy, with nobody connected. `outbox` is how many deliveries may wait for a session.
+    /// Clients choose the tokens of subjects and the names of queues, so what finds them is hashed under keys that they
+    /// can't know.
     pub fn new(
         alloc: Global,
         ready: Ready,
@@ -91,12 +92,12 @@ impl World {
         })
     }
 
-    /// One event, which stays with the caller. The outcome and the world after it are the transition's. What is told
-    /// of it comes twice, once for the answer and once for the history: two owners of one entry. A refusal changes
+    /// Applies one event, which stays with the caller. The outcome and the world after it are the transition's. What is
+    /// told of it comes twice, once for the answer and once for the history: two owners of one entry. A refusal changes
     /// nothing: `SessionTaken` to a Connect of a connection with a session, `NoSession` to any other command of one
     /// without, `SessionLimit` to a Connect while 4,096 sessions stand, `NoMemory` where memory could not be had. No
-    /// standing subscription may be one that its session's user may not have: so a reload judges only those of users whose
-    /// subscribe lists change.
+    /// standing subscription may be one that its session's user may not have: so a reload judges only those of users
+    /// whose subscribe lists change.
     pub fn apply(&mut self, event: &Event) -> Result<(Answer, Answer), HubRefusal>
         requires fresh { (self.old.number == 18446744073709551615) ≡ false }
         requires epoch { self.old.epoch ≤ self.old.number + 1 }
@@ -202,7 +203,7 @@ impl World {
         Ok((told, kept))
     }
 
-    /// Why an event is refused, want of memory aside; `None` where it is not.
+    /// Returns why an event is refused, lack of memory aside; `None` where it is not.
     pub fn refuses(&self, event: &Event) -> Option<HubRefusal>
         ensures { result ≡ refusal_in (transition self.now event.entry.now) }
     {
@@ -217,7 +218,7 @@ impl World {
         }
     }
 
-    /// Why a Connect is refused.
+    /// Returns why a Connect is refused.
     fn refuses_connect(&self, conn: u64) -> Option<HubRefusal>
         ensures { (now : ℕ) (connected : Outcome × worlds.World) → refusal_in (in_new_session (advanced self.now now) (session_of self.now.sessions conn) connected) ≡ result }
     {
@@ -233,7 +234,7 @@ impl World {
         }
     }
 
-    /// Why another command of a connection is refused.
+    /// Returns why another command of a connection is refused.
     fn refuses_other(&self, conn: u64) -> Option<HubRefusal>
         ensures { (done : Session → Outcome × worlds.World) → refusal_in (in_session (session_of self.now.sessions conn) done) ≡ result }
     {
@@ -243,14 +244,14 @@ impl World {
         }
     }
 
-    /// The number of the last entry, 0 before the first.
+    /// Returns the number of the last entry, 0 before the first.
     pub fn number(&self) -> u64
         ensures { result ≡ self.now.number }
     {
         self.number
     }
 
-    /// How many deliveries may wait for a session.
+    /// Returns how many deliveries may wait for a session.
     #[inline(always)]
     pub fn capacity(&self) -> usize
         ensures { result ≡ self.now.capacity }
@@ -258,28 +259,28 @@ impl World {
         self.capacity
     }
 
-    /// The policy in force, made ready.
+    /// Returns the policy in force, made ready.
     pub fn ready(&self) -> &Ready
         ensures { result.now ≡ self.now.policy }
     {
         &self.ready
     }
 
-    /// The epoch in force: which policy it is, counted from 1.
+    /// Returns the epoch in force: which policy it is, counted from 1.
     pub fn epoch(&self) -> u128
         ensures { result ≡ self.now.epoch }
     {
         self.epoch
     }
 
-    /// The standing subscriptions, oldest first. `NoMemory` where memory could not be had.
+    /// Returns the standing subscriptions, oldest first. `NoMemory` where memory could not be had.
     pub fn standing(&self) -> Result<Items<Standing>, NoMemory>
         ensures { IfOk result (λ all. all ≡ map standing_of self.now.subscriptions) }
     {
         standing_all(self.alloc, &self.subscriptions)
     }
 
-    /// How many deliveries wait for the connection's session, and whether one was missed since its Connect or
+    /// Returns how many deliveries wait for the connection's session, and whether one was missed since its Connect or
     /// last Take; `None` where it has no session.
     pub fn waiting(&self, conn: u64) -> Option<(usize, bool)>
         ensures { result ≡ waiting_of self.now conn }
@@ -295,7 +296,7 @@ ghost use Rattle.std.specs.Prelude.{ℕ, ◌≡◌, ◌<◌, ◌+◌, IfOk};
 ghost use Rattle.world.specs.Transition.{entry_with};
 ghost use Rattle.world.specs.Changes.{epoch_after};
 
-/// Which policy is in force once a change is done.
+/// Returns which policy is in force once a change is done.
 fn epoch_after(epoch: u128, change: &Change) -> u128
     requires { epoch < 340282366920938463463374607431768211455 }
     ensures { result ≡ epoch_after epoch change.now }
@@ -307,7 +308,7 @@ fn epoch_after(epoch: u128, change: &Change) -> u128
     }
 }
 
-/// The entry of an event, twice: two owners of one. The event is not copied: what it holds has one more owner.
+/// Returns the entry of an event, twice: two owners of one. The event is not copied: what it holds has one more owner.
 #[inline(always)]
 fn entry_twice(
     alloc: Global,

@@ -10,7 +10,7 @@ use std::alloc::Global;
 use std::hash::RandomState;
 use subjects::{Subject, SubjectRef};
 
-/// The same subject, in memory of its own: it may stand long after what it was read of has gone.
+/// Returns the same subject, in memory of its own: it may stand long after what it was read of has gone.
 fn own_subject(alloc: Global, subject: &SubjectRef<'_>) -> Result<Subject, NoMemory>
     ensures { IfOk result (λ own. own ≡ subject.now) }
 {
@@ -21,7 +21,7 @@ fn own_subject(alloc: Global, subject: &SubjectRef<'_>) -> Result<Subject, NoMem
     }
 }
 
-/// A table for a session that has none yet.
+/// Returns a table for a session that has none yet.
 fn table_for(alloc: Global, keys: RandomState, replies: &Replies) -> Result<Replies, NoMemory>
     ensures { IfOk result (λ table. table ≡ (if is_some replies.now then None else Some [])) }
 {
@@ -32,7 +32,7 @@ fn table_for(alloc: Global, keys: RandomState, replies: &Replies) -> Result<Repl
     }
 }
 
-/// A note of the subject, with a table for a session that has none yet.
+/// Returns a note of the subject, with a table for a session that has none yet.
 fn note_of(
     alloc: Global,
     keys: RandomState,
@@ -47,7 +47,7 @@ fn note_of(
     Ok(note)
 }
 
-/// What is to be noted where a message with this reply enters for a session: the reply, if the user may answer.
+/// Returns what is to be noted where a message with this reply enters for a session: the reply, if the user may answer.
 #[inline(always)]
 pub(crate) fn note_for(
     alloc: Global,

@@ -23,7 +23,7 @@ pub struct ByConnection<'a> {
     pub list: &'a [Session],
 }
 
-/// The place of the session of a connection: mostly that of the hint.
+/// Returns the place of the session of a connection: mostly that of the hint.
 #[inline(always)]
 pub fn place_in(by: ByConnection<'_>, conn: u64) -> Option<usize>
     requires { by.conns.now ≡ map connection_of by.list.now }
@@ -43,7 +43,7 @@ pub fn place_in(by: ByConnection<'_>, conn: u64) -> Option<usize>
     place
 }
 
-/// Whether one more delivery has room in a session's outbox.
+/// Returns whether one more delivery has room in a session's outbox.
 #[tactic(auto, using(crate::proofs::Plans::has_room_is))]
 fn has_room(session: Option<&Session>) -> bool
     ensures { result ≡ has_room (option_copied session.entry) }
@@ -54,7 +54,7 @@ fn has_room(session: Option<&Session>) -> bool
     }
 }
 
-/// Puts down beside a delivery what its session is to note.
+/// Sets a delivery's `noted`, what its session is to note.
 #[inline(always)]
 fn put_note(
     alloc: Global,
@@ -78,7 +78,8 @@ fn put_note(
     }
 }
 
-/// What a single delivery meets at the session that it is for. Beside it is put down what that is to note.
+/// Returns what a single delivery meets at the session that it is for. Also sets its `noted`, what that session is to
+/// note.
 #[inline(always)]
 pub fn plan_one(
     alloc: Global,
@@ -118,7 +119,7 @@ fn note_room<'a>(
     }
 }
 
-/// Takes one from the room of a connection, and answers whether there was any.
+/// Takes one from the room of a connection, and returns whether there was any.
 fn take_room(by: ByConnection<'_>, rooms: &mut [usize], conn: u64) -> bool
     requires keys { by.conns.now ≡ map connection_of by.list.now }
     requires within { length by.list.now ≤ length rooms.old }
@@ -135,7 +136,7 @@ fn take_room(by: ByConnection<'_>, rooms: &mut [usize], conn: u64) -> bool
     }
 }
 
-/// Notes the room of each connection that a delivery is for, and puts down beside each delivery what its session is to
+/// Notes the room of each connection that a delivery is for, and sets each delivery's `noted`, what its session is to
 /// note.
 fn note_rooms(
     alloc: Global,
@@ -158,7 +159,7 @@ fn note_rooms(
     Ok(())
 }
 
-/// What a delivery meets where there is room, or where there is none.
+/// Returns what a delivery meets where there is room, or where there is none.
 fn item(next: &Addressed, has_room: bool) -> Result<Item, NoMemory>
     ensures { IfOk result (λ item. item ≡ (if has_room then Item.Entered next.now.conn next.now.delivery.sid else Item.Full next.now.conn next.now.delivery.sid)) }
 {
@@ -171,7 +172,7 @@ fn item(next: &Addressed, has_room: bool) -> Result<Item, NoMemory>
     }
 }
 
-/// What each delivery meets, where the rooms are noted.
+/// Returns what each delivery meets, where the rooms are noted.
 fn plan_each(
     alloc: Global,
     by: ByConnection<'_>,
@@ -190,7 +191,7 @@ fn plan_each(
     Ok(items)
 }
 
-/// Whether nothing is put down beside a delivery, and its session has room for it after so many others.
+/// Returns whether a delivery has nothing `noted`, and its session has room for it after so many others.
 #[inline(always)]
 fn has_room_after(by: ByConnection<'_>, next: &Addressed, before: usize) -> bool
     requires { by.conns.now ≡ map connection_of by.list.now }
@@ -205,7 +206,7 @@ fn has_room_after(by: ByConnection<'_>, next: &Addressed, before: usize) -> bool
     }
 }
 
-/// Whether nothing is put down beside any delivery, and each has room even where all those before it are for the same
+/// Returns whether no delivery has anything `noted`, and each has room even where all those before it are for the same
 /// session.
 fn have_room(by: ByConnection<'_>, all: &[Addressed]) -> bool
     requires { by.conns.now ≡ map connection_of by.list.now }
@@ -219,7 +220,7 @@ fn have_room(by: ByConnection<'_>, all: &[Addressed]) -> bool
     true
 }
 
-/// What deliveries meet that all enter.
+/// Returns what deliveries meet that all enter.
 fn enter_all(alloc: Global, all: &[Addressed]) -> Result<Vec<Item>, NoMemory>
     ensures { IfOk result (λ items. items.items ≡ map entered all.now) }
 {
@@ -230,8 +231,8 @@ fn enter_all(alloc: Global, all: &[Addressed]) -> Result<Vec<Item>, NoMemory>
     Ok(items)
 }
 
-/// What each delivery of a message with this reply will meet, told by the room that is left for each. Beside each is put
-/// down what its session is to note. Apart, so that a plan where all have room stays small.
+/// Returns what each delivery of a message with this reply will meet, told by the room that is left for each. Also sets
+/// each one's `noted`, what its session is to note. Apart, so that a plan where all have room stays small.
 #[inline(never)]
 fn plan_by_rooms(
     alloc: Global,
@@ -251,8 +252,9 @@ fn plan_by_rooms(
     Ok(items)
 }
 
-/// What each delivery of a message with this reply will meet, where they are handed over in turn. Beside each is put
-/// down what its session is to note. Where all have room and there is no reply, no room has to be counted.
+/// Returns what each delivery of a message with this reply will meet, where they are handed over in turn. Also sets
+/// each one's `noted`, what its session is to note. Where all have room and there is no reply, no room has to be
+/// counted.
 #[inline(never)]
 pub fn plan_all(
     alloc: Global,

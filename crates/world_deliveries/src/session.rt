@@ -30,8 +30,8 @@ impl Session {
     ghost use Rattle.world_deliveries.specs.Delivered.{offered};
     ghost use Rattle.world_deliveries.specs.Replying.{is_granted, answering, ending};
 
-    /// A session of a user, with nothing in its outbox. The outbox takes its room here, so that no delivery takes
-    /// any memory later. `NoMemory` where it could not be had.
+    /// Returns a session of a user, with nothing in its outbox. The outbox takes its room here, so that no delivery
+    /// takes any memory later. `NoMemory` where it could not be had.
     pub fn new(
         alloc: Global,
         conn: u64,
@@ -63,7 +63,7 @@ impl Session {
         }
     }
 
-    /// Whether a live grant lets the user publish on a subject, whatever its lists say.
+    /// Returns whether a live grant lets the user publish on a subject, whatever its lists say.
     pub fn may_answer(&self, subject: &SubjectRef<'_>, now: u64) -> bool
         ensures { result ≡ is_granted now subject.now self.now }
     {
@@ -84,8 +84,8 @@ impl Session {
         self.replies.end(subject, self.user.rules.terms());
     }
 
-    /// The oldest deliveries, `most` at most, to be owned by others too. They stay. `NoMemory` where memory could not be
-    /// had.
+    /// Returns the oldest deliveries, `most` at most, to be owned by others too. They stay. `NoMemory` where memory
+    /// could not be had.
     pub fn share(&mut self, most: usize) -> Result<Batch<Delivery>, NoMemory>
         ensures front { IfOk result (λ front. front ≡ take most self.old.outbox.waiting) }
         ensures same { self.new ≡ self.old }

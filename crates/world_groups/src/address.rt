@@ -36,7 +36,7 @@ fn add_passing<'a, K: Keeps>(
     }
 }
 
-/// The subscriptions of these ids that pass a test.
+/// Returns the subscriptions of these ids that pass a test.
 #[tactic(auto, using(crate::proofs::Passing::passing_first))]
 fn passing<'a, K: Keeps>(
     alloc: Global,
@@ -53,7 +53,7 @@ fn passing<'a, K: Keeps>(
     Ok(found)
 }
 
-/// Those of an account that have a subject and pass a test, oldest first. Their ids are found in `ids`, whose
+/// Returns those of an account that have a subject and pass a test, oldest first. Their ids are found in `ids`, whose
 /// memory is used again. `NoMemory` where memory could not be had.
 pub fn passing_of<'a, K: Keeps>(
     alloc: Global,
@@ -72,7 +72,7 @@ pub fn passing_of<'a, K: Keeps>(
     Ok(found)
 }
 
-/// Addresses a message to the subscription of an id, where it passes a test and is of no queue group. Answers whether
+/// Addresses a message to the subscription of an id, where it passes a test and is of no queue group. Returns whether
 /// it isn't a member of one that passes.
 fn address_plain<K: Keeps>(
     subscriptions: &Subscriptions,
@@ -101,7 +101,7 @@ fn address_plain<K: Keeps>(
 }
 
 /// Addresses a message to the subscriptions of these ids that pass a test, up to the first that is a member of a queue
-/// group. Answers whether none was.
+/// group. Returns whether none was.
 #[tactic(auto, using(crate::proofs::Passing::passing_first))]
 fn address_all_plain<K: Keeps>(
     subscriptions: &Subscriptions,

@@ -19,7 +19,7 @@ pub enum Grouping {
     Various,
 }
 
-/// Whether a subscription is not of a queue group.
+/// Returns whether a subscription is not of a queue group.
 fn is_outside(subscription: &SharedSubscription, queue: &Subject) -> bool
     ensures { result ≡ is_outside queue.now subscription.now.queue }
 {
@@ -29,7 +29,7 @@ fn is_outside(subscription: &SharedSubscription, queue: &Subject) -> bool
     }
 }
 
-/// Whether one of the subscriptions is not of a queue group.
+/// Returns whether one of the subscriptions is not of a queue group.
 fn has_outside(all: &[&SharedSubscription], queue: &Subject) -> bool
     ensures { result ≡ list_any (λ s. is_outside queue.now s.queue) (map (λ s. s.now) all.now) }
 {
@@ -41,7 +41,7 @@ fn has_outside(all: &[&SharedSubscription], queue: &Subject) -> bool
     false
 }
 
-/// How subscriptions are grouped. It takes no memory.
+/// Returns how subscriptions are grouped. It takes no memory.
 pub fn grouping_of(all: &[&SharedSubscription]) -> Grouping
     requires { Rising (map (λ s. s.now) all.now) }
     ensures { AreGrouped result (map (λ s. s.now) all.now) }

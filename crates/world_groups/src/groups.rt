@@ -14,7 +14,7 @@ use std::hash::RandomState;
 use subjects::Subject;
 use world_subscriptions::SharedSubscription;
 
-/// The name of the oldest member's queue group, where one of the subscriptions is a member.
+/// Returns the name of the oldest member's queue group, where one of the subscriptions is a member.
 pub(crate) fn first_queue<'a>(all: &[&'a SharedSubscription]) -> Option<&'a Subject>
     ensures { IfNone result (list_any is_queued (map (λ s. s.now) all.now) ≡ false) }
 {
@@ -26,7 +26,7 @@ pub(crate) fn first_queue<'a>(all: &[&'a SharedSubscription]) -> Option<&'a Subj
     None
 }
 
-/// Whether a subscription is a member of another queue group.
+/// Returns whether a subscription is a member of another queue group.
 fn is_other(subscription: &SharedSubscription, queue: &Subject) -> bool
     ensures { result ≡ is_other queue.now subscription.now.queue }
 {
@@ -36,7 +36,7 @@ fn is_other(subscription: &SharedSubscription, queue: &Subject) -> bool
     }
 }
 
-/// Whether one of the subscriptions is a member of another queue group.
+/// Returns whether one of the subscriptions is a member of another queue group.
 fn has_other(all: &[&SharedSubscription], queue: &Subject) -> bool
     ensures { result ≡ list_any (λ s. is_other queue.now s.queue) (map (λ s. s.now) all.now) }
 {
@@ -48,7 +48,7 @@ fn has_other(all: &[&SharedSubscription], queue: &Subject) -> bool
     false
 }
 
-/// How many are members of queue groups.
+/// Returns how many are members of queue groups.
 fn count_members(all: &[&SharedSubscription]) -> usize
     ensures { result ≡ length (filter is_queued (map (λ s. s.now) all.now)) }
 {
@@ -61,7 +61,7 @@ fn count_members(all: &[&SharedSubscription]) -> usize
     count
 }
 
-/// The id of a member by its number, counted from the oldest, which is 0.
+/// Returns the id of a member by its number, counted from the oldest, which is 0.
 fn member_at(all: &[&SharedSubscription], number: usize) -> Option<u64>
     ensures { result ≡ option_map (λ s. s.id) (slice_get (filter is_queued (map (λ s. s.now) all.now)) number) }
 {
@@ -77,7 +77,7 @@ fn member_at(all: &[&SharedSubscription], number: usize) -> Option<u64>
     None
 }
 
-/// The id of the member that a word chooses, where all members are of one queue group.
+/// Returns the id of the member that a word chooses, where all members are of one queue group.
 fn member_for(all: &[&SharedSubscription], word: u64) -> Option<u64>
     ensures { result ≡ option_map (λ s. s.id) (chosen word (filter is_queued (map (λ s. s.now) all.now))) }
 {
@@ -89,7 +89,7 @@ fn member_for(all: &[&SharedSubscription], word: u64) -> Option<u64>
     member_at(all, number)
 }
 
-/// Whether a subscription is plain, or the one that is chosen.
+/// Returns whether a subscription is plain, or the one that is chosen.
 fn is_kept_alone(subscription: &SharedSubscription, id: Option<u64>) -> bool
     ensures { result ≡ is_kept_alone id subscription.now.id subscription.now.queue }
 {
@@ -127,7 +127,7 @@ fn add_member<'a>(
     }
 }
 
-/// The members of queue groups, oldest first.
+/// Returns the members of queue groups, oldest first.
 #[tactic(auto, using(crate::proofs::Lists::filter_map_first))]
 fn members_in<'a>(
     alloc: Global,
@@ -142,7 +142,7 @@ fn members_in<'a>(
     Ok(members)
 }
 
-/// The ids of choices.
+/// Returns the ids of choices.
 fn ids_of(
     alloc: Global,
     keys: RandomState,
@@ -157,7 +157,7 @@ fn ids_of(
     Ok(ids)
 }
 
-/// The ids of the members that a word chooses, one of each queue group.
+/// Returns the ids of the members that a word chooses, one of each queue group.
 fn chosen_ids(
     alloc: Global,
     keys: RandomState,
@@ -173,7 +173,7 @@ fn chosen_ids(
     Ok(ids)
 }
 
-/// Whether a subscription is plain, or a member whose id is chosen.
+/// Returns whether a subscription is plain, or a member whose id is chosen.
 fn is_kept(subscription: &SharedSubscription, ids: &IndexSet<u64, RandomState>) -> bool
     ensures { result ≡ is_kept ids.now.keys subscription.now }
 {
@@ -190,7 +190,7 @@ fn keep_these(all: &mut Vec<&SharedSubscription>, ids: &IndexSet<u64, RandomStat
     all.retain(|subscription| is_kept(subscription, ids));
 }
 
-/// Of the members of queue groups those stay whom the word chooses, one of each group. The others are dropped. Where
+/// Keeps of the members of queue groups those whom the word chooses, one of each group, and drops the others. Where
 /// there is one group alone, or none, it takes no memory.
 pub fn keep_chosen(
     alloc: Global,

@@ -72,7 +72,7 @@ impl IdCache {
         }
     }
 
-    /// Whether the sum is the one that was last asked for in its slot, as it is from now on.
+    /// Returns whether the sum is the one that was last asked for in its slot, as it is from now on.
     fn is_asked_again(&mut self) -> bool
         ensures { (entries : Entries) → AreTold self.old entries → AreTold self.new entries }
     {
@@ -166,12 +166,12 @@ fn blank_slots(alloc: Global) -> Result<Vec<CachedIds>, NoMemory>
     Ok(slots)
 }
 
-/// The sum of an account and of the text of a subject.
+/// Returns the sum of an account and of the text of a subject.
 fn sum_of(account: &[u8], text: &[u8]) -> u64 {
     with_bytes(with_bytes(SPREAD, account), text)
 }
 
-/// A sum with the bytes of one more text: each eight of them, and the last eight, or what a shorter one makes.
+/// Returns a sum with the bytes of one more text: each eight of them, and the last eight, or what a shorter one makes.
 fn with_bytes(sum: u64, bytes: &[u8]) -> u64 {
     let sum = sum.wrapping_add(bytes.len() as u64);
     match bytes.last_chunk::<8>() {
@@ -180,7 +180,7 @@ fn with_bytes(sum: u64, bytes: &[u8]) -> u64 {
     }
 }
 
-/// A sum with each eight bytes of a text.
+/// Returns a sum with each eight bytes of a text.
 fn with_words(sum: u64, bytes: &[u8]) -> u64 {
     let mut sum = sum;
     for word in bytes.as_chunks::<8>().0 {
@@ -189,8 +189,8 @@ fn with_words(sum: u64, bytes: &[u8]) -> u64 {
     sum
 }
 
-/// A word of the bytes of a text of fewer than eight: its first four and its last four, which may overlap, or each of
-/// still fewer.
+/// Returns a word of the bytes of a text of fewer than eight: its first four and its last four, which may overlap, or
+/// each of still fewer.
 fn short_word(bytes: &[u8]) -> u64 {
     match (bytes.first_chunk::<4>(), bytes.last_chunk::<4>()) {
         (Some(first), Some(last)) => {
@@ -200,7 +200,7 @@ fn short_word(bytes: &[u8]) -> u64 {
     }
 }
 
-/// The bytes of a text in one word, as far as they have room.
+/// Returns the bytes of a text in one word, as far as they have room.
 fn packed(bytes: &[u8]) -> u64 {
     let mut word = 0;
     for byte in bytes {
@@ -209,13 +209,13 @@ fn packed(bytes: &[u8]) -> u64 {
     word
 }
 
-/// A sum with one word more.
+/// Returns a sum with one word more.
 fn with_word(sum: u64, word: u64) -> u64 {
     let product = (sum ^ word).wrapping_mul(SPREAD);
     product ^ (product >> 32)
 }
 
-/// The slot of a sum.
+/// Returns the slot of a sum.
 fn place_of(sum: u64) -> usize {
     (sum >> 56) as usize
 }

@@ -34,7 +34,8 @@ impl Sids {
     ghost use Rattle.std.specs.HashMap.{IsUnique};
     ghost use Rattle.world_ids.specs.Sids.{IsEmpty, IsSame, IsWith, IsWithout, IsWithoutAllOf, id_under, own_of, same_sid};
 
-    /// No sids. Clients choose them, so they are hashed under keys that clients can't know. It takes no memory.
+    /// Returns an index without sids. Clients choose sids, so they are hashed under keys that clients can't know. It
+    /// takes no memory.
     pub fn new(alloc: Global, keys: RandomState) -> Sids
         ensures { IsEmpty result }
     {
@@ -45,7 +46,7 @@ impl Sids {
         }
     }
 
-    /// The id under a connection and a sid.
+    /// Returns the id under a connection and a sid.
     pub fn id_of(&self, conn: u64, sid: &[u8]) -> Option<u64>
         ensures { result ≡ id_under self.now conn sid.now }
     {
@@ -55,7 +56,7 @@ impl Sids {
         }
     }
 
-    /// How many sids the connection has.
+    /// Returns how many sids the connection has.
     pub fn count_of(&self, conn: u64) -> usize
         ensures { MatchOption (own_of self.now conn) (result ≡ 0) (λ own. (result ≡ length own.entries) × IsUnique same_sid own) }
     {
@@ -101,7 +102,7 @@ impl Sids {
         }
     }
 
-    /// Takes those of a connection out, and answers them.
+    /// Takes those of a connection out, and returns them.
     pub fn take(&mut self, conn: u64) -> Option<Own>
         ensures own { result ≡ own_of self.old conn }
         ensures left { IsWithoutAllOf self.old conn self.new }
@@ -110,7 +111,7 @@ impl Sids {
     }
 }
 
-/// One sid with its id.
+/// Returns one sid with its id.
 fn one_alone(alloc: Global, keys: RandomState, sid: Vec<u8>, id: u64) -> Result<Own, NoMemory>
     ensures { IfOk result (λ own. (other : List ℕ) → id_in (Some own) other ≡ cond (pointwise nat_eq sid.items other) (Some id) None) }
 {

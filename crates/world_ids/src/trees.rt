@@ -41,8 +41,8 @@ impl Trees {
     ghost use Rattle.sublist.specs.Pairs.{Pairs, matching_ids};
     ghost use Rattle.world_ids.specs.Trees.{IsEmpty, IsSame, IsWith, IsWithout, IsIndexOf};
 
-    /// Trees that hold nothing. Clients choose the tokens, so the tables of tokens are hashed under keys that they
-    /// can't know. It takes no memory.
+    /// Returns trees that hold nothing. Clients choose the tokens, so the tables of tokens are hashed under keys that
+    /// they can't know. It takes no memory.
     pub fn new(alloc: Global, keys: RandomState) -> Trees
         ensures { IsEmpty result }
     {
@@ -160,7 +160,7 @@ fn add(tree: &mut Sublist, pattern: &Pattern, id: u64) -> Result<(), NoMemory>
     }
 }
 
-/// A tree that has one pair, and nothing else.
+/// Returns a tree that has one pair, and nothing else.
 fn grown(alloc: Global, keys: RandomState, pattern: &Pattern, id: u64) -> Result<Sublist, NoMemory>
     ensures { IfOk result (λ tree. (p : List Token) (i : ℕ) → pairs.stands tree p i ≡ (id == i && same_path pattern.now p)) }
 {

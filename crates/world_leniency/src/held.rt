@@ -11,21 +11,21 @@ use base::NoMemory;
 use events::Item;
 use world_sessions::{Session, Sessions};
 
-/// Whether an item tells of a full outbox.
+/// Returns whether an item tells of a full outbox.
 fn is_full(item: &Item) -> bool
     ensures { result ≡ is_full item.now }
 {
     matches!(item, Item::Full { .. })
 }
 
-/// Whether any item tells of a full outbox.
+/// Returns whether any item tells of a full outbox.
 fn is_any_full(items: &[Item]) -> bool
     ensures { result ≡ list_any is_full items.now }
 {
     items.iter().any(|item| is_full(item))
 }
 
-/// Whether nothing waits in a session's outbox, or there is no session.
+/// Returns whether nothing waits in a session's outbox, or there is no session.
 fn has_nothing(session: Option<&Session>) -> bool
     ensures { result ≡ has_nothing (option_copied session.entry) }
 {
@@ -35,7 +35,7 @@ fn has_nothing(session: Option<&Session>) -> bool
     }
 }
 
-/// Whether a connection with a full outbox holds the message back.
+/// Returns whether a connection with a full outbox holds the message back.
 fn holds_back<T: Lenient>(lenient: &T, sessions: &Sessions, conn: u64) -> bool
     ensures { result ≡ holds_back (T.terms lenient.now).lets sessions.now conn }
 {

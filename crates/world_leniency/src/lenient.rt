@@ -6,11 +6,11 @@ pub trait Lenient {
     /// The terms, for clauses.
     ghost terms: { Self → Terms };
 
-    /// Whether it may tell of a connection that it is full.
+    /// Returns whether it may tell of a connection that it is full.
     fn lets(&self, conn: u64) -> bool
         ensures { result ≡ (terms self.now).lets conn };
 
-    /// How many bytes may wait for a connection whose outbox its message enters, where that counts.
+    /// Returns how many bytes may wait for a connection whose outbox its message enters, where that counts.
     fn room(&self) -> Option<usize>
         ensures { result ≡ (terms self.now).room };
 }

@@ -8,7 +8,7 @@ use base::NoMemory;
 use events::{Delivery, Message};
 use world_sessions::Session;
 
-/// How many bytes a message has, beside its subjects.
+/// Returns how many bytes a message has, beside its subjects.
 #[inline(always)]
 pub fn bytes_of(message: &Message) -> usize
     ensures { result ≡ bytes_of message.now }
@@ -16,7 +16,7 @@ pub fn bytes_of(message: &Message) -> usize
     message.head().len() + message.payload().len()
 }
 
-/// Whether deliveries have more bytes than so many.
+/// Returns whether deliveries have more bytes than so many.
 fn weigh_more(waiting: &[Delivery], room: usize) -> bool
     ensures { result ≡ nat_lt room (sum_by weight_of waiting.now) }
 {
@@ -31,7 +31,7 @@ fn weigh_more(waiting: &[Delivery], room: usize) -> bool
     false
 }
 
-/// Whether more bytes wait in a session's outbox than may. `NoMemory` where memory could not be had to look.
+/// Returns whether more bytes wait in a session's outbox than may. `NoMemory` where memory could not be had to look.
 pub(crate) fn is_over(room: Option<usize>, session: Option<&Session>) -> Result<bool, NoMemory>
     ensures { IfOk result (λ over. over ≡ is_over room (option_copied session.entry)) }
 {

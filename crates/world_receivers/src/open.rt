@@ -9,7 +9,7 @@ use subjects::{Subject, SubjectRef};
 use world_sessions::{Session, Sessions};
 use world_subscriptions::{Keeps, SharedSubscription};
 
-/// The verdict on a message that is to be sent to a member of that queue group, or of none.
+/// Returns the verdict on a message that is to be sent to a member of that queue group, or of none.
 fn on_delivery(rules: &Compiled, subject: &SubjectRef<'_>, queue: &Option<Subject>) -> Verdict
     ensures { result ≡ delivery_verdict rules.now subject.now queue.now }
 {
@@ -19,7 +19,8 @@ fn on_delivery(rules: &Compiled, subject: &SubjectRef<'_>, queue: &Option<Subjec
     }
 }
 
-/// Whether the permissions of a session let the subject through, to a subscription with this queue name or with none.
+/// Returns whether the permissions of a session let the subject through, to a subscription with this queue name or with
+/// none.
 fn lets_through(
     session: Option<&Session>,
     subject: &SubjectRef<'_>,
@@ -33,8 +34,8 @@ fn lets_through(
     }
 }
 
-/// Whether a connection may be sent a message of the publisher: it isn't the publisher's own, or that one is sent its
-/// own messages; and its permissions let the subject through.
+/// Returns whether a connection may be sent a message of the publisher: it isn't the publisher's own, or that one is
+/// sent its own messages; and its permissions let the subject through.
 #[inline(always)]
 fn is_open_to(
     sessions: &Sessions,

@@ -16,7 +16,7 @@ pub(crate) struct Receiver {
 }
 
 impl Receiver {
-    /// That of a subscription. `NoMemory` where its sid has too many owners to count.
+    /// Returns the receiver of a subscription. `NoMemory` where its sid has too many owners to count.
     fn of(subscription: &SharedSubscription) -> Result<Receiver, NoMemory>
         ensures { IfOk result (λ receiver. receiver ≡ receiver_of subscription.now) }
     {
@@ -27,7 +27,7 @@ impl Receiver {
         })
     }
 
-    /// A message on its way to it. It is not copied: the delivery is one more owner.
+    /// Returns a message on its way to it. It is not copied: the delivery is one more owner.
     pub fn address(&self, message: &Message) -> Result<Addressed, NoMemory>
         ensures { IfOk result (λ addressed. addressed ≡ addressed_at message.now self.now) }
     {
@@ -43,7 +43,7 @@ impl Receiver {
     }
 }
 
-/// The receivers of these subscriptions, in turn.
+/// Returns the receivers of these subscriptions, in turn.
 pub(crate) fn receivers_of(
     alloc: Global,
     subscriptions: &[&SharedSubscription],

@@ -8,7 +8,7 @@ pub trait Keeps {
     /// The test, as a clause says it.
     ghost keeps: { Self → Subscription → Bool };
 
-    /// Whether a subscription stays.
+    /// Returns whether a subscription stays.
     fn keeps(&self, subscription: &SharedSubscription) -> bool
         ensures { result ≡ keeps self.now subscription.now };
 }

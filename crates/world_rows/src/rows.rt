@@ -34,7 +34,7 @@ impl Row {
     ghost use Rattle.world_rows.specs.Changes.{bumped, capped};
     ghost use Rattle.world_rows.specs.Rows.{passes};
 
-    /// The subscription that stands in it.
+    /// Returns the subscription in it.
     fn get(&self) -> Option<&SharedSubscription>
         ensures { option_copied result ≡ self.now.standing }
     {
@@ -44,7 +44,7 @@ impl Row {
         }
     }
 
-    /// Whether one stands in it.
+    /// Returns whether there is one in it.
     fn is_full(&self) -> bool
         ensures { result ≡ passes (λ (s : Subscription). true) self.now.standing }
     {
@@ -54,7 +54,7 @@ impl Row {
         }
     }
 
-    /// Whether one stands in it that passes a test.
+    /// Returns whether there is one in it that passes a test.
     fn is_kept<K: Keeps>(&self, test: &K) -> bool
         ensures { result ≡ passes (K.keeps test.now) self.now.standing }
     {
@@ -64,7 +64,7 @@ impl Row {
         }
     }
 
-    /// One message more for the one that stands in it. Whether it has ended by it.
+    /// Counts one message more for the subscription in it. Returns whether it has ended by that.
     #[inline(always)]
     fn bump(&mut self) -> bool
         ensures id { self.new.id ≡ self.old.id }
@@ -80,7 +80,7 @@ impl Row {
         }
     }
 
-    /// A limit for the one that stands in it. Whether it has ended by it.
+    /// Sets a limit for the subscription in it. Returns whether it has ended by that.
     fn cap(&mut self, most: Option<u64>) -> bool
         ensures id { self.new.id ≡ self.old.id }
         ensures after { MatchOption self.old.standing ((self.new.standing ≡ None) × (result ≡ false))
@@ -96,7 +96,7 @@ impl Row {
     }
 }
 
-/// Whether the row of an id is in that place.
+/// Returns whether the row of an id is in that place.
 #[inline(always)]
 fn is_place_of(rows: &[Row], id: u64, place: usize) -> bool
     ensures { result ≡ true → IsPlaceOf id rows.now place }
@@ -107,7 +107,7 @@ fn is_place_of(rows: &[Row], id: u64, place: usize) -> bool
     }
 }
 
-/// The place of the row of an id, by binary search.
+/// Returns the place of the row of an id, by binary search.
 fn search(rows: &[Row], id: u64) -> Option<usize>
     requires { AreRising rows.now }
     ensures { MatchOption result (lookup (is_id id) (standing_in rows.now) ≡ None) (λ place. IsPlaceOf id rows.now place) }
@@ -118,7 +118,7 @@ fn search(rows: &[Row], id: u64) -> Option<usize>
     }
 }
 
-/// The place of the row of an id. It is looked for at a guess first, and behind it.
+/// Returns the place of the row of an id. It is looked for at a guess first, and behind it.
 #[inline(always)]
 fn place_of(rows: &[Row], id: u64, guess: usize) -> Option<usize>
     requires { AreRising rows.now }
@@ -134,7 +134,7 @@ fn place_of(rows: &[Row], id: u64, guess: usize) -> Option<usize>
     }
 }
 
-/// Whether the ids of all rows are below one.
+/// Returns whether the ids of all rows are below one.
 fn are_below(rows: &[Row], id: u64) -> bool
     requires { AreRising rows.now }
     ensures { result ≡ true → AreBelow id rows.now }
@@ -250,7 +250,7 @@ impl Rows {
     ghost use Rattle.world_rows.specs.Limit.{has_ended};
     ghost use Rattle.world_rows.specs.Changes.{bumped, capped, is_id};
 
-    /// No subscriptions.
+    /// Returns rows without subscriptions.
     #[tactic(auto, unfolding(crate::specs::Rows::AreRising))]
     pub fn new(alloc: Global) -> Rows
         ensures { result ≡ [] }
@@ -262,14 +262,14 @@ impl Rows {
         }
     }
 
-    /// How many stand.
+    /// Returns how many stand.
     pub fn len(&self) -> usize
         ensures { result ≡ length self.now }
     {
         self.rows.len() - self.empty
     }
 
-    /// Them all, in order.
+    /// Returns them all, in order.
     pub fn values(&self) -> RowValues<'_>
         ensures { result ≡ values_of self.now }
     {
@@ -278,7 +278,7 @@ impl Rows {
         }
     }
 
-    /// The subscription of that id.
+    /// Returns the subscription of that id.
     pub fn get(&self, id: u64) -> Option<&SharedSubscription>
         ensures { option_copied result ≡ lookup (is_id id) self.now }
     {
@@ -288,7 +288,7 @@ impl Rows {
         }
     }
 
-    /// One message more for the subscription of that id, if it stands. Whether it has ended by it.
+    /// Counts one message more for the subscription of that id, if it stands. Returns whether it has ended by that.
     #[inline(always)]
     pub fn bump(&mut self, id: u64) -> bool
         ensures { MatchOption (lookup (is_id id) self.old)
@@ -305,7 +305,7 @@ impl Rows {
         }
     }
 
-    /// A limit for the subscription of that id, if it stands. Whether it has ended by it.
+    /// Sets a limit for the subscription of that id, if it stands. Returns whether it has ended by that.
     pub fn cap(&mut self, id: u64, most: Option<u64>) -> bool
         ensures { MatchOption (lookup (is_id id) self.old)
             ((self.new ≡ self.old) × (result ≡ false))
@@ -344,7 +344,7 @@ impl Rows {
         }
     }
 
-    /// Takes the subscription of that id out. Answers it, if it stood.
+    /// Takes the subscription of that id out. Returns it, if it stood.
     pub fn remove(&mut self, id: u64) -> Option<SharedSubscription>
         ensures gone { result ≡ lookup (is_id id) self.old }
         ensures entries { self.new ≡ remove_entry (is_id id) self.old }

@@ -40,7 +40,7 @@ impl SharedSubscription {
     ghost use Rattle.world_rows.specs.Limit.{has_ended};
     ghost use Rattle.world_rows.specs.Changes.{bumped, capped};
 
-    /// The first owner of a subscription. `NoMemory` where memory could not be had.
+    /// Returns the first owner of a subscription. `NoMemory` where memory could not be had.
     pub fn of(alloc: Global, subscription: Subscription) -> Result<SharedSubscription, NoMemory>
         ensures { IfOk result (λ shared. shared ≡ subscription) }
     {
@@ -51,8 +51,8 @@ impl SharedSubscription {
         })
     }
 
-    /// One more owner, which keeps what it has received and its limit as they are now. It takes no memory. `NoMemory`
-    /// where there are too many owners to count.
+    /// Returns one more owner, which keeps what it has received and its limit as they are now. It takes no memory.
+    /// `NoMemory` where there are too many owners to count.
     pub fn again(&self) -> Result<SharedSubscription, NoMemory>
         ensures { IfOk result (λ same. same ≡ self.now) }
     {
@@ -63,63 +63,63 @@ impl SharedSubscription {
         })
     }
 
-    /// The number of the entry that made it.
+    /// Returns the number of the entry that made it.
     pub fn id(&self) -> u64
         ensures { result ≡ self.now.id }
     {
         self.made.get().id
     }
 
-    /// The connection whose session has it.
+    /// Returns the connection whose session has it.
     pub fn conn(&self) -> u64
         ensures { result ≡ self.now.conn }
     {
         self.made.get().conn
     }
 
-    /// The name of the account of that session's user.
+    /// Returns the name of the account of that session's user.
     pub fn account(&self) -> &Bytes
         ensures { result.now ≡ self.now.account }
     {
         &self.made.get().account
     }
 
-    /// What it asks for.
+    /// Returns what it asks for.
     pub fn subject(&self) -> &Shared<Pattern>
         ensures { result.now ≡ self.now.subject }
     {
         &self.made.get().subject
     }
 
-    /// The queue group that it is a member of, if it is of one.
+    /// Returns the queue group that it is a member of, if it is of one.
     pub fn queue(&self) -> &Option<Subject>
         ensures { result.now ≡ self.now.queue }
     {
         &self.made.get().queue
     }
 
-    /// The client's own id for it.
+    /// Returns the client's own id for it.
     pub fn sid(&self) -> &Sid
         ensures { result.now ≡ self.now.sid }
     {
         &self.made.get().sid
     }
 
-    /// How many messages it has received since its SUB. It stays at 2^64 - 1.
+    /// Returns how many messages it has received since its SUB. It stays at 2^64 - 1.
     pub fn received(&self) -> u64
         ensures { result ≡ self.now.received }
     {
         self.received
     }
 
-    /// How many it is to receive in all, where an UNSUB has said so.
+    /// Returns how many it is to receive in all, where an UNSUB has said so.
     pub fn most(&self) -> Option<u64>
         ensures { result ≡ self.now.most }
     {
         self.most
     }
 
-    /// Whether it has received as many messages as it is to receive.
+    /// Returns whether it has received as many messages as it is to receive.
     fn has_ended(&self) -> bool
         ensures { result ≡ has_ended self.now }
     {
@@ -129,7 +129,7 @@ impl SharedSubscription {
         }
     }
 
-    /// One message more. Whether it has ended by it.
+    /// Counts one message more. Returns whether it has ended by that.
     pub(crate) fn bump(&mut self) -> bool
         ensures after { self.new ≡ bumped self.old }
         ensures ended { result ≡ has_ended (bumped self.old) }
@@ -140,7 +140,7 @@ impl SharedSubscription {
         self.has_ended()
     }
 
-    /// A limit, in place of an earlier one. Whether it has ended by it.
+    /// Sets a limit, in place of an earlier one. Returns whether it has ended by that.
     pub(crate) fn cap(&mut self, most: Option<u64>) -> bool
         ensures after { self.new ≡ capped most self.old }
         ensures ended { result ≡ has_ended (capped most self.old) }

@@ -9,7 +9,7 @@ use policy_ready::{Ready, User};
 use std::alloc::Global;
 use std::collections::VecDeque;
 
-/// Whether the policy has the session's user again.
+/// Returns whether the policy has the session's user again.
 fn is_staying(ready: &Ready, session: &Session) -> bool
     ensures { result ≡ stays ready.now session.now }
 {
@@ -34,7 +34,7 @@ fn add_user(
     }
 }
 
-/// The users of the sessions that stay, as the policy has them.
+/// Returns the users of the sessions that stay, as the policy has them.
 #[tactic(auto, using(crate::proofs::Lists::filter_map_more))]
 pub(crate) fn users_again(
     alloc: Global,
@@ -60,7 +60,7 @@ fn add_closed(gone: &mut Vec<u64>, ready: &Ready, session: &Session) -> Result<(
     Ok(())
 }
 
-/// The connections of the sessions that go, session by session.
+/// Returns the connections of the sessions that go, session by session.
 #[tactic(auto, using(crate::proofs::Lists::map_filter_more))]
 fn closed_in_turn(alloc: Global, ready: &Ready, list: &[Session]) -> Result<Vec<u64>, NoMemory>
     ensures { IfOk result (λ gone. gone.items ≡ map connection_of (filter (goes ready.now) list.now)) }
@@ -72,7 +72,7 @@ fn closed_in_turn(alloc: Global, ready: &Ready, list: &[Session]) -> Result<Vec<
     Ok(gone)
 }
 
-/// The connections of the sessions that go, ascending.
+/// Returns the connections of the sessions that go, ascending.
 pub(crate) fn closed(alloc: Global, ready: &Ready, list: &[Session]) -> Result<Vec<u64>, NoMemory>
     ensures { IfOk result (λ gone. gone.items ≡ closed_conns ready.now list.now) }
 {

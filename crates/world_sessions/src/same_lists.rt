@@ -12,7 +12,7 @@ use std::mem;
 /// How many guesses there are. Two users whose names have one sum modulo it share one.
 const GUESSES: usize = 1_024;
 
-/// Beside each session, whether the policy has its user again with the subscribe lists that it has now.
+/// Returns for each session whether the policy has its user again with the subscribe lists that it has now.
 pub(crate) fn same_lists(
     alloc: Global,
     ready: &Ready,
@@ -31,7 +31,8 @@ pub(crate) fn same_lists(
     Ok(same)
 }
 
-/// Where an earlier session of the user may stand; from now on this place is guessed. Whoever asks looks there.
+/// Returns where an earlier session of the user may stand, and guesses this place from now on. Whoever asks looks
+/// there.
 fn guess_again(guesses: &mut Vec<usize>, user: &User, place: usize) -> usize {
     let mut sum: u64 = 0;
     for byte in user.user.as_slice() {
@@ -45,7 +46,7 @@ fn guess_again(guesses: &mut Vec<usize>, user: &User, place: usize) -> usize {
     }
 }
 
-/// The answer for a session: that of an earlier one of its user, where one stands at the guessed place.
+/// Returns the answer for a session: that of an earlier one of its user, where one stands at the guessed place.
 fn answer_for(
     ready: &Ready,
     list: &[Session],
@@ -72,7 +73,7 @@ fn answer_for(
     }
 }
 
-/// Whether the policy has the session's user again, with the subscribe lists that it has now.
+/// Returns whether the policy has the session's user again, with the subscribe lists that it has now.
 fn has_same_lists(ready: &Ready, session: &Session) -> bool
     ensures { Decides result (HasSameLists ready.now session.now) }
 {

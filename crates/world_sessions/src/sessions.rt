@@ -46,7 +46,7 @@ impl Sessions {
     ghost use Rattle.world_sessions.specs.Renewal.{user_again_of, closed_conns, remaining, HasSameLists, HaveOneUser, AreSameLists};
     ghost use Rattle.policy_doc.specs.declared.document.PolicyDoc.{PolicyDoc};
 
-    /// No session.
+    /// Returns an empty list of sessions.
     pub fn new(alloc: Global) -> Sessions
         ensures { result ≡ [] }
     {
@@ -58,28 +58,28 @@ impl Sessions {
         }
     }
 
-    /// How many sessions there are.
+    /// Returns how many sessions there are.
     pub fn len(&self) -> usize
         ensures { result ≡ length self.now }
     {
         self.list.len()
     }
 
-    /// The sessions in order of connecting.
+    /// Returns the sessions in order of connecting.
     pub fn as_slice(&self) -> &[Session]
         ensures { result.now ≡ self.now }
     {
         self.list.as_slice()
     }
 
-    /// What always holds: no two sessions have one connection. It does nothing when it runs.
+    /// Tells the prover what always holds: no two sessions have one connection. It does nothing when it runs.
     pub fn known(&self)
         ensures { AllPairs IsApart self.now }
     {
         self.conns.known();
     }
 
-    /// The place of the session of a connection.
+    /// Returns the place of the session of a connection.
     #[inline(always)]
     fn place_of(&self, conn: u64) -> Option<usize>
         ensures { MatchOption result (IsNowhere conn self.now) (IsPlace conn self.now) }
@@ -92,7 +92,7 @@ impl Sessions {
         place
     }
 
-    /// The session of a connection, if it has one.
+    /// Returns the session of a connection, if it has one.
     #[inline(always)]
     pub fn find(&self, conn: u64) -> Option<&Session>
         ensures { option_copied result ≡ session_of self.now conn }
@@ -103,7 +103,7 @@ impl Sessions {
         }
     }
 
-    /// Whether a connection has a session.
+    /// Returns whether a connection has a session.
     pub fn has(&self, conn: u64) -> bool
         ensures { result ≡ is_some (session_of self.now conn) }
     {
@@ -132,9 +132,9 @@ impl Sessions {
         remove_from(&mut self.list, conn);
     }
 
-    /// What each delivery of a message with this reply will meet, where they are handed over in turn. Beside each is put
-    /// down what its session is to note where it enters, and the memory that this will take is had here. `NoMemory` where
-    /// memory could not be had: then it is put down of some.
+    /// Returns what each delivery of a message with this reply will meet, where they are handed over in turn. Also sets
+    /// each one's `noted`, what its session is to note where it enters; the memory for that is taken here. `NoMemory`
+    /// where memory could not be had: then only some are set.
     #[inline(always)]
     pub fn plan(
         &mut self,
@@ -222,8 +222,8 @@ impl Sessions {
         }
     }
 
-    /// The oldest deliveries of a connection's outbox, `most` at most, to be owned by others too. They stay there. Without
-    /// a session there are none. `NoMemory` where memory could not be had.
+    /// Returns the oldest deliveries of a connection's outbox, `most` at most, to be owned by others too. They stay
+    /// there. Without a session there are none. `NoMemory` where memory could not be had.
     pub fn share(&mut self, conn: u64, most: usize) -> Result<Batch<Delivery>, NoMemory>
         ensures front { IfOk result (λ front. front ≡ front_of most (session_of self.old conn)) }
         ensures same { self.new ≡ self.old }
@@ -244,8 +244,8 @@ impl Sessions {
         }
     }
 
-    /// The users of the sessions that stay under a policy, session by session, as the policy has them. `NoMemory`
-    /// where memory could not be had.
+    /// Returns the users of the sessions that stay under a policy, session by session, as the policy has them.
+    /// `NoMemory` where memory could not be had.
     pub fn users_again(&self, ready: &Ready) -> Result<VecDeque<User>, NoMemory>
         ensures { IfOk result (λ users. users.items ≡ filter_map (user_again_of ready.now) self.now) }
     {
@@ -253,8 +253,8 @@ impl Sessions {
         Ok(users)
     }
 
-    /// The connections of the sessions that don't stay under a policy, ascending. `NoMemory` where memory could not
-    /// be had.
+    /// Returns the connections of the sessions that don't stay under a policy, ascending. `NoMemory` where memory could
+    /// not be had.
     pub fn closed(&self, ready: &Ready) -> Result<Vec<u64>, NoMemory>
         ensures { IfOk result (λ gone. gone.items ≡ closed_conns ready.now self.now) }
     {
@@ -262,8 +262,9 @@ impl Sessions {
         Ok(gone)
     }
 
-    /// Beside each session, whether a policy has its user again with the subscribe lists that it has now. `NoMemory`
-    /// where memory could not be had. Each user's lists are compared once, so sessions of one name must act for one user.
+    /// Returns for each session whether a policy has its user again with the subscribe lists that it has now.
+    /// `NoMemory` where memory could not be had. Each user's lists are compared once, so sessions of one name must act
+    /// for one user.
     pub fn same_lists(&self, ready: &Ready) -> Result<Vec<bool>, NoMemory>
         requires { AllPairs HaveOneUser self.now }
         ensures { IfOk result (λ same. AreSameLists ready.now self.now same.items) }
@@ -272,8 +273,8 @@ impl Sessions {
         Ok(same)
     }
 
-    /// Whether a connection has a session whose user has the same subscribe lists under a policy, by what `same_lists`
-    /// gave for it.
+    /// Returns whether a connection has a session whose user has the same subscribe lists under a policy, by what
+    /// `same_lists` gave for it.
     pub fn has_same_lists(&self, same: &[bool], conn: u64) -> bool
         ensures { (doc : PolicyDoc) → AreSameLists doc self.now same.now → Decides result (IsSomeAnd (session_of self.now conn) (HasSameLists doc)) }
     {

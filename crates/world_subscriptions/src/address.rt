@@ -22,8 +22,8 @@ pub fn address_each(
     Ok(())
 }
 
-/// The message on its way to a subscription. It is not copied: the delivery is one more owner. `NoMemory` where there are
-/// too many owners to count.
+/// Returns the message on its way to a subscription. It is not copied: the delivery is one more owner. `NoMemory` where
+/// there are too many owners to count.
 pub fn addressed_to(
     message: &Message,
     subscription: &SharedSubscription,

@@ -64,8 +64,8 @@ impl Subscriptions {
     ghost use Rattle.world_subscriptions.specs.Turns.{in_turn, entered_ids, is_one_of, TellEach};
     ghost use Rattle.world_subscriptions.specs.Index.{found_by};
 
-    /// No subscriptions. Clients choose the tokens of subjects, and sids, so what finds them is hashed under keys that
-    /// they can't know.
+    /// Returns the table without subscriptions. Clients choose the tokens of subjects, and sids, so what finds them is
+    /// hashed under keys that they can't know.
     #[tactic(auto, unfolding(crate::specs::Kept::IsKept, crate::specs::Kept::Apart))]
     pub fn new(alloc: Global, keys: RandomState) -> Subscriptions
         ensures { result ≡ [] }
@@ -78,14 +78,14 @@ impl Subscriptions {
         }
     }
 
-    /// How many stand.
+    /// Returns how many stand.
     pub fn len(&self) -> usize
         ensures { result ≡ length self.now }
     {
         self.by_id.len()
     }
 
-    /// Tells what holds of all: the ids rise, no two have one connection and sid, and none has ended.
+    /// Tells the prover what holds of all: the ids rise, no two have one connection and sid, and none has ended.
     pub fn known(&self)
         ensures ids { AllPairs (λ (s t : Subscription). s.id < t.id) self.now }
         ensures sids { AllPairs (λ (s t : Subscription). has_same_sid s t ≡ false) self.now }
@@ -96,14 +96,14 @@ impl Subscriptions {
         let _ = &self.by_id;
     }
 
-    /// Them all, oldest first.
+    /// Returns them all, oldest first.
     pub fn values(&self) -> RowValues<'_>
         ensures { result ≡ self.now }
     {
         self.by_id.values()
     }
 
-    /// The subscription of that id.
+    /// Returns the subscription of that id.
     pub fn get(&self, id: u64) -> Option<&SharedSubscription>
         ensures { option_copied result ≡ find (λ (s : Subscription). s.id == id) self.now }
     {
@@ -111,21 +111,21 @@ impl Subscriptions {
         found
     }
 
-    /// Whether a subscription of the connection stands under that sid.
+    /// Returns whether a subscription of the connection stands under that sid.
     pub fn stands(&self, conn: u64, sid: &Sid) -> bool
         ensures { result ≡ stands self.now conn sid.now }
     {
         self.id_of(conn, sid).is_some()
     }
 
-    /// Whether the connection has as many subscriptions as it may have, 4,096.
+    /// Returns whether the connection has as many subscriptions as it may have, 4,096.
     pub fn has_all(&self, conn: u64) -> bool
         ensures { result ≡ has_all self.now conn }
     {
         SUBSCRIPTIONS <= self.sids.count_of(conn)
     }
 
-    /// Keeps in mind which of an account have a subject, where it was asked for before and memory allows: then the next
+    /// Caches which of an account have a subject, where it was asked for before and memory allows: then the next
     /// `having` needs no search. They stay what they are.
     pub fn remember(&mut self, account: &[u8], subject: &SubjectRef<'_>)
         ensures { self.new ≡ self.old }
@@ -198,14 +198,14 @@ impl Subscriptions {
         }
     }
 
-    /// The id of the connection's subscription of that sid.
+    /// Returns the id of the connection's subscription of that sid.
     fn id_of(&self, conn: u64, sid: &Sid) -> Option<u64>
         ensures { result ≡ id_of self.now conn sid.now }
     {
         self.sids.id_of(conn, sid.as_slice())
     }
 
-    /// A limit for the subscription of that id, which ends where it has reached it.
+    /// Sets a limit for the subscription of that id, which ends where it has reached it.
     fn limit_one(&mut self, id: u64, most: Option<u64>)
         ensures { self.new ≡ unended (map (only (capped most) id) self.old) }
     {
@@ -214,7 +214,8 @@ impl Subscriptions {
         }
     }
 
-    /// One message more for the subscription of that id, which ends where that was the last that it was to receive.
+    /// Counts one message more for the subscription of that id, which ends where that was the last that it was to
+    /// receive.
     fn count_one(&mut self, id: u64)
         ensures { self.new ≡ unended (map (only bumped id) self.old) }
     {
@@ -223,7 +224,7 @@ impl Subscriptions {
         }
     }
 
-    /// One message more where it has entered.
+    /// Counts one message more where it has entered.
     fn count_entered(&mut self, addressed: &Addressed, item: &Item)
         ensures { self.new ≡ in_turn (entered_ids (addressed.now ∷ []) (item.now ∷ [])) self.old }
     {
