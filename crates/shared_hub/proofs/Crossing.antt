@@ -84,7 +84,7 @@ hub_out_send : IsSend hub_in.the_row → IsSend hub.the_row
 hub_out_send t = search (sendable, t) depth 6
 
 hubs_send : IsSend hub.the_row
-hubs_send = hub_out_send (hub_send (world_out_send (world_send (subs_out_send (subs_send trees_send))))
+hubs_send = hub_out_send (hub_send (world_out_send (world_send (subs_out_send (subs_send trees_send)))))
 
 desk_send : (L : RattleType) (r : Runs L.Denot) (l : Ledgers L.Denot) → IsSend (desk.the_row L r l)
 desk_send L r l = recorded_send _ _ _ (desk.the_type L r l).to_one (struct_send (shape (desk.the_type L r l)) (global.the_field_send, (hubs_send, (book.the_send L l, (waits.the_send, (search (sendable, crosses) depth 12, tt))))))

@@ -11,7 +11,7 @@ use Rattle.world_deliveries.specs.Replying.{with_note, answering, ending}
 use Rattle.world_deliveries.specs.declared.session.Session.{Session}
 use Rattle.world_subscriptions.specs.Addressing.{addressed_to}
 use Rattle.world_subscriptions.specs.Limit.{unended, counted}
-use Rattle.world_subscriptions.specs.Turns.{Tells, TellEach, entered_ids, in_turn}
+use Rattle.world_subscriptions.specs.Counting.{Tells, TellEach, entered_ids, in_turn}
 use Rattle.world_subscriptions.specs.Kept.{Apart}
 use Rattle.world_rows.specs.declared.subscription.Subscription.{Subscription}
 use Rattle.world_subscriptions.proofs.Apart.{counted_for}

@@ -14,7 +14,7 @@ use subjects::{Subject, SubjectRef};
 fn own_subject(alloc: Global, subject: &SubjectRef<'_>) -> Result<Subject, NoMemory>
     ensures { IfOk result (λ own. own ≡ subject.now) }
 {
-    let _known = subject.tokens();
+    let _ = subject.tokens();
     match Subject::parse(alloc, subject.bytes()) {
         Ok(own) => Ok(own),
         Err(_) => Err(NoMemory),

@@ -98,11 +98,7 @@ pub fn plan_one(
 }
 
 /// Notes how much room a connection has, and gives its session.
-fn note_room<'a>(
-    by: ByConnection<'a>,
-    rooms: &mut [usize],
-    conn: u64,
-) -> Option<&'a Session>
+fn note_room<'a>(by: ByConnection<'a>, rooms: &mut [usize], conn: u64) -> Option<&'a Session>
     requires keys { by.conns.now ≡ map connection_of by.list.now }
     requires within { length by.list.now ≤ length rooms.old }
     ensures session { option_copied result ≡ session_of by.entry.list.now conn }

@@ -30,8 +30,8 @@ impl Session {
     ghost use Rattle.world_deliveries.specs.Delivered.{offered};
     ghost use Rattle.world_deliveries.specs.Replying.{is_granted, answering, ending};
 
-    /// Returns a session of a user, with nothing in its outbox. The outbox takes its room here, so that no delivery
-    /// takes any memory later. `NoMemory` where it could not be had.
+    /// Returns a session of a user, with nothing in its outbox. The outbox takes its memory here, so that no delivery
+    /// takes any later. `NoMemory` where it could not be had.
     pub fn new(
         alloc: Global,
         conn: u64,

@@ -200,7 +200,7 @@ fn short_word(bytes: &[u8]) -> u64 {
     }
 }
 
-/// Returns the bytes of a text in one word, as far as they have room.
+/// Returns the bytes of a text in one word, the last eight of them.
 fn packed(bytes: &[u8]) -> u64 {
     let mut word = 0;
     for byte in bytes {

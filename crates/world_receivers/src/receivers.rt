@@ -113,7 +113,14 @@ impl Receivers {
             message,
             word,
         };
-        address_served(self.keys, subscriptions, routed, &open, &mut self.ids, &mut all)?;
+        address_served(
+            self.keys,
+            subscriptions,
+            routed,
+            &open,
+            &mut self.ids,
+            &mut all,
+        )?;
         Ok(all)
     }
 
@@ -139,7 +146,14 @@ impl Receivers {
             subject,
         };
         let account = publisher.user.account.as_slice();
-        if let Ok(found) = passing_of(self.alloc, subscriptions, account, subject, &open, &mut self.ids) {
+        if let Ok(found) = passing_of(
+            self.alloc,
+            subscriptions,
+            account,
+            subject,
+            &open,
+            &mut self.ids,
+        ) {
             self.cache.fill(found.as_slice());
         }
     }

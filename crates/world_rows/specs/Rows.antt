@@ -10,9 +10,9 @@ entry_of id None = []
 entry_of id (Some s) = (id, s) ∷ []
 
 -- those that stand, in order
-abbrev pub standing_in : List Row → List (ℕ × Subscription)
-standing_in [] = []
-standing_in (r ∷ rows) = entry_of r.id r.standing ++ standing_in rows
+abbrev pub entries_in : List Row → List (ℕ × Subscription)
+entries_in [] = []
+entries_in (r ∷ rows) = entry_of r.id r.subscription ++ entries_in rows
 
 -- whether one stands there that passes a test
 abbrev pub passes : (Subscription → Bool) → Option Subscription → Bool
@@ -36,7 +36,7 @@ AreRising (r ∷ rows) = AreAbove r.id rows × AreRising rows
 
 -- that many of them are empty
 abbrev pub AreEmpty : List Row → ℕ → Type 0
-AreEmpty rows empty = length (standing_in rows) + empty ≡ length rows
+AreEmpty rows empty = length (entries_in rows) + empty ≡ length rows
 
 -- the row of that id
 abbrev pub IsPlaceOf : ℕ → List Row → ℕ → Type 0

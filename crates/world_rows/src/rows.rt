@@ -3,7 +3,7 @@ ghost use Rattle.std.specs.Prelude.{◌≡◌, ◌<◌, ℕ, None, MatchOption, 
 ghost use Rattle.std.specs.Map.{lookup, remove_entry};
 ghost use Rattle.world_rows.specs.Changes.{is_id};
 ghost use Rattle.world_rows.specs.declared.subscription.Subscription.{Subscription};
-ghost use Rattle.world_rows.specs.Rows.{standing_in, AreRising, AreBelow, AreEmpty, IsPlaceOf};
+ghost use Rattle.world_rows.specs.Rows.{entries_in, AreRising, AreBelow, AreEmpty, IsPlaceOf};
 
 use crate::{Keeps, SharedSubscription};
 use std::alloc::Global;
@@ -16,13 +16,16 @@ const SPARE: usize = 16;
 /// The row of an id, with the subscription of that id as long as it stands.
 pub struct Row {
     id: u64,
-    standing: Option<SharedSubscription>,
+    subscription: Option<SharedSubscription>,
 }
 
 impl Drop for Row {
     #[inline(always)]
     fn drop(self) {
-        let Self { id: _, standing: _ } = self;
+        let Self {
+            id: _,
+            subscription: _,
+        } = self;
     }
 }
 
@@ -36,9 +39,9 @@ impl Row {
 
     /// Returns the subscription in it.
     fn get(&self) -> Option<&SharedSubscription>
-        ensures { option_copied result ≡ self.now.standing }
+        ensures { option_copied result ≡ self.now.subscription }
     {
-        match &self.standing {
+        match &self.subscription {
             None => None,
             Some(subscription) => Some(subscription),
         }
@@ -46,9 +49,9 @@ impl Row {
 
     /// Returns whether there is one in it.
     fn is_full(&self) -> bool
-        ensures { result ≡ passes (λ (s : Subscription). true) self.now.standing }
+        ensures { result ≡ passes (λ (s : Subscription). true) self.now.subscription }
     {
-        match &self.standing {
+        match &self.subscription {
             None => false,
             Some(_) => true,
         }
@@ -56,9 +59,9 @@ impl Row {
 
     /// Returns whether there is one in it that passes a test.
     fn is_kept<K: Keeps>(&self, test: &K) -> bool
-        ensures { result ≡ passes (K.keeps test.now) self.now.standing }
+        ensures { result ≡ passes (K.keeps test.now) self.now.subscription }
     {
-        match &self.standing {
+        match &self.subscription {
             None => false,
             Some(subscription) => test.keeps(subscription),
         }
@@ -68,10 +71,10 @@ impl Row {
     #[inline(always)]
     fn bump(&mut self) -> bool
         ensures id { self.new.id ≡ self.old.id }
-        ensures after { MatchOption self.old.standing ((self.new.standing ≡ None) × (result ≡ false))
-            (λ sub. (self.new.standing ≡ Some (bumped sub)) × (result ≡ has_ended (bumped sub))) }
+        ensures after { MatchOption self.old.subscription ((self.new.subscription ≡ None) × (result ≡ false))
+            (λ sub. (self.new.subscription ≡ Some (bumped sub)) × (result ≡ has_ended (bumped sub))) }
     {
-        match &mut self.standing {
+        match &mut self.subscription {
             None => false,
             Some(subscription) => {
                 let ended = subscription.bump();
@@ -83,10 +86,10 @@ impl Row {
     /// Sets a limit for the subscription in it. Returns whether it has ended by that.
     fn cap(&mut self, most: Option<u64>) -> bool
         ensures id { self.new.id ≡ self.old.id }
-        ensures after { MatchOption self.old.standing ((self.new.standing ≡ None) × (result ≡ false))
-            (λ sub. (self.new.standing ≡ Some (capped most sub)) × (result ≡ has_ended (capped most sub))) }
+        ensures after { MatchOption self.old.subscription ((self.new.subscription ≡ None) × (result ≡ false))
+            (λ sub. (self.new.subscription ≡ Some (capped most sub)) × (result ≡ has_ended (capped most sub))) }
     {
-        match &mut self.standing {
+        match &mut self.subscription {
             None => false,
             Some(subscription) => {
                 let ended = subscription.cap(most);
@@ -110,7 +113,7 @@ fn is_place_of(rows: &[Row], id: u64, place: usize) -> bool
 /// Returns the place of the row of an id, by binary search.
 fn search(rows: &[Row], id: u64) -> Option<usize>
     requires { AreRising rows.now }
-    ensures { MatchOption result (lookup (is_id id) (standing_in rows.now) ≡ None) (λ place. IsPlaceOf id rows.now place) }
+    ensures { MatchOption result (lookup (is_id id) (entries_in rows.now) ≡ None) (λ place. IsPlaceOf id rows.now place) }
 {
     match rows.binary_search_by_key(&id, |row| row.id) {
         Err(_) => None,
@@ -122,7 +125,7 @@ fn search(rows: &[Row], id: u64) -> Option<usize>
 #[inline(always)]
 fn place_of(rows: &[Row], id: u64, guess: usize) -> Option<usize>
     requires { AreRising rows.now }
-    ensures { MatchOption result (lookup (is_id id) (standing_in rows.now) ≡ None) (λ place. IsPlaceOf id rows.now place) }
+    ensures { MatchOption result (lookup (is_id id) (entries_in rows.now) ≡ None) (λ place. IsPlaceOf id rows.now place) }
 {
     let next = guess.wrapping_add(1);
     if is_place_of(rows, id, guess) {
@@ -148,10 +151,10 @@ fn are_below(rows: &[Row], id: u64) -> bool
 /// Lets the empty rows go.
 fn compact(rows: &mut Vec<Row>, empty: &mut usize)
     requires rising { AreRising rows.old.items }
-    ensures same { standing_in rows.new.items ≡ standing_in rows.old.items }
+    ensures same { entries_in rows.new.items ≡ entries_in rows.old.items }
     ensures rising { AreRising rows.new.items }
     ensures empty { AreEmpty rows.new.items empty.new }
-    ensures below { (n : ℕ) → All (λ (e : ℕ × Subscription). e.0 < n) (standing_in rows.old.items) → AreBelow n rows.new.items }
+    ensures below { (n : ℕ) → All (λ (e : ℕ × Subscription). e.0 < n) (entries_in rows.old.items) → AreBelow n rows.new.items }
 {
     rows.retain(|row| row.is_full());
     *empty = 0;
@@ -161,7 +164,7 @@ fn compact(rows: &mut Vec<Row>, empty: &mut usize)
 fn compact_if_sparse(rows: &mut Vec<Row>, empty: &mut usize)
     requires rising { AreRising rows.old.items }
     requires empty { AreEmpty rows.old.items empty.old }
-    ensures same { standing_in rows.new.items ≡ standing_in rows.old.items }
+    ensures same { entries_in rows.new.items ≡ entries_in rows.old.items }
     ensures rising { AreRising rows.new.items }
     ensures empty { AreEmpty rows.new.items empty.new }
 {
@@ -174,8 +177,8 @@ fn compact_if_sparse(rows: &mut Vec<Row>, empty: &mut usize)
 fn make_way(rows: &mut Vec<Row>, empty: &mut usize, id: u64)
     requires rising { AreRising rows.old.items }
     requires empty { AreEmpty rows.old.items empty.old }
-    requires above { All (λ (e : ℕ × Subscription). e.0 < id) (standing_in rows.old.items) }
-    ensures same { standing_in rows.new.items ≡ standing_in rows.old.items }
+    requires above { All (λ (e : ℕ × Subscription). e.0 < id) (entries_in rows.old.items) }
+    ensures same { entries_in rows.new.items ≡ entries_in rows.old.items }
     ensures rising { AreRising rows.new.items }
     ensures empty { AreEmpty rows.new.items empty.new }
     ensures below { AreBelow id rows.new.items }
@@ -195,12 +198,12 @@ fn empty_at(
     requires rising { AreRising rows.old.items }
     requires empty { AreEmpty rows.old.items empty.old }
     requires place { IsPlaceOf id rows.old.items place }
-    ensures gone { result ≡ lookup (is_id id) (standing_in rows.old.items) }
-    ensures same { standing_in rows.new.items ≡ remove_entry (is_id id) (standing_in rows.old.items) }
+    ensures gone { result ≡ lookup (is_id id) (entries_in rows.old.items) }
+    ensures same { entries_in rows.new.items ≡ remove_entry (is_id id) (entries_in rows.old.items) }
     ensures rising { AreRising rows.new.items }
     ensures empty { AreEmpty rows.new.items empty.new }
 {
-    match rows[place].standing.take() {
+    match rows[place].subscription.take() {
         None => None,
         Some(gone) => {
             *empty += 1;
@@ -233,11 +236,11 @@ impl Drop for Rows {
 impl Model for Rows {
     ghost use Rattle.std.specs.Prelude.{ℕ, List};
     ghost use Rattle.world_rows.specs.declared.subscription.Subscription.{Subscription};
-    ghost use Rattle.world_rows.specs.Rows.{standing_in, AreRising, AreEmpty};
+    ghost use Rattle.world_rows.specs.Rows.{entries_in, AreRising, AreEmpty};
 
     ghost Value = { List (ℕ × Subscription) };
 
-    ghost view = { λ r. standing_in r.rows.items };
+    ghost view = { λ r. entries_in r.rows.items };
 
     ghost invariant = { λ r. AreRising r.rows.items × AreEmpty r.rows.items r.empty };
 }
@@ -337,7 +340,7 @@ impl Rows {
             Ok(()) => {
                 self.rows.push_reserved(Row {
                     id,
-                    standing: Some(subscription),
+                    subscription: Some(subscription),
                 });
                 Ok(())
             }
@@ -379,11 +382,11 @@ impl<'a> Model for RowValues<'a> {
     ghost use Rattle.std.specs.Map.{values_of};
     ghost use Rattle.std.specs.Slice.Iter.{iter_rest};
     ghost use Rattle.world_rows.specs.declared.subscription.Subscription.{Subscription};
-    ghost use Rattle.world_rows.specs.Rows.{standing_in};
+    ghost use Rattle.world_rows.specs.Rows.{entries_in};
 
     ghost Value = { List Subscription };
 
-    ghost view = { λ v. values_of (standing_in (iter_rest v.rows)) };
+    ghost view = { λ v. values_of (entries_in (iter_rest v.rows)) };
 }
 
 impl<'a> Iterator for RowValues<'a> {
@@ -399,7 +402,7 @@ impl<'a> Iterator for RowValues<'a> {
 
     fn next(&mut self) -> Option<&'a SharedSubscription> {
         while let Some(row) = self.rows.next() {
-            if let Some(subscription) = &row.standing {
+            if let Some(subscription) = &row.subscription {
                 return Some(subscription);
             }
         }

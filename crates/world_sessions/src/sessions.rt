@@ -178,7 +178,7 @@ impl Sessions {
         }
     }
 
-    /// Hands deliveries over in turn. It takes no memory, and the vector keeps its room.
+    /// Hands deliveries over in turn. It takes no memory, and the vector keeps its own.
     pub fn hand_over_all(&mut self, all: &mut Vec<Addressed>, now: u64)
         ensures { self.new ≡ (delivered now all.old.items self.old).0 }
     {

@@ -12,7 +12,7 @@ use Rattle.events.specs.declared.answer.Addressed.{Addressed}
 use Rattle.world_subscriptions.specs.Addressing.{addressed_to}
 use Rattle.events.specs.declared.answer.Item.{Item}
 use Rattle.events.specs.declared.answer.Item.TheVariants.{Entered, Full}
-use Rattle.world_subscriptions.specs.Turns.{in_turn, entered_ids, TellEach}
+use Rattle.world_subscriptions.specs.Counting.{in_turn, entered_ids, TellEach}
 use Rattle.world_subscriptions.specs.Kept.{NoneLike, Apart}
 use Rattle.world_subscriptions.specs.Changes.{only, bumped, capped}
 use Rattle.world_subscriptions.specs.Subscriptions.{is_under, stands}
@@ -20,7 +20,7 @@ use Rattle.std.specs.Prelude.{All, find}
 use Rattle.std.specs.Option.{option_map}
 use Rattle.std.proofs.lemmas.List.Elements.{All-head, All-tail}
 use Rattle.std.proofs.Common.{◌++◌, ◌+◌, nat_lt, Option, Some, None}
-use Rattle.world_subscriptions.proofs.Turns.{NamesOnly, AllNameOnly, AreApart, counted_in_turn}
+use Rattle.world_subscriptions.proofs.Counting.{NamesOnly, AllNameOnly, AreApart, counted_in_turn}
 
 eqb_comm : (m n : ℕ) → (m == n) ≡ (n == m)
 eqb_comm m n = grind (arith, nat_tests)

@@ -22,7 +22,7 @@ use Rattle.world_subscriptions.specs.Index.{ids_of}
 use Rattle.world_subscriptions.specs.Kept.{NoneLike, Apart}
 use Rattle.world_subscriptions.specs.Limit.{has_ended, unended}
 use Rattle.world_subscriptions.specs.Subscriptions.{is_under, stands, of_connection}
-use Rattle.world_subscriptions.specs.Turns.{is_one_of}
+use Rattle.world_subscriptions.specs.Counting.{is_one_of}
 use Rattle.world_subscriptions.proofs.Shuffled.{Named, shuffled}
 use Rattle.world_subscriptions.proofs.Indexed.{ids_above}
 use Rattle.world_subscriptions.proofs.Apart.{Leaves, only-leaves, apart_mapped, under, under_other, or_left, or_right}

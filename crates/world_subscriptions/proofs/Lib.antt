@@ -1,6 +1,6 @@
 pub mod Entries
 pub mod Ends
-pub mod Turns
+pub mod Counting
 pub mod Apart
 pub mod Indexed
 pub mod Known

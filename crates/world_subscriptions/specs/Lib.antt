@@ -5,4 +5,4 @@ pub mod Index
 pub mod Kept
 pub mod Limit
 pub mod Subscriptions
-pub mod Turns
+pub mod Counting

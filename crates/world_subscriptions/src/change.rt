@@ -10,7 +10,7 @@ ghost use Rattle.world_subscriptions.specs.BySid.{IsWithoutAll};
 ghost use Rattle.world_subscriptions.specs.Index.{IsTable, IsWithout, if_any};
 ghost use Rattle.world_subscriptions.specs.Limit.{has_ended};
 ghost use Rattle.world_subscriptions.specs.Subscriptions.{stands};
-ghost use Rattle.world_subscriptions.specs.Turns.{is_one_of};
+ghost use Rattle.world_subscriptions.specs.Counting.{is_one_of};
 
 use crate::{SharedSubscription, sids, trees};
 use world_ids::{Own, Sids, Trees};
@@ -31,8 +31,8 @@ fn take_out(by_id: &mut Rows, trees: &mut Trees, id: u64) -> Option<SharedSubscr
     }
 }
 
-/// Takes the subscription of that id, which has ended, out of all that finds it. What counts a message doesn't make room
-/// for it: hardly any subscription ends.
+/// Takes the subscription of that id, which has ended, out of all that finds it. Apart, so that what counts a message stays
+/// small: hardly any subscription ends.
 #[inline(never)]
 pub(crate) fn end_at(by_id: &mut Rows, trees: &mut Trees, sids: &mut Sids, id: u64)
     ensures entries { by_id.new ≡ remove_entry (is_id id) by_id.old }

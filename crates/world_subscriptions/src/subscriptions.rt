@@ -61,7 +61,7 @@ impl Subscriptions {
     ghost use Rattle.world_subscriptions.specs.BySid.{id_of};
     ghost use Rattle.world_subscriptions.specs.Kept.{Apart};
     ghost use Rattle.world_subscriptions.specs.Changes.{only, bumped, capped};
-    ghost use Rattle.world_subscriptions.specs.Turns.{in_turn, entered_ids, is_one_of, TellEach};
+    ghost use Rattle.world_subscriptions.specs.Counting.{in_turn, entered_ids, is_one_of, TellEach};
     ghost use Rattle.world_subscriptions.specs.Index.{found_by};
 
     /// Returns the table without subscriptions. Clients choose the tokens of subjects, and sids, so what finds them is

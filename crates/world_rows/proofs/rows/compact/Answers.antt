@@ -1,16 +1,16 @@
 -- what is retained are the rows that are full
 use Rattle.std.proofs.Common.{◌≡◌, ◌∙◌, ap, sym, subst, rules, true, List}
 use Rattle.std.proofs.lemmas.Fn.{filter_same}
-use Rattle.world_rows.specs.Rows.{standing_in, AreRising, AreBelow, AreEmpty}
+use Rattle.world_rows.specs.Rows.{entries_in, AreRising, AreBelow, AreEmpty}
 use Rattle.world_rows.specs.declared.rows.Row.{Row}
-use Rattle.world_rows.proofs.Places.{kept_rows, standing-kept, all_kept, rising-kept, full-kept, below-kept}
+use Rattle.world_rows.proofs.Places.{kept_rows, entries-kept, all_kept, rising-kept, full-kept, below-kept}
 use Rattle.world_rows.proofs.rows.compact.Goals as goal
 
 pub returns-clause-same : goal.returns-clause-same
 returns-clause-same c =
     let rows = c.args.rows.now.items in
     let kept : c.retain.new.self.items ≡ kept_rows (λ s. true) rows = filter_same _ _ _ (λ x b f' called. search rules) _ _ c.retain.ensures.filtered in
-    ap standing_in kept ∙ standing-kept (λ s. true) rows ∙ all_kept (standing_in rows)
+    ap entries_in kept ∙ entries-kept (λ s. true) rows ∙ all_kept (entries_in rows)
 
 pub returns-clause-rising : goal.returns-clause-rising
 returns-clause-rising c =

@@ -1,7 +1,7 @@
 -- the row of the id has what the change made of it
 use Rattle.std.proofs.Common.{◌≡◌, ◌∙◌, ap, subst, List, ℕ, slice_index_or, slice_set}
 use Rattle.world_rows.specs.Changes.{bumped}
-use Rattle.world_rows.specs.Rows.{standing_in, IsPlaceOf}
+use Rattle.world_rows.specs.Rows.{entries_in, IsPlaceOf}
 use Rattle.world_rows.specs.declared.rows.Row.{Row}
 use Rattle.world_rows.specs.declared.subscription.Subscription.{Subscription}
 use Rattle.world_rows.proofs.Places.{Changes, Becomes, rising_set, changes_at, empty_by}
@@ -31,5 +31,5 @@ returns-in-Some c =
     let place : IsPlaceOf c.args.id rows i = subst (λ (rs : List Row). IsPlaceOf c.args.id rs i) c.as_slice.ensures.value c.in-Some.ensures in
     let same : new.id ≡ (slice_index_or rows i old).id = c.bump-ended.ensures.id ∙ ap (λ (r : Row). r.id) is in
     let became : Becomes bumped (slice_index_or rows i old) new c.bump-ended.result = subst (λ (r : Row). Becomes bumped r new c.bump-ended.result) is c.bump-ended.ensures.after in
-    subst (λ (es : List (ℕ × Subscription)). Changes bumped c.args.id es (standing_in (slice_set rows i new)) c.bump-ended.result) c.self.view_is
+    subst (λ (es : List (ℕ × Subscription)). Changes bumped c.args.id es (entries_in (slice_set rows i new)) c.bump-ended.result) c.self.view_is
     (changes_at bumped c.args.id rows i new old c.self.invariant.0 place same c.bump-ended.result became)

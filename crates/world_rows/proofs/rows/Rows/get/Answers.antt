@@ -13,6 +13,6 @@ returns-in-Some c =
     let i = c.in-Some.place in
     let place : IsPlaceOf c.args.id rows i = subst (λ (rs : List Row). IsPlaceOf c.args.id rs i) c.as_slice.ensures.value c.in-Some.ensures in
     c.get.ensures
-    ∙ ap (λ (r : Row). r.standing) c.index.ensures
+    ∙ ap (λ (r : Row). r.subscription) c.index.ensures
     ∙ sym (lookup_at c.args.id rows i c.index.result.now c.self.invariant.0 place)
     ∙ ap (λ (es : List (ℕ × Subscription)). lookup (is_id c.args.id) es) c.self.view_is

@@ -1,10 +1,10 @@
 -- what is kept is what passes the test
 use Rattle.std.proofs.Common.{◌≡◌, ◌∙◌, ap, sym, subst, rules, Bool, List, ℕ, filter}
 use Rattle.std.proofs.lemmas.Fn.{filter_same}
-use Rattle.world_rows.specs.Rows.{standing_in, AreRising, AreEmpty}
+use Rattle.world_rows.specs.Rows.{entries_in, AreRising, AreEmpty}
 use Rattle.world_rows.specs.declared.rows.Row.{Row}
 use Rattle.world_rows.specs.declared.subscription.Subscription.{Subscription}
-use Rattle.world_rows.proofs.Places.{kept_rows, standing-kept, rising-kept, full-kept}
+use Rattle.world_rows.proofs.Places.{kept_rows, entries-kept, rising-kept, full-kept}
 use Rattle.world_rows.proofs.rows.Rows.keep.Goals as goal
 
 pub invariant_of-self : goal.invariant_of-self
@@ -19,4 +19,4 @@ returns g c =
     let rows = c.self.inside.rows.items in
     let p : Subscription → Bool = g.K.Keeps.keeps c.args.test.now in
     let kept : c.retain.new.self.items ≡ kept_rows p rows = filter_same _ _ _ (λ x b f' called. search rules) _ _ c.retain.ensures.filtered in
-    ap standing_in kept ∙ standing-kept p rows ∙ ap (filter (λ (e : ℕ × Subscription). p e.1)) c.self.view_is
+    ap entries_in kept ∙ entries-kept p rows ∙ ap (filter (λ (e : ℕ × Subscription). p e.1)) c.self.view_is

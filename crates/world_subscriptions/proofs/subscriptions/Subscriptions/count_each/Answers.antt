@@ -1,7 +1,7 @@
 use Rattle.std.proofs.Common.{◌∙◌, ap, sym, List, ℕ}
 use Rattle.std.proofs.lemmas.Slice.Zip.{either_empty_from_Zip}
-use Rattle.world_subscriptions.specs.Turns.{in_turn}
-use Rattle.world_subscriptions.proofs.Turns.{none_entered}
+use Rattle.world_subscriptions.specs.Counting.{in_turn}
+use Rattle.world_subscriptions.proofs.Counting.{none_entered}
 use Rattle.world_subscriptions.proofs.subscriptions.Subscriptions.count_each.Goals as goal
 
 pub returns : goal.returns

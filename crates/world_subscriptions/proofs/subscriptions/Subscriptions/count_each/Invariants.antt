@@ -2,7 +2,7 @@
 use Rattle.std.proofs.Common.{◌≡◌}
 use Rattle.std.specs.Slice.Iter.{iter_rest}
 use Rattle.std.specs.Iterator.Adapters.{zip_first, zip_second}
-use Rattle.world_subscriptions.specs.Turns.{in_turn, entered_ids}
+use Rattle.world_subscriptions.specs.Counting.{in_turn, entered_ids}
 use Rattle.world_subscriptions.proofs.subscriptions.Subscriptions.count_each.Given as goal
 
 abbrev pub invariant-loop-addressed : goal.invariant-loop-addressed

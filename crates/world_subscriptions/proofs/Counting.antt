@@ -12,7 +12,7 @@ use Rattle.world_subscriptions.specs.Addressing.{addressed_to}
 use Rattle.events.specs.declared.answer.Item.{Item}
 use Rattle.events.specs.declared.answer.Item.TheVariants.{Entered, Full}
 use Rattle.world_subscriptions.specs.Changes.{only, bumped}
-use Rattle.world_subscriptions.specs.Turns.{in_turn, entered_ids, TellEach, is_one_of, counted_by}
+use Rattle.world_subscriptions.specs.Counting.{in_turn, entered_ids, TellEach, is_one_of, counted_by}
 use Rattle.std.proofs.lemmas.List.{map-id}
 use Rattle.world_subscriptions.proofs.Ends.{bumped-id}
 
