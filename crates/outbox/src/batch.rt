@@ -37,21 +37,21 @@ impl<T> Model for Batch<T> {
 impl<T> Batch<T> {
     ghost use Rattle.std.specs.Prelude.{◌≡◌, ◌≤◌, length, drop, IfOk};
 
-    /// The elements in order.
+    /// Returns the elements in order.
     pub fn as_slice(&self) -> &[T]
         ensures { result.now ≡ self.now }
     {
         &self.items.as_slice()[self.gone..]
     }
 
-    /// How many there are.
+    /// Returns how many there are.
     pub fn len(&self) -> usize
         ensures { result ≡ length self.now }
     {
         self.as_slice().len()
     }
 
-    /// One more owner. `NoMemory` where there are too many to count.
+    /// Returns one more owner. `NoMemory` where there are too many to count.
     pub fn again(&self) -> Result<Batch<T>, NoMemory>
         ensures { IfOk result (λ same. same ≡ self.now) }
     {
@@ -74,7 +74,7 @@ impl<T> Batch<T> {
 impl<T: Drop> Batch<T> {
     ghost use Rattle.std.specs.Prelude.{◌≡◌, ◌≤◌, length, take, drop, IfOk, OnOk, OnErr};
 
-    /// The elements of a vector, which is handed over and not copied. `NoMemory` where memory could not be had.
+    /// Returns the elements of a vector, which is handed over and not copied. `NoMemory` where memory could not be had.
     pub fn from_vec(alloc: Global, items: Vec<T>) -> Result<Batch<T>, NoMemory>
         ensures { IfOk result (λ batch. batch ≡ items.items) }
     {
@@ -84,7 +84,7 @@ impl<T: Drop> Batch<T> {
         })
     }
 
-    /// The first so many elements of a ring, moved out of it. Where memory could not be had they stay there.
+    /// Returns the first so many elements of a ring, moved out of it. Where memory could not be had they stay there.
     pub(crate) fn from_front(
         ring: &mut HeapCircularBuffer<T>,
         count: usize,

@@ -33,7 +33,7 @@ impl<T> Model for Outbox<T> {
     ghost invariant = { λ o. length (batched o.batch ++ o.ring.items) ≤ o.ring.capacity };
 }
 
-/// What waits of a batch.
+/// Returns what waits of a batch.
 fn in_batch<T>(batch: &Option<Batch<T>>) -> &[T]
     ensures { result.now ≡ batched batch.now }
 {
@@ -56,7 +56,7 @@ fn leave_out<T>(batch: &mut Option<Batch<T>>, count: usize)
 impl<T> Outbox<T> {
     ghost use Rattle.std.specs.Prelude.{◌≡◌, ◌≤◌, ◌<◌, ◌-◌, ◌++◌, ◌∷◌, [], length, IfOk, IfErr, OnOk, nat_le};
 
-    /// An empty outbox for `capacity` elements, one at least. All its memory is taken here; `NoMemory` where it
+    /// Returns an empty outbox for `capacity` elements, one at least. All its memory is taken here; `NoMemory` where it
     /// could not be had.
     pub fn new(alloc: Global, capacity: usize) -> Result<Outbox<T>, NoMemory>
         requires { 1 ≤ capacity }
@@ -67,7 +67,7 @@ impl<T> Outbox<T> {
         Ok(Outbox { batch: None, ring })
     }
 
-    /// How much waits.
+    /// Returns how much waits.
     #[tactic(auto, using(crate::proofs::Batches::of_both))]
     pub fn len(&self) -> usize
         ensures value { result ≡ length self.now.waiting }
@@ -76,14 +76,14 @@ impl<T> Outbox<T> {
         in_batch(&self.batch).len() + self.ring.len()
     }
 
-    /// Whether there is no room left.
+    /// Returns whether there is no room left.
     pub fn is_full(&self) -> bool
         ensures { result ≡ nat_le self.now.capacity (length self.now.waiting) }
     {
         self.ring.capacity() <= self.len()
     }
 
-    /// How much more may wait.
+    /// Returns how much more may wait.
     pub fn room(&self) -> usize
         ensures { result ≡ self.now.capacity - length self.now.waiting }
     {
@@ -127,7 +127,7 @@ impl<T: Drop> Outbox<T> {
 impl<T: Copying + Drop> Outbox<T> {
     ghost use Rattle.std.specs.Prelude.{◌≡◌, take, drop, IfOk, OnErr};
 
-    /// Copies of the next elements, `most` at most, oldest first. The elements stay. `NoMemory` where memory
+    /// Returns copies of the next elements, `most` at most, oldest first. The elements stay. `NoMemory` where memory
     /// could not be had.
     #[tactic(auto, using(crate::proofs::Batches::first_of_both))]
     pub fn front(&self, most: usize) -> Result<Vec<T>, NoMemory>
@@ -142,8 +142,8 @@ impl<T: Copying + Drop> Outbox<T> {
         Ok(copies)
     }
 
-    /// The next elements, `most` at most, oldest first, to be owned by others too. They stay, and none is copied where
-    /// they are asked for before others are let go. `NoMemory` where memory could not be had.
+    /// Returns the next elements, `most` at most, oldest first, to be owned by others too. They stay, and none is
+    /// copied where they are asked for before others are let go. `NoMemory` where memory could not be had.
     #[tactic(auto, using(crate::proofs::Batches::whole_batch, crate::proofs::Batches::moved))]
     pub fn share(&mut self, most: usize) -> Result<Batch<T>, NoMemory>
         ensures front { IfOk result (λ front. front ≡ take most self.old.waiting) }

@@ -32,7 +32,7 @@ impl Drop for Node {
 impl Node {
     ghost use Rattle.std.specs.Prelude.{List};
 
-    /// A node with nothing below it.
+    /// Returns a node with nothing below it.
     #[tactic(auto, unfolding(crate::specs::Tree::ids_at))]
     pub fn new(alloc: Global, keys: RandomState) -> Node
         ensures { (path : List Token) → ids_at path result ≡ [] }
@@ -113,7 +113,7 @@ impl Node {
         }
     }
 
-    /// A node that has an id at the path of a pattern, and nothing else.
+    /// Returns a node that has an id at the path of a pattern, and nothing else.
     #[cycle(insert)]
     fn grown(
         alloc: Global,
@@ -159,7 +159,7 @@ impl Node {
         }
     }
 
-    /// Whether the id stands at the path of a pattern.
+    /// Returns whether the id stands at the path of a pattern.
     pub fn contains(&self, mut path: Pieces<'_>, id: u64) -> bool
         requires { IsTrue (tail_is_last path) }
         ensures { result ≡ contains (ids_at path.entry self.now) id }
@@ -178,7 +178,7 @@ impl Node {
         }
     }
 
-    /// Whether nothing stands here or below.
+    /// Returns whether nothing stands here or below.
     fn is_bare(&self) -> bool
         ensures { OnTrue result ((path : List Token) → ids_at path self.now ≡ []) }
     {

@@ -31,7 +31,7 @@ impl Drop for Sublist {
 impl Sublist {
     ghost use Rattle.sublist.specs.Pairs.{stands, Pairs, matching_ids, IsEmpty, IsSame, IsWith, IsWithout, IsMatching, IsIndexOf};
 
-    /// The tree without a pair. Clients choose the tokens, so the tables of tokens are hashed under keys that
+    /// Returns the tree without a pair. Clients choose the tokens, so the tables of tokens are hashed under keys that
     /// they can't know. It takes no memory.
     pub fn new(alloc: Global, keys: RandomState) -> Sublist
         ensures { IsEmpty result }
@@ -72,14 +72,14 @@ impl Sublist {
         Ok(())
     }
 
-    /// Whether a pair stands. It takes no memory.
+    /// Returns whether a pair stands. It takes no memory.
     pub fn contains(&self, pattern: &Pattern, id: u64) -> bool
         ensures { result ≡ stands self.now pattern.now id }
     {
         self.root.contains(pattern.tokens(), id)
     }
 
-    /// The ids of the pairs whose pattern has the subject, each once, in rising order. `NoMemory` where memory
+    /// Returns the ids of the pairs whose pattern has the subject, each once, in rising order. `NoMemory` where memory
     /// could not be had for them.
     pub fn matching(&self, subject: &SubjectRef<'_>) -> Result<Vec<u64>, NoMemory>
         ensures pairs { IfOk result (λ found. IsMatching self.now subject.now found.items) }

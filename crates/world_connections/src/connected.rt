@@ -9,12 +9,12 @@ pub trait Connected {
     /// Its connection, for clauses.
     ghost connection: { Self → ℕ };
 
-    /// Its connection.
+    /// Returns its connection.
     fn conn(&self) -> u64
         ensures { result ≡ connection self.now };
 }
 
-/// Notes one connection, for which there is room.
+/// Notes one connection, for which there is memory.
 fn note_conn(conns: &mut IndexSet<u64>, conn: u64)
     requires { 0 < spare conns.old }
     ensures keys { conns.new.keys ≡ insert_key nat_eq conns.old.keys conn }
@@ -26,7 +26,7 @@ fn note_conn(conns: &mut IndexSet<u64>, conn: u64)
     }
 }
 
-/// Notes the connections of this list in place of those that were noted. Those were no fewer, so their room suffices.
+/// Notes the connections of this list in place of those that were noted. Those were no fewer, so their memory suffices.
 pub(crate) fn note_conns<T: Connected>(conns: &mut IndexSet<u64>, list: &[T])
     requires room { length list.now ≤ length conns.old.keys }
     requires apart { AllPairs (λ y z. T.connection y ≢ T.connection z) list.now }

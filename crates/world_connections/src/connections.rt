@@ -29,7 +29,7 @@ impl Model for Connections {
 }
 
 impl Connections {
-    /// No connection.
+    /// Returns an empty list of connections.
     pub fn new(alloc: Global) -> Connections
         ensures { result ≡ [] }
     {
@@ -39,14 +39,14 @@ impl Connections {
         }
     }
 
-    /// What always holds: no connection stands twice. It does nothing when it runs.
+    /// Tells the prover what always holds: no connection stands twice. It does nothing when it runs.
     pub fn known(&self)
         ensures { IsDistinct nat_eq self.now }
     {
         let _keys = self.conns.as_slice();
     }
 
-    /// Where a connection may be. It is only a guess.
+    /// Returns where a connection may be. It is only a guess.
     #[inline(always)]
     pub fn hint(&self, conn: u64) -> usize {
         match self.hints.get((conn % HINTS as u64) as usize) {
@@ -55,7 +55,7 @@ impl Connections {
         }
     }
 
-    /// The place of a connection, by its hash. Apart, so that what looks at the hint first stays small.
+    /// Returns the place of a connection, by its hash. Apart, so that what looks at the hint first stays small.
     #[inline(never)]
     pub fn find(&self, conn: u64) -> Option<usize>
         ensures { result ≡ position (λ k. conn == k) self.now }
@@ -84,7 +84,7 @@ impl Connections {
         note_hints(&mut self.hints, self.conns.as_slice());
     }
 
-    /// Notes the connections of this list in place of those that were noted. Those were no fewer, so their room suffices.
+    /// Notes the connections of this list in place of those that were noted. Those were no fewer, so their memory suffices.
     pub fn note_all<T: Connected>(&mut self, list: &[T])
         requires room { length list.now ≤ length self.old }
         requires apart { AllPairs (λ y z. T.connection y ≢ T.connection z) list.now }
