@@ -6,11 +6,8 @@ use Rattle.std.proofs.lemmas.List.Sums.{sum_by-cons}
 use Rattle.subjects.specs.Subject.{Token, is_star, is_tail, is_token, is_literal, same_token, in_set, tail_is_last}
 use Rattle.subjects.proofs.Same.{same_token-itself, equal_from_same}
 use Rattle.subjects.proofs.Samples.{tail_takes}
+use Rattle.mapping_template.proofs.Stars.{tail_no_star, stars-more, stars-same}
 use Rattle.mapping.specs.Pairs.{count_stars, has_tail, numbered, filled, stars_of, tail_of}
-
--- no token is both wildcards
-pub tail_no_star : (p : Token) → is_tail p ≡ true → is_star p ≡ false
-tail_no_star p t = rw (equal_from_same p (62 ∷ []) t) refl
 
 pub last_rest : (p : Token) (ps : List Token) → tail_is_last (p ∷ ps) ≡ true → tail_is_last ps ≡ true
 last_rest p [] h = refl
@@ -57,16 +54,6 @@ filled-again (p ∷ ps) (s ∷ ss) i =
 none-is : (stars : List Token) → length stars ≡ 0 → [] ≡ stars
 none-is [] h = refl
 none-is (s ∷ stars) h = absurd (omega arith)
-
--- a pattern's `*`s, one token on
-pub count-more : (p : Token) (ps : List Token) (star : Bool) → is_star p ≡ star → count_stars (p ∷ ps) ≡ (if star then 1 else 0) + count_stars ps
-count-more p ps star e = sum_by-cons (λ t. if is_star t then 1 else 0) p ps ∙ ap (λ b. (if b then 1 else 0) + count_stars ps) e
-
-pub stars-more : (p : Token) (ps : List Token) → is_star p ≡ true → count_stars (p ∷ ps) ≡ 1 + count_stars ps
-stars-more p ps e = count-more p ps true e
-
-pub stars-same : (p : Token) (ps : List Token) → is_star p ≡ false → count_stars (p ∷ ps) ≡ count_stars ps
-stars-same p ps e = omega (arith, count-more p ps false e)
 
 first-is : (stars : List Token) → 0 < length stars → numbered stars 1 ∷ drop 1 stars ≡ stars
 first-is [] h = absurd (omega arith)

@@ -8,7 +8,7 @@ use Rattle.std.proofs.lemmas.List.Elements.{All-nil, All-cons}
 use Rattle.std.proofs.lemmas.List.Splits.{slice_split_none, slice_split_at}
 use Rattle.subjects.specs.Subject.{Token, is_token, is_text_byte, is_token_byte, is_literal, is_wildcard, text_of, tokens_of}
 use Rattle.subjects.proofs.Grammar.{not_empty}
-use Rattle.mapping.specs.Text.{with_token, with_tokens}
+use Rattle.mapping_template.specs.Text.{with_token, with_tokens}
 
 -- tokens, each behind a dot
 abbrev behind_text : List Token → List ℕ

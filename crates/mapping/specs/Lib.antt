@@ -1,6 +1,6 @@
 pub mod Pairs
-pub mod Template
 pub mod Fault
-pub mod Text
 pub mod Laws
 pub mod Sides
+pub use Rattle.mapping_template.specs.Template
+pub use Rattle.mapping_template.specs.Text

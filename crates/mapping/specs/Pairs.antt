@@ -3,6 +3,7 @@
 use Rattle.std.specs.Prelude.{◌≡◌, ◌<◌, ◌≤◌, ◌+◌, ◌-◌, ◌==◌, ℕ, Bool, true, false, ◌&&◌, ◌||◌, IsTrue, List, [], ◌∷◌, length, map, drop, get_or, Option, Some, None, Result, Ok, Err, ◌⊎◌, if◌then◌else◌, nat_le, nat_lt}
 use Rattle.std.specs.List.{list_all, list_any, count_by, range_with_len, position_or_len}
 use Rattle.subjects.specs.Subject.{Token, is_star, is_tail, is_literal, in_set, IsPattern, IsConcreteSubject}
+pub use Rattle.mapping_template.specs.Wildcards.{are_within, contains, count_stars, has_each, has_repeat, has_tail, refers_to_each}
 use Rattle.mapping.specs.declared.error.MapError.{MapError}
 use Rattle.mapping.specs.declared.error.MapError.TheVariants.{TooLong, NoMemory}
 
@@ -12,12 +13,6 @@ pub record RowMap : Type 0 where
   pub outer : List Token
   pub local : List Token
   pub references : List ℕ
-
-abbrev pub count_stars : List Token → ℕ
-count_stars pattern = count_by is_star pattern
-
-abbrev pub has_tail : List Token → Bool
-has_tail pattern = list_any is_tail pattern
 
 -- the token with a number, from 1
 abbrev pub numbered : List Token → ℕ → Token
@@ -43,23 +38,6 @@ pub record IsPair (m : RowMap) (outer local : List Token) : Type 0 where
   pub given : IsGiven m.outer stars tail
   pub outer_is : outer ≡ filled m.outer stars tail
   pub local_is : local ≡ filled m.local (map (numbered stars) m.references) tail
-
-abbrev pub contains : ℕ → List ℕ → Bool
-contains n ns = list_any (λ m. m == n) ns
-
-abbrev pub has_repeat : List ℕ → Bool
-has_repeat [] = false
-has_repeat (n ∷ ns) = contains n ns || has_repeat ns
-
--- each number is that of a wildcard, and each wildcard's is one of them
-abbrev pub are_within : ℕ → List ℕ → Bool
-are_within count ns = list_all (λ n. nat_le 1 n && nat_le n count) ns
-
-abbrev pub has_each : ℕ → List ℕ → Bool
-has_each count ns = list_all (λ n. contains n ns) (range_with_len 1 count)
-
-abbrev pub refers_to_each : ℕ → List ℕ → Bool
-refers_to_each count ns = are_within count ns && has_each count ns
 
 -- what every mapping is: each wildcard of the one pattern stands once in the other, and both end in `>` or neither
 pub record IsRowMap (m : RowMap) : Type 0 where

@@ -7,17 +7,13 @@
 mod error;
 mod given;
 mod laws;
-mod lengths;
 mod making;
 mod map;
-mod part;
-mod references;
 mod side;
-mod template;
 #[cfg(test)]
 mod tests;
-mod text;
 
-pub use error::{MapError, MappingError};
+pub use error::MapError;
 pub use laws::{back_undoes_forward, one_to_one, pairs_are_subjects};
 pub use map::Mapping;
+pub use mapping_template::MappingError;

@@ -1,14 +1,14 @@
 ghost use Rattle.std.specs.Prelude.{◌≡◌, ◌++◌, IfOk};
 ghost use Rattle.subjects.specs.Subject.{tokens_of};
 
-use crate::lengths::{count_stars, count_tokens, is_longer};
+use crate::MapError;
 use crate::making::{first_numbers, inverse};
-use crate::references::References;
 use crate::side::{Side, carry};
-use crate::template::template_fault;
-use crate::text::{local_text, push_tokens};
-use crate::{MapError, MappingError};
 use base::{Copying, NoMemory};
+use mapping_template::{
+    MappingError, References, count_stars, count_tokens, is_longer, local_text, push_tokens,
+    template_fault,
+};
 use std::alloc::Global;
 use std::marker::Model;
 use subjects::{Pattern, Subject, SubjectRef};

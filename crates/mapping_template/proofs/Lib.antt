@@ -1,0 +1,4 @@
+pub mod Patterns
+pub mod Ranges
+pub mod Stars
+pub mod Parts

@@ -1,0 +1,4 @@
+pub mod Wildcards
+pub mod Template
+pub mod Text
+pub mod Fault
