@@ -8,10 +8,10 @@ use Rattle.serde_json.specs.Find.{get, get_item, as_object}
 use Rattle.policy_doc.specs.declared.document.NamedAccount.{NamedAccount}
 use Rattle.policy_walk.specs.declared.fault.ConfigFault.{ConfigFault}
 use Rattle.policy_walk.specs.declared.fault.ConfigFault.TheVariants.{WrongType, BadSubject, BadDuration, BadMax, BadName, HashedPassword}
-use Rattle.account_config.specs.declared.entry.Side.{Side}
-use Rattle.account_config.specs.declared.entry.Side.TheVariants.{Publish, Subscribe}
+use Rattle.policy_permissions.specs.declared.entry.Side.{Side}
+use Rattle.policy_permissions.specs.declared.entry.Side.TheVariants.{Publish, Subscribe}
 use Rattle.policy_walk.specs.Durations.{duration_of}
-use Rattle.account_config.specs.Entry.{is_entry_text, entry_written}
+use Rattle.policy_permissions.specs.Entry.{is_entry_text, entry_written}
 use Rattle.policy_walk.specs.Fault.{Read, ◌>>=◌}
 use Rattle.policy_walk.specs.Texts.{text_at, items_at, required_text_at}
 use Rattle.policy_walk.specs.Path.{Path, at_key, at_index}
@@ -20,7 +20,7 @@ use Rattle.account_config.specs.Place.{Place, itself, unknown, missing, under, n
 use Rattle.account_config.specs.Standing.{unless_found, in_value, in_spelled, object_faults, text_faults, list_faults, entry_faults, entries_faults, direction_keys, direction_faults, max_faults, duration_faults, terms_keys, responses_faults, permission_keys, user_keys, account_keys, account_faults, accounts_faults, version_faults, top_keys}
 use Rattle.account_config.specs.Written.{text_in, list_in, entry_in, entries_in, lists_in, direction_in, bound_in, max_in, duration_in, terms_in, responses_in, permissions_in, user_in, account_in, accounts_in, document_in}
 use Rattle.account_config.proofs.Order.{IsOrdered, Meets, under-ordered}
-use Rattle.account_config.proofs.Entries.{entry_is}
+use Rattle.policy_permissions.proofs.Entries.{entry_is}
 use Rattle.account_config.proofs.First.{IsClear, go_on, whole, first_itself, same_faults, mapped}
 use Rattle.account_config.proofs.Objects.{then_object, none_left}
 use Rattle.account_config.proofs.Each.{Reads, each_from, in_accounts, accounts_read}

@@ -1,5 +1,5 @@
-pub mod Entry
 pub mod Policy
 pub mod Place
 pub mod Standing
 pub mod Written
+pub use Rattle.policy_permissions.specs.Entry

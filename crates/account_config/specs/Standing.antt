@@ -4,12 +4,12 @@ use Rattle.std.specs.Ordering.{int_eq}
 use Rattle.std.specs.Str.{bytes_eq}
 use Rattle.serde_json.specs.Data.{Data, Num, unsigned, negative, float}
 use Rattle.serde_json.specs.Find.{get, at, as_bool, as_number, as_str, as_array, as_object}
-use Rattle.account_config.specs.declared.entry.Side.{Side}
-use Rattle.account_config.specs.declared.entry.Side.TheVariants.{Publish, Subscribe}
+use Rattle.policy_permissions.specs.declared.entry.Side.{Side}
+use Rattle.policy_permissions.specs.declared.entry.Side.TheVariants.{Publish, Subscribe}
 use Rattle.policy_walk.specs.declared.fault.ConfigFault.{ConfigFault}
 use Rattle.policy_walk.specs.declared.fault.ConfigFault.TheVariants.{UnknownKey, WrongType, BadSubject, BadDuration, BadMax, BadName, HashedPassword}
 use Rattle.policy_walk.specs.Durations.{duration_of}
-use Rattle.account_config.specs.Entry.{is_entry_text}
+use Rattle.policy_permissions.specs.Entry.{is_entry_text}
 use Rattle.policy_walk.specs.Path.{Path, at_key, at_index}
 use Rattle.account_config.specs.Place.{itself, unknown, missing, under, named, Faults}
 use Rattle.account_config.specs.Policy.{is_bound, has_name_length, is_account_name, is_hashed, is_version}

@@ -14,9 +14,9 @@ use Rattle.policy_doc.specs.declared.document.PermEntry.{PermEntry}
 use Rattle.policy_walk.specs.Durations.{duration_of}
 use Rattle.policy_doc.specs.declared.document.Terms.{Terms}
 use Rattle.policy_walk.specs.declared.fault.ConfigFault.TheVariants.{TooLarge, NotJson, NoMemory}
-use Rattle.account_config.specs.declared.entry.Side.{Side}
-use Rattle.account_config.specs.declared.entry.Side.TheVariants.{Publish, Subscribe}
-use Rattle.account_config.specs.Entry.{entry_written}
+use Rattle.policy_permissions.specs.declared.entry.Side.{Side}
+use Rattle.policy_permissions.specs.declared.entry.Side.TheVariants.{Publish, Subscribe}
+use Rattle.policy_permissions.specs.Entry.{entry_written}
 use Rattle.policy_walk.specs.Fault.{Read}
 use Rattle.account_config.specs.Place.{IsReading}
 use Rattle.account_config.specs.Standing.{policy_faults}

@@ -2,10 +2,7 @@
 #![tactic(auto)]
 
 mod account;
-mod direction;
 mod document;
-mod entry;
-mod responses;
 mod user;
 
 pub use document::{MOST_BYTES, read_policy};

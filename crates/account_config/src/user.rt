@@ -4,9 +4,9 @@ ghost use Rattle.serde_json.specs.View.{view};
 ghost use Rattle.policy_walk.specs.Fault.{Gives};
 ghost use Rattle.account_config.specs.Policy.{has_name_length, is_hashed, password_at, password_from, user_at, user_name_at, user_name_from, user_permissions_at};
 
-use crate::direction::permissions_under;
 use bytes::Bytes;
 use policy_doc::{PermDoc, UserDoc};
+use policy_permissions::permissions_under;
 use policy_walk::{ConfigFault, Path, judge, required_text_of};
 use serde_json::Value;
 use std::alloc::Global;

@@ -1,7 +1,7 @@
 use Rattle.std.proofs.Common.{rules, ◌≡◌, [], ◌∷◌, ◌++◌}
 use Rattle.serde_json.specs.View.{items_view}
 use Rattle.account_config.specs.Policy.{each, user_at}
-use Rattle.account_config.proofs.Lists.{goes_on}
+use Rattle.policy_permissions.proofs.Lists.{goes_on}
 use Rattle.account_config.proofs.account.each_user.Goals as goal
 
 pub loop-index-preserved : goal.loop-index-preserved

@@ -2,7 +2,7 @@
 use Rattle.std.proofs.Common.{◌≡◌}
 use Rattle.serde_json.specs.View.{items_view}
 use Rattle.account_config.specs.Policy.{each, user_at}
-use Rattle.account_config.proofs.Lists.{from_index}
+use Rattle.policy_permissions.proofs.Lists.{from_index}
 use Rattle.account_config.proofs.account.each_user.Given as goal
 
 abbrev pub invariant-loop-index : goal.invariant-loop-index

@@ -1,8 +1,8 @@
 use Rattle.std.proofs.Common.{rules, ◌≡◌, [], ◌∷◌, ◌++◌}
 use Rattle.serde_json.specs.View.{items_view}
-use Rattle.account_config.specs.Policy.{each, entry_at}
-use Rattle.account_config.proofs.Lists.{goes_on}
-use Rattle.account_config.proofs.direction.each_entry.Goals as goal
+use Rattle.policy_permissions.specs.Permissions.{each, entry_at}
+use Rattle.policy_permissions.proofs.Lists.{goes_on}
+use Rattle.policy_permissions.proofs.direction.each_entry.Goals as goal
 
 pub loop-index-preserved : goal.loop-index-preserved
 loop-index-preserved c =

@@ -1,8 +1,8 @@
 -- the fault of permissions is that of their first part that has one
 use Rattle.std.proofs.Common.{refl}
 use Rattle.std.proofs.lemmas.Result.{err_from_is_err_and}
-use Rattle.account_config.specs.Policy.{permissions_at}
-use Rattle.account_config.proofs.direction.permissions_of.Goals as goal
+use Rattle.policy_permissions.specs.Permissions.{permissions_at}
+use Rattle.policy_permissions.proofs.direction.permissions_of.Goals as goal
 
 pub returns-in_err-judge : goal.returns-in_err-judge
 unfolding permissions_at

@@ -5,13 +5,13 @@ use Rattle.subjects.specs.Subject.{Token, tokens_of}
 use Rattle.subjects.specs.Fault.{IsParse, pattern_fault, is_no_memory}
 use Rattle.subjects.specs.declared.error.SubjectError.{SubjectError}
 use Rattle.policy_doc.specs.declared.document.PermEntry.{PermEntry}
-use Rattle.account_config.specs.declared.entry.Side.{Side}
-use Rattle.account_config.specs.declared.entry.Side.TheVariants.{Publish, Subscribe}
+use Rattle.policy_permissions.specs.declared.entry.Side.{Side}
+use Rattle.policy_permissions.specs.declared.entry.Side.TheVariants.{Publish, Subscribe}
 use Rattle.policy_walk.specs.declared.fault.ConfigFault.TheVariants.{BadSubject}
-use Rattle.account_config.specs.Entry.{entry_parts, is_entry_text, is_pattern_text, is_queue_text, entry_written}
+use Rattle.policy_permissions.specs.Entry.{entry_parts, is_entry_text, is_pattern_text, is_queue_text, entry_written}
 use Rattle.policy_walk.specs.Fault.{Read, ◌>>=◌}
 use Rattle.policy_walk.specs.Path.{Path}
-use Rattle.account_config.specs.Policy.{pattern_from, parts_from, entry_from}
+use Rattle.policy_permissions.specs.Permissions.{pattern_from, parts_from, entry_from}
 
 abbrev pattern_by : Path → List ℕ → Option SubjectError → Read (List Token)
 pattern_by path text fault = cond (is_some fault) (Err (BadSubject path)) (Ok (tokens_of text))

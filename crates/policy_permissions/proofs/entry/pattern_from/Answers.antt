@@ -1,7 +1,7 @@
 use Rattle.std.proofs.Common.{◌∙◌, sym, ap, Err, rules}
 use Rattle.policy_walk.specs.declared.fault.ConfigFault.TheVariants.{BadSubject}
-use Rattle.account_config.proofs.Entries.{parsed, refused}
-use Rattle.account_config.proofs.entry.pattern_from.Goals as goal
+use Rattle.policy_permissions.proofs.Entries.{parsed, refused}
+use Rattle.policy_permissions.proofs.entry.pattern_from.Goals as goal
 
 pub returns-in-Ok : goal.returns-in-Ok
 returns-in-Ok c = parsed c.args.path.now c.args.text.now c.in-Ok.pattern c.in-Ok.ensures.tokens

@@ -5,8 +5,8 @@ use Rattle.subjects.specs.Subject.{tokens_of}
 use Rattle.subjects.specs.Fault.{pattern_fault}
 use Rattle.policy_doc.specs.Document.{entry_of}
 use Rattle.policy_doc.specs.declared.document.PermEntry.{PermEntry}
-use Rattle.account_config.specs.declared.entry.Side.{Side}
-use Rattle.account_config.specs.declared.entry.Side.TheVariants.{Publish, Subscribe}
+use Rattle.policy_permissions.specs.declared.entry.Side.{Side}
+use Rattle.policy_permissions.specs.declared.entry.Side.TheVariants.{Publish, Subscribe}
 
 -- a text from a place on
 abbrev pub from_place : List ℕ → Option ℕ → List ℕ

@@ -2,7 +2,7 @@
 ghost use Rattle.std.specs.Prelude.{option_map};
 ghost use Rattle.serde_json.specs.View.{view, items_view};
 ghost use Rattle.policy_walk.specs.Fault.{Gives};
-ghost use Rattle.account_config.specs.Policy.{allow_at, direction_at, each, entries_at, entries_under, entry_at, lists_at, permissions_at, permissions_under, spelled_at, spelled_from};
+ghost use Rattle.policy_permissions.specs.Permissions.{allow_at, direction_at, each, entries_at, entries_under, entry_at, lists_at, permissions_at, permissions_under, spelled_at, spelled_from};
 
 use crate::entry::{Side, entry_from};
 use crate::responses::allow_responses_of;
@@ -13,7 +13,7 @@ use serde_json::Value;
 use std::alloc::Global;
 
 /// A user's permissions, if it has any.
-pub(crate) fn permissions_under(
+pub fn permissions_under(
     alloc: Global,
     path: &Path,
     found: Option<&Value>,
@@ -27,7 +27,7 @@ pub(crate) fn permissions_under(
 }
 
 /// A user's permissions.
-#[tactic(auto, unfolding(crate::specs::Policy::permissions_at))]
+#[tactic(auto, unfolding(crate::specs::Permissions::permissions_at))]
 fn permissions_of(alloc: Global, path: &Path, value: &Value) -> Result<PermDoc, ConfigFault>
     ensures { Gives (λ x. x) result (permissions_at path.now (view value.now)) }
 {
@@ -112,7 +112,7 @@ fn direction_of(
 }
 
 /// An allow and a deny list, each if it is there.
-#[tactic(auto, unfolding(crate::specs::Policy::lists_at))]
+#[tactic(auto, unfolding(crate::specs::Permissions::lists_at))]
 fn lists_of(alloc: Global, side: Side, path: &Path, value: &Value) -> Result<Direction, ConfigFault>
     ensures { Gives (λ x. x) result (lists_at side path.now (view value.now)) }
 {
@@ -130,7 +130,7 @@ fn lists_of(alloc: Global, side: Side, path: &Path, value: &Value) -> Result<Dir
 }
 
 /// A text or a list of texts as an allow list.
-#[tactic(auto, unfolding(crate::specs::Policy::allow_at))]
+#[tactic(auto, unfolding(crate::specs::Permissions::allow_at))]
 fn allow_of(alloc: Global, side: Side, path: &Path, value: &Value) -> Result<Direction, ConfigFault>
     ensures { Gives (λ x. x) result (allow_at side path.now (view value.now)) }
 {
@@ -157,7 +157,7 @@ fn entries_under(
 }
 
 /// The one entry of a text, or those of a list.
-#[tactic(auto, unfolding(crate::specs::Policy::entries_at))]
+#[tactic(auto, unfolding(crate::specs::Permissions::entries_at))]
 fn entries_of(
     alloc: Global,
     side: Side,
@@ -196,7 +196,7 @@ fn each_entry(
 }
 
 /// The entry of a value that has to be a text.
-#[tactic(auto, unfolding(crate::specs::Policy::entry_at))]
+#[tactic(auto, unfolding(crate::specs::Permissions::entry_at))]
 fn entry_of(alloc: Global, side: Side, path: &Path, value: &Value) -> Result<PermEntry, ConfigFault>
     ensures { Gives (λ x. x) result (entry_at side path.now (view value.now)) }
 {

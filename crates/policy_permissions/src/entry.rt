@@ -1,8 +1,8 @@
 //! An entry of a permission list.
 ghost use Rattle.std.specs.Prelude.{◌≡◌, ◌==◌, not, position, option_copied, option_map};
-ghost use Rattle.account_config.specs.Entry.{behind_spaces, entry_parts};
+ghost use Rattle.policy_permissions.specs.Entry.{behind_spaces, entry_parts};
 ghost use Rattle.policy_walk.specs.Fault.{Gives};
-ghost use Rattle.account_config.specs.Policy.{entry_from, parts_from, pattern_from, queue_from};
+ghost use Rattle.policy_permissions.specs.Permissions.{entry_from, parts_from, pattern_from, queue_from};
 
 use policy_doc::PermEntry;
 use policy_walk::{ConfigFault, Path};

@@ -2,7 +2,7 @@
 ghost use Rattle.std.specs.Prelude.{◌≡◌, option_map};
 ghost use Rattle.serde_json.specs.View.{view};
 ghost use Rattle.policy_walk.specs.Fault.{Gives};
-ghost use Rattle.account_config.specs.Policy.{allow_responses_at, duration_at, duration_from, expires_under, is_bound, max_at, max_under, responses_at, responses_under, terms_at};
+ghost use Rattle.policy_permissions.specs.Permissions.{allow_responses_at, duration_at, duration_from, expires_under, is_bound, max_at, max_under, responses_at, responses_under, terms_at};
 
 use policy_doc::Terms;
 use policy_walk::{ConfigFault, Path, judge, read_duration, text_of};
@@ -13,7 +13,7 @@ use std::alloc::Global;
 const MOST_ANSWERS: u64 = 2_147_483_647;
 
 /// What is under `allow_responses`, if it is there.
-#[tactic(auto, unfolding(crate::specs::Policy::allow_responses_at))]
+#[tactic(auto, unfolding(crate::specs::Permissions::allow_responses_at))]
 pub(crate) fn allow_responses_of(
     alloc: Global,
     path: &Path,
@@ -54,7 +54,7 @@ fn responses_of(alloc: Global, path: &Path, value: &Value) -> Result<Option<Term
 }
 
 /// The terms of an object: a bound and a limit, each if it is there.
-#[tactic(auto, unfolding(crate::specs::Policy::terms_at))]
+#[tactic(auto, unfolding(crate::specs::Permissions::terms_at))]
 fn terms_of(alloc: Global, path: &Path, value: &Value) -> Result<Terms, ConfigFault>
     ensures { Gives (λ x. x) result (terms_at path.now (view value.now)) }
 {
@@ -123,7 +123,7 @@ fn expires_under(
 }
 
 /// The milliseconds of a duration.
-#[tactic(auto, unfolding(crate::specs::Policy::duration_at))]
+#[tactic(auto, unfolding(crate::specs::Permissions::duration_at))]
 fn duration_of(alloc: Global, path: &Path, value: &Value) -> Result<u64, ConfigFault>
     ensures { Gives (λ x. x) result (duration_at path.now (view value.now)) }
 {

@@ -1,0 +1,8 @@
+//! The permissions of a user, as an operator writes them in JSON (docs/POLICY.md, "Permissions").
+#![tactic(auto)]
+
+mod direction;
+mod entry;
+mod responses;
+
+pub use direction::permissions_under;
