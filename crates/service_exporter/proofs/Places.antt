@@ -11,8 +11,8 @@ use Rattle.std.proofs.lemmas.List.{get_or_default, take_more, take_more_set, dro
 use Rattle.subjects.specs.Subject.{Token}
 use Rattle.std.specs.Prelude.{codes}
 use Rattle.std.specs.Fmt.{decimal}
-use Rattle.service_exporter.specs.Names.{hex_of, is_on, number_of}
-use Rattle.service_exporter.proofs.Tokens.{from_on, number_of_decimal}
+use Rattle.service_subjects.specs.Names.{hex_of, is_on, number_of}
+use Rattle.service_subjects.proofs.Tokens.{from_on, number_of_decimal}
 use Rattle.service_exporter.specs.Routes.{Numbered, ends_by, kept_route, living, lives, on_row, route_on}
 use Rattle.service_exporter.specs.Slots.{entry_of, standing_in, passes, is_single, kept_in, is_in, kept_slot, AreAbove, AreBelow, AreRising, IsAbsent, IsNowhere, IsPlaceOf, IsPlaceOn}
 use Rattle.service_exporter.specs.declared.route.NewRow.{NewRow}

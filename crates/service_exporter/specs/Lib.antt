@@ -1,4 +1,4 @@
 pub mod Routes
 pub mod Limit
-pub mod Names
 pub mod Slots
+pub use Rattle.service_subjects.specs.Names

@@ -3,7 +3,7 @@ use Rattle.std.specs.Prelude.{◌≡◌, ◌≢◌, ◌<◌, ℕ, Bool, true, fa
 use Rattle.std.specs.List.{HoldsAt}
 use Rattle.std.specs.Option.{option_map}
 use Rattle.subjects.specs.Subject.{Token}
-use Rattle.service_exporter.specs.Names.{is_on}
+use Rattle.service_subjects.specs.Names.{is_on}
 use Rattle.service_exporter.specs.Routes.{Numbered, on_row}
 use Rattle.service_exporter.specs.declared.route.NewRow.{NewRow}
 use Rattle.service_exporter.specs.declared.route.Row.{Row}

@@ -8,11 +8,10 @@
 
 mod error;
 mod exporter;
-mod names;
 mod route;
 mod slots;
 
 pub use error::RouteError;
 pub use exporter::Exporter;
-pub use names::route_subject;
 pub use route::{NewRow, ResponseTerms, Route, Row, ServiceRows};
+pub use service_subjects::route_subject;

@@ -5,8 +5,8 @@ ghost use Rattle.std.specs.Option.{option_copied};
 ghost use Rattle.service_exporter.specs.Routes.{Numbered, ends_by, kept_route, living, lives, route_on};
 ghost use Rattle.service_exporter.specs.Slots.{standing_in, AreRising, AreBelow, IsAbsent, IsPlaceOf, IsNowhere, IsPlaceOn, kept_slot};
 
-use crate::names::{is_on, number_in};
 use crate::{Route, ServiceRows};
+use service_subjects::{is_on, number_in};
 use subjects::SubjectRef;
 
 /// The slot of a number, with the route of that number as long as it stands.
@@ -30,7 +30,7 @@ fn place_of(slots: &[Slot], number: u64) -> Option<usize>
 impl Slot {
     ghost use Rattle.std.specs.Prelude.{if◌then◌else◌};
     ghost use Rattle.service_exporter.specs.declared.route.Route.{Route};
-    ghost use Rattle.service_exporter.specs.Names.{is_on};
+    ghost use Rattle.service_subjects.specs.Names.{is_on};
     ghost use Rattle.service_exporter.specs.Slots.{passes, is_single, kept_in};
 
     /// The route that stands in it.

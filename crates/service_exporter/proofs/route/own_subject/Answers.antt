@@ -1,5 +1,5 @@
 -- it is read of the subject's text
-use Rattle.service_exporter.proofs.Tokens.{read_again}
+use Rattle.service_subjects.proofs.Tokens.{read_again}
 use Rattle.service_exporter.proofs.route.own_subject.Goals as goal
 
 pub returns-in-Ok : goal.returns-in-Ok

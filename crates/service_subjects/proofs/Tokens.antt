@@ -18,7 +18,7 @@ use Rattle.subjects.specs.Subject.{Token, IsSubject, text_of, tokens_of}
 use Rattle.subjects.specs.Fault.{IsParse}
 use Rattle.subjects.specs.declared.error.SubjectError.{SubjectError}
 use Rattle.subjects.proofs.Text.{again}
-use Rattle.service_exporter.specs.Names.{hex_of, is_on, number_of, route_subject}
+use Rattle.service_subjects.specs.Names.{hex_of, is_on, number_of, route_subject}
 
 -- no byte of a token is a dot
 abbrev HasNoDot : Token → Type 0

@@ -3,7 +3,7 @@ ghost use Rattle.std.specs.Prelude.{◌≡◌, ◌++◌, ◌∷◌, [], List, If
 ghost use Rattle.std.specs.Fmt.{decimal};
 ghost use Rattle.subjects.specs.Subject.{Token, same_token, text_of};
 ghost use Rattle.subjects.specs.Equal.{same_subject};
-ghost use Rattle.service_exporter.specs.Names.{hex_of, is_on, number_of, route_subject};
+ghost use Rattle.service_subjects.specs.Names.{hex_of, is_on, number_of, route_subject};
 
 use base::{NoMemory, Pieces, number_of};
 use hex::encode_to_slice;
@@ -67,7 +67,7 @@ fn is_decimal(token: &[u8], number: u64) -> bool
 }
 
 /// Whether a subject is that of the route with this number and word.
-pub(crate) fn is_on(subject: &SubjectRef<'_>, number: u64, word: u64) -> bool
+pub fn is_on(subject: &SubjectRef<'_>, number: u64, word: u64) -> bool
     ensures { result ≡ is_on subject.now number word }
 {
     let mut tokens = subject.tokens();
@@ -115,7 +115,7 @@ fn is_end(mut tokens: Pieces<'_>) -> bool
 }
 
 /// The number that a subject's third token writes.
-pub(crate) fn number_in(subject: &SubjectRef<'_>) -> Option<u64>
+pub fn number_in(subject: &SubjectRef<'_>) -> Option<u64>
     ensures { (mark hex digits : Token) → subject.now ≡ mark ∷ hex ∷ digits ∷ [] → result ≡ number_of digits }
 {
     let mut tokens = subject.tokens();

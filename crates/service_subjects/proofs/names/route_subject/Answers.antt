@@ -1,7 +1,7 @@
 -- it is read of the text of the subject's tokens
 use Rattle.std.proofs.Common.{◌<◌, ◌^◌, ◌∙◌}
-use Rattle.service_exporter.proofs.Tokens.{read_route}
-use Rattle.service_exporter.proofs.names.route_subject.Goals as goal
+use Rattle.service_subjects.proofs.Tokens.{read_route}
+use Rattle.service_subjects.proofs.names.route_subject.Goals as goal
 
 pub returns-in-Ok : goal.returns-in-Ok
 returns-in-Ok c =
