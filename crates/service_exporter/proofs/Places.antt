@@ -14,7 +14,7 @@ use Rattle.std.specs.Fmt.{decimal}
 use Rattle.service_subjects.specs.Names.{hex_of, is_on, number_of}
 use Rattle.service_subjects.proofs.Tokens.{from_on, number_of_decimal}
 use Rattle.service_exporter.specs.Routes.{Numbered, ends_by, kept_route, living, lives, on_row, route_on}
-use Rattle.service_exporter.specs.Slots.{entry_of, standing_in, passes, is_single, kept_in, is_in, kept_slot, AreAbove, AreBelow, AreRising, IsAbsent, IsNowhere, IsPlaceOf, IsPlaceOn}
+use Rattle.service_exporter.specs.Slots.{entry_of, standing_in, passes, is_single, kept_in, is_in, kept_slot, LivesUntil, AreAbove, AreBelow, AreRising, IsAbsent, IsNowhere, IsPlaceOf, IsPlaceOn}
 use Rattle.service_exporter.specs.declared.route.NewRow.{NewRow}
 use Rattle.service_exporter.specs.declared.route.Route.{Route}
 use Rattle.service_exporter.specs.declared.route.Row.{Row}
@@ -258,6 +258,48 @@ spent_at s (slot ∷ slots) (suc at) new d place same is =
     by None other later = later
     by (Some r) other later = rw (not_both r.terms.single (is_on s slot.number r.word) other) (ap (λ more. (slot.number, r) ∷ more) later)
 
+-- with one that was taken out, so many live as before
+pub left_at : (t : ℕ) (slots : List Slot) (i : ℕ) (new d : Slot) (taken : Option Route) → i < length slots
+    → new.route ≡ cond (passes is_single (slice_index_or slots i d).route) None (slice_index_or slots i d).route
+    → taken ≡ cond (passes is_single (slice_index_or slots i d).route) (slice_index_or slots i d).route None
+    → length (living t (standing_in slots)) ≡ length (living t (standing_in (slice_set slots i new))) + cond (passes (lives t) taken) 1 0
+left_at t [] i new d taken within is took = absurd (omega arith)
+left_at t (s ∷ slots) zero new d taken within is took = here s.route new.route taken (passes is_single s.route) is took
+  where
+    rest : List Numbered
+    rest = living t (standing_in slots)
+
+    here : (o p q : Option Route) (b : Bool) → p ≡ cond b None o → q ≡ cond b o None
+        → length (living t (entry_of s.number o ++ standing_in slots)) ≡ length (living t (entry_of new.number p ++ standing_in slots)) + cond (passes (lives t) q) 1 0
+    here None p q true e f = rw (e, f) (omega arith)
+    here None p q false e f = rw (e, f) (omega arith)
+    here (Some r) p q true e f = rw (e, f) (gone (lives t r))
+      where
+        gone : (b : Bool) → length {A = Numbered} (cond b ((s.number, r) ∷ rest) rest) ≡ length rest + cond b 1 0
+        gone true = omega arith
+        gone false = omega arith
+    here (Some r) p q false e f = rw (e, f) (stays (lives t r))
+      where
+        stays : (b : Bool) → length {A = Numbered} (cond b ((s.number, r) ∷ rest) rest) ≡ length {A = Numbered} (cond b ((new.number, r) ∷ rest) rest) + 0
+        stays true = omega arith
+        stays false = omega arith
+left_at t (s ∷ slots) (suc i) new d taken within is took = by s.route (left_at t slots i new d taken (omega arith) is took)
+  where
+    by : (o : Option Route) → length (living t (standing_in slots)) ≡ length (living t (standing_in (slice_set slots i new))) + cond (passes (lives t) taken) 1 0
+        → length (living t (entry_of s.number o ++ standing_in slots)) ≡ length (living t (entry_of s.number o ++ standing_in (slice_set slots i new))) + cond (passes (lives t) taken) 1 0
+    by None later = later
+    by (Some r) later = more (lives t r)
+      where
+        was : List Numbered
+        was = living t (standing_in slots)
+
+        left : List Numbered
+        left = living t (standing_in (slice_set slots i new))
+
+        more : (b : Bool) → length {A = Numbered} (cond b ((s.number, r) ∷ was) was) ≡ length {A = Numbered} (cond b ((s.number, r) ∷ left) left) + cond (passes (lives t) taken) 1 0
+        more true = omega (arith, later)
+        more false = later
+
 -- ---- the slots of the routes that pass a test
 
 abbrev pub kept_slots : (Route → Bool) → List Slot → List Slot
@@ -373,6 +415,11 @@ living_more now slots i s within is =
     ∙ ap length (living-append now (standing_in (take i slots)) (standing_in (s ∷ [])))
     ∙ length-append (living now (standing_in (take i slots))) (living now (standing_in (s ∷ [])))
     ∙ ap (λ n. length (living now (standing_in (take i slots))) + n) (one_living now s)
+
+-- a slot's route that lives at a moment does so up to its end
+pub lives_until : (end t now : ℕ) (o : Option Route) → LivesUntil end o → t ≤ end → passes (lives now) o ≡ true → passes (lives t) o ≡ true
+lives_until end t now None until le h = absurd (cc)
+lives_until end t now (Some r) until le h = until t le
 
 -- no more live than there are slots
 pub living_within : (now : ℕ) (slots : List Slot) → length (living now (standing_in slots)) ≤ length slots

@@ -1,4 +1,5 @@
 pub mod Routes
 pub mod Limit
 pub mod Slots
+pub mod Tally
 pub use Rattle.service_subjects.specs.Names

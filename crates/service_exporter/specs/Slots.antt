@@ -1,10 +1,10 @@
 -- Routes in slots by rising number, of which some are empty.
-use Rattle.std.specs.Prelude.{◌≡◌, ◌≢◌, ◌<◌, ℕ, Bool, true, false, List, [], ◌∷◌, ◌++◌, Option, Some, None, length, slice_index_or}
+use Rattle.std.specs.Prelude.{◌≡◌, ◌≢◌, ◌<◌, ◌≤◌, ℕ, Bool, true, false, List, [], ◌∷◌, ◌++◌, Option, Some, None, length, slice_index_or}
 use Rattle.std.specs.List.{HoldsAt}
 use Rattle.std.specs.Option.{option_map}
 use Rattle.subjects.specs.Subject.{Token}
 use Rattle.service_subjects.specs.Names.{is_on}
-use Rattle.service_exporter.specs.Routes.{Numbered, on_row}
+use Rattle.service_exporter.specs.Routes.{Numbered, lives, on_row}
 use Rattle.service_exporter.specs.declared.route.NewRow.{NewRow}
 use Rattle.service_exporter.specs.declared.route.Row.{Row}
 use Rattle.service_exporter.specs.declared.route.Route.{Route}
@@ -28,6 +28,11 @@ passes p (Some r) = p r
 -- whether a route is for a single response
 abbrev pub is_single : Route → Bool
 is_single r = r.terms.single
+
+-- the route that stands there, if one does, lives up to a moment
+abbrev pub LivesUntil : ℕ → Option Route → Type 0
+LivesUntil end None = Unit {0}
+LivesUntil end (Some r) = (t : ℕ) → t ≤ end → lives t r ≡ true
 
 -- the route on its row in another policy, if that has the row
 abbrev pub kept_in : (Row → Option NewRow) → Option Route → Option Route

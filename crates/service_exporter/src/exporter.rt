@@ -5,15 +5,15 @@ ghost use Rattle.service_exporter.specs.Routes.{kept_of, living, pruned_of, rout
 ghost use Rattle.service_exporter.specs.Limit.{is_full, IsNext, IsReserved};
 ghost use Rattle.service_exporter.specs.Slots.{standing_in};
 
-use crate::slots::{Slot, compact, count_living, drop_dead_at, keep_rows, prune, route_on, spend};
+use crate::slots::{
+    Slot, compact, copy_slots, count_living, drop_dead_at, keep_rows, prune, route_on, spend,
+};
+use crate::tally::{MOST, Tally};
 use crate::{Route, RouteError, ServiceRows};
 use base::NoMemory;
 use std::alloc::Global;
 use std::marker::Model;
 use subjects::SubjectRef;
-
-/// How many routes of an exporter may live.
-const MOST: u64 = 65_536;
 
 /// How many slots may be empty however few routes stand.
 const SPARE: usize = 16;
@@ -28,12 +28,15 @@ pub struct Exporter {
     empty: usize,
     /// Where the next is looked at that may be dead.
     turn: usize,
+    /// How many live, as far as that is known.
+    tally: Tally,
 }
 
 impl Model for Exporter {
     ghost use Rattle.std.specs.Prelude.{◌+◌, ◌-◌, ◌<◌, vec_len, vec_capacity};
     ghost use Rattle.service_exporter.specs.Slots.{standing_in, AreRising, AreBelow};
     ghost use Rattle.service_exporter.specs.Routes.{WithRoom};
+    ghost use Rattle.service_exporter.specs.Tally.{IsTallied};
 
     ghost Value = { WithRoom };
 
@@ -42,10 +45,11 @@ impl Model for Exporter {
       room = vec_capacity e.slots - vec_len e.slots;
     } };
 
-    ghost invariant = { λ e. AreRising e.slots.items × AreBelow (e.last + 1) e.slots.items × (e.last < 18446744073709551616) };
+    ghost invariant = { λ e. AreRising e.slots.items × AreBelow (e.last + 1) e.slots.items × (e.last < 18446744073709551616) × IsTallied e.tally (standing_in e.slots.items) };
 }
 
 impl Exporter {
+    ghost use Rattle.std.specs.Prelude.{IfOk};
     ghost use Rattle.service_exporter.specs.Routes.{no_routes};
 
     /// No routes.
@@ -58,7 +62,22 @@ impl Exporter {
             slots: Vec::new(alloc),
             empty: 0,
             turn: 0,
+            tally: Tally::unknown(),
         }
+    }
+
+    /// A copy with its own memory, which may have less room. `NoMemory` where memory could not be had.
+    pub fn copy(&self, alloc: Global) -> Result<Exporter, NoMemory>
+        ensures { IfOk result (λ copy. copy.exporter ≡ self.now.exporter) }
+    {
+        let slots = copy_slots(alloc, self.slots.as_slice())?;
+        Ok(Exporter {
+            last: self.last,
+            slots,
+            empty: self.empty,
+            turn: self.turn,
+            tally: self.tally,
+        })
     }
 
     /// Takes all routes out, and forgets the last number.
@@ -70,6 +89,7 @@ impl Exporter {
         self.last = 0;
         self.slots.clear();
         self.empty = 0;
+        self.tally = Tally::unknown();
     }
 
     /// Makes room for so many routes more.
@@ -103,9 +123,10 @@ impl Exporter {
     }
 
     /// The next number, if so many routes more are allowed at a moment.
-    fn next_number(&self, count: u64, now: u64) -> Option<u64>
+    fn next_number(&mut self, count: u64, now: u64) -> Option<u64>
         requires some { 0 < count }
-        ensures { IsNext (is_full count now self.now.exporter) self.now.exporter.last result }
+        ensures same { self.new ≡ self.old }
+        ensures next { IsNext (is_full count now self.old.exporter) self.old.exporter.last result }
     {
         if self.is_full(count, now) {
             None
@@ -115,13 +136,34 @@ impl Exporter {
     }
 
     /// Whether so many routes more aren't allowed at a moment.
-    fn is_full(&self, count: u64, now: u64) -> bool
-        ensures { result ≡ is_full count now self.now.exporter }
+    fn is_full(&mut self, count: u64, now: u64) -> bool
+        ensures same { self.new ≡ self.old }
+        ensures full { result ≡ is_full count now self.old.exporter }
     {
-        if count > MOST || self.last > u64::MAX - count {
+        if count > MOST as u64 || self.last > u64::MAX - count {
             return true;
         }
-        is_over(self.slots.as_slice(), (MOST - count) as usize, now)
+        let over = self.is_over(MOST - count as usize, now);
+        over
+    }
+
+    /// Whether more than so many routes live at a moment. They are counted only where that isn't known.
+    fn is_over(&mut self, most: usize, now: u64) -> bool
+        requires { most ≤ 65536 }
+        ensures same { self.new ≡ self.old }
+        ensures over { result ≡ nat_lt most (length (living now self.old.exporter.routes)) }
+    {
+        if self.slots.len() <= most {
+            return false;
+        }
+        if self.tally.is_within(most, now) {
+            return false;
+        }
+        if self.tally.is_over(most, now) {
+            return true;
+        }
+        self.tally = count_living(self.slots.as_slice(), now);
+        self.tally.most > most
     }
 
     /// Lets the empty slots go where more than half are empty.
@@ -143,6 +185,7 @@ impl Exporter {
         ensures room { self.old.room ≤ self.new.room + 1 }
     {
         self.last += 1;
+        self.tally.add(&route);
         self.slots.push_reserved(Slot {
             number: self.last,
             route: Some(route),
@@ -163,8 +206,12 @@ impl Exporter {
         ensures exporter { self.new.exporter ≡ spent_of subject.now self.old.exporter }
         ensures room { self.new.room ≡ self.old.room }
     {
-        if spend(self.slots.as_mut_slice(), subject) {
-            self.empty = self.empty.saturating_add(1);
+        match spend(self.slots.as_mut_slice(), subject) {
+            None => {}
+            Some(route) => {
+                self.tally.remove(&route);
+                self.empty = self.empty.saturating_add(1);
+            }
         }
     }
 
@@ -174,6 +221,7 @@ impl Exporter {
         ensures room { self.old.room ≤ self.new.room }
     {
         prune(&mut self.slots, now);
+        self.tally.let_go(now);
         self.empty = 0;
     }
 
@@ -190,6 +238,7 @@ impl Exporter {
             return;
         }
         self.turn = place + 1;
+        self.tally.let_go(now);
         if drop_dead_at(self.slots.as_mut_slice(), place, now) {
             self.empty = self.empty.saturating_add(1);
         }
@@ -202,16 +251,6 @@ impl Exporter {
         ensures room { self.new.room ≡ self.old.room }
     {
         keep_rows(self.slots.as_mut_slice(), rows);
-    }
-}
-
-/// Whether more than so many routes live at a moment.
-fn is_over(slots: &[Slot], most: usize, now: u64) -> bool
-    ensures { result ≡ nat_lt most (length (living now (standing_in slots.now))) }
-{
-    if slots.len() <= most {
-        false
-    } else {
-        count_living(slots, now) > most
+        self.tally = Tally::unknown();
     }
 }

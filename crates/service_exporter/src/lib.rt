@@ -2,14 +2,18 @@
 //!
 //! A request that crosses into an exporting account opens a route. A response on the route's subject reaches the account
 //! that asked, on the reply of its request. A route is found by its number, by halves, without a map of texts. What is dead
-//! leaves the memory a few at a time as others come. Where an exporter has near 65,536 routes in memory, `reserve` walks over
-//! them to count those that live.
+//! leaves the memory a few at a time as others come.
+//!
+//! `reserve` counts the routes that live only where an exporter has 65,536 slots or more in memory, and it isn't known already
+//! whether there are too many. One count tells how many live from then on, and up to which moment all of them do, and each
+//! route that is opened or ended is counted on or off: so the routes are walked about once a millisecond at most.
 #![tactic(auto)]
 
 mod error;
 mod exporter;
 mod route;
 mod slots;
+mod tally;
 
 pub use error::RouteError;
 pub use exporter::Exporter;

@@ -1,7 +1,7 @@
 //! One route, and the import row by which its request came.
 ghost use Rattle.std.specs.Prelude.{◌≡◌, IfOk};
 
-use base::NoMemory;
+use base::{Copying, NoMemory};
 use bytes::Bytes;
 use std::alloc::Global;
 use subjects::{Subject, SubjectRef};
@@ -59,6 +59,7 @@ pub struct Route {
 }
 
 impl Route {
+    ghost use Rattle.std.specs.Prelude.{◌≤◌, ℕ, true};
     ghost use Rattle.service_exporter.specs.Routes.{lives, on_row};
     ghost use Rattle.std.specs.Option.{option_map};
 
@@ -159,6 +160,30 @@ impl Route {
         ensures { result ≡ lives now self.now }
     {
         now.saturating_sub(self.noted) <= self.terms.ttl
+    }
+
+    /// A moment up to which it lives: its last one, or the last that 64 bits have.
+    pub(crate) fn end(&self) -> u64
+        ensures { (t : ℕ) → t ≤ result → lives t self.now ≡ true }
+    {
+        self.noted.saturating_add(self.terms.ttl)
+    }
+}
+
+impl Copying for Route {
+    fn copy(&self, alloc: Global) -> Result<Route, NoMemory> {
+        let importer = self.row.importer.clone()?;
+        let reply = self.reply.copy(alloc)?;
+        Ok(Route {
+            word: self.word,
+            row: Row {
+                importer,
+                index: self.row.index,
+            },
+            reply,
+            noted: self.noted,
+            terms: self.terms,
+        })
     }
 }
 

@@ -1,12 +1,16 @@
 //! An exporter's routes by rising number, in slots that stay in their places until more than half of them are empty.
-ghost use Rattle.std.specs.Prelude.{◌≡◌, ◌≤◌, ◌<◌, ◌-◌, ℕ, true, not, None, MatchOption, filter, length, map, vec_len, vec_capacity};
+ghost use Rattle.std.specs.Prelude.{◌≡◌, ◌≤◌, ◌<◌, ◌-◌, ℕ, true, not, None, MatchOption, filter, length, map, IfOk, vec_len, vec_capacity};
 ghost use Rattle.std.specs.List.{filter_map};
 ghost use Rattle.std.specs.Option.{option_copied};
 ghost use Rattle.service_exporter.specs.Routes.{Numbered, ends_by, kept_route, living, lives, route_on};
 ghost use Rattle.service_exporter.specs.Slots.{standing_in, AreRising, AreBelow, IsAbsent, IsPlaceOf, IsNowhere, IsPlaceOn, kept_slot};
+ghost use Rattle.service_exporter.specs.Tally.{IsTallied, IsLeft};
 
+use crate::tally::Tally;
 use crate::{Route, ServiceRows};
+use base::{Copying, NoMemory};
 use service_subjects::{is_on, number_in};
+use std::alloc::Global;
 use subjects::SubjectRef;
 
 /// The slot of a number, with the route of that number as long as it stands.
@@ -31,7 +35,7 @@ impl Slot {
     ghost use Rattle.std.specs.Prelude.{if◌then◌else◌};
     ghost use Rattle.service_exporter.specs.declared.route.Route.{Route};
     ghost use Rattle.service_subjects.specs.Names.{is_on};
-    ghost use Rattle.service_exporter.specs.Slots.{passes, is_single, kept_in};
+    ghost use Rattle.service_exporter.specs.Slots.{passes, is_single, kept_in, LivesUntil};
 
     /// The route that stands in it.
     fn get(&self) -> Option<&Route>
@@ -73,16 +77,17 @@ impl Slot {
         }
     }
 
-    /// Takes its route out, if that is for a single response. Answers whether it did that.
-    fn end_if_single(&mut self) -> bool
+    /// Takes its route out, if that is for a single response, and returns it.
+    fn take_if_single(&mut self) -> Option<Route>
         ensures number { self.new.number ≡ self.old.number }
         ensures route { self.new.route ≡ (if passes is_single self.old.route then None else self.old.route) }
+        ensures taken { result ≡ (if passes is_single self.old.route then self.old.route else None) }
     {
-        let ends = self.is_single();
-        if ends {
-            self.route = None;
+        if self.is_single() {
+            self.route.take()
+        } else {
+            None
         }
-        ends
     }
 
     /// Whether a route stands in it that is for a single response.
@@ -105,6 +110,16 @@ impl Slot {
             true
         } else {
             false
+        }
+    }
+
+    /// A moment up to which its route lives.
+    fn end(&self) -> u64
+        ensures { LivesUntil result self.now.route }
+    {
+        match &self.route {
+            None => u64::MAX,
+            Some(route) => route.end(),
         }
     }
 
@@ -176,17 +191,25 @@ fn keep_each<S: ServiceRows>(slots: &mut [Slot], rows: &S)
     }
 }
 
-/// How many routes live at a moment.
-pub(crate) fn count_living(slots: &[Slot], now: u64) -> usize
-    ensures { result ≡ length (living now (standing_in slots.now)) }
+/// The tally of the routes that live at a moment, and up to which moment all of them do.
+pub(crate) fn count_living(slots: &[Slot], now: u64) -> Tally
+    ensures count { result.most ≡ length (living now (standing_in slots.now)) }
+    ensures tallied { IsTallied result (standing_in slots.now) }
 {
     let mut count = 0usize;
+    let mut until = u64::MAX;
     for slot in slots {
         if slot.is_living(now) {
             count += 1;
+            until = until.min(slot.end());
         }
     }
-    count
+    Tally {
+        since: now,
+        most: count,
+        until,
+        least: count,
+    }
 }
 
 /// The place of the route of a subject.
@@ -210,18 +233,33 @@ fn place_on(slots: &[Slot], subject: &SubjectRef<'_>) -> Option<usize>
     }
 }
 
-/// Takes the route of a subject out, if it is for a single response. Answers whether it was.
-pub(crate) fn spend(slots: &mut [Slot], subject: &SubjectRef<'_>) -> bool
+/// Takes the route of a subject out, if it is for a single response, and returns it.
+pub(crate) fn spend(slots: &mut [Slot], subject: &SubjectRef<'_>) -> Option<Route>
     requires rising { AreRising slots.old }
     requires small { AreBelow 18446744073709551616 slots.old }
     ensures spent { standing_in slots.new ≡ filter (λ (r : Numbered). not (ends_by subject.now r)) (standing_in slots.old) }
     ensures rising { AreRising slots.new }
     ensures below { (n : ℕ) → AreBelow n slots.old → AreBelow n slots.new }
+    ensures left { IsLeft (standing_in slots.old) (standing_in slots.new) result }
 {
     match place_on(slots, subject) {
-        None => false,
-        Some(place) => slots[place].end_if_single(),
+        None => None,
+        Some(place) => slots[place].take_if_single(),
     }
+}
+
+/// Copies of slots. `NoMemory` where memory could not be had.
+pub(crate) fn copy_slots(alloc: Global, slots: &[Slot]) -> Result<Vec<Slot>, NoMemory>
+    ensures { IfOk result (λ copies. copies.items ≡ slots.now) }
+{
+    let mut copies = Vec::with_capacity(alloc, slots.len())?;
+    for slot in slots {
+        copies.push(Slot {
+            number: slot.number,
+            route: slot.route.copy(alloc)?,
+        })?;
+    }
+    Ok(copies)
 }
 
 /// Takes the route at a place out, if it doesn't live at a moment. Answers whether it did that.

@@ -8,4 +8,5 @@ abbrev pub invariant-loop-slot : goal.invariant-loop-slot
 invariant-loop-slot l = record {
   count : l.count ≡ length (living l.now (standing_in (take l.slot-index l.slots)));
   within : l.count ≤ l.slot-index;
+  least : l.count ≤ length (living l.until (standing_in (take l.slot-index l.slots)));
 }

@@ -2,6 +2,7 @@
 use Rattle.std.proofs.Common.{◌≡◌, ◌∙◌, ◌+◌, List, ap, sym, subst, arith, Some}
 use Rattle.service_exporter.specs.Routes.{Exporter, Numbered, WithRoom, with_route}
 use Rattle.service_exporter.specs.Slots.{standing_in, AreRising, AreBelow}
+use Rattle.service_exporter.specs.Tally.{IsTallied}
 use Rattle.service_exporter.specs.declared.slots.Slot.{Slot}
 use Rattle.service_exporter.proofs.Places.{rising_added, below_added, below_more, standing_added}
 use Rattle.service_exporter.proofs.exporter.Exporter.open.Goals as goal
@@ -16,6 +17,7 @@ invariant_of-self c =
       subst AreRising (sym c.push_reserved.ensures.items) (rising_added slots new c.self.invariant.0 c.self.invariant.1),
       subst (λ (l : List Slot). AreBelow (n + 1) l) (sym c.push_reserved.ensures.items) (below_added (n + 1) slots new (below_more n (n + 1) slots (omega arith) c.self.invariant.1) (omega arith)),
       omega (arith, same, within),
+      subst (λ (rs : List Numbered). IsTallied c.add.new.self rs) (sym (ap standing_in c.push_reserved.ensures.items ∙ standing_added slots n c.args.route)) (c.add.ensures (standing_in slots) n c.self.invariant.3),
     )
 
 pub returns-clause-exporter : goal.returns-clause-exporter
