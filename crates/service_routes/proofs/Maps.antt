@@ -1,11 +1,12 @@
 -- Exporters by their names, with and without their room.
 use Rattle.std.proofs.Common.{◌≡◌, ◌∙◌, ◌≤◌, ◌<◌, ◌+◌, ◌++◌, ◌∷◌, ◌||◌, [], ℕ, zero, suc, take, drop, slice_get, Bool, true, false, cond, List, Option, Some, None, length, nat_lt, unwrap_or, map, ap, sym, refl, subst, arith, true≢false}
-use Rattle.std.specs.Map.{lookup, lookup_key, set_value, values_of}
+use Rattle.std.specs.List.{AllByRecursion, IsDistinct}
+use Rattle.std.specs.Map.{keys_of, lookup, lookup_key, set_value, values_of}
 use Rattle.std.proofs.lemmas.Bool.{or_parts}
 use Rattle.std.proofs.lemmas.Bool.Decides.{nat_tests}
 use Rattle.std.proofs.lemmas.List.{length-map}
 use Rattle.std.specs.Option.{option_map}
-use Rattle.std.specs.Cmp.Lexicographic.{bytes_decides}
+use Rattle.std.specs.Cmp.Lexicographic.{bytes_decides, nat_list_eq_equiv}
 use Rattle.indexmap.specs.IndexMap.{insert_entry, set_value_at}
 use Rattle.service_exporter.specs.Routes.{Exporter, WithRoom, no_routes, pruned_of, with_route}
 use Rattle.service_routes.specs.Routes.{Name, changed, exporter_of, opened, pruned, same_name}
@@ -409,3 +410,71 @@ has_number live last free =
     let no : nat_lt 18446744073709551615 (last + 1) ≡ false = (or_parts (nat_lt 65536 (live + 1)) (nat_lt 18446744073709551615 (last + 1)) free).1 in
     let le : last + 1 ≤ 18446744073709551615 = grind (arith, nat_tests, no) in
     omega (arith, le)
+
+-- ---- copies
+
+keys-shown : (all : List (Name × WithRoom)) → keys_of (exporters_in all) ≡ keys_of all
+keys-shown [] = refl
+keys-shown (e ∷ all) = ap (λ more. e.0 ∷ more) (keys-shown all)
+
+absent-shown : (name : Name) (all : List (Name × WithRoom)) → lookup (same_name name) (exporters_in all) ≡ None → lookup (same_name name) all ≡ None
+absent-shown name all h = by (lookup (same_name name) all) refl
+  where
+    by : (o : Option WithRoom) → lookup (same_name name) all ≡ o → lookup (same_name name) all ≡ None
+    by None e = e
+    by (Some w) e = let some : Some w.exporter ≡ None = sym (lookup-exporters name all (Some w) e) ∙ h in absurd (cc)
+
+apart_later : (k : Name) (es fs : List (Name × Exporter)) (e : Name × Exporter) → AllByRecursion (λ y. same_name k y ≡ false) (keys_of (es ++ e ∷ fs)) → same_name k e.0 ≡ false
+apart_later k [] fs e h = h.0
+apart_later k (x ∷ xs) fs e h = apart_later k xs fs e h.1
+
+absent_before : (es fs : List (Name × Exporter)) (e : Name × Exporter) → IsDistinct same_name (keys_of (es ++ e ∷ fs)) → lookup (same_name e.0) es ≡ None
+unfolding IsDistinct
+absent_before [] fs e d = refl
+absent_before (x ∷ xs) fs e d =
+    let apart : same_name e.0 x.0 ≡ false = nat_list_eq_equiv.symm e.0 x.0 ∙ apart_later x.0 xs fs e d.0 in
+    ap (λ b. cond b (Some x.1) (lookup (same_name e.0) xs)) apart ∙ absent_before xs fs e d.1
+
+-- the exporter at a place has a name that none before it has
+pub copied-absent : (copies all : List (Name × WithRoom)) (place : ℕ) (name : Name) (w : WithRoom) → slice_get all place ≡ Some (name, w) → IsDistinct same_name (keys_of all)
+    → exporters_in copies ≡ take place (exporters_in all) → lookup (same_name name) copies ≡ None
+copied-absent copies all place name w at distinct same =
+    absent-shown name copies (ap (lookup (same_name name)) same ∙ before (exporters_in all) place (name, w.exporter) (shown_at all place at) (subst (IsDistinct same_name) (sym (keys-shown all)) distinct))
+  where
+    shown_at : (all : List (Name × WithRoom)) (place : ℕ) → slice_get all place ≡ Some (name, w) → slice_get (exporters_in all) place ≡ Some (name, w.exporter)
+    shown_at [] place h = absurd (cc)
+    shown_at (e ∷ all) zero h = ap (λ (o : Option (Name × WithRoom)). option_map (λ (x : Name × WithRoom). (x.0, x.1.exporter)) o) h
+    shown_at (e ∷ all) (suc place) h = shown_at all place h
+
+    split : (xs : List (Name × Exporter)) (i : ℕ) (e : Name × Exporter) → slice_get xs i ≡ Some e → xs ≡ take i xs ++ e ∷ drop (suc i) xs
+    split [] i e h = absurd (cc)
+    split (x ∷ xs) zero e h = let it : x ≡ e = cc in ap (λ (y : Name × Exporter). y ∷ xs) it
+    split (x ∷ xs) (suc i) e h = ap (λ more. x ∷ more) (split xs i e h)
+
+    before : (xs : List (Name × Exporter)) (i : ℕ) (e : Name × Exporter) → slice_get xs i ≡ Some e → IsDistinct same_name (keys_of xs) → lookup (same_name e.0) (take i xs) ≡ None
+    before xs i e h d = absent_before (take i xs) (drop (suc i) xs) e (subst (λ (ys : List (Name × Exporter)). IsDistinct same_name (keys_of ys)) (split xs i e h) d)
+
+-- and one more copy is that of the exporter there
+pub copied-more : (copies all new : List (Name × WithRoom)) (place : ℕ) (name : Name) (w v : WithRoom) → slice_get all place ≡ Some (name, w) → v.exporter ≡ w.exporter
+    → new ≡ copies ++ (name, v) ∷ [] → exporters_in copies ≡ take place (exporters_in all) → exporters_in new ≡ take (place + 1) (exporters_in all)
+copied-more copies all new place name w v at is more same =
+    ap exporters_in more
+    ∙ appended copies
+    ∙ ap (λ (xs : List (Name × Exporter)). xs ++ (name, v.exporter) ∷ []) same
+    ∙ ap (λ (x : Exporter). take place (exporters_in all) ++ (name, x) ∷ []) is
+    ∙ next all place at
+  where
+    appended : (es : List (Name × WithRoom)) → exporters_in (es ++ (name, v) ∷ []) ≡ exporters_in es ++ (name, v.exporter) ∷ []
+    appended [] = refl
+    appended (e ∷ es) = ap (λ rest. (e.0, e.1.exporter) ∷ rest) (appended es)
+
+    next : (es : List (Name × WithRoom)) (i : ℕ) → slice_get es i ≡ Some (name, w) → take i (exporters_in es) ++ (name, w.exporter) ∷ [] ≡ take (i + 1) (exporters_in es)
+    next [] i h = absurd (cc)
+    next (e ∷ es) zero h = let it : e ≡ (name, w) = cc in ap (λ (x : Name × WithRoom). (x.0, x.1.exporter) ∷ []) (sym it)
+    next (e ∷ es) (suc i) h = ap (λ rest. (e.0, e.1.exporter) ∷ rest) (next es i h)
+
+pub copied-all : (all : List (Name × Exporter)) (i : ℕ) → length all ≤ i → take i all ≡ all
+copied-all [] zero le = refl
+copied-all [] (suc i) le = refl
+copied-all (e ∷ all) zero le = absurd (omega (arith, le))
+copied-all (e ∷ all) (suc i) le = ap (λ more. e ∷ more) (copied-all all i (omega (arith, le)))

@@ -1,5 +1,5 @@
 //! All routes, exporter by exporter.
-ghost use Rattle.std.specs.Prelude.{◌≡◌, ◌≤◌, ◌<◌, ◌+◌, ◌++◌, ◌∷◌, ℕ, List, [], OnOk, None, Some, false, length, if◌then◌else◌};
+ghost use Rattle.std.specs.Prelude.{◌≡◌, ◌≤◌, ◌<◌, ◌+◌, ◌++◌, ◌∷◌, ℕ, List, [], IfOk, OnOk, None, Some, false, length, take, if◌then◌else◌};
 ghost use Rattle.std.specs.Map.{lookup};
 ghost use Rattle.std.specs.Option.{option_copied};
 ghost use Rattle.indexmap.specs.IndexMap.{spare};
@@ -69,6 +69,20 @@ impl Routes {
             ready: IndexMap::new(alloc),
             turn: 0,
         }
+    }
+
+    /// A copy with the same routes and last numbers. Room that was had for more isn't had again. `NoMemory` where memory could
+    /// not be had.
+    pub fn copy(&self, alloc: Global) -> Result<Routes, NoMemory>
+        ensures { IfOk result (λ copy. copy.exporters ≡ self.now.exporters) }
+    {
+        let exporters = copy_all(alloc, &self.exporters)?;
+        Ok(Routes {
+            alloc,
+            exporters,
+            ready: IndexMap::new(alloc),
+            turn: self.turn,
+        })
     }
 
     /// Makes room for so many routes more of an exporter, at least one, and gives its next number. Nothing else changes.
@@ -153,6 +167,41 @@ impl Routes {
         ensures room { (other : List ℕ) → room_for other self.old ≤ room_for other self.new }
     {
         keep_all(&mut self.exporters, rows);
+    }
+}
+
+/// Copies of exporters, in their order.
+fn copy_all(alloc: Global, exporters: &Exporters) -> Result<Exporters, NoMemory>
+    ensures { IfOk result (λ copies. exporters_in copies.entries ≡ exporters_in exporters.now.entries) }
+{
+    let mut copies = IndexMap::new(alloc);
+    copies.reserve(exporters.len())?;
+    for place in 0..exporters.len() {
+        copy_at(alloc, exporters, place, &mut copies)?;
+    }
+    Ok(copies)
+}
+
+/// Puts a copy of the exporter at a place behind the copies of those before it.
+fn copy_at(
+    alloc: Global,
+    exporters: &Exporters,
+    place: usize,
+    copies: &mut Exporters,
+) -> Result<(), NoMemory>
+    requires { exporters_in copies.old.entries ≡ take place (exporters_in exporters.now.entries) }
+    ensures { OnOk result (exporters_in copies.new.entries ≡ take (place + 1) (exporters_in exporters.now.entries)) }
+{
+    let _known = exporters.len();
+    match exporters.get_index(place) {
+        None => Ok(()),
+        Some((name, part)) => {
+            let copy = part.copy(alloc)?;
+            match copies.insert(name.clone()?, copy) {
+                Ok(_) => Ok(()),
+                Err(_) => Err(NoMemory),
+            }
+        }
     }
 }
 

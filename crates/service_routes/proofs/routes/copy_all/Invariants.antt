@@ -1,0 +1,11 @@
+-- the copies so far are of the exporters so far
+use Rattle.std.proofs.Common.{◌≡◌, ◌≤◌, length, take}
+use Rattle.service_routes.specs.Tables.{exporters_in}
+use Rattle.service_routes.proofs.routes.copy_all.Given as goal
+
+abbrev pub invariant-loop-place : goal.invariant-loop-place
+invariant-loop-place l = record {
+  copied : exporters_in l.copies.entries ≡ take l.place (exporters_in l.exporters.entries);
+  end : l.place-end ≡ length l.exporters.entries;
+  upto : l.place ≤ l.place-end;
+}
