@@ -14,7 +14,7 @@ pub(crate) struct Given<'a> {
 }
 
 impl<'a> Given<'a> {
-    /// Those of a subject of the pattern, which has so many `*`s. `NoMemory` where memory could not be had.
+    /// The tokens of a subject of the pattern, which has `count` `*`s. `NoMemory` where memory could not be had.
     pub fn of(
         alloc: Global,
         pattern: &Pattern,

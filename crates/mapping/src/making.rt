@@ -18,7 +18,7 @@ pub(crate) fn first_numbers(alloc: Global, count: usize) -> Result<Vec<usize>, N
     Ok(numbers)
 }
 
-/// Of each number from 1 to `count`, where it stands among the references, from 1.
+/// The place of each number from 1 to `count` among the references, counted from 1.
 pub(crate) fn inverse(
     alloc: Global,
     count: usize,

@@ -183,7 +183,7 @@ impl Mapping {
         &self.outer.pattern
     }
 
-    /// What every mapping is, for whoever proves something of one.
+    /// Tells what holds of every mapping. It does nothing when it runs.
     pub fn known(&self)
         ensures { IsRowMap self.now }
     {

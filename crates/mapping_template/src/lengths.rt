@@ -6,7 +6,7 @@ ghost use Rattle.mapping_template.specs.Wildcards.{count_stars, has_tail};
 use base::Pieces;
 use subjects::{Pattern, is_star, is_tail};
 
-/// Whether there are more tokens than so many.
+/// Whether there are more than `most` tokens.
 pub fn is_longer(tokens: Pieces, most: usize) -> bool
     ensures { result ≡ nat_lt most (length tokens.entry) }
 {

@@ -46,7 +46,7 @@ impl Part {
     }
 }
 
-/// What a token stands for.
+/// The part that a token is.
 pub(crate) fn part_of(token: &[u8]) -> Part
     ensures { result ≡ part_of token.now }
 {
@@ -63,7 +63,7 @@ pub(crate) fn part_of(token: &[u8]) -> Part
     }
 }
 
-/// What `$` and these bytes stand for.
+/// The part that `$` and these bytes are.
 fn dollar_part(digits: &[u8]) -> Part
     ensures { result ≡ dollar_part digits.now }
 {
@@ -73,7 +73,7 @@ fn dollar_part(digits: &[u8]) -> Part
     }
 }
 
-/// What a token that begins `{{` stands for.
+/// The part that a token is which begins `{{`.
 fn braced_part(token: &[u8]) -> Part
     ensures { result ≡ braced_part token.now }
 {

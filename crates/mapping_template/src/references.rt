@@ -35,7 +35,7 @@ impl Model for References {
 }
 
 impl References {
-    /// Those of a template, which has at most 512 tokens.
+    /// The references of a template, which has at most 512 tokens.
     pub fn of(template: &[u8]) -> References
         requires { length (tokens_of template.now) ≤ 512 }
         ensures { result ≡ references_of (tokens_of template.now) }
@@ -64,7 +64,7 @@ impl References {
         self.count += 1;
     }
 
-    /// The numbers.
+    /// The numbers in order.
     pub fn as_slice(&self) -> &[usize]
         ensures { result.now ≡ self.now }
     {

@@ -11,7 +11,7 @@ use crate::references::{References, has_repeat, refers_to_each};
 use base::Pieces;
 use subjects::{Pattern, SubjectError, pattern_fault};
 
-/// What is wrong with a text as a template for the subjects of a pattern. It takes no memory.
+/// The first fault of a text as a template for the subjects of a pattern, or none. It takes no memory.
 pub fn template_fault(pattern: &Pattern, text: &[u8]) -> Option<MappingError>
     ensures { result ≡ template_fault pattern.now text.now }
 {

@@ -21,7 +21,7 @@ impl PolicyDoc {
     ghost use Rattle.std.specs.Prelude.{◌≡◌, length};
     ghost use Rattle.policy_doc.specs.Document.{users_of};
 
-    /// How many users the accounts have. It has 128 bits, since no list of lists has more elements.
+    /// How many users the accounts have together. It has 128 bits, since no list of lists has more elements.
     pub fn count_users(&self) -> u128
         ensures { result ≡ length (users_of self.now.accounts) }
     {

@@ -15,7 +15,7 @@ pub struct User {
     pub account: Bytes,
     /// Its own name, which no other user has.
     pub user: Bytes,
-    /// What it shows to connect.
+    /// The password with which it connects.
     pub password: Bytes,
     /// What it may publish and subscribe to.
     pub rules: Compiled,
@@ -138,7 +138,7 @@ impl Ready {
         self.shared.users.as_slice()
     }
 
-    /// The user with that name and password; no name is nobody's.
+    /// The user with that name and password, if there is one. Without a name there is none.
     pub fn user_with_password(
         &self,
         name: &Option<SharedText>,
@@ -159,7 +159,7 @@ impl Ready {
             && user.password.as_slice() == password)
     }
 
-    /// The user with the same name, password and account as another.
+    /// The user with the same name, password and account as another, if there is one.
     pub fn user_again(&self, user: &User) -> Option<&User>
         ensures { option_copied result ≡ user_again self.now user.now }
     {

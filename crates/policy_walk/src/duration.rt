@@ -5,7 +5,7 @@ ghost use Rattle.policy_walk.specs.Durations.{unit_ms, duration_by, duration_of}
 
 use base::number_of;
 
-/// The most digits that a duration has.
+/// How many digits a duration has at most.
 const MOST_DIGITS: usize = 9;
 
 /// The milliseconds of a duration's text: 1 to 9 decimal digits and a unit, which is `ms`, `s`, `m` or `h`. `None` where
@@ -43,7 +43,7 @@ fn unit_of(unit: &[u8]) -> Option<u64>
     }
 }
 
-/// So many times a unit.
+/// The milliseconds of a number of units. `None` where the digits are more than 9, or write 0 or no number.
 fn times(digits: &[u8], unit: u64) -> Option<u64>
     requires { unit ≤ 3600000 }
     ensures { result ≡ duration_by digits.now (Some unit) }

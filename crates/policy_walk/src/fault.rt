@@ -4,7 +4,7 @@ use std::alloc::{AllocError, AllocFailed, Global};
 use std::error::Error;
 use std::fmt;
 
-/// Why a text is no policy document, with the path of where. Which fault comes first: `read_policy`.
+/// Why a text is no policy document, and the path of where. `read_policy` tells which fault comes first.
 #[derive(Debug, Drop)]
 pub enum ConfigFault {
     /// The text has more than 1,048,576 bytes.
@@ -44,7 +44,7 @@ impl ConfigFault {
         Ok(line)
     }
 
-    /// Whether memory lacked for reading the text, which says nothing of the text.
+    /// Whether it is that there was no memory for reading the text, which says nothing of the text.
     pub fn is_memory(&self) -> bool
         ensures { result ≡ is_memory self.now }
     {
@@ -80,7 +80,7 @@ impl ConfigFault {
         }
     }
 
-    /// Where the fault stands, or nothing.
+    /// The path of where the fault stands, if it has one.
     fn path(&self) -> &str
         ensures { result.now ≡ fault_path self.now }
     {

@@ -28,7 +28,7 @@ pub fn judge(
     Ok(())
 }
 
-/// The members of what has to be an object.
+/// The members of a value that has to be an object. `WrongType` where it is none.
 pub fn members_of<'v>(
     alloc: Global,
     path: &Path,
@@ -42,7 +42,7 @@ pub fn members_of<'v>(
     }
 }
 
-/// The least key that the table doesn't have.
+/// The least key of an object that its table doesn't have, if there is one.
 fn first_unknown<'v>(rows: &[(&str, bool)], members: &'v Map<String, Value>) -> Option<&'v str>
     ensures { option_map (λ key. key.now) result ≡ unknown_key (map row_of rows.now) (members_view members.now.entries) }
 {
@@ -66,7 +66,7 @@ fn is_known(rows: &[(&str, bool)], key: &str) -> bool
     false
 }
 
-/// The first key of the table that must be there and isn't.
+/// The first key of a table that must be there and isn't, if there is one.
 fn first_missing<'r>(rows: &[(&'r str, bool)], value: &Value) -> Option<&'r str>
     ensures { option_map (λ key. key.now) result ≡ missing_key (map row_of rows.now) (view value.now) }
 {
@@ -78,7 +78,7 @@ fn first_missing<'r>(rows: &[(&'r str, bool)], value: &Value) -> Option<&'r str>
     None
 }
 
-/// Refuses a key that the table doesn't have.
+/// Refuses a key that the table doesn't have, if one was found: `UnknownKey` at its path.
 fn refuse_unknown(alloc: Global, path: &Path, key: Option<&str>) -> Result<(), ConfigFault>
     ensures { Gives (λ x. x) result (refuse UnknownKey path.now (option_map (λ k. k.now) key.entry)) }
 {
@@ -88,7 +88,7 @@ fn refuse_unknown(alloc: Global, path: &Path, key: Option<&str>) -> Result<(), C
     }
 }
 
-/// Refuses an object without a key.
+/// Refuses an object without a key that must be there: `WrongType` at the key's path.
 fn refuse_missing(alloc: Global, path: &Path, key: Option<&str>) -> Result<(), ConfigFault>
     ensures { Gives (λ x. x) result (refuse WrongType path.now (option_map (λ k. k.now) key.entry)) }
 {

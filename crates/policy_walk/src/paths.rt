@@ -50,7 +50,7 @@ impl Path {
         Ok(Path { text })
     }
 
-    /// The path of what an object has under a key.
+    /// The path of the value that an object has under a key.
     pub fn key(&self, alloc: Global, key: &str) -> Result<Path, AllocError>
         ensures { IfOk result (λ below. below ≡ at_key self.now key.now) }
     {
@@ -60,7 +60,7 @@ impl Path {
         Ok(below)
     }
 
-    /// The path of what a list has at an index.
+    /// The path of the value that a list has at an index.
     pub fn index(&self, alloc: Global, index: usize) -> Result<Path, AllocError>
         ensures { IfOk result (λ below. below ≡ at_index self.now index) }
     {

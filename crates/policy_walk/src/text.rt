@@ -9,7 +9,7 @@ use crate::paths::Path;
 use serde_json::Value;
 use std::alloc::Global;
 
-/// What has to be a text.
+/// The text of a value that has to be one. `WrongType` where it is none.
 pub fn text_of<'v>(alloc: Global, path: &Path, value: &'v Value) -> Result<&'v str, ConfigFault>
     ensures { Gives (λ text. text.now) result (text_at path.now (view value.now)) }
 {
@@ -19,7 +19,7 @@ pub fn text_of<'v>(alloc: Global, path: &Path, value: &'v Value) -> Result<&'v s
     }
 }
 
-/// What has to be a list.
+/// The values of a list, of a value that has to be one. `WrongType` where it is none.
 pub fn items_of<'v>(
     alloc: Global,
     path: &Path,
@@ -33,7 +33,7 @@ pub fn items_of<'v>(
     }
 }
 
-/// What an object has under a key that must be there.
+/// The value that an object has under a key that must be there. `WrongType` at the key's path where it isn't.
 pub fn required_of<'v>(
     alloc: Global,
     key: &str,
@@ -48,7 +48,7 @@ pub fn required_of<'v>(
     }
 }
 
-/// The text that an object has under a key that must be there.
+/// The text that an object has under a key that must be there. `WrongType` where nothing is there, or no text.
 #[tactic(auto, unfolding(crate::specs::Texts::required_text_at))]
 pub fn required_text_of<'v>(
     alloc: Global,

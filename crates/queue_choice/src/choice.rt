@@ -33,7 +33,7 @@ pub fn choose<'a>(
     Ok(choices)
 }
 
-/// Returns the chosen member of each group.
+/// The members that a word chooses, one of each group.
 fn choose_each<'a>(
     alloc: Global,
     groups: &[Group<'a>],

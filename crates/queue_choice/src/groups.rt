@@ -60,7 +60,7 @@ impl<'a> Group<'a> {
 /// The queue groups of a list of members, in order of their first members.
 #[derive(Drop)]
 pub struct Groups<'a> {
-    /// The name of each group, which finds its place.
+    /// The place of each group, by its name.
     names: IndexSet<&'a [u8], RandomState>,
     list: Vec<Group<'a>>,
 }

@@ -1,4 +1,4 @@
-//! Whom of each queue group a message goes to.
+//! The member of each queue group that is sent a message.
 #![tactic(auto)]
 
 mod choice;

@@ -10,10 +10,10 @@ use std::{fmt, str};
 /// Why a text gives no policy.
 #[derive(Debug, Drop)]
 pub enum ReloadFault {
-    /// The text is no document, or memory was lacking while it was read.
+    /// The text is no document, or there was no memory for reading it.
     Config(ConfigFault),
-    /// The document is no policy; `account` is the name of the account whose row has the fault. Or memory was
-    /// lacking for more than reading the text; no account is named then.
+    /// The document is no policy; `account` is the name of the account whose row has the fault. Or there was no
+    /// memory for more than reading the text; no account is named then.
     Policy { fault: PolicyFault, account: Bytes },
 }
 
@@ -38,7 +38,7 @@ impl ReloadFault {
         }
     }
 
-    /// Whether memory was lacking, which says nothing of the text.
+    /// Whether it is that there was no memory, which says nothing of the text.
     pub fn is_memory(&self) -> bool
         ensures { result ≡ is_memory self.now }
     {
@@ -55,7 +55,7 @@ impl ReloadFault {
 ghost use Rattle.std.specs.Prelude.{◌≡◌, IfOk};
 ghost use Rattle.reload.specs.Fault.{policy_line};
 
-/// The line of a fault of a document, of which the row is in this account.
+/// The line of a document's fault. `account` is the account of the row that has it.
 fn policy_line(alloc: Global, fault: PolicyFault, account: &[u8]) -> Result<Vec<u8>, NoMemory>
     ensures { IfOk result (λ line. line.items ≡ policy_line fault account.now) }
 {
@@ -90,7 +90,7 @@ impl fmt::Display for ReloadFault {
 
 ghost use Rattle.std.specs.Fmt.{WritesOnOk};
 
-/// Prints the line of a fault of a document, of which the row is in this account.
+/// Prints the line of a document's fault. `account` is the account of the row that has it.
 fn show_policy<W: fmt::Write>(
     fault: PolicyFault,
     account: &str,

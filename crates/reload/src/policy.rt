@@ -11,8 +11,8 @@ use policy_doc::{Policy, PolicyDoc, PolicyFault};
 use policy_ready::Ready;
 use std::alloc::Global;
 
-/// The policy of a text, made ready, or the text's first fault: what it is as a document comes first, then what the
-/// document is as a policy.
+/// The policy of a text, made ready, or the text's first fault: faults of the text as a document come before those of the
+/// document as a policy.
 ///
 /// Where memory could not be had, `Config(NoMemory)` comes of reading the text and `Policy` with `NoMemory` of the
 /// rest.
@@ -65,7 +65,7 @@ fn refusal(doc: &PolicyDoc, fault: PolicyFault) -> ReloadFault
     }
 }
 
-/// Want of memory.
+/// The fault that there was no memory.
 fn no_memory() -> ReloadFault
     ensures { is_memory result ≡ true }
 {

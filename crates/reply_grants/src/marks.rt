@@ -108,7 +108,7 @@ fn renew(marks: &mut Marks, place: usize, mark: Mark)
     marks[last] = mark;
 }
 
-/// Removes the first so many, which are half of all at least.
+/// Removes the first so many marks, which are half of all at least.
 fn remove_first(marks: &mut Marks, gone: usize)
     requires { (gone ≤ length marks.old.entries) × (length marks.old.entries ≤ 2 * gone) }
     ensures entries { marks.new.entries ≡ drop gone marks.old.entries }
@@ -117,7 +117,7 @@ fn remove_first(marks: &mut Marks, gone: usize)
     for _gone in marks.drain(..gone) {}
 }
 
-/// Makes room for one more where there is none. Answers how many that were dropped are left.
+/// Makes room for one mark more where there is none. Returns how many of those that were dropped are left.
 fn make_room(marks: &mut Marks, gone: usize) -> usize
     requires { IsKept 1024 gone (length marks.old.entries) (spare marks.old) }
     ensures left { result ≤ gone }
@@ -172,7 +172,7 @@ pub(crate) fn dropped(gone: usize, held: usize) -> usize
     if held - gone <= MOST { gone } else { gone + 1 }
 }
 
-/// Drops the one at a place where it isn't live. Answers how many are dropped then.
+/// Drops the mark at a place if its grant isn't live. Returns how many are dropped then.
 fn drop_if_dead(
     marks: &mut Marks,
     gone: usize,
@@ -193,7 +193,7 @@ fn drop_if_dead(
     gone + 1
 }
 
-/// Drops those behind the first so many that aren't live. Answers how many are dropped then.
+/// Drops the marks behind the first so many whose grants aren't live. Returns how many are dropped then.
 pub(crate) fn drop_dead(marks: &mut Marks, gone: usize, now: u64, terms: Option<Terms>) -> usize
     requires { gone ≤ length marks.old.entries }
     ensures window { window result marks.new.entries ≡ filter (grants.is_live now terms) (window gone marks.old.entries) }
@@ -208,7 +208,7 @@ pub(crate) fn drop_dead(marks: &mut Marks, gone: usize, now: u64, terms: Option<
     dropped
 }
 
-/// Drops the subject's, if it stands. Answers how many are dropped then.
+/// Drops the mark of a subject, if it stands. Returns how many are dropped then.
 pub(crate) fn drop_one(marks: &mut Marks, gone: usize, subject: &SubjectRef<'_>) -> usize
     requires { gone ≤ length marks.old.entries }
     ensures window { window result marks.new.entries ≡ without subject.now (window gone marks.old.entries) }

@@ -14,7 +14,7 @@ pub(crate) struct SubjectKey<'a> {
 impl<'a> SubjectKey<'a> {
     ghost use Rattle.std.specs.Prelude.{◌≡◌};
 
-    /// What looks a subject up.
+    /// The key that looks a subject up.
     #[inline(always)]
     pub fn of(subject: &SubjectRef<'a>) -> SubjectKey<'a>
         ensures { tokens_of result.text.now ≡ subject.now }

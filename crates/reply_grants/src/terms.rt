@@ -10,7 +10,7 @@ pub(crate) fn allow(terms: Terms, count: u64, age: u64) -> bool
     is_below(terms.max, count) && is_within(terms.expires, age)
 }
 
-/// Whether a count is below the bound. Without a bound each is.
+/// Whether a count is below the bound. Without a bound every count is.
 pub(crate) fn is_below(bound: Option<u64>, count: u64) -> bool
     ensures { result ≡ grants.is_below bound count }
 {

@@ -122,7 +122,7 @@ impl Exporter {
         }
     }
 
-    /// The next number, if so many routes more are allowed at a moment.
+    /// The next number, or none where so many routes more would be too many at a moment.
     fn next_number(&mut self, count: u64, now: u64) -> Option<u64>
         requires some { 0 < count }
         ensures same { self.new ≡ self.old }
@@ -135,7 +135,7 @@ impl Exporter {
         }
     }
 
-    /// Whether so many routes more aren't allowed at a moment.
+    /// Whether so many routes more would be too many at a moment.
     fn is_full(&mut self, count: u64, now: u64) -> bool
         ensures same { self.new ≡ self.old }
         ensures full { result ≡ is_full count now self.old.exporter }
@@ -166,7 +166,7 @@ impl Exporter {
         self.tally.most > most
     }
 
-    /// Lets the empty slots go where more than half are empty.
+    /// Removes the empty slots where more than half are empty.
     fn compact_if_sparse(&mut self)
         ensures same { self.new.exporter ≡ self.old.exporter }
         ensures room { self.old.room ≤ self.new.room }
@@ -177,7 +177,7 @@ impl Exporter {
         }
     }
 
-    /// One route more, under the next number. It takes no memory: `reserve` has had it.
+    /// Adds a route under the next number. It takes no memory: `reserve` has had it.
     pub fn open(&mut self, route: Route)
         requires room { 0 < self.old.room }
         requires within { self.old.exporter.last < 18446744073709551615 }
@@ -192,7 +192,7 @@ impl Exporter {
         });
     }
 
-    /// The route of a subject, dead or alive.
+    /// The route of a subject, dead or alive, if there is one.
     pub fn find(&self, subject: &SubjectRef<'_>) -> Option<&Route>
         ensures { option_copied result ≡ route_on subject.now self.now.exporter.routes }
     {
@@ -200,7 +200,7 @@ impl Exporter {
         route
     }
 
-    /// A response was published on a subject: the route that has it ends, if it is for a single response. Nothing happens
+    /// Ends the route of a subject on which a response was published, if it is for a single response. Nothing happens
     /// where no route has the subject.
     pub fn spend(&mut self, subject: &SubjectRef<'_>)
         ensures exporter { self.new.exporter ≡ spent_of subject.now self.old.exporter }
@@ -244,7 +244,7 @@ impl Exporter {
         }
     }
 
-    /// Another policy comes into force: each route goes on by the row that is equal to its own there, on that row's terms. A
+    /// Goes over to another policy: each route goes on by the row that is equal to its own there, on that row's terms. A
     /// route whose row has none ends. Those that are dead by the terms before go by `prune` first, or they may live again.
     pub fn keep_rows<S: ServiceRows>(&mut self, rows: &S)
         ensures exporter { self.new.exporter ≡ kept_of (S.again rows.now) self.old.exporter }

@@ -100,7 +100,7 @@ impl Slot {
         }
     }
 
-    /// Takes its route out, if that doesn't live at a moment. Answers whether it did that.
+    /// Takes its route out, if that doesn't live at a moment. Returns whether it did that.
     fn end_if_dead(&mut self, now: u64) -> bool
         ensures number { self.new.number ≡ self.old.number }
         ensures route { self.new.route ≡ (if passes (lives now) self.old.route then self.old.route else None) }
@@ -150,7 +150,7 @@ pub(crate) fn route_on<'a>(slots: &'a [Slot], subject: &SubjectRef<'_>) -> Optio
     }
 }
 
-/// Lets the empty slots go.
+/// Removes the empty slots.
 pub(crate) fn compact(slots: &mut Vec<Slot>)
     requires rising { AreRising slots.old.items }
     ensures same { standing_in slots.new.items ≡ standing_in slots.old.items }
@@ -161,7 +161,7 @@ pub(crate) fn compact(slots: &mut Vec<Slot>)
     slots.retain(|slot| slot.is_taken());
 }
 
-/// Takes those out that don't live at a moment, and the empty slots.
+/// Removes the slots of routes that don't live at a moment, and the empty ones.
 pub(crate) fn prune(slots: &mut Vec<Slot>, now: u64)
     requires rising { AreRising slots.old.items }
     ensures living { standing_in slots.new.items ≡ living now (standing_in slots.old.items) }
@@ -262,7 +262,7 @@ pub(crate) fn copy_slots(alloc: Global, slots: &[Slot]) -> Result<Vec<Slot>, NoM
     Ok(copies)
 }
 
-/// Takes the route at a place out, if it doesn't live at a moment. Answers whether it did that.
+/// Takes the route at a place out, if it doesn't live at a moment. Returns whether it did that.
 pub(crate) fn drop_dead_at(slots: &mut [Slot], place: usize, now: u64) -> bool
     requires within { place < length slots.old }
     requires rising { AreRising slots.old }

@@ -58,7 +58,7 @@ impl Tally {
         }
     }
 
-    /// Counts a route off that was taken out.
+    /// Counts off a route that was taken out.
     pub fn remove(&mut self, route: &Route)
         ensures { (was : List Numbered) (left : List Numbered) → ((t : ℕ) → length (living t was) ≡ length (living t left) + (if lives t route.now then 1 else 0)) → IsTallied self.old was → IsTallied self.new left }
     {
@@ -70,7 +70,7 @@ impl Tally {
         }
     }
 
-    /// Goes on where routes may have been taken out that don't live at a moment.
+    /// Stays true where routes are taken out that don't live at a moment.
     pub fn let_go(&mut self, now: u64)
         ensures { (was : List Numbered) (left : List Numbered) → living now left ≡ living now was → IsTallied self.old was → IsTallied self.new left }
     {

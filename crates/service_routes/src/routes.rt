@@ -121,7 +121,7 @@ impl Routes {
         }
     }
 
-    /// The route of an exporter that has this subject, dead or alive.
+    /// The route of an exporter that has this subject, dead or alive, if there is one.
     pub fn find(&self, exporter: &Bytes, subject: &SubjectRef<'_>) -> Option<&Route>
         ensures { option_copied result ≡ route_on subject.now (exporter_of exporter.now self.now.exporters).routes }
     {
@@ -131,7 +131,7 @@ impl Routes {
         }
     }
 
-    /// A response was published on a subject by a session of the exporter: the route that has it ends, if it is for a single
+    /// Ends the route of a subject on which a session of the exporter has published a response, if it is for a single
     /// response. Nothing happens where no route has the subject.
     pub fn spend(&mut self, exporter: &Bytes, subject: &SubjectRef<'_>)
         ensures exporters { self.new.exporters ≡ spent exporter.now subject.now self.old.exporters }
@@ -160,7 +160,7 @@ impl Routes {
         self.turn = next_turn(self.turn, self.exporters.len());
     }
 
-    /// Another policy comes into force: each route goes on by the row that is equal to its own there, on that row's terms. A
+    /// Goes over to another policy: each route goes on by the row that is equal to its own there, on that row's terms. A
     /// route whose row has none ends. Those that are dead by the terms before go by `prune` first, or they may live again.
     pub fn keep_rows<S: ServiceRows>(&mut self, rows: &S)
         ensures exporters { self.new.exporters ≡ kept (S.again rows.now) self.old.exporters }
@@ -243,7 +243,7 @@ fn reserve_first(
     }
 }
 
-/// Has the room of an exporter stand ready that has none yet, and its place among all.
+/// Keeps the room that was had for an exporter's first routes, and makes room for its place among all.
 fn make_ready(
     exporters: &mut Exporters,
     ready: &mut Exporters,
@@ -308,7 +308,7 @@ fn drop_dead_of(exporters: &mut Exporters, exporter: &Bytes, now: u64)
     }
 }
 
-/// Looks at two routes.
+/// Looks at two routes of an exporter, and takes out those that don't live at a moment.
 fn drop_two(part: &mut Exporter, now: u64)
     ensures exporter { pruned_of now part.new.exporter ≡ pruned_of now part.old.exporter }
     ensures room { part.old.room ≤ part.new.room }
@@ -381,7 +381,7 @@ fn keep_all<S: ServiceRows>(exporters: &mut Exporters, rows: &S)
     }
 }
 
-/// Does so with the routes of the exporter at a place.
+/// Puts the routes of the exporter at a place on the rows that a policy has again, as `keep_all` does.
 fn keep_at<S: ServiceRows>(exporters: &mut Exporters, place: usize, rows: &S)
     ensures exporters { IsChangedAt (kept_of (S.again rows.now)) place exporters.old.entries exporters.new.entries }
     ensures rooms { (other : List ℕ) (ready : List (List ℕ × WithRoom)) → room_in other exporters.old.entries ready ≤ room_in other exporters.new.entries ready }
