@@ -14,9 +14,9 @@ use Rattle.policy_doc.specs.declared.document.Terms.{Terms}
 use Rattle.reply_grants.specs.Grants.{Grant, is_below, is_within, is_live, is_for, has_live, youngest, without, after_note, answered, after_end, after_answer}
 use Rattle.reply_grants.specs.Replies.{Table, grants_of, noted, answered_in, ended_in, judged}
 use Rattle.reply_grants.specs.declared.replies.Note.{Note}
-use Rattle.hub.specs.Kept.{is_open, has_answer_left, IsAfter, AreApart, AreKept, IsKeptTable}
+use Rattle.hub.specs.Kept.{is_open, has_response_left, IsAfter, AreApart, AreKept, IsKeptTable}
 use Rattle.world_deliveries.specs.Replying.{note_of}
-use Rattle.hub.specs.Replies.{is_young, answers, has_grant, noted_at}
+use Rattle.hub.specs.Replies.{is_young, is_live_for, has_grant, noted_at}
 use Rattle.hub.proofs.Finds.{AllPairs-head, AllPairs-tail, AllPairs-map}
 
 -- ---- what they allow

@@ -10,7 +10,7 @@ use Rattle.policy_doc.specs.declared.document.Terms.{Terms}
 use Rattle.reply_grants.specs.Grants.{Grant, is_below, is_within, is_live, is_for, has_live, youngest, without, after_note, answered, after_end, after_answer}
 use Rattle.reply_grants.specs.Replies.{Table, grants_of, noted, answered_in, ended_in, judged}
 use Rattle.world_deliveries.specs.Replying.{note_of}
-use Rattle.hub.specs.Kept.{is_open, has_answer_left, IsAfter, AreKept, IsKeptTable}
+use Rattle.hub.specs.Kept.{is_open, has_response_left, IsAfter, AreKept, IsKeptTable}
 use Rattle.hub.specs.Replies.{noted_at}
 use Rattle.hub.proofs.Finds.{AllPairs-head, AllPairs-tail}
 use Rattle.hub.proofs.Grants.{AreInOrder, in_order, order_filter, order_answer, open_is, all_pass}

@@ -130,11 +130,7 @@ fn serve_run<
     requires seats { (seats ≡ L.seats) × (L.seats ≡ L.parts) }
 {
     match SharedHub::<L>::with_seats(rt.alloc(), blank, hub, seats) {
-        Ok((shared, seats)) => {
-            serve_seats(
-                rt, &shared, seats, limits, listener, gates, policies, prints,
-            )
-        }
+        Ok((shared, seats)) => serve_seats(rt, &shared, seats, opened, lent),
         Err(_) => Err(Fault::NoMemory),
     }
 }

@@ -51,7 +51,7 @@ struct Common<'a, L: Run, R> {
     rt: &'a R,
     alloc: Global,
     shared: &'a SharedHub<L>,
-    house: &'a House<'a>,
+    state: &'a ServerState<'a>,
     prints: &'a Prints,
 }
 
@@ -59,7 +59,7 @@ fn common_of<'a, L: Run, R>(
     rt: &'a R,
     alloc: Global,
     shared: &'a SharedHub<L>,
-    house: &'a House<'a>,
+    state: &'a ServerState<'a>,
     prints: &'a Prints,
 ) -> Common<'a, L, R> {
     Common {
@@ -125,12 +125,9 @@ pub(crate) fn serve<
 >(
     rt: &'x R,
     alloc: Global,
-    listener: TcpListener,
     shared: &'x SharedHub<L>,
-    accesses: Vec<Access<L, G, W>>,
-    own: (Seat<L>, G),
-    limits: Limits,
-    policies: &mut P,
+    opened: Opened,
+    starts: ThreadStarts<'_, L, G, W, P>,
     prints: &'x Prints,
 ) -> Result<(), ServeFault> {
     let Opened { listener, limits } = opened;

@@ -84,22 +84,22 @@ fn port_of<'a, L: Run, R: Wait, G: Gate + Drop, W: Drop>(
     rt: &'a R,
     alloc: Global,
     shared: &'a SharedHub<L>,
-    house: &'a House<'a>,
-    behind: (Seat<L>, G),
-    notices: Notices,
-) -> ServerPort<'a, L, R, G> {
-    let (seat, gate) = behind;
-    let history = house.limits.history;
-    ServerPort::new(
-        rt,
-        alloc,
-        shared,
-        seat,
-        gate,
-        notices,
-        history,
-        house.kept(),
-    )
+    state: &'a ServerState<'a>,
+    index: usize,
+    access: Access<L, G, W>,
+) -> Option<(ServerPort<'a, L, R, G>, W)> {
+    let Access { seat, gate, words } = access;
+    let outgoing = OutgoingMail::new(alloc, state.mailboxes.len(), Some(index))?;
+    let (history, kept) = (state.limits.history, state.kept());
+    let port = ServerPort::new(rt, alloc, shared, seat, gate, outgoing, history, kept);
+    Some((port, words))
+}
+
+/// Returns a buffer for a piece. Without memory it returns `None`.
+fn piece_buffer(alloc: Global) -> Option<Vec<u8>> {
+    let mut buf = Vec::new(alloc);
+    buf.resize(PIECE, 0).ok()?;
+    Some(buf)
 }
 
 impl<'a, L: Run, R: Wait, G: Gate + Drop, W: Words + Drop> Worker<'a, L, R, G, W> {
@@ -108,7 +108,7 @@ impl<'a, L: Run, R: Wait, G: Gate + Drop, W: Words + Drop> Worker<'a, L, R, G, W
         rt: &'a R,
         alloc: Global,
         shared: &'a SharedHub<L>,
-        house: &'a House<'a>,
+        state: &'a ServerState<'a>,
         start: Start<L, G, W>,
     ) -> Option<Worker<'a, L, R, G, W>> {
         let buf = piece_buffer(alloc)?;

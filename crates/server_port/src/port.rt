@@ -3,7 +3,7 @@ ghost use Rattle.std.specs.Prelude.{◌≡◌};
 use crate::course::{Course, Why};
 use server_gates::{Gate, Point};
 use server_history::{Kept, Rotation};
-use server_mail::Notices;
+use server_mail::OutgoingMail;
 use shared_hub::{Run, Seat, SharedHub, Told};
 use std::alloc::Global;
 use std::mem;

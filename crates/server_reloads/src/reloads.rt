@@ -43,7 +43,7 @@ impl<'a, L: Run, R: Wait + Clock, G: Gate + Drop> Reloads<'a, L, R, G> {
         rt: &'a R,
         alloc: Global,
         shared: &'a SharedHub<L>,
-        house: &'a House<'a>,
+        state: &'a ServerState<'a>,
         own: (Seat<L>, G),
         prints: &'a Prints,
     ) -> Option<Reloads<'a, L, R, G>> {
