@@ -19,7 +19,7 @@ use Rattle.reload.specs.Fault.{fault_line}
 use Rattle.reload.specs.declared.fault.ReloadFault.{ReloadFault}
 use Rattle.script_text.specs.Lines.{line_of, part_after}
 use Rattle.script_text.specs.Output.{shown_line, closed_line, refused_line, full_line}
-use Rattle.script_text.specs.Reloads.{reload_text}
+use Rattle.reload_lines.specs.Reloads.{reload_text}
 use Rattle.script.specs.declared.client.Client.{Client}
 use Rattle.script_text.specs.declared.lines.Line.{Line}
 use Rattle.script_text.specs.declared.lines.Line.TheVariants as line

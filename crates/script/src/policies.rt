@@ -10,7 +10,8 @@ use crate::server::Server;
 use base::NoMemory;
 use hub::Ready;
 use reload::{ReloadFault, prepare, read_valid_policy};
-use script_text::{Part, write_full, write_refused, write_reload};
+use reload_lines::write_reload;
+use script_text::{Part, write_full, write_refused};
 use std::alloc::Global;
 
 /// A policy in the place of the built-in one, or the line of its fault.

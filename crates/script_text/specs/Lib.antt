@@ -1,4 +1,3 @@
 pub mod Escapes
 pub mod Lines
 pub mod Output
-pub mod Reloads

@@ -4,8 +4,6 @@
 mod escapes;
 mod lines;
 mod output;
-mod reloads;
 
 pub use lines::{ClientLine, Line, Part, read_line};
 pub use output::{write_closed, write_full, write_refused, write_shown};
-pub use reloads::write_reload;

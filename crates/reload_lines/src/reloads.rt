@@ -1,8 +1,8 @@
-// What `natsd play` prints of a reload (docs/SCRIPT.md, "A reload").
+// The lines of a reload (docs/SCRIPT.md, "A reload").
 ghost use Rattle.std.specs.Prelude.{◌≡◌, ◌++◌, flat_map, OnOk};
-ghost use Rattle.script_text.specs.Reloads.{epoch_line, gone_line, refusal_words, removed_line, reload_text};
+ghost use Rattle.reload_lines.specs.Reloads.{epoch_line, gone_line, refusal_words, removed_line, reload_text};
 
-use crate::output::{append, write_bytes};
+use crate::shown::{append, write_bytes};
 use base::NoMemory;
 use events::{Entry, Outcome, Removed};
 use itoa::Buffer;

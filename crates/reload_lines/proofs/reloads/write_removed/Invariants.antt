@@ -1,6 +1,6 @@
 use Rattle.std.proofs.Common.{◌≡◌, ◌++◌, drop, flat_map}
-use Rattle.script_text.specs.Reloads.{removed_line}
-use Rattle.script_text.proofs.reloads.write_removed.Given as goal
+use Rattle.reload_lines.specs.Reloads.{removed_line}
+use Rattle.reload_lines.proofs.reloads.write_removed.Given as goal
 
 -- the lines so far, and those of what is left, are all lines
 abbrev pub invariant-loop-one : goal.invariant-loop-one

@@ -7,7 +7,7 @@ use Rattle.events.specs.declared.answer.Entry.{Entry}
 use Rattle.events.specs.declared.answer.Outcome.{Outcome}
 use Rattle.events.specs.declared.answer.Outcome.TheVariants.{Reloaded}
 use Rattle.events.specs.declared.answer.Removed.{Removed}
-use Rattle.script_text.specs.Output.{shown_byte}
+use Rattle.reload_lines.specs.Shown.{shown_byte}
 
 -- the line of the epoch that has begun
 abbrev pub epoch_line : ℕ → List ℕ

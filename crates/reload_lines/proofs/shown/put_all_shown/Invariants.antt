@@ -1,7 +1,7 @@
 use Rattle.std.proofs.Common.{◌≡◌, ◌+◌, ◌*◌, ◌++◌, ◌≤◌, drop, flat_map}
 use Rattle.std.specs.Vec.{vec_len, vec_capacity}
-use Rattle.script_text.specs.Output.{shown_byte}
-use Rattle.script_text.proofs.output.put_all_shown.Given as goal
+use Rattle.reload_lines.specs.Shown.{shown_byte}
+use Rattle.reload_lines.proofs.shown.put_all_shown.Given as goal
 
 -- what is appended so far and what is left to show make the whole, and four bytes of room are left for each
 abbrev pub invariant-loop-byte : goal.invariant-loop-byte

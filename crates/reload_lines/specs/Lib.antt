@@ -1,0 +1,2 @@
+pub mod Reloads
+pub mod Shown
