@@ -1,4 +1,4 @@
-// What bytes are read from and written to.
+// What bytes are read from and written to, with waiting.
 ghost use Rattle.std.specs.Prelude.{◌≡◌, ◌<◌, ℕ, List, Option, Bool, length, IfOk, OnOk, OnErr, is_err, ◌||◌, false};
 ghost use Rattle.std.specs.Io.{ReadsAtMost, WritesAtMost};
 ghost use Rattle.std.specs.Io.KnownBytes.{Appends, ReadConsumes, WriteAppends};
@@ -24,7 +24,7 @@ impl fmt::Display for DeviceFailed {
 
 impl Error for DeviceFailed {}
 
-/// What bytes are read from.
+/// What bytes are read from. A read waits for them.
 pub trait Source {
     /// The bytes that are left, where they are known.
     ghost remaining: { Self → Option (List ℕ) };
@@ -44,7 +44,7 @@ pub trait Source {
         ensures failed { failed self.new ≡ (failed self.old || is_err result) };
 }
 
-/// What bytes are written to.
+/// What bytes are written to. A write waits for room.
 pub trait Sink {
     /// The bytes that were written, where they are known.
     ghost contents: { Self → Option (List ℕ) };

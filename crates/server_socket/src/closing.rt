@@ -1,6 +1,6 @@
 //! How a connection ends that the server closes.
 use crate::connection::Connection;
-use server_turns::{NonBlocking, Reader, Writer};
+use devices::{NonBlocking, NonBlockingSink, NonBlockingSource};
 use std::alloc::Global;
 use std::net::Shutdown;
 use wire_write::{ServerError, write_err};

@@ -1,7 +1,6 @@
-use devices::DeviceFailed;
-use server_turns::Reader;
+use devices::{DeviceFailed, NonBlockingSource};
 
-/// A reader that counts what it has read.
+/// A source that counts what was read of it.
 #[derive(Drop)]
 pub(crate) struct Counted<R> {
     reader: R,
@@ -9,18 +8,18 @@ pub(crate) struct Counted<R> {
 }
 
 impl<R> Counted<R> {
-    /// Returns a reader that has read nothing.
+    /// A source of which nothing was read.
     pub fn new(reader: R) -> Counted<R> {
         Counted { reader, count: 0 }
     }
 
-    /// Returns how many bytes it has read.
+    /// How many bytes were read of it.
     pub fn count(&self) -> usize {
         self.count
     }
 }
 
-impl<R: Reader> Reader for Counted<R> {
+impl<R: NonBlockingSource> NonBlockingSource for Counted<R> {
     ghost remaining = { λ r. R.remaining r.reader };
 
     ghost failed = { λ r. R.failed r.reader };

@@ -3,8 +3,9 @@ ghost use Rattle.std.specs.Prelude.{◌≡◌, ◌<◌, length};
 
 use crate::connection::Connection;
 use crate::counted::Counted;
+use devices::NonBlocking;
 use events::Port;
-use server_turns::{NonBlocking, Turn};
+use server_turns::Turn;
 use session_conn::Words;
 
 /// The result of one turn of a connection.

@@ -1,6 +1,5 @@
-use crate::device::{Reader, Writer};
 use crate::turn::Turn;
-use devices::DeviceFailed;
+use devices::{DeviceFailed, NonBlockingSink, NonBlockingSource};
 use events::Port;
 use session_conn::{Conn, Output, Stall, Words};
 use std::alloc::Global;
@@ -58,7 +57,7 @@ enum Piece {
 
 /// Reads a piece, or none where frames wait for their turns.
 #[tactic(auto, using(crate::proofs::Writing::consumes_nothing))]
-fn next_piece<R: Reader>(reader: &mut R, buf: &mut [u8], frames_wait: bool) -> Piece
+fn next_piece<R: NonBlockingSource>(reader: &mut R, buf: &mut [u8], frames_wait: bool) -> Piece
     requires { 0 < length buf.old }
     ensures within { piece_length result ≤ length buf.new }
     ensures read { Consumes (R.remaining reader.old) (R.remaining reader.new) (take (piece_length result) buf.new) }
@@ -122,7 +121,7 @@ impl Client {
 
     /// Writes what is kept, as far as the writer takes it, and answers whether that was all of it.
     #[tactic(auto, using(crate::proofs::Writing::left_over))]
-    fn write_kept<S: Writer>(&mut self, writer: &mut S) -> Result<bool, DeviceFailed>
+    fn write_kept<S: NonBlockingSink>(&mut self, writer: &mut S) -> Result<bool, DeviceFailed>
         ensures conn { self.new.conn ≡ self.old.conn }
         ensures written { Writes (S.contents writer.old) (S.contents writer.new) self.old.kept self.new.kept }
         ensures all { result ≡ Ok true → self.new.kept ≡ [] }
@@ -143,7 +142,7 @@ impl Client {
     }
 
     /// Writes what is kept once the connection has closed, its closing text too.
-    fn close<S: Writer>(&mut self, writer: &mut S) -> Turn
+    fn close<S: NonBlockingSink>(&mut self, writer: &mut S) -> Turn
         requires { is_closed self.old.conn.stage ≡ true }
         ensures conn { self.new.conn ≡ self.old.conn }
         ensures written { Writes (S.contents writer.old) (S.contents writer.new) self.old.kept self.new.kept }
@@ -160,7 +159,7 @@ impl Client {
     }
 
     /// Writes what is kept, as far as the writer takes it.
-    pub fn flush<S: Writer>(&mut self, writer: &mut S) -> Turn
+    pub fn flush<S: NonBlockingSink>(&mut self, writer: &mut S) -> Turn
         ensures conn { self.new.conn ≡ self.old.conn }
         ensures written { Writes (S.contents writer.old) (S.contents writer.new) self.old.kept self.new.kept }
         ensures turn { IsTurn self.new (S.failed writer.old) (S.failed writer.new) (S.waits writer.new) result }
@@ -177,7 +176,7 @@ impl Client {
     }
 
     /// Keeps what a call gave, in place of what is all written, and writes it as far as the writer takes it.
-    fn tell<S: Writer>(&mut self, output: Output, writer: &mut S) -> Turn
+    fn tell<S: NonBlockingSink>(&mut self, output: Output, writer: &mut S) -> Turn
         ensures conn { self.new.conn ≡ self.old.conn }
         ensures written { Writes (S.contents writer.old) (S.contents writer.new) output.bytes.items self.new.kept }
         ensures turn { IsTurn self.new (S.failed writer.old) (S.failed writer.new) (S.waits writer.new) result }
@@ -199,7 +198,7 @@ impl Client {
     }
 
     /// The opening: the client is sent INFO. Without memory nothing is sent, and it can be asked again.
-    pub fn open<S: Writer>(&mut self, writer: &mut S) -> Turn
+    pub fn open<S: NonBlockingSink>(&mut self, writer: &mut S) -> Turn
         ensures opening { IsOpening self.old self.new (S.contents writer.old) (S.contents writer.new) result }
         ensures turn { IsTurn self.new (S.failed writer.old) (S.failed writer.new) (S.waits writer.new) result }
         ensures neither { IsNoRead result }
@@ -221,7 +220,7 @@ impl Client {
     /// left, where they stopped, and nothing is read. What that gives is written at once, as far as the writer takes it, so
     /// it comes before all that is taken later.
     #[tactic(auto, using(crate::proofs::Writing::consumes_nothing))]
-    pub fn serve<P: Port, W: Words, R: Reader, S: Writer>(
+    pub fn serve<P: Port, W: Words, R: NonBlockingSource, S: NonBlockingSink>(
         &mut self,
         port: &mut P,
         words: &mut W,
@@ -261,7 +260,7 @@ impl Client {
 
     /// One drain: what was kept is written first, and nothing is taken before all of it is written. Then at most so
     /// many deliveries are taken, and written as far as the writer takes them. It goes on while frames are held back.
-    pub fn drain<P: Port, S: Writer>(
+    pub fn drain<P: Port, S: NonBlockingSink>(
         &mut self,
         port: &mut P,
         writer: &mut S,

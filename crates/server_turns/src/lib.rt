@@ -3,9 +3,7 @@
 #![tactic(auto)]
 
 mod client;
-mod device;
 mod turn;
 
 pub use client::Client;
-pub use device::{NonBlocking, Reader, Writer};
 pub use turn::Turn;

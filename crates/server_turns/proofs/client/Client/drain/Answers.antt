@@ -15,7 +15,7 @@ returns-clause-draining g c =
       output = c.drain-output.result;
       drained = subst (λ (k : Connection). IsDrained (port_of g.P.Port.steps g.P.Port.posts g.P.Port.holds) c.args.now c.args.most c.args.self.now.conn c.args.port.now c.drain-output.result k c.drain-output.new.port) (sym c.tell.ensures.conn) made;
       told = record {
-        between = g.S.Writer.contents c.write_kept.new.writer;
+        between = g.S.NonBlockingSink.contents c.write_kept.new.writer;
         first = all_written _ _ _ _ c.write_kept.ensures.written none;
         rest = c.tell.ensures.written;
       };

@@ -14,7 +14,7 @@ returns-clause-opening g c =
       opened = subst (λ (k : Connection). IsOpened k.conn c.opened-output.result) same c.opened-output.ensures;
       conn = c.tell.ensures.conn ∙ c.write_kept.ensures.conn;
       told = record {
-        between = g.S.Writer.contents c.write_kept.new.writer;
+        between = g.S.NonBlockingSink.contents c.write_kept.new.writer;
         first = all_written _ _ _ _ c.write_kept.ensures.written none;
         rest = c.tell.ensures.written;
       };

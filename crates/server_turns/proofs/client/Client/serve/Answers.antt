@@ -27,7 +27,7 @@ returns-clause-serving g c =
       served = subst (λ (k : Connection). IsServed (port_of g.P.Port.steps g.P.Port.posts g.P.Port.holds) g.W.Words.draws c.args.now bytes c.args.self.now.conn c.args.port.now c.args.words.now c.on_bytes-output.result k c.on_bytes-output.new.port c.on_bytes-output.new.words)
           (sym c.tell.ensures.conn) made;
       told = record {
-        between = g.S.Writer.contents c.write_kept.new.writer;
+        between = g.S.NonBlockingSink.contents c.write_kept.new.writer;
         first = all_written _ _ _ _ c.write_kept.ensures.written none;
         rest = c.tell.ensures.written;
       };

@@ -6,8 +6,8 @@ use Rattle.server_turns.proofs.client.Client.write_kept.Given as goal
 abbrev pub invariant-loop-self : goal.invariant-loop-self
 invariant-loop-self g l = record {
   conn : l.self-inside.conn ≡ l.fn.self.conn;
-  writes : Writes (g.S.Writer.contents l.fn.writer) (g.S.Writer.contents l.writer) l.fn.self.kept (drop l.self-inside.written l.self-inside.bytes.items);
-  failed : g.S.Writer.failed l.writer ≡ g.S.Writer.failed l.fn.writer;
+  writes : Writes (g.S.NonBlockingSink.contents l.fn.writer) (g.S.NonBlockingSink.contents l.writer) l.fn.self.kept (drop l.self-inside.written l.self-inside.bytes.items);
+  failed : g.S.NonBlockingSink.failed l.writer ≡ g.S.NonBlockingSink.failed l.fn.writer;
 }
 
 abbrev pub decreases-loop-self : goal.decreases-loop-self

@@ -1,19 +1,19 @@
-// What is read and written without waiting.
+// What is read and written without waiting. It differs from a `Source` and a `Sink` in an answer: not now.
 ghost use Rattle.std.specs.Prelude.{◌≡◌, ◌≢◌, ◌⊎◌, ◌<◌, ◌≤◌, ℕ, List, Option, Some, None, Ok, Bool, length, take, true, false, is_err, ◌||◌};
 ghost use Rattle.std.specs.declared.io.ErrorKind.TheVariants.{WouldBlock, Interrupted};
 ghost use Rattle.std.specs.Io.KnownBytes.{Appends, Consumes, IsAtEnd};
-ghost use Rattle.server_turns.specs.Devices.{count_of, is_not_now};
+ghost use Rattle.devices.specs.NonBlocking.{count_of, is_not_now};
 
-use devices::DeviceFailed;
+use crate::device::DeviceFailed;
 use std::io;
 use std::io::{Read, Write};
 
-/// What a client's bytes are read from.
-pub trait Reader {
+/// What bytes are read from without waiting for them.
+pub trait NonBlockingSource {
     /// The bytes that are left, where they are known.
     ghost remaining: { Self → Option (List ℕ) };
 
-    /// Whether a read has failed since the reader was made.
+    /// Whether a read has failed since the source was made.
     ghost failed: { Self → Bool };
 
     /// Whether the last read found nothing yet.
@@ -29,12 +29,12 @@ pub trait Reader {
         ensures failed { failed self.new ≡ (failed self.old || is_err result) };
 }
 
-/// What a client is written to.
-pub trait Writer {
+/// What bytes are written to without waiting for room.
+pub trait NonBlockingSink {
     /// The bytes that were written, where they are known.
     ghost contents: { Self → Option (List ℕ) };
 
-    /// Whether a write has failed since the writer was made.
+    /// Whether a write has failed since the sink was made.
     ghost failed: { Self → Bool };
 
     /// Whether the last write found no room yet.
@@ -50,7 +50,7 @@ pub trait Writer {
         ensures failed { failed self.new ≡ (failed self.old || is_err result) };
 }
 
-/// A reader and a writer over a socket that doesn't wait, or anything like it.
+/// A source and a sink over a socket that doesn't wait, or anything like it.
 #[derive(Debug, Drop)]
 pub struct NonBlocking<D> {
     device: D,
@@ -59,7 +59,7 @@ pub struct NonBlocking<D> {
 }
 
 impl<D> NonBlocking<D> {
-    /// A reader or a writer that has not failed.
+    /// A source or a sink that has not failed.
     pub fn new(device: D) -> NonBlocking<D>
         ensures device { result.device ≡ device }
         ensures fresh { result.has_failed ≡ false }
@@ -96,7 +96,7 @@ impl<D> NonBlocking<D> {
     }
 }
 
-impl<D: Read> Reader for NonBlocking<D> {
+impl<D: Read> NonBlockingSource for NonBlocking<D> {
     ghost remaining = { λ r. D.remaining r.device };
 
     ghost failed = { λ r. r.has_failed };
@@ -114,7 +114,7 @@ impl<D: Read> Reader for NonBlocking<D> {
     }
 }
 
-impl<D: Write> Writer for NonBlocking<D> {
+impl<D: Write> NonBlockingSink for NonBlocking<D> {
     ghost contents = { λ w. D.contents w.device };
 
     ghost failed = { λ w. w.has_failed };
