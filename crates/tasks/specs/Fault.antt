@@ -5,25 +5,25 @@ use Rattle.devices.specs.declared.fault.ReadFault.{ReadFault}
 use Rattle.devices.specs.declared.fault.ReadFault.TheVariants as reading
 use Rattle.script.specs.declared.fault.LinesFault.{LinesFault}
 use Rattle.script.specs.declared.fault.LinesFault.TheVariants as lines
-use Rattle.tasks.specs.declared.fault.PlayFault.{PlayFault}
-use Rattle.tasks.specs.declared.fault.PlayFault.TheVariants.{ReadFailed, WriteFailed, NoMemory, ScriptTooLong}
+use Rattle.tasks.specs.declared.fault.TaskFault.{TaskFault}
+use Rattle.tasks.specs.declared.fault.TaskFault.TheVariants.{ReadFailed, WriteFailed, NoMemory, ScriptTooLong}
 
 -- the source failed
-abbrev pub is_read_failed : {T : Type 0} → Result T PlayFault → Bool
+abbrev pub is_read_failed : {T : Type 0} → Result T TaskFault → Bool
 is_read_failed (Err ReadFailed) = true
 is_read_failed _ = false
 
 -- the sink failed
-abbrev pub is_write_failed : {T : Type 0} → Result T PlayFault → Bool
+abbrev pub is_write_failed : {T : Type 0} → Result T TaskFault → Bool
 is_write_failed (Err WriteFailed) = true
 is_write_failed _ = false
 
 -- a fault of reading, and one of a script's lines
-abbrev pub of_reading : ReadFault → PlayFault
+abbrev pub of_reading : ReadFault → TaskFault
 of_reading reading.ReadFailed = ReadFailed
 of_reading reading.NoMemory = NoMemory
 
-abbrev pub of_lines : LinesFault → PlayFault
+abbrev pub of_lines : LinesFault → TaskFault
 of_lines lines.WriteFailed = WriteFailed
 of_lines lines.NoMemory = NoMemory
 
@@ -37,7 +37,7 @@ abbrev pub IsTooLong : Option (List ℕ) → ℕ → ℕ → Type 0
 IsTooLong left before after = IfSome left (λ script. 16777216 < length script) ⊎ (after ≡ counted before 1000000)
 
 -- what is said of a fault
-abbrev pub fault_text : PlayFault → List ℕ
+abbrev pub fault_text : TaskFault → List ℕ
 fault_text ReadFailed = codes "read failed"
 fault_text WriteFailed = codes "write failed"
 fault_text NoMemory = codes "no memory"

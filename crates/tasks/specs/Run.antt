@@ -4,8 +4,8 @@ use Rattle.std.specs.String.{string_bytes}
 use Rattle.std.specs.Io.KnownBytes.{Appends}
 use Rattle.devices.specs.Device.{AppendsFront}
 use Rattle.tasks.specs.Fault.{fault_text, is_read_failed, is_write_failed}
-use Rattle.tasks.specs.declared.fault.PlayFault.{PlayFault}
-use Rattle.tasks.specs.declared.fault.PlayFault.TheVariants.{ScriptTooLong}
+use Rattle.tasks.specs.declared.fault.TaskFault.{TaskFault}
+use Rattle.tasks.specs.declared.fault.TaskFault.TheVariants.{ScriptTooLong}
 use Rattle.tasks.specs.Tasks.{done_by, input_of, IsLongScript, IsShortScript}
 use Rattle.command_line.specs.Words.{found_in, kinds_of, IsReading}
 use Rattle.tasks.specs.declared.status.Ran.{Ran}
@@ -57,7 +57,7 @@ abbrev pub IsMistake : ℕ → List ℕ → Writes → ℕ → Type 0
 IsMistake wanted text errors status = (status ≡ wanted) × IsTold text errors
 
 -- what came of a task: all of what it writes with its status, or a fault and a front of what it writes
-abbrev pub IsAnswer : Task → Reads → Writes → Result ℕ PlayFault → Type 0
+abbrev pub IsAnswer : Task → Reads → Writes → Result ℕ TaskFault → Type 0
 IsAnswer task source sink answer =
     IfOk answer (λ status. IfSome (input_of task source.left) (λ input.
     Appends sink.held_before sink.held_after (done_by task input).text × (status ≡ (done_by task input).status)))
@@ -69,12 +69,12 @@ IsAnswer task source sink answer =
     × (answer ≡ Err ScriptTooLong → IsLongScript task source.left source.reads_before source.reads_after)
 
 -- the status of a task is its own, with nothing on the error sink; a fault is told there, and its status is 1
-abbrev pub IsEnding : Result ℕ PlayFault → Writes → ℕ → Type 0
+abbrev pub IsEnding : Result ℕ TaskFault → Writes → ℕ → Type 0
 IsEnding (Ok done) errors status = (status ≡ done) × IsUnwritten errors
 IsEnding (Err fault) errors status = IsMistake 1 (fault_text fault ++ codes "\n") errors status
 
 abbrev pub IsTaskRun : Task → Reads → Writes → Writes → ℕ → Type 0
-IsTaskRun task source sink errors status = (answer : Result ℕ PlayFault) × IsAnswer task source sink answer × IsEnding answer errors status
+IsTaskRun task source sink errors status = (answer : Result ℕ TaskFault) × IsAnswer task source sink answer × IsEnding answer errors status
 
 -- the program has ended, with a status of which this holds
 abbrev pub IsEnded : (ℕ → Type 0) → Ran → Type 0

@@ -1,11 +1,12 @@
 // `natsd check`: what a policy comes to (docs/POLICY.md, "Checking a policy").
-ghost use Rattle.std.specs.Prelude.{◌≡◌, ◌<◌, ◌||◌, ◌++◌, false, codes, List, ℕ, length, IfOk, OnErr, IfSome};
+ghost use Rattle.std.specs.Prelude.{◌≡◌, ◌≢◌, ◌<◌, ◌||◌, ◌++◌, Err, false, codes, List, ℕ, length, IfOk, OnErr, IfSome};
 ghost use Rattle.std.specs.Io.KnownBytes.{Appends};
 ghost use Rattle.devices.specs.Device.{AppendsFront};
 ghost use Rattle.reload.specs.Fault.{fault_line, is_memory};
-ghost use Rattle.tasks.specs.Check.{counts_line, is_read_failed, is_write_failed, report_of};
+ghost use Rattle.tasks.specs.Check.{counts_line, report_of};
+ghost use Rattle.tasks.specs.Fault.{is_read_failed, is_write_failed};
 
-use crate::fault::CheckFault;
+use crate::fault::TaskFault;
 use account_config::MOST_BYTES;
 use base::{Items, NoMemory};
 use devices::{Sink, Source, read_within, write_all};
@@ -97,7 +98,7 @@ pub fn check<R: Source, W: Sink>(
     alloc: Global,
     source: &mut R,
     sink: &mut W,
-) -> Result<u8, CheckFault>
+) -> Result<u8, TaskFault>
     ensures meaning { IfOk result (λ status. IfSome (R.remaining source.old) (λ text.
         Appends (W.contents sink.old) (W.contents sink.new) (report_of text).text
         × (status ≡ (report_of text).status))) }
@@ -105,6 +106,7 @@ pub fn check<R: Source, W: Sink>(
         AppendsFront (W.contents sink.old) (W.contents sink.new) (report_of text).text)) }
     ensures read_failed { R.failed source.new ≡ (R.failed source.old || is_read_failed result) }
     ensures write_failed { W.failed sink.new ≡ (W.failed sink.old || is_write_failed result) }
+    ensures long { result ≢ Err TaskFault.ScriptTooLong }
 {
     let report = match read_within(alloc, source, MOST_BYTES, MOST_READS)? {
         Some(text) => report_of(alloc, text.as_slice())?,
@@ -112,6 +114,6 @@ pub fn check<R: Source, W: Sink>(
     };
     match write_all(sink, report.text.as_slice()) {
         Ok(()) => Ok(report.status),
-        Err(_) => Err(CheckFault::WriteFailed),
+        Err(_) => Err(TaskFault::WriteFailed),
     }
 }

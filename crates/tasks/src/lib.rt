@@ -6,6 +6,6 @@ mod fault;
 mod playing;
 mod status;
 
-pub use fault::PlayFault;
+pub use fault::TaskFault;
 pub use playing::play;
 pub use status::{Ran, Start, StartFault, run};

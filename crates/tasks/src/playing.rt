@@ -5,7 +5,7 @@ ghost use Rattle.devices.specs.Device.{AppendsFront};
 ghost use Rattle.tasks.specs.Fault.{is_read_failed, is_write_failed, IsShort, IsTooLong};
 ghost use Rattle.script.specs.Play.{output_of};
 
-use crate::fault::PlayFault;
+use crate::fault::TaskFault;
 use devices::{Sink, Source, read_within};
 use script::play_lines;
 use std::alloc::Global;
@@ -29,7 +29,7 @@ pub fn play<R: Source, W: Sink>(
     keys: RandomState,
     source: &mut R,
     sink: &mut W,
-) -> Result<u8, PlayFault>
+) -> Result<u8, TaskFault>
     // The source's bytes are the script, where it tells them.
     ensures meaning { IfOk result (λ status. IfSome (R.remaining source.old) (λ script.
         Appends (W.contents sink.old) (W.contents sink.new) (output_of script).text
@@ -40,13 +40,13 @@ pub fn play<R: Source, W: Sink>(
     ensures write_failed { W.failed sink.new ≡ (W.failed sink.old || is_write_failed result) }
     ensures end { OnOk result (IsAtEnd (R.remaining source.new)) }
     ensures short { OnOk result (IsShort (R.remaining source.old) (R.reads source.old) (R.reads source.new)) }
-    ensures too_long { result ≡ Err PlayFault.ScriptTooLong → IsTooLong (R.remaining source.old) (R.reads source.old) (R.reads source.new) }
+    ensures too_long { result ≡ Err TaskFault.ScriptTooLong → IsTooLong (R.remaining source.old) (R.reads source.old) (R.reads source.new) }
 {
     match read_within(alloc, source, MOST_BYTES, MOST_READS)? {
         Some(script) => match play_lines(alloc, keys, script.as_slice(), sink) {
             Ok(status) => Ok(status),
-            Err(fault) => Err(PlayFault::from(fault)),
+            Err(fault) => Err(TaskFault::from(fault)),
         },
-        None => Err(PlayFault::ScriptTooLong),
+        None => Err(TaskFault::ScriptTooLong),
     }
 }

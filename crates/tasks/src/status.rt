@@ -8,7 +8,7 @@ ghost use Rattle.command_line.specs.Options.{AreServable};
 ghost use Rattle.tasks.specs.Run.{reads, writes, IsMistake, IsRun, IsTaskRun, IsWordsRun};
 
 use crate::check::check;
-use crate::fault::PlayFault;
+use crate::fault::TaskFault;
 use crate::playing::play;
 use command_line::{Invocation, ServeOptions, Task, WordsFault, read_words};
 use devices::{Sink, Source, write_all};
@@ -73,35 +73,35 @@ fn tell<E: Sink>(errors: &mut E, text: &[u8], status: u8) -> u8
 }
 
 /// The line of a fault, with its LF.
-fn fault_line(fault: PlayFault) -> &'static [u8]
+fn fault_line(fault: TaskFault) -> &'static [u8]
     ensures { result.now ≡ fault_text fault ++ codes "\n" }
 {
     match fault {
-        PlayFault::ReadFailed => b"read failed\n",
-        PlayFault::WriteFailed => b"write failed\n",
-        PlayFault::NoMemory => b"no memory\n",
-        PlayFault::ScriptTooLong => b"script too long\n",
+        TaskFault::ReadFailed => b"read failed\n",
+        TaskFault::WriteFailed => b"write failed\n",
+        TaskFault::NoMemory => b"no memory\n",
+        TaskFault::ScriptTooLong => b"script too long\n",
     }
 }
 
 /// Writes the line of a fault to the error sink, as far as that can be, and answers the status.
-fn tell_fault<E: Sink>(errors: &mut E, fault: PlayFault) -> u8
+fn tell_fault<E: Sink>(errors: &mut E, fault: TaskFault) -> u8
     ensures { IsMistake 1 (fault_text fault ++ codes "\n") (writes (E.contents errors.old) (E.contents errors.new) (E.failed errors.old) (E.failed errors.new)) result }
 {
     tell(errors, fault_line(fault), 1)
 }
 
 /// Writes a text.
-fn show<W: Sink>(text: &str, sink: &mut W) -> Result<u8, PlayFault>
+fn show<W: Sink>(text: &str, sink: &mut W) -> Result<u8, TaskFault>
     ensures shown { IfOk result (λ status. Appends (W.contents sink.old) (W.contents sink.new) text.now × (status ≡ 0)) }
     ensures prefix { OnErr result (AppendsFront (W.contents sink.old) (W.contents sink.new) text.now) }
     ensures failed { W.failed sink.new ≡ (W.failed sink.old || is_write_failed result) }
     ensures read { is_read_failed result ≡ false }
-    ensures long { result ≢ Err PlayFault.ScriptTooLong }
+    ensures long { result ≢ Err TaskFault.ScriptTooLong }
 {
     match write_all(sink, text.as_bytes()) {
         Ok(()) => Ok(0),
-        Err(_) => Err(PlayFault::WriteFailed),
+        Err(_) => Err(TaskFault::WriteFailed),
     }
 }
 
@@ -116,7 +116,7 @@ pub fn run_task<R: Source, W: Sink>(
     task: &Task,
     source: &mut R,
     sink: &mut W,
-) -> Result<u8, PlayFault>
+) -> Result<u8, TaskFault>
     ensures meaning { IfOk result (λ status. IfSome (input_of task.now (R.remaining source.old)) (λ input.
         Appends (W.contents sink.old) (W.contents sink.new) (done_by task.now input).text
         × (status ≡ (done_by task.now input).status))) }
@@ -125,14 +125,11 @@ pub fn run_task<R: Source, W: Sink>(
     ensures read_failed { R.failed source.new ≡ (R.failed source.old || is_read_failed result) }
     ensures write_failed { W.failed sink.new ≡ (W.failed sink.old || is_write_failed result) }
     ensures short { OnOk result (IsShortScript task.now (R.remaining source.old) (R.reads source.old) (R.reads source.new)) }
-    ensures too_long { result ≡ Err PlayFault.ScriptTooLong → IsLongScript task.now (R.remaining source.old) (R.reads source.old) (R.reads source.new) }
+    ensures too_long { result ≡ Err TaskFault.ScriptTooLong → IsLongScript task.now (R.remaining source.old) (R.reads source.old) (R.reads source.new) }
 {
     match task {
         Task::Play => play(alloc, keys, source, sink),
-        Task::Check => match check(alloc, source, sink) {
-            Ok(status) => Ok(status),
-            Err(fault) => Err(PlayFault::from(fault)),
-        },
+        Task::Check => check(alloc, source, sink),
         Task::Help(text) => show(text.as_str(), sink),
         Task::Version(text) => show(text.as_str(), sink),
     }
