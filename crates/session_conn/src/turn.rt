@@ -11,8 +11,7 @@ use crate::output::Stall;
 use crate::submit::{offer, submit};
 use events::{Answer, Command, Event, HubRefusal, Message, Outcome, Port, Words};
 use session_plan::{
-    Plan, Reply, Stage, make_room, message_of, plan_of, put_text, reply_to_outcome,
-    reply_to_refusal,
+    Plan, Reply, Stage, make_room, plan_of, put_text, reply_to_outcome, reply_to_refusal,
 };
 use std::alloc::Global;
 use wire_read::Frame;
@@ -138,8 +137,8 @@ fn publish<P: Port, W: Words>(
     turn_of_answer(stage, stage, frame, Some(drawn), &answer, out)
 }
 
-/// A frame's turn. A PUB is published without a plan. Room for what is told is made before the hub is asked, so that
-/// what it answers is told. What is told without asking the hub waits for what the port has for the client.
+/// A frame's turn, as its plan says. Room for what is told is made before the hub is asked, so that what it answers is told.
+/// What is told without asking the hub waits for what the port has for the client.
 #[inline(always)]
 pub fn take_turn<P: Port, W: Words>(
     alloc: Global,
@@ -157,13 +156,6 @@ pub fn take_turn<P: Port, W: Words>(
 {
     if make_room(out, frame).is_err() {
         return FrameTurn::Stalls(Stall::Memory, word);
-    }
-    let message = match message_of(stage, frame) {
-        Ok(message) => message,
-        Err(_) => return FrameTurn::Stalls(Stall::Memory, word),
-    };
-    if let Some(message) = message {
-        return publish(conn, now, port, words, stage, word, frame, message, out);
     }
     let plan = match plan_of(alloc, conn, stage, frame) {
         Ok(plan) => plan,

@@ -71,6 +71,10 @@ publish_plan s texts = message_plan s (message_of texts)
 abbrev pub headed_plan : Stage → Bool → Texts → Plan
 headed_plan s headers texts = if headers then publish_plan s texts else error_plan error.ParserError s
 
+-- why such a message is none
+abbrev pub headed_fault : Bool → ServerError
+headed_fault headers = if headers then error.InvalidSubject else error.ParserError
+
 -- a subscription, by its pattern and the name of its queue group, if it names one
 abbrev pub pattern_plan : ℕ → Stage → Option (List Token) → Option (Option (List Token)) → List ℕ → Plan
 pattern_plan conn s None queue sid = error_plan error.InvalidSubject s

@@ -1,11 +1,11 @@
 // What a frame comes to before the hub is asked.
-ghost use Rattle.std.specs.Prelude.{◌≡◌, ℕ, IfOk, IfSome};
+ghost use Rattle.std.specs.Prelude.{◌≡◌, ℕ, None, IfOk, IfSome};
 ghost use Rattle.connect_opts.specs.Opts.{opts_of};
 ghost use Rattle.session_plan.specs.declared.stage.Stage.{Stage};
 ghost use Rattle.session_plan.specs.declared.plan.Plan.TheVariants.{Publishes};
 ghost use Rattle.subjects.specs.Fault.{subject_if, pattern_if};
 ghost use Rattle.events.specs.Messages as read;
-ghost use Rattle.session_plan.specs.Plans.{plan_of, fresh_plan, connected_plan, connect_plan, message_in, message_if, published_by, publish_plan, headed_plan, subscribe_plan, error_plan, named_if};
+ghost use Rattle.session_plan.specs.Plans.{plan_of, fresh_plan, connected_plan, connect_plan, message_in, message_if, published_by, headed_fault, subscribe_plan, error_plan, named_if};
 
 use crate::reply::{Reply, fault_text, reply_of_error, reply_of_text};
 use crate::stage::Stage;
@@ -140,24 +140,14 @@ fn message_if(headers: bool, text: &MessageText) -> Result<Option<Message>, NoMe
     }
 }
 
-/// A message of a client whose CONNECT was accepted.
-fn plan_publish(stage: Stage, text: &MessageText) -> Result<Plan, NoMemory>
-    ensures { IfOk result (λ plan. plan ≡ publish_plan stage text.now) }
-{
-    match message_of_text(text)? {
-        None => Ok(plan_of_error(ServerError::InvalidSubject, stage)),
-        Some(message) => Ok(Plan::Publishes(message)),
-    }
-}
-
-/// A message with a header block. A client that has not declared headers may send none.
-fn plan_headed(stage: Stage, headers: bool, text: &MessageText) -> Result<Plan, NoMemory>
-    ensures { IfOk result (λ plan. plan ≡ headed_plan stage headers text.now) }
+/// Why a client's HPUB publishes nothing: it has not declared headers, or the subjects are none.
+fn headed_fault(headers: bool) -> ServerError<'static>
+    ensures { result.entry ≡ headed_fault headers }
 {
     if headers {
-        plan_publish(stage, text)
+        ServerError::InvalidSubject
     } else {
-        Ok(plan_of_error(ServerError::ParserError, stage))
+        ServerError::ParserError
     }
 }
 
@@ -191,6 +181,56 @@ fn plan_subscribe(
     }
 }
 
+/// A frame of a client that has not shown who it is.
+fn plan_fresh(alloc: Global, conn: u64, frame: &Frame) -> Result<Plan, NoMemory>
+    ensures { IfOk result (λ plan. plan ≡ fresh_plan conn frame.now) }
+{
+    match frame {
+        Frame::Connect(text) => plan_connect(alloc, conn, text.as_slice()),
+        Frame::Ping => Ok(Plan::Tells(reply_of_text(Text::Pong, Stage::Fresh))),
+        Frame::Pong => Ok(Plan::Tells(reply_of_text(Text::Nothing, Stage::Fresh))),
+        Frame::Fault(fault) => Ok(Plan::Tells(reply_of_text(
+            fault_text(*fault),
+            Stage::Closed { session: false },
+        ))),
+        Frame::Pub(_) => Ok(plan_of_error(ServerError::Authorization, Stage::Fresh)),
+        Frame::Hpub(_) => Ok(plan_of_error(ServerError::Authorization, Stage::Fresh)),
+        Frame::Sub { .. } => Ok(plan_of_error(ServerError::Authorization, Stage::Fresh)),
+        Frame::Unsub { .. } => Ok(plan_of_error(ServerError::Authorization, Stage::Fresh)),
+    }
+}
+
+/// The plan of a frame that publishes no message, of a client whose CONNECT was accepted, and which may have declared
+/// headers.
+fn plan_connected(
+    alloc: Global,
+    conn: u64,
+    stage: Stage,
+    headers: bool,
+    frame: &Frame,
+) -> Result<Plan, NoMemory>
+    ensures { IfOk result (λ plan. message_in headers frame.now ≡ None → plan ≡ connected_plan conn stage headers frame.now) }
+{
+    match frame {
+        Frame::Connect(_) => Ok(plan_of_error(ServerError::InvalidProtocol, stage)),
+        Frame::Pub(_) => Ok(plan_of_error(ServerError::InvalidSubject, stage)),
+        Frame::Hpub(_) => Ok(plan_of_error(headed_fault(headers), stage)),
+        Frame::Sub {
+            subject,
+            queue,
+            sid,
+        } => plan_subscribe(alloc, conn, stage, subject, queue, sid),
+        Frame::Unsub { sid, most } => {
+            let sid = own_text(alloc, sid)?;
+            let most = *most;
+            Ok(Plan::Asks(Command::Unsub { conn, sid, most }, stage))
+        }
+        Frame::Ping => Ok(Plan::Tells(reply_of_text(Text::Pong, stage))),
+        Frame::Pong => Ok(Plan::Tells(reply_of_text(Text::Nothing, stage))),
+        Frame::Fault(fault) => Ok(Plan::Tells(reply_of_text(fault_text(*fault), stage.closed()))),
+    }
+}
+
 /// The message of a PUB, or of an HPUB of a client that declared headers, if its subjects are subjects.
 fn message_in(headers: bool, frame: &Frame) -> Result<Option<Message>, NoMemory>
     ensures message { IfOk result (λ published. published ≡ message_in headers frame.now) }
@@ -211,58 +251,23 @@ fn message_in(headers: bool, frame: &Frame) -> Result<Option<Message>, NoMemory>
     }
 }
 
-/// A frame of a client that has not shown who it is.
-fn plan_fresh(alloc: Global, conn: u64, frame: &Frame) -> Result<Plan, NoMemory>
-    ensures { IfOk result (λ plan. plan ≡ fresh_plan conn frame.now) }
+/// Returns the message that a frame publishes: that of a PUB or an HPUB of a client whose CONNECT was accepted. `NoMemory`
+/// comes where it can't be had.
+pub fn message_of(stage: Stage, frame: &Frame) -> Result<Option<Message>, NoMemory>
+    ensures message { IfOk result (λ published. published ≡ published_by stage frame.now) }
+    ensures plan { IfOk result (λ published. IfSome published (λ message. (conn : ℕ) → plan_of conn stage frame.now ≡ Publishes message)) }
 {
-    match frame {
-        Frame::Connect(text) => plan_connect(alloc, conn, text.as_slice()),
-        Frame::Ping => Ok(Plan::Tells(reply_of_text(Text::Pong, Stage::Fresh))),
-        Frame::Pong => Ok(Plan::Tells(reply_of_text(Text::Nothing, Stage::Fresh))),
-        Frame::Fault(fault) => Ok(Plan::Tells(reply_of_text(
-            fault_text(*fault),
-            Stage::Closed { session: false },
-        ))),
-        Frame::Pub(_) => Ok(plan_of_error(ServerError::Authorization, Stage::Fresh)),
-        Frame::Hpub(_) => Ok(plan_of_error(ServerError::Authorization, Stage::Fresh)),
-        Frame::Sub { .. } => Ok(plan_of_error(ServerError::Authorization, Stage::Fresh)),
-        Frame::Unsub { .. } => Ok(plan_of_error(ServerError::Authorization, Stage::Fresh)),
+    match stage {
+        Stage::Fresh => Ok(None),
+        Stage::Connected { headers, .. } => message_in(headers, frame),
+        Stage::Closed { .. } => Ok(None),
     }
 }
 
-/// A frame of a client whose CONNECT was accepted, and which may have declared headers.
-fn plan_connected(
-    alloc: Global,
-    conn: u64,
-    stage: Stage,
-    headers: bool,
-    frame: &Frame,
-) -> Result<Plan, NoMemory>
-    ensures { IfOk result (λ plan. plan ≡ connected_plan conn stage headers frame.now) }
-{
-    match frame {
-        Frame::Connect(_) => Ok(plan_of_error(ServerError::InvalidProtocol, stage)),
-        Frame::Pub(text) => plan_publish(stage, text),
-        Frame::Hpub(text) => plan_headed(stage, headers, text),
-        Frame::Sub {
-            subject,
-            queue,
-            sid,
-        } => plan_subscribe(alloc, conn, stage, subject, queue, sid),
-        Frame::Unsub { sid, most } => {
-            let sid = own_text(alloc, sid)?;
-            let most = *most;
-            Ok(Plan::Asks(Command::Unsub { conn, sid, most }, stage))
-        }
-        Frame::Ping => Ok(Plan::Tells(reply_of_text(Text::Pong, stage))),
-        Frame::Pong => Ok(Plan::Tells(reply_of_text(Text::Nothing, stage))),
-        Frame::Fault(fault) => Ok(Plan::Tells(reply_of_text(fault_text(*fault), stage.closed()))),
-    }
-}
-
-/// What a frame comes to before the hub is asked. After a closing text nothing is looked at.
-pub fn plan_of(alloc: Global, conn: u64, stage: Stage, frame: &Frame) -> Result<Plan, NoMemory>
-    ensures plan { IfOk result (λ plan. plan ≡ plan_of conn stage frame.now) }
+/// The plan of a frame that publishes no message. It is apart, so that a message doesn't have to make place for it.
+#[inline(never)]
+fn plan_of_other(alloc: Global, conn: u64, stage: Stage, frame: &Frame) -> Result<Plan, NoMemory>
+    ensures { IfOk result (λ plan. published_by stage frame.now ≡ None → plan ≡ plan_of conn stage frame.now) }
 {
     match stage {
         Stage::Fresh => plan_fresh(alloc, conn, frame),
@@ -280,15 +285,17 @@ pub fn plan_of(alloc: Global, conn: u64, stage: Stage, frame: &Frame) -> Result<
     }
 }
 
-/// The message that a PUB or an HPUB of a client publishes whose CONNECT was accepted. Where it gives none, the frame's plan
-/// tells what it comes to.
-pub fn message_of(stage: Stage, frame: &Frame) -> Result<Option<Message>, NoMemory>
-    ensures message { IfOk result (λ published. published ≡ published_by stage frame.now) }
-    ensures plan { IfOk result (λ published. IfSome published (λ message. (conn : ℕ) → plan_of conn stage frame.now ≡ Publishes message)) }
+/// Returns what a frame comes to before the hub is asked: its message first, if it publishes one, since most frames do.
+/// After a closing text nothing is looked at. `NoMemory` comes where its texts can't be kept.
+#[inline(always)]
+pub fn plan_of(alloc: Global, conn: u64, stage: Stage, frame: &Frame) -> Result<Plan, NoMemory>
+    ensures plan { IfOk result (λ plan. plan ≡ plan_of conn stage frame.now) }
 {
-    match stage {
-        Stage::Fresh => Ok(None),
-        Stage::Connected { headers, .. } => message_in(headers, frame),
-        Stage::Closed { .. } => Ok(None),
+    match message_of(stage, frame)? {
+        Some(message) => Ok(Plan::Publishes(message)),
+        None => {
+            let plan = plan_of_other(alloc, conn, stage, frame)?;
+            Ok(plan)
+        }
     }
 }
