@@ -138,17 +138,6 @@ impl<W> WriteSink<W> {
             has_failed: false,
         }
     }
-
-    /// The writer, which holds what was written.
-    pub fn into_writer(self) -> W
-        ensures { result ≡ self.writer }
-    {
-        let WriteSink {
-            writer,
-            has_failed: _,
-        } = self;
-        writer
-    }
 }
 
 impl<W: Write> Sink for WriteSink<W> {

@@ -3,13 +3,11 @@
 #![tactic(auto)]
 
 mod device;
-mod fail_at;
 mod fault;
 mod input;
 mod non_blocking;
 
 pub use device::{DeviceFailed, ReadSource, Sink, Source, WriteSink, write_all};
-pub use fail_at::FailAt;
 pub use fault::ReadFault;
 pub use input::read_within;
 pub use non_blocking::{NonBlocking, NonBlockingSink, NonBlockingSource};

@@ -1,4 +1,5 @@
-use devices::{FailAt, ReadFault, ReadSource, Source, WriteSink, read_within, write_all};
+use crate::fail_at::FailAt;
+use devices::{ReadFault, ReadSource, Source, WriteSink, read_within, write_all};
 use std::io;
 
 /// One byte a read, so many of them.

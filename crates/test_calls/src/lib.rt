@@ -3,6 +3,8 @@
 #![tactic(auto)]
 
 #[cfg(test)]
+mod fail_at;
+#[cfg(test)]
 mod failures;
 #[cfg(test)]
 mod grants;

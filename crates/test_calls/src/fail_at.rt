@@ -1,6 +1,6 @@
 ghost use Rattle.std.specs.Prelude.{◌≡◌, ◌||◌, false};
 
-use crate::device::{DeviceFailed, Sink, Source};
+use devices::{DeviceFailed, Sink, Source};
 
 /// A device of which one call fails without reaching what is behind it. The others do.
 #[derive(Debug, Drop)]
