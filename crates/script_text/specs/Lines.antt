@@ -6,8 +6,8 @@ use Rattle.std.specs.Str.Parse.{digits_value}
 use Rattle.script_text.specs.declared.lines.Line.{Line}
 use Rattle.script_text.specs.declared.lines.Line.TheVariants as says
 use Rattle.script_text.specs.declared.lines.ClientLine.TheVariants.{Sends, Holds, Frees, Ends}
-use Rattle.script_text.specs.declared.lines.NumberWord.{NumberWord}
-use Rattle.script_text.specs.declared.lines.NumberWord.TheVariants.{Open, Now, Word, Hold, Free, End}
+use Rattle.script_text.specs.declared.lines.NumberLine.{NumberLine}
+use Rattle.script_text.specs.declared.lines.NumberLine.TheVariants.{Open, Now, Word, Hold, Free, End}
 use Rattle.script_text.specs.declared.lines.Part.{Part}
 use Rattle.script_text.specs.declared.lines.Part.TheVariants.{Capped, Body}
 use Rattle.script_text.specs.Escapes.{unescaped}
@@ -25,8 +25,8 @@ number_of (d ∷ ds) = number_of_digits (d ∷ ds) (digits_value 10 (d ∷ ds))
     number_of_digits : List ℕ → ℕ → Option ℕ
     number_of_digits ds n = if all_ascii_digits ds && nat_lt n (2 ^ 64) then Some n else None
 
--- what a line says by its word and its number
-abbrev pub of_number : NumberWord → ℕ → Line
+-- what a line says by its kind and its number
+abbrev pub of_number : NumberLine → ℕ → Line
 of_number Open n = says.Open n
 of_number Now n = says.Now n
 of_number Word n = says.Word n
@@ -34,7 +34,7 @@ of_number Hold n = says.Client n Holds
 of_number Free n = says.Client n Frees
 of_number End n = says.Client n Ends
 
-abbrev pub numbered : NumberWord → Option ℕ → Line
+abbrev pub numbered : NumberLine → Option ℕ → Line
 numbered kind (Some n) = of_number kind n
 numbered kind None = says.Other
 

@@ -23,7 +23,7 @@ pub enum Line {
     Client(u64, ClientLine),
     /// Later events are at this moment.
     Now(u64),
-    /// This word is behind those that messages take.
+    /// This number is behind the words that messages take.
     Word(u64),
     /// The line has another form.
     Other,
@@ -42,9 +42,9 @@ pub enum ClientLine {
     Ends,
 }
 
-/// A word that only a number follows.
+/// A kind of line that says no more than a number.
 #[derive(Clone, Copy, Debug)]
-enum NumberWord {
+enum NumberLine {
     Open,
     Now,
     Word,
@@ -116,13 +116,13 @@ fn read_short_line(line: &[u8]) -> Line
     ensures { result ≡ short_line line.now }
 {
     match line.strip_prefix(b"open ") {
-        Some(rest) => read_numbered(rest, NumberWord::Open),
+        Some(rest) => read_numbered(rest, NumberLine::Open),
         None => match line.strip_prefix(b"caps ") {
             Some(rest) => read_caps(rest),
             None => match line.strip_prefix(b"now ") {
-                Some(rest) => read_numbered(rest, NumberWord::Now),
+                Some(rest) => read_numbered(rest, NumberLine::Now),
                 None => match line.strip_prefix(b"word ") {
-                    Some(rest) => read_numbered(rest, NumberWord::Word),
+                    Some(rest) => read_numbered(rest, NumberLine::Word),
                     None => read_client_line(line),
                 },
             },
@@ -136,30 +136,30 @@ fn read_client_line(line: &[u8]) -> Line
     ensures { result ≡ client_line line.now }
 {
     match line.strip_prefix(b"hold ") {
-        Some(rest) => read_numbered(rest, NumberWord::Hold),
+        Some(rest) => read_numbered(rest, NumberLine::Hold),
         None => match line.strip_prefix(b"free ") {
-            Some(rest) => read_numbered(rest, NumberWord::Free),
+            Some(rest) => read_numbered(rest, NumberLine::Free),
             None => match line.strip_prefix(b"end ") {
-                Some(rest) => read_numbered(rest, NumberWord::End),
+                Some(rest) => read_numbered(rest, NumberLine::End),
                 None => Line::Other,
             },
         },
     }
 }
 
-/// What the rest of a line after its word says, where it is a number.
-fn read_numbered(rest: &[u8], word: NumberWord) -> Line
-    ensures { result ≡ numbered word (number_of rest.now) }
+/// What a line of this kind says, by the rest of it, where that is a number.
+fn read_numbered(rest: &[u8], kind: NumberLine) -> Line
+    ensures { result ≡ numbered kind (number_of rest.now) }
 {
     match read_number(rest) {
         None => Line::Other,
-        Some(number) => match word {
-            NumberWord::Open => Line::Open(number),
-            NumberWord::Now => Line::Now(number),
-            NumberWord::Word => Line::Word(number),
-            NumberWord::Hold => Line::Client(number, ClientLine::Holds),
-            NumberWord::Free => Line::Client(number, ClientLine::Frees),
-            NumberWord::End => Line::Client(number, ClientLine::Ends),
+        Some(number) => match kind {
+            NumberLine::Open => Line::Open(number),
+            NumberLine::Now => Line::Now(number),
+            NumberLine::Word => Line::Word(number),
+            NumberLine::Hold => Line::Client(number, ClientLine::Holds),
+            NumberLine::Free => Line::Client(number, ClientLine::Frees),
+            NumberLine::End => Line::Client(number, ClientLine::Ends),
         },
     }
 }
