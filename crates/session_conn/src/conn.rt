@@ -1,3 +1,4 @@
+use crate::context::{DrainContext, TurnContext};
 use crate::drain::drain;
 use crate::output::{Output, Stall};
 use crate::serve::serve;
@@ -179,16 +180,14 @@ impl Conn {
         match self.frames.take_piece(&mut self.reader, piece) {
             Err(_) => nothing(alloc, false, Some(Stall::PieceNotTaken)),
             Ok(()) => {
-                let served = serve(
+                let context = TurnContext {
                     alloc,
-                    self.conn,
-                    now,
-                    port,
-                    words,
-                    self.stage,
-                    self.word,
-                    &mut self.frames,
-                );
+                    conn: self.conn,
+                    moment: now,
+                    stage: self.stage,
+                    word: self.word,
+                };
+                let served = serve(context, port, words, &mut self.frames);
                 self.stage = served.stage;
                 self.word = served.word;
                 self.stall = served.stall;
@@ -213,15 +212,14 @@ impl Conn {
         if let Some(stall) = undrained(self.stall) {
             return nothing(alloc, false, Some(stall));
         }
-        let drained = drain(
+        let context = DrainContext {
             alloc,
-            self.conn,
-            now,
+            conn: self.conn,
+            moment: now,
+            stage: self.stage,
             most,
-            port,
-            self.stage,
-            &mut self.owed,
-        );
+        };
+        let drained = drain(context, port, &mut self.owed);
         self.stage = drained.stage;
         if drained.stage.is_closed() {
             self.drop_frames();

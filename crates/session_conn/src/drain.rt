@@ -2,6 +2,7 @@
 ghost use Rattle.std.specs.Prelude.{◌≡◌, [], OnOk};
 ghost use Rattle.session_conn.specs.Drains.{IsWritten, IsTold, IsTaken, drain_of};
 
+use crate::context::DrainContext;
 use crate::output::Stall;
 use crate::submit::submit;
 use base::NoMemory;
@@ -133,51 +134,38 @@ fn drained_by_answer(
 
 /// One Take, and the texts of what it gives. Room for the text of a session that is gone is made before.
 fn drain_by_take<P: Port>(
-    alloc: Global,
-    conn: u64,
-    now: u64,
-    most: usize,
+    context: DrainContext,
     port: &mut P,
-    stage: Stage,
     mut bytes: Vec<u8>,
     owed: &mut Owed,
 ) -> Drained
     requires { owed.old.deliveries ≡ [] }
     ensures place { P.place port.new ≡ P.place port.old }
-    ensures taken { IsTaken (port_of P.steps P.posts P.holds) now conn most stage bytes.items owed.old.missed port.old (drain_of result owed.new) port.new }
+    ensures taken { IsTaken (port_of P.steps P.posts P.holds) context.moment context.conn context.most context.stage bytes.items owed.old.missed port.old (drain_of result owed.new) port.new }
 {
     if bytes.reserve(64).is_err() {
-        return Drained::new(bytes, stage, Some(Stall::Memory));
+        return Drained::new(bytes, context.stage, Some(Stall::Memory));
     }
-    let answer = submit(
-        port,
-        Event {
-            now,
-            what: Command::Take { conn, most },
-        },
-    );
-    drained_by_answer(alloc, answer, stage, bytes, owed)
+    let what = Command::Take {
+        conn: context.conn,
+        most: context.most,
+    };
+    let now = context.moment;
+    let answer = submit(port, Event { now, what });
+    drained_by_answer(context.alloc, answer, context.stage, bytes, owed)
 }
 
 ghost use Rattle.session_conn.specs.Drains.{Drains};
 
 /// Writes what an earlier drain could not, and then makes a Take, unless a delivery was missed then.
-pub fn drain<P: Port>(
-    alloc: Global,
-    conn: u64,
-    now: u64,
-    most: usize,
-    port: &mut P,
-    stage: Stage,
-    owed: &mut Owed,
-) -> Drained
+pub fn drain<P: Port>(context: DrainContext, port: &mut P, owed: &mut Owed) -> Drained
     ensures place { P.place port.new ≡ P.place port.old }
-    ensures drains { Drains (port_of P.steps P.posts P.holds) now conn most stage owed.old.deliveries owed.old.missed port.old (drain_of result owed.new) port.new }
+    ensures drains { Drains (port_of P.steps P.posts P.holds) context.moment context.conn context.most context.stage owed.old.deliveries owed.old.missed port.old (drain_of result owed.new) port.new }
 {
-    let mut bytes = Vec::new(alloc);
-    match write_owed(&mut bytes, stage.takes_headers(), owed) {
-        Written::All => drain_by_take(alloc, conn, now, most, port, stage, bytes, owed),
-        Written::Closes => drained_after(bytes, stage, Written::Closes),
-        Written::Short => drained_after(bytes, stage, Written::Short),
+    let mut bytes = Vec::new(context.alloc);
+    match write_owed(&mut bytes, context.stage.takes_headers(), owed) {
+        Written::All => drain_by_take(context, port, bytes, owed),
+        Written::Closes => drained_after(bytes, context.stage, Written::Closes),
+        Written::Short => drained_after(bytes, context.stage, Written::Short),
     }
 }

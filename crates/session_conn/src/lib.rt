@@ -3,6 +3,7 @@
 #![tactic(auto)]
 
 mod conn;
+mod context;
 mod drain;
 mod output;
 mod run;

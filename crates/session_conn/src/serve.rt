@@ -5,13 +5,13 @@ ghost use Rattle.session_conn.specs.Serving.{spot, served, Serves};
 ghost use Rattle.session_conn.specs.Running.{IsAhead, IsAheadAfter, IsNearer, Went};
 ghost use Rattle.session_plan.specs.Replies.{is_closed};
 
+use crate::context::TurnContext;
 use crate::output::Stall;
 use crate::run::{Ahead, take_run};
 use crate::turn::{FrameTurn, take_turn};
 use events::{Port, Words};
 use session_pending::Frames;
 use session_plan::Stage;
-use std::alloc::Global;
 
 /// What the turns of frames came to.
 #[derive(Drop)]
@@ -45,26 +45,22 @@ impl Served {
 /// The turn of the first frame alone.
 #[inline(always)]
 fn take_one<P: Port, W: Words>(
-    alloc: Global,
-    conn: u64,
-    now: u64,
+    context: TurnContext,
     port: &mut P,
     words: &mut W,
-    stage: Stage,
-    word: Option<u64>,
     frames: &mut Frames,
     out: &mut Vec<u8>,
 ) -> FrameTurn
-    requires open { is_closed stage ≡ false }
+    requires open { is_closed context.stage ≡ false }
     requires some { 0 < length frames.old }
     ensures place { P.place port.new ≡ P.place port.old }
-    ensures went { Went (port_of P.steps P.posts P.holds) W.draws now conn frames.old (spot port.old words.old stage word) result out.old.items out.new.items frames.new port.new words.new }
+    ensures went { Went (port_of P.steps P.posts P.holds) W.draws context.moment context.conn frames.old (spot port.old words.old context.stage context.word) result out.old.items out.new.items frames.new port.new words.new }
     ensures nearer { IsNearer result frames.old frames.new }
 {
     let Some(frame) = frames.first() else {
-        return FrameTurn::Stalls(Stall::Memory, word);
+        return FrameTurn::Stalls(Stall::Memory, context.word);
     };
-    match take_turn(alloc, conn, now, port, words, stage, word, frame, out) {
+    match take_turn(context, port, words, frame, out) {
         FrameTurn::Goes(after) => {
             frames.drop_first();
             FrameTurn::Goes(after)
@@ -75,60 +71,59 @@ fn take_one<P: Port, W: Words>(
 
 /// The turns of the first frames: of those whose messages are gathered ahead, or of one.
 fn take_turns<P: Port, W: Words>(
-    alloc: Global,
-    conn: u64,
-    now: u64,
+    context: TurnContext,
     port: &mut P,
     words: &mut W,
-    stage: Stage,
-    word: Option<u64>,
     frames: &mut Frames,
     ahead: &mut Ahead,
     out: &mut Vec<u8>,
 ) -> FrameTurn
-    requires open { is_closed stage ≡ false }
+    requires open { is_closed context.stage ≡ false }
     requires some { 0 < length frames.old }
-    requires ahead { IsAhead stage ahead.old.room frames.old ahead.old.messages.items }
+    requires ahead { IsAhead context.stage ahead.old.room frames.old ahead.old.messages.items }
     ensures place { P.place port.new ≡ P.place port.old }
-    ensures went { Went (port_of P.steps P.posts P.holds) W.draws now conn frames.old (spot port.old words.old stage word) result out.old.items out.new.items frames.new port.new words.new }
+    ensures went { Went (port_of P.steps P.posts P.holds) W.draws context.moment context.conn frames.old (spot port.old words.old context.stage context.word) result out.old.items out.new.items frames.new port.new words.new }
     ensures nearer { IsNearer result frames.old frames.new }
     ensures ahead { IsAheadAfter result ahead.new.room frames.new ahead.new.messages.items }
 {
-    if ahead.is_ready(stage, word, frames, out) {
-        return take_run(conn, now, port, words, stage, frames, ahead, out);
+    if ahead.is_ready(context.stage, context.word, frames, out) {
+        return take_run(
+            context.conn,
+            context.moment,
+            port,
+            words,
+            context.stage,
+            frames,
+            ahead,
+            out,
+        );
     }
     ahead.clear();
-    take_one(alloc, conn, now, port, words, stage, word, frames, out)
+    take_one(context, port, words, frames, out)
 }
 
 /// The turn of the single frame that waits, if one does.
 #[inline(always)]
 fn serve_one<P: Port, W: Words>(
-    alloc: Global,
-    conn: u64,
-    now: u64,
+    context: TurnContext,
     port: &mut P,
     words: &mut W,
-    stage: Stage,
-    word: Option<u64>,
     frames: &mut Frames,
 ) -> Served
     requires few { length frames.old ≤ 1 }
     ensures place { P.place port.new ≡ P.place port.old }
-    ensures served { Serves (port_of P.steps P.posts P.holds) W.draws now conn frames.old (spot port.old words.old stage word) (served result.bytes.items frames.new result.stall (spot port.new words.new result.stage result.word)) }
+    ensures served { Serves (port_of P.steps P.posts P.holds) W.draws context.moment context.conn frames.old (spot port.old words.old context.stage context.word) (served result.bytes.items frames.new result.stall (spot port.new words.new result.stage result.word)) }
 {
-    let mut bytes = Vec::new(alloc);
+    let mut bytes = Vec::new(context.alloc);
     if frames.is_empty() {
-        return Served::new(bytes, stage, word, None);
+        return Served::new(bytes, context.stage, context.word, None);
     }
-    if stage.is_closed() {
+    if context.stage.is_closed() {
         frames.clear();
-        return Served::new(bytes, stage, word, None);
+        return Served::new(bytes, context.stage, context.word, None);
     }
-    match take_one(
-        alloc, conn, now, port, words, stage, word, frames, &mut bytes,
-    ) {
-        FrameTurn::Stalls(stall, kept) => Served::new(bytes, stage, kept, Some(stall)),
+    match take_one(context, port, words, frames, &mut bytes) {
+        FrameTurn::Stalls(stall, kept) => Served::new(bytes, context.stage, kept, Some(stall)),
         FrameTurn::Goes(after) => Served::new(bytes, after, None, None),
     }
 }
@@ -136,30 +131,31 @@ fn serve_one<P: Port, W: Words>(
 /// The turns of several frames. It is apart, so that the turn of a single one doesn't have to make place for it.
 #[inline(never)]
 fn serve_all<P: Port, W: Words>(
-    alloc: Global,
-    conn: u64,
-    now: u64,
+    context: TurnContext,
     port: &mut P,
     words: &mut W,
-    stage: Stage,
-    word: Option<u64>,
     frames: &mut Frames,
 ) -> Served
     ensures place { P.place port.new ≡ P.place port.old }
-    ensures served { Serves (port_of P.steps P.posts P.holds) W.draws now conn frames.old (spot port.old words.old stage word) (served result.bytes.items frames.new result.stall (spot port.new words.new result.stage result.word)) }
+    ensures served { Serves (port_of P.steps P.posts P.holds) W.draws context.moment context.conn frames.old (spot port.old words.old context.stage context.word) (served result.bytes.items frames.new result.stall (spot port.new words.new result.stage result.word)) }
 {
-    let mut bytes = Vec::new(alloc);
-    let mut stage = stage;
-    let mut word = word;
-    let mut ahead = Ahead::new(alloc, word);
+    let mut bytes = Vec::new(context.alloc);
+    let mut stage = context.stage;
+    let mut word = context.word;
+    let mut ahead = Ahead::new(context.alloc, word);
     while !frames.is_empty() {
         if stage.is_closed() {
             frames.clear();
             return Served::new(bytes, stage, word, None);
         }
-        match take_turns(
-            alloc, conn, now, port, words, stage, word, frames, &mut ahead, &mut bytes,
-        ) {
+        let next = TurnContext {
+            alloc: context.alloc,
+            conn: context.conn,
+            moment: context.moment,
+            stage,
+            word,
+        };
+        match take_turns(next, port, words, frames, &mut ahead, &mut bytes) {
             FrameTurn::Stalls(stall, kept) => {
                 return Served::new(bytes, stage, kept, Some(stall));
             }
@@ -172,25 +168,21 @@ fn serve_all<P: Port, W: Words>(
     Served::new(bytes, stage, word, None)
 }
 
-/// Frames in order, until one stalls or closes the connection. What stalls is left, with the frames behind it;
-/// after a closing text the rest is dropped.
+/// Gives frames their turns in order, until one stalls or closes the connection. What stalls is left, with the frames behind
+/// it; after a closing text the rest is dropped.
 #[inline(always)]
 pub fn serve<P: Port, W: Words>(
-    alloc: Global,
-    conn: u64,
-    now: u64,
+    context: TurnContext,
     port: &mut P,
     words: &mut W,
-    stage: Stage,
-    word: Option<u64>,
     frames: &mut Frames,
 ) -> Served
     ensures place { P.place port.new ≡ P.place port.old }
-    ensures served { Serves (port_of P.steps P.posts P.holds) W.draws now conn frames.old (spot port.old words.old stage word) (served result.bytes.items frames.new result.stall (spot port.new words.new result.stage result.word)) }
+    ensures served { Serves (port_of P.steps P.posts P.holds) W.draws context.moment context.conn frames.old (spot port.old words.old context.stage context.word) (served result.bytes.items frames.new result.stall (spot port.new words.new result.stage result.word)) }
 {
     if frames.are_few() {
-        serve_one(alloc, conn, now, port, words, stage, word, frames)
+        serve_one(context, port, words, frames)
     } else {
-        serve_all(alloc, conn, now, port, words, stage, word, frames)
+        serve_all(context, port, words, frames)
     }
 }

@@ -7,13 +7,13 @@ ghost use Rattle.session_plan.specs.declared.plan.Plan.TheVariants.{Publishes};
 ghost use Rattle.session_plan.specs.Plans.{plan_of};
 ghost use Rattle.session_plan.specs.Replies.{text_line, room_of};
 
+use crate::context::TurnContext;
 use crate::output::Stall;
 use crate::submit::{offer, submit};
 use events::{Answer, Command, Event, HubRefusal, Message, Outcome, Port, Words};
 use session_plan::{
     Plan, Reply, Stage, make_room, plan_of, put_text, reply_to_outcome, reply_to_refusal,
 };
-use std::alloc::Global;
 use wire_read::Frame;
 
 /// What a frame's turn comes to. What the client is told of it is written.
@@ -107,24 +107,23 @@ fn is_quiet(stage: Stage, answer: &Result<Answer, HubRefusal>) -> bool
 /// back the frame stays with its word, so that the same members of queue groups are asked for when it is offered again.
 #[inline(always)]
 fn publish<P: Port, W: Words>(
-    conn: u64,
-    now: u64,
+    context: TurnContext,
     port: &mut P,
     words: &mut W,
-    stage: Stage,
-    word: Option<u64>,
     frame: &Frame,
     message: Message,
     out: &mut Vec<u8>,
 ) -> FrameTurn
-    requires plan { plan_of conn stage frame.now ≡ Publishes message }
+    requires plan { plan_of context.conn context.stage frame.now ≡ Publishes message }
     requires room { vec_len out.old + room_of frame.now ≤ vec_capacity out.old }
     ensures place { P.place port.new ≡ P.place port.old }
-    ensures turn { IsFrameTurned (λ turned. IsFrameTurn (port_of P.steps P.posts P.holds) W.draws now conn stage word frame.now port.old words.old turned port.new words.new) result out.old.items out.new.items }
+    ensures turn { IsFrameTurned (λ turned. IsFrameTurn (port_of P.steps P.posts P.holds) W.draws context.moment context.conn context.stage context.word frame.now port.old words.old turned port.new words.new) result out.old.items out.new.items }
 {
-    let drawn = word_of(words, word);
+    let drawn = word_of(words, context.word);
+    let now = context.moment;
+    let stage = context.stage;
     let what = Command::Pub {
-        conn,
+        conn: context.conn,
         message,
         word: drawn,
     };
@@ -141,39 +140,34 @@ fn publish<P: Port, W: Words>(
 /// What is told without asking the hub waits for what the port has for the client.
 #[inline(always)]
 pub fn take_turn<P: Port, W: Words>(
-    alloc: Global,
-    conn: u64,
-    now: u64,
+    context: TurnContext,
     port: &mut P,
     words: &mut W,
-    stage: Stage,
-    word: Option<u64>,
     frame: &Frame,
     out: &mut Vec<u8>,
 ) -> FrameTurn
     ensures place { P.place port.new ≡ P.place port.old }
-    ensures turn { IsFrameTurned (λ turned. IsFrameTurn (port_of P.steps P.posts P.holds) W.draws now conn stage word frame.now port.old words.old turned port.new words.new) result out.old.items out.new.items }
+    ensures turn { IsFrameTurned (λ turned. IsFrameTurn (port_of P.steps P.posts P.holds) W.draws context.moment context.conn context.stage context.word frame.now port.old words.old turned port.new words.new) result out.old.items out.new.items }
 {
     if make_room(out, frame).is_err() {
-        return FrameTurn::Stalls(Stall::Memory, word);
+        return FrameTurn::Stalls(Stall::Memory, context.word);
     }
-    let plan = match plan_of(alloc, conn, stage, frame) {
+    let plan = match plan_of(context.alloc, context.conn, context.stage, frame) {
         Ok(plan) => plan,
-        Err(_) => return FrameTurn::Stalls(Stall::Memory, word),
+        Err(_) => return FrameTurn::Stalls(Stall::Memory, context.word),
     };
     match plan {
         Plan::Tells(reply) => {
-            if port.must_wait(conn) {
-                return FrameTurn::Stalls(Stall::Held, word);
+            if port.must_wait(context.conn) {
+                return FrameTurn::Stalls(Stall::Held, context.word);
             }
             tell(out, reply)
         }
         Plan::Asks(what, accepted) => {
+            let now = context.moment;
             let answer = submit(port, Event { now, what });
-            turn_of_answer(stage, accepted, frame, word, &answer, out)
+            turn_of_answer(context.stage, accepted, frame, context.word, &answer, out)
         }
-        Plan::Publishes(message) => publish(
-            conn, now, port, words, stage, word, frame, message, out,
-        ),
+        Plan::Publishes(message) => publish(context, port, words, frame, message, out),
     }
 }

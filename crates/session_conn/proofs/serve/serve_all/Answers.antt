@@ -9,43 +9,43 @@ use Rattle.session_conn.proofs.Runs.{completes_start, closed_at, completes_end, 
 use Rattle.session_conn.proofs.Gathered.{none_ahead}
 use Rattle.session_conn.proofs.serve.serve_all.Goals as goal
 
-pub loop-alloc-init : goal.loop-alloc-init
-loop-alloc-init g c =
-    let start = spot c.args.port.now c.args.words.now c.args.stage c.args.word in
+pub loop-context-init : goal.loop-context-init
+loop-context-init g c =
+    let start = spot c.args.port.now c.args.words.now c.args.context.stage c.args.context.word in
     record {
       place = refl;
-      turns = subst (λ (x : List ℕ). Completes (port_of g.P.Port.steps g.P.Port.posts g.P.Port.holds) g.W.Words.draws c.args.now c.args.conn c.args.frames.now start x c.args.frames.now start)
-          (sym c.new-bytes.ensures.items) (completes_start (port_of g.P.Port.steps g.P.Port.posts g.P.Port.holds) g.W.Words.draws c.args.now c.args.conn c.args.frames.now start);
-      ahead = λ still. none_ahead c.args.stage c.new-ahead.result.room c.args.frames.now c.new-ahead.result.messages.items c.new-ahead.ensures;
+      turns = subst (λ (x : List ℕ). Completes (port_of g.P.Port.steps g.P.Port.posts g.P.Port.holds) g.W.Words.draws c.args.context.moment c.args.context.conn c.args.frames.now start x c.args.frames.now start)
+          (sym c.new-bytes.ensures.items) (completes_start (port_of g.P.Port.steps g.P.Port.posts g.P.Port.holds) g.W.Words.draws c.args.context.moment c.args.context.conn c.args.frames.now start);
+      ahead = λ still. none_ahead c.args.context.stage c.new-ahead.result.room c.args.frames.now c.new-ahead.result.messages.items c.new-ahead.ensures;
     }
 
 pub returns-then-is_closed-clause-served : goal.returns-then-is_closed-clause-served
 returns-then-is_closed-clause-served g c =
-    let start = spot c.args.port.now c.args.words.now c.args.stage c.args.word in
-    let at = spot c.loop-alloc.port c.loop-alloc.words c.loop-alloc.stage c.loop-alloc.word in
-    subst (λ (s : Served). Serves (port_of g.P.Port.steps g.P.Port.posts g.P.Port.holds) g.W.Words.draws c.args.now c.args.conn c.args.frames.now start (served s.bytes.items c.clear.new.self s.stall (spot c.loop-alloc.port c.loop-alloc.words s.stage s.word)))
+    let start = spot c.args.port.now c.args.words.now c.args.context.stage c.args.context.word in
+    let at = spot c.loop-context.port c.loop-context.words c.loop-context.stage c.loop-context.word in
+    subst (λ (s : Served). Serves (port_of g.P.Port.steps g.P.Port.posts g.P.Port.holds) g.W.Words.draws c.args.context.moment c.args.context.conn c.args.frames.now start (served s.bytes.items c.clear.new.self s.stall (spot c.loop-context.port c.loop-context.words s.stage s.word)))
     (sym c.new.ensures)
-    (subst (λ (x : List Frame). Serves (port_of g.P.Port.steps g.P.Port.posts g.P.Port.holds) g.W.Words.draws c.args.now c.args.conn c.args.frames.now start (served c.loop-alloc.bytes.items x None at))
+    (subst (λ (x : List Frame). Serves (port_of g.P.Port.steps g.P.Port.posts g.P.Port.holds) g.W.Words.draws c.args.context.moment c.args.context.conn c.args.frames.now start (served c.loop-context.bytes.items x None at))
     (sym c.clear.ensures)
-    (closed_at (port_of g.P.Port.steps g.P.Port.posts g.P.Port.holds) g.W.Words.draws c.args.now c.args.conn c.args.frames.now start c.loop-alloc.bytes.items c.loop-alloc.frames at
-    c.loop-alloc.invariant.turns (sym c.is_closed.ensures ∙ c.if-is_closed.true)))
+    (closed_at (port_of g.P.Port.steps g.P.Port.posts g.P.Port.holds) g.W.Words.draws c.args.context.moment c.args.context.conn c.args.frames.now start c.loop-context.bytes.items c.loop-context.frames at
+    c.loop-context.invariant.turns (sym c.is_closed.ensures ∙ c.if-is_closed.true)))
 
-pub loop-alloc-preserved : goal.loop-alloc-preserved
-loop-alloc-preserved g c =
-    let start = spot c.args.port.now c.args.words.now c.args.stage c.args.word in
-    let at = spot c.loop-alloc.port c.loop-alloc.words c.loop-alloc.stage c.loop-alloc.word in
+pub loop-context-preserved : goal.loop-context-preserved
+loop-context-preserved g c =
+    let start = spot c.args.port.now c.args.words.now c.args.context.stage c.args.context.word in
+    let at = spot c.loop-context.port c.loop-context.words c.loop-context.stage c.loop-context.word in
     record {
-      place = c.in-Goes.ensures.place ∙ c.loop-alloc.invariant.place;
-      turns = went_on (port_of g.P.Port.steps g.P.Port.posts g.P.Port.holds) g.W.Words.draws c.args.now c.args.conn c.args.frames.now start c.loop-alloc.bytes.items c.loop-alloc.frames at
-          c.in-Goes.after c.take_turns.new.out.items c.take_turns.new.frames c.take_turns.new.port c.take_turns.new.words c.loop-alloc.invariant.turns c.in-Goes.ensures.went;
+      place = c.in-Goes.ensures.place ∙ c.loop-context.invariant.place;
+      turns = went_on (port_of g.P.Port.steps g.P.Port.posts g.P.Port.holds) g.W.Words.draws c.args.context.moment c.args.context.conn c.args.frames.now start c.loop-context.bytes.items c.loop-context.frames at
+          c.in-Goes.after c.take_turns.new.out.items c.take_turns.new.frames c.take_turns.new.port c.take_turns.new.words c.loop-context.invariant.turns c.in-Goes.ensures.went;
       ahead = c.in-Goes.ensures.ahead;
     }
 
 pub returns-clause-served : goal.returns-clause-served
 returns-clause-served g c =
-    let start = spot c.args.port.now c.args.words.now c.args.stage c.args.word in
-    let at = spot c.loop-alloc.port c.loop-alloc.words c.loop-alloc.stage c.loop-alloc.word in
-    subst (λ (s : Served). Serves (port_of g.P.Port.steps g.P.Port.posts g.P.Port.holds) g.W.Words.draws c.args.now c.args.conn c.args.frames.now start (served s.bytes.items c.loop-alloc.frames s.stall (spot c.loop-alloc.port c.loop-alloc.words s.stage s.word)))
+    let start = spot c.args.port.now c.args.words.now c.args.context.stage c.args.context.word in
+    let at = spot c.loop-context.port c.loop-context.words c.loop-context.stage c.loop-context.word in
+    subst (λ (s : Served). Serves (port_of g.P.Port.steps g.P.Port.posts g.P.Port.holds) g.W.Words.draws c.args.context.moment c.args.context.conn c.args.frames.now start (served s.bytes.items c.loop-context.frames s.stall (spot c.loop-context.port c.loop-context.words s.stage s.word)))
     (sym c.new-2.ensures)
-    (completes_end (port_of g.P.Port.steps g.P.Port.posts g.P.Port.holds) g.W.Words.draws c.args.now c.args.conn c.args.frames.now start c.loop-alloc.bytes.items at
-    c.loop-alloc.frames (c.loop-alloc-test.ensures.0 refl) c.loop-alloc.invariant.turns)
+    (completes_end (port_of g.P.Port.steps g.P.Port.posts g.P.Port.holds) g.W.Words.draws c.args.context.moment c.args.context.conn c.args.frames.now start c.loop-context.bytes.items at
+    c.loop-context.frames (c.loop-context-test.ensures.0 refl) c.loop-context.invariant.turns)
