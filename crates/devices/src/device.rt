@@ -35,7 +35,7 @@ pub trait Source {
     /// Whether a read has failed since the source was made.
     ghost failed: { Self → Bool };
 
-    /// Reads bytes into the front of the buffer and answers how many. It is none only where no
+    /// Reads bytes into the front of the buffer and returns how many. It is none only where no
     /// byte is left or the buffer has no room.
     fn read(&mut self, buf: &mut [u8]) -> Result<usize, DeviceFailed>
         ensures bound { ReadsAtMost result buf.new }
@@ -52,7 +52,7 @@ pub trait Sink {
     /// Whether a write has failed since the sink was made.
     ghost failed: { Self → Bool };
 
-    /// Writes a front of the bytes and answers how many. To take none of them is to fail.
+    /// Writes a front of the bytes and returns how many. To take none of them is to fail.
     fn write(&mut self, bytes: &[u8]) -> Result<usize, DeviceFailed>
         ensures bound { WritesAtMost result bytes.now }
         ensures some { IfOk result (λ count. 0 < length bytes.now → 0 < count) }

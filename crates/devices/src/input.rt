@@ -6,7 +6,7 @@ use crate::device::Source;
 use crate::fault::ReadFault;
 use std::alloc::Global;
 
-/// Reads a source to its end, or answers `None` where it has none within so many bytes and so many reads, the one
+/// Reads a source to its end, or returns `None` where it has none within so many bytes and so many reads, the one
 /// that finds it included. Then so many reads have given bytes, or the source had more bytes.
 ///
 /// `ReadFailed` comes where the source failed in this call, `NoMemory` where memory could not be had.

@@ -19,7 +19,7 @@ pub trait NonBlockingSource {
     /// Whether the last read found nothing yet.
     ghost waits: { Self → Bool };
 
-    /// Reads bytes into the front of the buffer and answers how many: none at the end, and no number where nothing
+    /// Reads bytes into the front of the buffer and returns how many: none at the end, and no number where nothing
     /// has come yet.
     fn read(&mut self, buf: &mut [u8]) -> Result<Option<usize>, DeviceFailed>
         ensures bound { count_of result ≤ length buf.new }
@@ -40,7 +40,7 @@ pub trait NonBlockingSink {
     /// Whether the last write found no room yet.
     ghost waits: { Self → Bool };
 
-    /// Writes a front of the bytes and answers how many, at least one where there is one; or no number where it takes
+    /// Writes a front of the bytes and returns how many, at least one where there is one; or no number where it takes
     /// nothing yet.
     fn write(&mut self, bytes: &[u8]) -> Result<Option<usize>, DeviceFailed>
         ensures bound { count_of result ≤ length bytes.now }

@@ -65,7 +65,7 @@ impl Client {
         }
     }
 
-    /// Drains the connection, unless it is held: Takes of 64 while something is pending. Answers whether the history
+    /// Drains the connection, unless it is held: Takes of 64 while something is pending. Returns whether the history
     /// is full; if it isn't, nothing is pending then.
     pub fn drain(
         &mut self,
@@ -83,7 +83,7 @@ impl Client {
         self.take_all(alloc, server, most, out)
     }
 
-    /// Does what a line says of the connection. Answers whether the history is full.
+    /// Does what a line says of the connection. Returns whether the history is full.
     pub fn on_client_line(
         &mut self,
         alloc: Global,
@@ -114,7 +114,7 @@ impl Client {
         }
     }
 
-    /// Prints what a call of the connection gave, and ends it where it closed. Answers whether the history is full.
+    /// Prints what a call of the connection gave, and ends it where it closed. Returns whether the history is full.
     fn print_output(
         &mut self,
         server: &mut Server,
@@ -136,7 +136,7 @@ impl Client {
         self.end(server, out)
     }
 
-    /// The end of the connection. Answers whether the history is full.
+    /// The end of the connection. Returns whether the history is full.
     fn end(&mut self, server: &mut Server, out: &mut Vec<u8>) -> Result<bool, NoMemory>
         ensures { IfOk result (λ full. IsClientEffect (end_effect server.old self.old) out.old.items out.new.items self.new server.new full) }
     {
@@ -148,7 +148,7 @@ impl Client {
         Ok(false)
     }
 
-    /// A Take of 64, where one is to be made. Answers whether the history is full, and nothing where none is to be
+    /// A Take of 64, where one is to be made. Returns whether the history is full, and nothing where none is to be
     /// made.
     fn take_if_pending(
         &mut self,
@@ -169,7 +169,7 @@ impl Client {
         Ok(Some(full))
     }
 
-    /// Takes while something is pending, so many at most. Answers whether the history is full.
+    /// Takes while something is pending, so many at most. Returns whether the history is full.
     fn take_all(
         &mut self,
         alloc: Global,

@@ -116,7 +116,7 @@ fn open(
     Ok(false)
 }
 
-/// Caps in the place of the usual ones, or the line that refuses them. Only the first of a script's lines may give
+/// Sets caps in the place of the usual ones, or prints the line that refuses them. Only the first of a script's lines may give
 /// caps.
 fn set_caps(
     alloc: Global,
@@ -214,7 +214,7 @@ fn on_line_and_drain(
     Ok(stops)
 }
 
-/// Plays the lines of a script, and writes what they print to the sink, line by line (docs/SCRIPT.md). Answers the status,
+/// Plays the lines of a script, and writes what they print to the sink, line by line (docs/SCRIPT.md). Returns the status,
 /// 0 or 1. What clients choose is hashed under the keys.
 ///
 /// `WriteFailed` comes where the sink failed in this call, and `NoMemory` where memory could not be had. What was written

@@ -14,7 +14,7 @@ use reload_lines::write_reload;
 use script_text::{Part, write_full, write_refused};
 use std::alloc::Global;
 
-/// A policy in the place of the built-in one, or the line of its fault.
+/// Sets a policy in the place of the built-in one, or prints the line of its fault.
 fn set_policy(
     alloc: Global,
     server: &mut Server,
@@ -62,7 +62,7 @@ pub fn on_policy(
     }
 }
 
-/// Another policy comes into force, or the line of the text's fault is printed and nothing changes. Answers whether
+/// Another policy comes into force, or the line of the text's fault is printed and nothing changes. Returns whether
 /// the history is full.
 pub fn on_reload(
     alloc: Global,
@@ -84,7 +84,7 @@ pub fn on_reload(
     }
 }
 
-/// A policy comes into force, and what the hub tells of it is printed. Answers whether the history is full.
+/// A policy comes into force, and what the hub tells of it is printed. Returns whether the history is full.
 fn install(server: &mut Server, policy: Ready, out: &mut Vec<u8>) -> Result<bool, NoMemory>
     ensures { (clients : List Client) → IfOk result (λ stops. IsEffect (reload_told (installed policy server.old) clients) out.old.items out.new.items clients server.new stops) }
 {

@@ -95,7 +95,7 @@ impl Server {
         })
     }
 
-    /// A policy in the place of the present one, over a hub with nobody connected.
+    /// Puts a policy in the place of the present one, over a hub with nobody connected.
     pub fn set_policy(&mut self, alloc: Global, policy: Policy) -> Result<(), NoMemory>
         ensures { OnOk result (self.new ≡ with_policy policy self.old) }
     {
@@ -167,7 +167,7 @@ impl Server {
         Ok(output)
     }
 
-    /// A policy comes into force, by one event at the present moment. Answers the event's entry, and nothing where the
+    /// A policy comes into force, by one event at the present moment. Returns the event's entry, and nothing where the
     /// history is full.
     #[tactic(auto, unfolding(crate::specs::Server::installed))]
     pub fn install(&mut self, policy: Ready) -> Result<Option<Answer>, NoMemory>

@@ -36,7 +36,7 @@ enum Escape {
     LowDigit(u8),
 }
 
-/// What a byte of a text comes to.
+/// The result of reading a byte of a text.
 #[derive(Clone, Copy, Debug)]
 enum ByteRead {
     Wrong,
@@ -44,7 +44,7 @@ enum ByteRead {
     Byte(u8),
 }
 
-/// What the next byte comes to when a part of an escape has been read.
+/// The result of reading the next byte, where a part of an escape has been read.
 fn read_byte(escape: Escape, byte: u8) -> ByteRead
     requires { IsHex escape }
     ensures text { (rest : List ℕ) → after_part escape (byte ∷ rest) ≡ after_read result rest }

@@ -119,7 +119,7 @@ impl Client {
         self.written < self.bytes.len()
     }
 
-    /// Writes what is kept, as far as the writer takes it, and answers whether that was all of it.
+    /// Writes what is kept, as far as the writer takes it, and returns whether that was all of it.
     #[tactic(auto, using(crate::proofs::Writing::left_over))]
     fn write_kept<S: NonBlockingSink>(&mut self, writer: &mut S) -> Result<bool, DeviceFailed>
         ensures conn { self.new.conn ≡ self.old.conn }

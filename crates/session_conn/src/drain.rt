@@ -37,7 +37,7 @@ fn write_front(out: &mut Vec<u8>, headers: bool, owed: &mut Owed) -> Result<(), 
 }
 
 /// Writes what was taken, and then closes the connection where a delivery was missed. Once all is written the answer
-/// is let go.
+/// is dropped.
 fn write_owed(out: &mut Vec<u8>, headers: bool, owed: &mut Owed) -> Written
     ensures { IsTold headers out.old.items owed.old.deliveries owed.old.missed result out.new.items owed.new.deliveries owed.new.missed }
 {
@@ -98,7 +98,7 @@ ghost use Rattle.std.specs.Vec.{vec_len, vec_capacity};
 ghost use Rattle.session_conn.specs.Drains.{stage_after, stall_after, IsTakeTold};
 ghost use Rattle.session_conn.specs.Turns.{port_of, outcome_of};
 
-/// What a Take's answer comes to. There is room for the text of a session that is gone.
+/// Carries out a Take's answer: writes what it gave. There is room for the text of a session that is gone.
 fn drained_by_answer(
     alloc: Global,
     answer: Result<Answer, HubRefusal>,
@@ -132,7 +132,7 @@ fn drained_by_answer(
     }
 }
 
-/// One Take, and the texts of what it gives. Room for the text of a session that is gone is made before.
+/// Makes one Take, and writes what it gives. Room for the text of a session that is gone is made before.
 fn drain_by_take<P: Port>(
     context: DrainContext,
     port: &mut P,

@@ -42,7 +42,7 @@ impl Served {
     }
 }
 
-/// The turn of the first frame alone.
+/// Gives the first frame its turn, alone.
 #[inline(always)]
 fn take_one<P: Port, W: Words>(
     context: TurnContext,
@@ -69,7 +69,7 @@ fn take_one<P: Port, W: Words>(
     }
 }
 
-/// The turns of the first frames: of those whose messages are gathered ahead, or of one.
+/// Gives the first frames their turns: those whose messages are gathered ahead, or one.
 fn take_turns<P: Port, W: Words>(
     context: TurnContext,
     port: &mut P,
@@ -102,7 +102,7 @@ fn take_turns<P: Port, W: Words>(
     take_one(context, port, words, frames, out)
 }
 
-/// The turn of the single frame that waits, if one does.
+/// Gives the single frame that waits its turn, if one does.
 #[inline(always)]
 fn serve_one<P: Port, W: Words>(
     context: TurnContext,
@@ -128,7 +128,7 @@ fn serve_one<P: Port, W: Words>(
     }
 }
 
-/// The turns of several frames. It is apart, so that the turn of a single one doesn't have to make place for it.
+/// Gives several frames their turns. It is apart, so that the turn of a single one doesn't need its locals.
 #[inline(never)]
 fn serve_all<P: Port, W: Words>(
     context: TurnContext,

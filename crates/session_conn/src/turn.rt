@@ -16,7 +16,7 @@ use session_plan::{
 };
 use wire_read::Frame;
 
-/// What a frame's turn comes to. What the client is told of it is written.
+/// The result of a frame's turn. What the client is told of it is written.
 #[derive(Clone, Copy, Debug)]
 pub enum FrameTurn {
     /// The next frame is looked at, and the connection is at this stage.
@@ -35,7 +35,7 @@ fn tell(out: &mut Vec<u8>, reply: Reply<'_>) -> FrameTurn
     FrameTurn::Goes(reply.stage)
 }
 
-/// What a frame's turn comes to, once the hub has answered. There is room for any text about the frame.
+/// Finishes a frame's turn by the hub's answer: writes what the client is told. There is room for any text about the frame.
 #[inline(always)]
 pub fn turn_of_answer(
     stage: Stage,
@@ -103,7 +103,7 @@ fn is_quiet(stage: Stage, answer: &Result<Answer, HubRefusal>) -> bool
     !is_verbose(stage) && is_published(answer)
 }
 
-/// The turn of a frame that publishes this message. There is room for any text about the frame. Where the message is held
+/// Publishes a frame's message. There is room for any text about the frame. Where the message is held
 /// back the frame stays with its word, so that the same members of queue groups are asked for when it is offered again.
 #[inline(always)]
 fn publish<P: Port, W: Words>(
@@ -136,7 +136,7 @@ fn publish<P: Port, W: Words>(
     turn_of_answer(stage, stage, frame, Some(drawn), &answer, out)
 }
 
-/// A frame's turn, as its plan says. Room for what is told is made before the hub is asked, so that what it answers is told.
+/// Gives a frame its turn, as its plan says. Room for what is told is made before the hub is asked, so that its answer is told.
 /// What is told without asking the hub waits for what the port has for the client.
 #[inline(always)]
 pub fn take_turn<P: Port, W: Words>(

@@ -44,8 +44,8 @@ fn write_without_head(out: &mut Vec<u8>, delivery: &Delivery) -> Result<(), NoMe
     write_msg(out, subject.bytes(), sid, reply_subject, payload)
 }
 
-/// The text of a delivery with its header block. It is apart from the others, which are most, so that these don't have
-/// to make place for it.
+/// The text of a delivery with its header block. It is apart from the others, which are most, so that these don't
+/// need its locals.
 #[inline(never)]
 fn write_with_head(out: &mut Vec<u8>, delivery: &Delivery) -> Result<(), NoMemory>
     ensures ok { OnOk result (out.new.items ≡ out.old.items ++ whole_text delivery.now) }

@@ -1,4 +1,4 @@
-// What a frame comes to before the hub is asked.
+// The plan of a frame: what is done about it, before the hub is asked.
 ghost use Rattle.std.specs.Prelude.{◌≡◌, ℕ, None, IfOk, IfSome};
 ghost use Rattle.connect_opts.specs.Opts.{opts_of};
 ghost use Rattle.session_plan.specs.declared.stage.Stage.{Stage};
@@ -19,10 +19,10 @@ use wire_message::MessageText;
 use wire_read::Frame;
 use wire_write::ServerError;
 
-/// What a frame comes to before the hub is asked.
+/// The plan of a frame: what is done about it, before the hub is asked.
 #[derive(Drop)]
 pub enum Plan {
-    /// It is answered as it is.
+    /// Its client is told this, and the hub is not asked.
     Tells(Reply<'static>),
     /// The hub is asked. Where a CONNECT is accepted the connection is then at this stage.
     Asks(Command, Stage),
@@ -128,7 +128,7 @@ fn message_of_text(text: &MessageText) -> Result<Option<Message>, NoMemory>
 }
 
 /// The message of an HPUB, if its client declared headers and its subjects are subjects. It is apart, so that a PUB doesn't
-/// have to make place for it.
+/// need its locals.
 #[inline(never)]
 fn message_if(headers: bool, text: &MessageText) -> Result<Option<Message>, NoMemory>
     ensures { IfOk result (λ message. message ≡ message_if headers text.now) }
@@ -264,7 +264,7 @@ pub fn message_of(stage: Stage, frame: &Frame) -> Result<Option<Message>, NoMemo
     }
 }
 
-/// The plan of a frame that publishes no message. It is apart, so that a message doesn't have to make place for it.
+/// The plan of a frame that publishes no message. It is apart, so that a message doesn't need its locals.
 #[inline(never)]
 fn plan_of_other(alloc: Global, conn: u64, stage: Stage, frame: &Frame) -> Result<Plan, NoMemory>
     ensures { IfOk result (λ plan. published_by stage frame.now ≡ None → plan ≡ plan_of conn stage frame.now) }
@@ -285,7 +285,7 @@ fn plan_of_other(alloc: Global, conn: u64, stage: Stage, frame: &Frame) -> Resul
     }
 }
 
-/// Returns what a frame comes to before the hub is asked: its message first, if it publishes one, since most frames do.
+/// Returns the plan of a frame: its message, looked for first since most frames have one, or what else is done about it.
 /// After a closing text nothing is looked at. `NoMemory` comes where its texts can't be kept.
 #[inline(always)]
 pub fn plan_of(alloc: Global, conn: u64, stage: Stage, frame: &Frame) -> Result<Plan, NoMemory>

@@ -90,7 +90,7 @@ fn fault_line(alloc: Global, fault: &ReloadFault) -> Result<Items<u8>, NoMemory>
 
 /// Checks a policy: reads the source to its end, or until the text is too large for a policy, and writes a line,
 /// `ok` with how many accounts, users, exports and imports it has, or its first fault (docs/POLICY.md, "Faults").
-/// Answers the status, 0 or 1.
+/// Returns the status, 0 or 1.
 ///
 /// `ReadFailed` and `WriteFailed` come where the device failed in this call, `NoMemory` where memory could not be
 /// had. What was written then is a front of the line.

@@ -18,7 +18,7 @@ const MOST_BYTES: usize = 16_777_216;
 const MOST_READS: usize = 1_000_000;
 
 /// Plays a script: reads the source to its end, and writes what the script prints to the sink, line by line
-/// (docs/SCRIPT.md). Answers the status, 0 or 1. What clients choose is hashed under the keys.
+/// (docs/SCRIPT.md). Returns the status, 0 or 1. What clients choose is hashed under the keys.
 ///
 /// `ReadFailed` and `WriteFailed` come where the device failed in this call, which the clauses tell of a device
 /// that had not failed before; `ScriptTooLong` where the script has more than 16,777,216 bytes, or 1,000,000 reads

@@ -62,7 +62,7 @@ pub enum Ran {
     Serve(ServeOptions),
 }
 
-/// Writes a text to the error sink, as far as that can be, and answers the status.
+/// Writes a text to the error sink, as far as that can be, and returns the status.
 fn tell<E: Sink>(errors: &mut E, text: &[u8], status: u8) -> u8
     ensures { IsMistake status text.now (writes (E.contents errors.old) (E.contents errors.new) (E.failed errors.old) (E.failed errors.new)) result }
 {
@@ -84,7 +84,7 @@ fn fault_line(fault: TaskFault) -> &'static [u8]
     }
 }
 
-/// Writes the line of a fault to the error sink, as far as that can be, and answers the status.
+/// Writes the line of a fault to the error sink, as far as that can be, and returns the status.
 fn tell_fault<E: Sink>(errors: &mut E, fault: TaskFault) -> u8
     ensures { IsMistake 1 (fault_text fault ++ codes "\n") (writes (E.contents errors.old) (E.contents errors.new) (E.failed errors.old) (E.failed errors.new)) result }
 {
@@ -106,7 +106,7 @@ fn show<W: Sink>(text: &str, sink: &mut W) -> Result<u8, TaskFault>
 }
 
 /// Does a task: plays the script that the source holds, as `play` does, or checks the policy, as `check` does, or
-/// writes the text that was asked for. Answers the status, 0 or 1.
+/// writes the text that was asked for. Returns the status, 0 or 1.
 ///
 /// The faults are those of `play` and `check`; `ScriptTooLong` is of scripts alone. What was written then is a front
 /// of what the task writes.
@@ -183,7 +183,7 @@ fn run_words<S: AsStr, R: Source, W: Sink, E: Sink>(
     }
 }
 
-/// The program: does what the words of its command line ask for, and answers its status; or hands out the options of
+/// The program: does what the words of its command line ask for, and returns its status; or hands out the options of
 /// `serve`, before anything is read or written.
 ///
 /// The status is the task's, 0 or 1, with nothing on the error sink. A fault of the task has status 1, and so has want
