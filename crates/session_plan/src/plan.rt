@@ -142,7 +142,7 @@ fn message_if(headers: bool, text: &MessageText) -> Result<Option<Message>, NoMe
 
 /// Why a client's HPUB publishes nothing: it has not declared headers, or the subjects are none.
 fn headed_fault(headers: bool) -> ServerError<'static>
-    ensures { result.entry ≡ headed_fault headers }
+    ensures { result ≡ headed_fault headers }
 {
     if headers {
         ServerError::InvalidSubject

@@ -7,11 +7,11 @@ use Rattle.session_conn.proofs.turn.take_turn.Goals as goal
 
 pub tell-requires : goal.tell-requires
 tell-requires g c =
-    let short = subst IsShort (sym c.in-Ok-plan_of.ensures.plan ∙ c.in-Tells.is) (plan_short c.args.context.conn c.args.context.stage c.args.frame.now) in
+    let short = subst IsShort (sym c.in-Ok.ensures.plan ∙ c.in-Tells.is) (plan_short c.args.context.conn c.args.context.stage c.args.frame.now) in
     let enough : 64 ≤ room_of c.args.frame.now = room_enough c.args.frame.now in
     search rules
 
 pub returns-in-Publishes-clause-turn : goal.returns-in-Publishes-clause-turn
 returns-in-Publishes-clause-turn g c =
-    subst (λ (before : List ℕ). IsFrameTurned (λ turned. IsFrameTurn (port_of g.P.Port.steps g.P.Port.posts g.P.Port.holds) g.W.Words.draws c.args.context.moment c.args.context.conn c.args.context.stage c.args.context.word c.args.frame.now c.args.port.now c.args.words.now turned c.publish-in-Publishes.new.port c.publish-in-Publishes.new.words) c.publish-in-Publishes.result before c.publish-in-Publishes.new.out.items)
-    c.make_room.ensures.same c.publish-in-Publishes.ensures.turn
+    subst (λ (before : List ℕ). IsFrameTurned (λ turned. IsFrameTurn (port_of g.P.Port.steps g.P.Port.posts g.P.Port.holds) g.W.Words.draws c.args.context.moment c.args.context.conn c.args.context.stage c.args.context.word c.args.frame.now c.args.port.now c.args.words.now turned c.publish.new.port c.publish.new.words) c.publish.result before c.publish.new.out.items)
+    c.make_room.ensures.same c.publish.ensures.turn
