@@ -1,7 +1,5 @@
 //! Whether two documents are equal, part by part.
-use crate::{
-    AccountDoc, Direction, NamedAccount, PermDoc, PermEntry, PolicyDoc, Terms, UserDoc,
-};
+use crate::{AccountDoc, Direction, NamedAccount, PermDoc, PermEntry, PolicyDoc, Terms, UserDoc};
 use base::{Alike, are_alike};
 
 impl Alike for PolicyDoc {
