@@ -7,7 +7,7 @@ use Rattle.events.proofs.port.Port.publish.Given as goal
 abbrev pub invariant-loop-message : goal.invariant-loop-message
 invariant-loop-message g l = record {
   place : g.Self.Port.place l.self ≡ g.Self.Port.place l.initial.self;
-  posted : Continues g.Self.Port.steps g.Self.Port.holds g.W.Words.draws l.conn l.now l.initial.messages.items l.initial.self l.initial.words l.messages.items l.self l.words;
+  posted : Continues g.Self.Port.posts g.Self.Port.holds g.W.Words.draws l.conn l.now l.initial.messages.items l.initial.self l.initial.words l.messages.items l.self l.words;
 }
 
 abbrev pub decreases-loop-message : goal.decreases-loop-message
