@@ -9,5 +9,5 @@ use Rattle.world_deliveries.proofs.plan.has_room_after.Goals as goal
 pub returns-in-Some : goal.returns-in-Some
 returns-in-Some c more = (
   none_from c.args.next.now.noted (sym c.is_some.ensures ∙ c.if-is_some.false),
-  roomy_here c.args.before c.args.next.now.conn c.room.result c.in-Some.place c.args.by.list.now c.index-list-place.result (sym c.in-Some.ensures) c.index-list-place.is (c.room.ensures ∙ sym (ap (λ (z : Session). room_in (Some z)) c.index-list-place.is)) more,
+  roomy_here c.args.before c.args.next.now.conn c.room.result c.in-Some.place c.args.by.list.now c.index-by-place.result (sym c.in-Some.ensures) c.index-by-place.is (c.room.ensures ∙ sym (ap (λ (z : Session). room_in (Some z)) c.index-by-place.is)) more,
 )

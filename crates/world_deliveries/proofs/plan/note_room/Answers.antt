@@ -1,4 +1,4 @@
-use Rattle.std.proofs.Common.{◌≡◌, ◌∙◌, sym, ap, Some}
+use Rattle.std.proofs.Common.{◌≡◌, ◌∙◌, sym, ap}
 use Rattle.world_deliveries.specs.Sessions.{session_of}
 use Rattle.world_deliveries.specs.Delivered.{room_in}
 use Rattle.world_deliveries.specs.Planned.{room_at, with_room}
@@ -13,10 +13,10 @@ returns-in-None-clause-room c =
 
 pub returns-in-Some-clause-room : goal.returns-in-Some-clause-room
 returns-in-Some-clause-room c other =
-    let z = c.index-list-place.result in
+    let z = c.index-by-place.result in
     let at = IsPlace-from c.args.conn c.args.by.list.now c.in-Some.place (sym c.in-Some.ensures) in
     let is : c.room-room.result ≡ room_in (session_of c.args.by.list.now c.args.conn) =
-    c.room-room.ensures ∙ sym (ap room_in (at.here z ∙ ap Some (sym c.index-list-place.is))) in
+    c.room-room.ensures ∙ sym (ap room_in (at.here z)) in
     room_written c.args.conn c.room-room.result c.args.by.list.now c.args.rooms.now c.in-Some.place c.requires.within (sym c.in-Some.ensures) other
     ∙ ap (λ n. with_room c.args.conn n (room_at c.args.by.list.now c.args.rooms.now) other) is
 
@@ -25,6 +25,6 @@ returns-in-None-clause-session c = sym (room_nowhere c.args.conn c.args.by.list.
 
 pub returns-in-Some-clause-session : goal.returns-in-Some-clause-session
 returns-in-Some-clause-session c =
-    let z = c.index-list-place.result in
+    let z = c.index-by-place.result in
     let at = IsPlace-from c.args.conn c.args.by.list.now c.in-Some.place (sym c.in-Some.ensures) in
-    ap Some c.index-list-place.is ∙ sym (at.here z)
+    sym (at.here z)

@@ -25,13 +25,13 @@ returns-in-Ok-insert-clause-ok c =
     rw is at step
 
 pub invariant_of-self : goal.invariant_of-self
-invariant_of-self c = record { told = c.forget.ensures (c.get_mut.follows.lender c.add.new.tree).entries }
+invariant_of-self c = record { told = c.clear.ensures (c.get_mut.follows.lender c.add.new.tree).entries }
 
 pub invariant_of-self-in-Break-1 : goal.invariant_of-self-in-Break-1
-invariant_of-self-in-Break-1 c = record { told = c.forget.ensures c.get_mut.follows.lender-at-none.entries }
+invariant_of-self-in-Break-1 c = record { told = c.clear.ensures c.get_mut.follows.lender-at-none.entries }
 
 pub invariant_of-self-in-Break-branch-2 : goal.invariant_of-self-in-Break-branch-2
-invariant_of-self-in-Break-branch-2 c = record { told = c.forget.ensures c.get_mut.follows.lender-at-none.entries }
+invariant_of-self-in-Break-branch-2 c = record { told = c.clear.ensures c.get_mut.follows.lender-at-none.entries }
 
 pub invariant_of-self-in-None : goal.invariant_of-self-in-None
-invariant_of-self-in-None c = record { told = c.forget.ensures c.insert.new.self.entries }
+invariant_of-self-in-None c = record { told = c.clear.ensures c.insert.new.self.entries }

@@ -8,7 +8,7 @@ returns-in-Some c =
     one_less c.args.account.now _ _ c.take_out.new.tree update.1 update.3 c.in-Some.tree.now c.args.pattern.now c.args.id c.in-Some.ensures.value c.take_out.ensures
 
 pub invariant_of-self : goal.invariant_of-self
-invariant_of-self c = record { told = c.forget.ensures c.get_mut.follows.lender-at-none.entries }
+invariant_of-self c = record { told = c.clear.ensures c.get_mut.follows.lender-at-none.entries }
 
 pub invariant_of-self-in-Some : goal.invariant_of-self-in-Some
-invariant_of-self-in-Some c = record { told = c.forget.ensures (c.get_mut.follows.lender c.take_out.new.tree).entries }
+invariant_of-self-in-Some c = record { told = c.clear.ensures (c.get_mut.follows.lender c.take_out.new.tree).entries }
