@@ -1,8 +1,7 @@
 use crate::next_policy::{NextPolicy, next_policy};
 use events::{Answer, Command, Event, HubRefusal};
 use policy_ready::Ready;
-use policy_source::{Next, Policies};
-use reload::prepare;
+use policy_source::Policies;
 use reload_lines::write_reload;
 use server_fault::ServeFault;
 use server_gates::{Gate, Point};

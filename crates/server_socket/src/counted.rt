@@ -8,12 +8,12 @@ pub(crate) struct Counted<R> {
 }
 
 impl<R> Counted<R> {
-    /// A source of which nothing was read.
+    /// Returns a source of which nothing was read.
     pub fn new(reader: R) -> Counted<R> {
         Counted { reader, count: 0 }
     }
 
-    /// How many bytes were read of it.
+    /// Returns how many bytes were read of it.
     pub fn count(&self) -> usize {
         self.count
     }

@@ -91,8 +91,8 @@ impl Connection {
         turn
     }
 
-    /// Notes, behind a Take, whether its socket has taken all, and for how many milliseconds it took nothing of which no event
-    /// has told the hub.
+    /// Notes whether its socket has taken all that a Take gave, and `untold`: for how many milliseconds it took nothing of which
+    /// no event has told the hub.
     pub fn note_drained(&mut self, untold: u64, now: u64) {
         self.blocked.millis = untold;
         self.note_written(now);
