@@ -7,7 +7,7 @@ use Rattle.std.specs.Ordering.{nat_cmp, ordering_index}
 use Rattle.std.specs.declared.cmp.Ordering.TheVariants.{Less, Equal, Greater}
 use Rattle.std.proofs.lemmas.Bool.{cases_Bool}
 use Rattle.std.proofs.lemmas.Bool.Decides.{nat_tests}
-use Rattle.std.proofs.lemmas.List.{get_or_default, take_more, take_more_set, drop_more, drop-set-lt, length-append}
+use Rattle.std.proofs.lemmas.List.{append-nil, get_or_default, take_all, take_more, take_more_set, drop_more, drop-set-lt, length-append}
 use Rattle.subjects.specs.Subject.{Token}
 use Rattle.std.specs.Prelude.{codes}
 use Rattle.std.specs.Fmt.{decimal}
@@ -167,6 +167,21 @@ route_at s (slot ∷ slots) (suc at) d place =
         → route_on s (entry_of slot.number o ++ standing_in slots) ≡ (slice_index_or slots at d).route
     by None other later = later
     by (Some r) other later = rw other later
+
+-- ---- slots that were lent
+
+-- slots that are written back are all that there are
+pub written_back : (len : ℕ) (new items : List Slot) → length new ≡ length items → len ≡ length items → take len (new ++ drop (length new) items) ≡ new
+written_back len new items same is =
+    ap (λ more. take len (new ++ more)) (none (length new) items (omega (arith, same)))
+    ∙ ap (take len) (append-nil new)
+    ∙ take_all len new (omega (arith, same, is))
+  where
+    none : (n : ℕ) (xs : List Slot) → length xs ≤ n → drop n xs ≡ []
+    none zero [] le = refl
+    none (suc n) [] le = refl
+    none zero (x ∷ xs) le = absurd (omega (arith, le))
+    none (suc n) (x ∷ xs) le = none n xs (omega (arith, le))
 
 -- ---- a slot in the place of another
 

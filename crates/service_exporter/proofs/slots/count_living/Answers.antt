@@ -1,5 +1,5 @@
 -- one more slot, in which a route may live
-use Rattle.std.proofs.Common.{◌∙◌, ◌+◌, ◌≤◌, List, ap, sym, arith, cond, length, take}
+use Rattle.std.proofs.Common.{◌∙◌, ◌+◌, ◌≤◌, List, ℕ, ap, sym, arith, cond, length, take}
 use Rattle.std.proofs.lemmas.List.{take_all}
 use Rattle.service_exporter.specs.Routes.{living}
 use Rattle.service_exporter.specs.Slots.{standing_in}
@@ -26,7 +26,7 @@ loop-slot-preserved c =
                 let before : w.min-until.result ≤ c.loop-slot.until = omega (arith, until) in
                 let lives = lives_until w.end.result w.min-until.result c.args.now c.slot-item.result.route w.end.ensures (omega (arith, until)) (sym c.is_living.ensures ∙ w.if-is_living.true) in
                 let later = living_more w.min-until.result c.args.slots.now c.loop-slot.slot-index c.slot-item.result c.loop-slot-test.true c.slot-item.is in
-                let one = ap (λ b. cond b 1 0) lives in
+                let one = ap {B = ℕ} (λ b. cond b 1 0) lives in
                 let most = fewer_later w.min-until.result c.loop-slot.until (standing_in (take c.loop-slot.slot-index c.args.slots.now)) before in
                 let same = ap (λ u. length (living u (standing_in (take (c.loop-slot.slot-index + 1) c.args.slots.now)))) w.until-is in
                 omega (arith, w.count-is, same, later, one, most, c.loop-slot.invariant.least);

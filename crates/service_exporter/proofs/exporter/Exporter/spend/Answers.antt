@@ -1,9 +1,9 @@
 -- numbers have 64 bits, and a route that ended is counted off
-use Rattle.std.proofs.Common.{◌≡◌, ◌+◌, ◌++◌, List, rules, length, take, drop, sym, subst, arith}
+use Rattle.std.proofs.Common.{◌+◌, List, rules, sym, subst, arith}
 use Rattle.service_exporter.specs.Slots.{standing_in, AreBelow}
 use Rattle.service_exporter.specs.Tally.{IsTallied}
 use Rattle.service_exporter.specs.declared.slots.Slot.{Slot}
-use Rattle.service_exporter.proofs.Places.{below_more}
+use Rattle.service_exporter.proofs.Places.{below_more, written_back}
 use Rattle.service_exporter.proofs.exporter.Exporter.spend.Goals as goal
 
 pub spend-requires-clause-small : goal.spend-requires-clause-small
@@ -15,7 +15,7 @@ pub invariant_of-self-in-Some : goal.invariant_of-self-in-Some
 invariant_of-self-in-Some c =
     let items = c.self.inside.slots.items in
     let new = c.spend.new.slots in
-    let written : take c.self.inside.slots.len (new ++ drop (length new) items) ≡ new = search rules in
+    let written = written_back c.self.inside.slots.len new items (search rules) (search rules) in
     let tallied : IsTallied c.self.inside.tally (standing_in c.as_mut_slice.result.now) =
     subst (λ (l : List Slot). IsTallied c.self.inside.tally (standing_in l)) (sym c.as_mut_slice.ensures.value) c.self.invariant.3
     in (

@@ -1,5 +1,5 @@
 -- what was dead at the moment is missed neither from it on nor, where it lived longer, before
-use Rattle.std.proofs.Common.{◌≤◌, sym, subst, arith}
+use Rattle.std.proofs.Common.{sym, subst, arith}
 use Rattle.service_exporter.specs.declared.tally.Tally.{Tally}
 use Rattle.service_exporter.proofs.Tallies.{IsLater, later_now, later_same, goes_on, goes_on_most}
 use Rattle.service_exporter.proofs.tally.Tally.let_go.Goals as goal
