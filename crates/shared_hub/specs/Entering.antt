@@ -35,12 +35,12 @@ abbrev pub came : Result Entry (Event × HubRefusal) → Came
 came (Ok entry) = Ok entry
 came (Err (back, refusal)) = Err (back, By refusal)
 
--- An answer or a refusal is what `Desk::publish` tells of the event, by the hub, the waits and the patience of some moment: so no
+-- An answer or a refusal is what `Desk::step_if` tells of the event, by the hub, the waits and the patience of some moment: so no
 -- message enters past them.
 abbrev pub IsFromPublish : ℕ → Event → Result Entry (Event × HubRefusal) → Type 0
 IsFromPublish opening e r = (x : Inside ℕ) × ((y : Inside ℕ) × IsPublished (λ count. count) opening x e (came r) y)
 
--- A message's event that a seat has offered and that was not held back: it was submitted, and `Desk::publish` has told what came of it.
+-- A message's event that a seat has offered and that was not held back: it was submitted, and `Desk::step_if` has told what came of it.
 abbrev pub IsPostedBy : ℕ → ℕ → Event → Result Entry (Event × HubRefusal) → ℕ → Type 0
 IsPostedBy opening before e r after = IsAnswered opening before e r after × IsFromPublish opening e r
 

@@ -84,7 +84,7 @@ impl<L: Run> SharedHub<L> {
     }
 
     /// Enters an event while the lock is held. With a receipt the seat has one more; a refusal hands the event back.
-    /// `Desk::enter` says what becomes of tables and history.
+    /// `Desk::step_with_receipt` says what becomes of tables and history.
     pub fn submit<R: Wait>(
         &self,
         rt: &R,
