@@ -11,7 +11,7 @@ use subjects::Pattern;
 
 /// What the entries of a list decide: a subscribe entry may have a queue part.
 #[derive(Clone, Copy, Debug)]
-pub(crate) enum Side {
+pub enum Side {
     /// A publish.
     Publish,
     /// A subscription and its deliveries.

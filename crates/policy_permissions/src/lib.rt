@@ -6,3 +6,4 @@ mod entry;
 mod responses;
 
 pub use direction::permissions_under;
+pub use entry::Side;
