@@ -1,5 +1,5 @@
 -- A text that is told without the hub is short, and there is room for it.
-use Rattle.std.proofs.Common.{rules, arith, ℕ, ◌≤◌, length, [], Bool, true, false, List, Option, Some, None, Ok, Err}
+use Rattle.std.proofs.Common.{rules, arith, ℕ, ◌≤◌, length, Bool, true, false, List, Option, Some, None, Ok, Err}
 use Rattle.subjects.specs.Subject.{Token}
 use Rattle.wire_read.specs.declared.fault.WireFault.{WireFault}
 use Rattle.wire_read.specs.declared.fault.WireFault.TheVariants as fault
