@@ -18,7 +18,8 @@ use Rattle.policy_walk.specs.Fault.{Read, ◌>>=◌}
 use Rattle.policy_walk.specs.Path.{Path, at_key}
 use Rattle.policy_walk.specs.Object.{Row, judged, members_at, required_at}
 use Rattle.policy_walk.specs.Texts.{items_at, required_text_at}
-pub use Rattle.policy_permissions.specs.Permissions.{allow_at, allow_responses_at, direction_at, direction_rows, duration_at, duration_from, each, entries_at, entries_under, entry_at, entry_from, expires_under, is_bound, lists_at, max_at, max_from, max_under, one_answer, or_empty, parts_from, pattern_from, permission_rows, permissions_at, permissions_under, queue_from, responses_at, responses_from, responses_under, spelled_at, spelled_from, terms_at, terms_rows}
+pub use Rattle.policy_permissions.specs.Permissions.{direction_at, direction_rows, duration_from, each, entries_under, entry_from, expires_under, is_bound, max_at, max_from, max_under, one_answer, or_empty, parts_from, pattern_from, permission_rows, permissions_under, queue_from, responses_at, responses_from, responses_under, spelled_at, spelled_from, terms_rows}
+unfoldable pub use Rattle.policy_permissions.specs.Permissions.{allow_at, allow_responses_at, duration_at, entries_at, entry_at, lists_at, permissions_at, terms_at}
 
 -- ---- the tables: a key of each object, and whether it must be there
 
