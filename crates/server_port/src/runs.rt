@@ -15,6 +15,9 @@ use std::sync::Wait;
 /// has the block of one of them, which malloc has at hand.
 const MOST_MESSAGES: usize = 7;
 
+/// The same where the lock was found taken: whoever waits for it enters more at once.
+const MOST_WAITING: usize = 64;
+
 /// How many messages and deliveries enter in one hold, but for the last message of it.
 const MOST_WORK: usize = 256;
 
@@ -48,7 +51,7 @@ impl<L: Run, R: Wait, G: Gate + Drop> ServerPort<'_, L, R, G> {
     pub(crate) fn hold(&self, messages: usize) -> Hold
         ensures { result.answers.items ≡ [] }
     {
-        Hold::new(self.alloc, messages.min(MOST_MESSAGES), MOST_WORK)
+        Hold::new(self.alloc, messages.min(MOST_WAITING))
     }
 
     /// Offers the first of some messages, and those behind it as far as they may enter in the same hold of the lock. Once the
@@ -70,7 +73,8 @@ impl<L: Run, R: Wait, G: Gate + Drop> ServerPort<'_, L, R, G> {
             return self.hold_back(messages, words);
         }
         self.course.has_passed = false;
-        self.pass_read(messages.len().min(MOST_MESSAGES));
+        self.pass_read(messages.len().min(MOST_WAITING));
+        hold.most = MOST_MESSAGES;
         hold.room = self.course.share.min(MOST_WORK);
         let end = self.enter_run(posts, messages, words, hold);
         self.follow_all(hold);

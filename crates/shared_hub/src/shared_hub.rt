@@ -10,8 +10,19 @@ use hub::{Answer, Event, Hub, HubRefusal, Message, PublishRefusal, Segment};
 use shared_runs::{Hold, Posts};
 use std::alloc::Global;
 use std::collections::VecDeque;
+use std::hint::spin_loop;
 use std::sync::ledger::{Blank, Share};
-use std::sync::{Mutex, Wait};
+use std::sync::{Mutex, MutexGuard, Wait};
+
+/// How often a thread looks at a taken lock before it sleeps.
+const LOOKS: usize = 16;
+
+/// Pauses for so many of the processor's shortest pauses.
+fn pause(times: usize) {
+    for _ in 0..times {
+        spin_loop();
+    }
+}
 
 /// A hub that threads share. Each event is entered while its one lock is held; all else is done outside.
 pub struct SharedHub<L: Run> {
@@ -179,7 +190,8 @@ impl<L: Run> SharedHub<L> {
         self.desk.lock(rt).step_if(seat, event, told)
     }
 
-    /// Publishes messages of one connection in one hold of the lock, as `Desk::step_run` does.
+    /// Publishes messages of one connection in one hold of the lock, as `Desk::step_run` does. Where the lock is found taken,
+    /// the hold is lengthened: so many more messages enter for one wait.
     #[inline(always)]
     pub fn publish_run_as<R: Wait, W: Words>(
         &self,
@@ -195,9 +207,28 @@ impl<L: Run> SharedHub<L> {
         ensures freed { told.new.freed.items ≡ told.old.freed.items }
         ensures rest { told.new.rest ≡ told.old.rest }
     {
-        self.desk
-            .lock(rt)
-            .step_run(seat, posts, messages, words, hold, told)
+        let mut desk = match self.desk.try_lock() {
+            Some(desk) => desk,
+            None => {
+                hold.lengthen();
+                self.wait_for(rt)
+            }
+        };
+        let end = desk.step_run(seat, posts, messages, words, hold, told);
+        end
+    }
+
+    /// Takes the lock, which somebody has. The thread looks again behind growing pauses before it sleeps: a hold is shorter
+    /// than a thread takes to be woken.
+    #[inline(never)]
+    fn wait_for<R: Wait>(&self, rt: &R) -> MutexGuard<'_, Desk<L>> {
+        for look in 0..LOOKS {
+            pause(1 << look.min(6));
+            if let Some(desk) = self.desk.try_lock() {
+                return desk;
+            }
+        }
+        self.desk.lock(rt)
     }
 
     /// How many deliveries wait for a connection, 0 without a session.

@@ -11,22 +11,35 @@ pub struct Hold {
     pub answers: Vec<Answer>,
     /// How many messages and deliveries may still enter.
     pub room: usize,
+    /// How many messages may enter, of those for whose answers there is memory. One may enter in any case.
+    pub most: usize,
 }
 
 impl Hold {
     ghost use Rattle.std.specs.Prelude.{◌≡◌, ◌++◌, ◌∷◌, [], Option, None, Some, ℕ};
     ghost use Rattle.shared_runs.specs.Runs.{IsKept};
 
-    /// A hold in which at most so many messages, and so many messages and deliveries, may enter. Without memory one message
-    /// may enter.
-    pub fn new(alloc: Global, messages: usize, room: usize) -> Hold
+    /// Returns a hold with memory for the answers of so many messages, in which one message may enter. Without memory it has
+    /// none.
+    pub fn new(alloc: Global, messages: usize) -> Hold
         ensures { result.answers.items ≡ [] }
     {
         let answers = match Vec::with_capacity(alloc, messages.saturating_sub(1)) {
             Ok(answers) => answers,
             Err(_) => Vec::new(alloc),
         };
-        Hold { answers, room }
+        Hold {
+            answers,
+            room: 0,
+            most: 1,
+        }
+    }
+
+    /// Lets as many messages enter as there is memory for.
+    pub fn lengthen(&mut self)
+        ensures { self.new.answers ≡ self.old.answers }
+    {
+        self.most = usize::MAX;
     }
 
     /// Keeps the answer of a message that was published, if another may enter behind it; else hands it back.
@@ -38,7 +51,8 @@ impl Hold {
             None => Some(answer),
             Some(items) => {
                 self.room = self.room.saturating_sub(items).saturating_sub(1);
-                if self.room == 0 || self.answers.len() >= self.answers.capacity() {
+                let full = self.answers.len() >= self.answers.capacity();
+                if self.room == 0 || full || self.answers.len() + 1 >= self.most {
                     return Some(answer);
                 }
                 self.answers.push_reserved(answer);
