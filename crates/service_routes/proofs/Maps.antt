@@ -463,12 +463,13 @@ copied-more copies all new place name w v at is more same =
     ∙ ap (λ (xs : List (Name × Exporter)). xs ++ (name, v.exporter) ∷ []) same
     ∙ ap (λ (x : Exporter). take place (exporters_in all) ++ (name, x) ∷ []) is
     ∙ next all place at
+    ∙ ap (λ n. take n (exporters_in all)) (let e : suc place ≡ place + 1 = omega arith in e)
   where
     appended : (es : List (Name × WithRoom)) → exporters_in (es ++ (name, v) ∷ []) ≡ exporters_in es ++ (name, v.exporter) ∷ []
     appended [] = refl
     appended (e ∷ es) = ap (λ rest. (e.0, e.1.exporter) ∷ rest) (appended es)
 
-    next : (es : List (Name × WithRoom)) (i : ℕ) → slice_get es i ≡ Some (name, w) → take i (exporters_in es) ++ (name, w.exporter) ∷ [] ≡ take (i + 1) (exporters_in es)
+    next : (es : List (Name × WithRoom)) (i : ℕ) → slice_get es i ≡ Some (name, w) → take i (exporters_in es) ++ (name, w.exporter) ∷ [] ≡ take (suc i) (exporters_in es)
     next [] i h = absurd (cc)
     next (e ∷ es) zero h = let it : e ≡ (name, w) = cc in ap (λ (x : Name × WithRoom). (x.0, x.1.exporter) ∷ []) (sym it)
     next (e ∷ es) (suc i) h = ap (λ rest. (e.0, e.1.exporter) ∷ rest) (next es i h)

@@ -197,7 +197,8 @@ fn copy_at(
         None => Ok(()),
         Some((name, part)) => {
             let copy = part.copy(alloc)?;
-            match copies.insert(name.clone()?, copy) {
+            let own_name = name.clone()?;
+            match copies.insert(own_name, copy) {
                 Ok(_) => Ok(()),
                 Err(_) => Err(NoMemory),
             }
