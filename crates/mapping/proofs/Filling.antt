@@ -2,7 +2,6 @@
 use Rattle.std.proofs.Common.{◌≡◌, ◌<◌, ◌+◌, ◌∙◌, ℕ, Bool, true, false, not, ◌&&◌, ◌||◌, if◌then◌else◌, List, [], ◌∷◌, length, drop, arith, refl, sym, ap}
 use Rattle.std.specs.List.{list_all}
 use Rattle.std.proofs.lemmas.Bool.{and_parts}
-use Rattle.std.proofs.lemmas.List.Sums.{sum_by-cons}
 use Rattle.subjects.specs.Subject.{Token, is_star, is_tail, is_token, is_literal, same_token, in_set, tail_is_last}
 use Rattle.subjects.proofs.Same.{same_token-itself, equal_from_same}
 use Rattle.subjects.proofs.Samples.{tail_takes}

@@ -1,5 +1,5 @@
 -- What is wrong with a template (docs/GUARANTEE.md, "Mappings").
-use Rattle.std.specs.Prelude.{◌≡◌, ℕ, Bool, true, false, not, ◌||◌, List, length, Option, Some, None, if◌then◌else◌, nat_lt, codes}
+use Rattle.std.specs.Prelude.{ℕ, Bool, true, false, not, ◌||◌, List, length, Option, Some, None, if◌then◌else◌, nat_lt, codes}
 use Rattle.subjects.specs.Subject.{Token, tokens_of}
 use Rattle.subjects.specs.Fault.{pattern_fault}
 use Rattle.subjects.specs.declared.error.SubjectError.TheVariants.{TooManyTokens}

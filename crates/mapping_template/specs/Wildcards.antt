@@ -1,5 +1,5 @@
 -- The wildcards of patterns, and of references to them.
-use Rattle.std.specs.Prelude.{◌≡◌, ◌==◌, ℕ, Bool, false, ◌&&◌, ◌||◌, List, [], ◌∷◌, nat_le}
+use Rattle.std.specs.Prelude.{◌==◌, ℕ, Bool, false, ◌&&◌, ◌||◌, List, [], ◌∷◌, nat_le}
 use Rattle.std.specs.List.{list_all, list_any, count_by, range_with_len}
 use Rattle.subjects.specs.Subject.{Token, is_star, is_tail}
 
