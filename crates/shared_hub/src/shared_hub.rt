@@ -207,15 +207,21 @@ impl<L: Run> SharedHub<L> {
         ensures freed { told.new.freed.items ≡ told.old.freed.items }
         ensures rest { told.new.rest ≡ told.old.rest }
     {
-        let mut desk = match self.desk.try_lock() {
-            Some(desk) => desk,
-            None => {
-                hold.lengthen();
-                self.wait_for(rt)
-            }
-        };
+        let mut desk = self.lock_for(rt, hold);
         let end = desk.step_run(seat, posts, messages, words, hold, told);
         end
+    }
+
+    /// Takes the lock for a hold, which is lengthened where somebody else has the lock.
+    #[inline(always)]
+    fn lock_for<R: Wait>(&self, rt: &R, hold: &mut Hold) -> MutexGuard<'_, Desk<L>>
+        ensures { hold.new.answers.items ≡ hold.old.answers.items }
+    {
+        if let Some(desk) = self.desk.try_lock() {
+            return desk;
+        }
+        hold.lengthen();
+        self.wait_for(rt)
     }
 
     /// Takes the lock, which somebody has. The thread looks again behind growing pauses before it sleeps: a hold is shorter
