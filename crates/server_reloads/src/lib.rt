@@ -1,8 +1,8 @@
 //! The thread that installs policies.
 #![tactic(auto)]
 
-mod next_policy;
+mod reading;
 mod reloads;
 
-pub use next_policy::{NextPolicy, next_policy};
+pub use reading::{NextPolicy, next_policy};
 pub use reloads::Reloads;

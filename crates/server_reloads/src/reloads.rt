@@ -1,4 +1,4 @@
-use crate::next_policy::{NextPolicy, next_policy};
+use crate::reading::{NextPolicy, next_policy};
 use events::{Answer, Command, Event, HubRefusal};
 use policy_ready::Ready;
 use policy_source::Policies;
