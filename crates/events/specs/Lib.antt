@@ -3,3 +3,4 @@ pub mod Met
 pub mod Offers
 pub mod Refusals
 pub mod Runs
+pub mod Sendings

@@ -1,7 +1,7 @@
 ghost use Rattle.std.specs.Prelude.{◌≡◌, IfOk};
 
 use crate::event::{Event, Sid};
-use crate::message::Message;
+use crate::sent::Sent;
 use base::{Boxed, Copying, Items, NoMemory, Shared};
 use outbox::Batch;
 use permissions::{By, Verdict};
@@ -14,7 +14,7 @@ use std::slice;
 #[derive(Debug)]
 pub struct Delivery {
     /// What is sent: its subject is the one that the subscriber sees.
-    pub message: Message,
+    pub message: Sent,
     /// The client's own id of the subscription.
     pub sid: Sid,
 }

@@ -4,7 +4,7 @@ ghost use Rattle.std.specs.Bool.{Decides};
 ghost use Rattle.events.specs.declared.answer.Outcome.TheVariants.{Published, Taken, Reloaded};
 ghost use Rattle.events.specs.declared.event.Command.TheVariants.{Connect, Sub, Unsub, Pub, Take, Close, Reload};
 
-use crate::{Command, Delivery, Entry, Event, Item, Message, Met, Outcome, Removed};
+use crate::{Command, Delivery, Entry, Event, Item, Message, Met, Outcome, Removed, Sent};
 use base::{Alike, Items, Shared, SharedText, are_alike, are_same_bytes};
 use outbox::Batch;
 use permissions::By;
@@ -13,6 +13,15 @@ use subjects::{Pattern, Subject};
 
 impl Alike for Message {
     fn is_like(&self, other: &Message) -> bool {
+        self.subject().is_like(&other.subject())
+            && self.reply().is_like(&other.reply())
+            && are_same_bytes(self.head(), other.head())
+            && are_same_bytes(self.payload(), other.payload())
+    }
+}
+
+impl Alike for Sent {
+    fn is_like(&self, other: &Sent) -> bool {
         self.subject().is_like(&other.subject())
             && self.reply().is_like(&other.reply())
             && are_same_bytes(self.head(), other.head())

@@ -9,6 +9,7 @@ mod message;
 mod port;
 mod refusal;
 mod run;
+mod sent;
 mod words;
 
 pub use answer::{Addressed, Answer, Delivery, Entry, Item, Met, Outcome, Removed};
@@ -17,4 +18,5 @@ pub use message::Message;
 pub use port::Port;
 pub use refusal::{HubRefusal, PublishRefusal};
 pub use run::RunEnd;
+pub use sent::{Names, Said, Sent};
 pub use words::Words;

@@ -1,5 +1,5 @@
 -- what is left, once it is offered, completes the run
-use Rattle.std.proofs.Common.{◌≡◌, length}
+use Rattle.std.proofs.Common.{◌≡◌}
 use Rattle.std.specs.VecDeque.{deque_len}
 use Rattle.events.proofs.Posted.{Continues}
 use Rattle.events.proofs.port.Port.publish.Given as goal
