@@ -1,13 +1,12 @@
 -- What is planned is what will be met.
-use Rattle.std.proofs.Common.{◌≡◌, ◌∙◌, ◌==◌, ◌⊎◌, inl, inr, ℕ, ◌-◌, ◌<◌, ◌≤◌, suc, zero, Bool, true, false, cond, List, [], ◌∷◌, ◌++◌, length, get_or, map, set, position, Option, Some, None, ap, sym, subst, refl, arith, nat_lt, is_some, true≢false}
+use Rattle.std.proofs.Common.{◌≡◌, ◌∙◌, ◌==◌, ◌⊎◌, inl, inr, ℕ, ◌-◌, ◌<◌, ◌≤◌, suc, zero, Bool, true, false, cond, List, [], ◌∷◌, ◌++◌, length, get_or, map, set, position, All, Option, Some, None, ap, sym, subst, refl, arith, nat_lt, is_some, true≢false}
 use Rattle.std.specs.Option.{option_map}
-use Rattle.subjects.specs.Subject.{Token}
 use Rattle.std.proofs.lemmas.List.{length-append, append_assoc}
 use Rattle.std.proofs.lemmas.List.Quantifiers.{position-Some}
 use Rattle.std.proofs.lemmas.Bool.{eqb-true, eq-eqb, ne_eqb, ltb-true, ltb-false, lt-ltb, le-ltb, cases_eq}
 use Rattle.world_deliveries.specs.Sessions.{session_of}
 use Rattle.world_deliveries.specs.Delivered.{noting, offered, after_offer, item_of, delivered, has_room, room_in}
-use Rattle.world_deliveries.specs.Replying.{with_note}
+use Rattle.world_deliveries.specs.Replying.{note_for, noted_for}
 use Rattle.world_deliveries.specs.declared.session.Session.{Session}
 use Rattle.reply_grants.specs.declared.replies.Note.{Note}
 use Rattle.events.specs.declared.answer.Addressed.{Addressed}
@@ -145,19 +144,19 @@ planned-delivered now (a ∷ rest) zs =
     (ap (planned rest) (λ i other. after_one now a zs other i) ∙ planned-delivered now rest (after_offer now a zs))
 
 -- what is to be noted changes no plan
-planned_noted : (zs : List Session) (reply : Option (List Token)) (all : List Addressed) (rooms : ℕ → ℕ) → planned (map (with_note zs reply) all) rooms ≡ planned all rooms
-planned_noted zs reply [] rooms = refl
-planned_noted zs reply (a ∷ rest) rooms =
-    ap (λ more. cond (nat_lt 0 (rooms a.conn)) (Entered a.conn a.delivery.sid) (Full a.conn a.delivery.sid) ∷ more) (planned_noted zs reply rest (with_room a.conn (rooms a.conn - 1) rooms))
+planned_noted : (zs : List Session) (all : List Addressed) (rooms : ℕ → ℕ) → planned (map (noted_for zs) all) rooms ≡ planned all rooms
+planned_noted zs [] rooms = refl
+planned_noted zs (a ∷ rest) rooms =
+    ap (λ more. cond (nat_lt 0 (rooms a.conn)) (Entered a.conn a.delivery.sid) (Full a.conn a.delivery.sid) ∷ more) (planned_noted zs rest (with_room a.conn (rooms a.conn - 1) rooms))
 
-pub plan_noted : (now : ℕ) (reply : Option (List Token)) (all : List Addressed) (zs : List Session) (rooms : List ℕ) →
+pub plan_noted : (now : ℕ) (all : List Addressed) (zs : List Session) (rooms : List ℕ) →
     ((k : ℕ) (d : Addressed) → k < length all → room_at zs rooms (get_or all k d).conn ≡ rooms_of zs (get_or all k d).conn) →
-    planned (map (with_note zs reply) all) (room_at zs rooms) ≡ (delivered now (map (with_note zs reply) all) zs).1
-plan_noted now reply all zs rooms noted =
-    planned_noted zs reply all (room_at zs rooms)
+    planned (map (noted_for zs) all) (room_at zs rooms) ≡ (delivered now (map (noted_for zs) all) zs).1
+plan_noted now all zs rooms noted =
+    planned_noted zs all (room_at zs rooms)
     ∙ planned-same all (room_at zs rooms) (rooms_of zs) noted
-    ∙ sym (planned_noted zs reply all (rooms_of zs))
-    ∙ planned-delivered now (map (with_note zs reply) all) zs
+    ∙ sym (planned_noted zs all (rooms_of zs))
+    ∙ planned-delivered now (map (noted_for zs) all) zs
 
 -- one more is planned
 pub planned-more : (items : List Item) (a : Addressed) (rest : List Addressed) (zs : List Session) (rooms after : List ℕ) →
@@ -196,9 +195,14 @@ roomy-planned (a ∷ rest) rooms roomy =
 pub roomy-delivered : (now : ℕ) (all : List Addressed) (zs : List Session) → AreRoomy all (rooms_of zs) → map entered all ≡ (delivered now all zs).1
 roomy-delivered now all zs roomy = roomy-planned all (rooms_of zs) (λ k d h. (roomy k d h).1) ∙ planned-delivered now all zs
 
--- and nothing is to be noted without a reply
-pub roomy-noted : (all : List Addressed) (zs : List Session) → ((k : ℕ) (d : Addressed) → k < length all → (get_or all k d).noted ≡ None) → all ≡ map (with_note zs None) all
-roomy-noted [] zs none = refl
-roomy-noted (a ∷ rest) zs none =
+-- and nothing is to be noted where none has a reply
+unnoted : (a : Addressed) (z : Option Session) → a.delivery.message.reply ≡ None → record a { noted = None } ≡ record a { noted = note_for a.delivery.message.reply z }
+unnoted a z none = ap (λ (n : Option Note). record a { noted = n }) (sym (ap (λ reply. note_for reply z) none))
+
+pub roomy-noted : (all : List Addressed) (zs : List Session) → ((k : ℕ) (d : Addressed) → k < length all → (get_or all k d).noted ≡ None) →
+    All (λ (a : Addressed). a.delivery.message.reply ≡ None) all → all ≡ map (noted_for zs) all
+roomy-noted [] zs none unsaid = refl
+roomy-noted (a ∷ rest) zs none unsaid =
     ap (λ (n : Option Note). record a { noted = n } ∷ rest) (none 0 a (omega arith))
-    ∙ ap (λ more. with_note zs None a ∷ more) (roomy-noted rest zs (λ k d h. none (suc k) d (omega arith)))
+    ∙ ap (λ b. b ∷ rest) (unnoted a (session_of zs a.conn) (unsaid 0 a (omega arith)))
+    ∙ ap (λ more. noted_for zs a ∷ more) (roomy-noted rest zs (λ k d h. none (suc k) d (omega arith)) (λ k d h. unsaid (suc k) d (omega arith)))

@@ -28,8 +28,9 @@ note_for None z = None
 note_for (Some s) None = None
 note_for (Some s) (Some z) = option_map (λ (t : Terms). note_of s z.replies) (terms_of z)
 
-abbrev pub with_note : List Session → Option (List Token) → Addressed → Addressed
-with_note zs reply a = record a { noted = note_for reply (session_of zs a.conn) }
+-- a delivery with what its session is to note where it enters, by the reply of what is delivered
+abbrev pub noted_for : List Session → Addressed → Addressed
+noted_for zs a = record a { noted = note_for a.delivery.message.reply (session_of zs a.conn) }
 
 -- one answer more on the session's grant for the subject
 abbrev pub answering : List Token → Session → Session

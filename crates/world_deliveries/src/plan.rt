@@ -1,11 +1,11 @@
 //! What deliveries will meet, and what is to be noted with them, before one is handed over.
-ghost use Rattle.std.specs.Prelude.{◌≡◌, ℕ, ◌<◌, ◌≤◌, ◌-◌, ◌==◌, ◌∷◌, [], IfOk, OnOk, IsTrue, length, map, position, nat_lt, slice_index_or, if◌then◌else◌};
+ghost use Rattle.std.specs.Prelude.{◌≡◌, ℕ, ◌<◌, ◌≤◌, ◌-◌, ◌==◌, ◌∷◌, [], All, None, false, IfOk, OnOk, IsTrue, length, map, position, nat_lt, slice_index_or, if◌then◌else◌};
 ghost use Rattle.std.specs.Option.{option_copied};
 ghost use Rattle.world_deliveries.specs.Sessions.{session_of};
 ghost use Rattle.world_deliveries.specs.Delivered.{has_room, room_in, delivered};
 ghost use Rattle.world_deliveries.specs.Planned.{room_at, rooms_of, with_room, planned, entered, IsRoomy, AreRoomy};
 ghost use Rattle.world_deliveries.specs.Sessions.{connection_of};
-ghost use Rattle.world_deliveries.specs.Replying.{note_for, with_note};
+ghost use Rattle.world_deliveries.specs.Replying.{note_for, noted_for};
 
 use crate::Session;
 use crate::noting::note_for;
@@ -13,7 +13,6 @@ use base::NoMemory;
 use events::{Addressed, Item};
 use std::alloc::Global;
 use std::hash::RandomState;
-use subjects::SubjectRef;
 use world_connections::Connections;
 
 /// The sessions in order, and their connections in the same order, by which the place of each is found.
@@ -54,44 +53,43 @@ fn has_room(session: Option<&Session>) -> bool
     }
 }
 
-/// Sets a delivery's `noted`, what its session is to note.
+/// Sets a delivery's `noted`, what its session is to note, by the delivery's own reply.
 #[inline(always)]
 fn put_note(
     alloc: Global,
     keys: RandomState,
-    reply: Option<&SubjectRef<'_>>,
     session: Option<&Session>,
     next: &mut Addressed,
 ) -> Result<(), NoMemory>
-    ensures { OnOk result (next.new ≡ record next.old { noted = note_for (option_copied reply.entry) (option_copied session.entry) }) }
+    ensures { OnOk result (next.new ≡ record next.old { noted = note_for next.old.delivery.message.reply (option_copied session.entry) }) }
 {
-    match reply {
-        None => {
-            next.noted = None;
-            Ok(())
-        }
-        Some(reply) => {
-            let noted = note_for(alloc, keys, reply, session)?;
-            next.noted = noted;
-            Ok(())
-        }
-    }
+    let noted = match next.delivery.message.reply() {
+        None => None,
+        Some(reply) => note_for(alloc, keys, &reply, session)?,
+    };
+    next.noted = noted;
+    Ok(())
 }
 
 /// Returns what a single delivery meets at the session that it is for. Also sets its `noted`, what that session is to
-/// note.
+/// note. `has_reply` is false only where the delivery has no reply.
 #[inline(always)]
 pub fn plan_one(
     alloc: Global,
     keys: RandomState,
     session: Option<&Session>,
     next: &mut Addressed,
-    reply: Option<&SubjectRef<'_>>,
+    has_reply: bool,
 ) -> Result<Item, NoMemory>
+    requires none { has_reply ≡ false → next.old.delivery.message.reply ≡ None }
     ensures item { IfOk result (λ item. item ≡ (if has_room (option_copied session.entry) then Item.Entered next.new.conn next.new.delivery.sid else Item.Full next.new.conn next.new.delivery.sid)) }
-    ensures noted { OnOk result (next.new ≡ record next.old { noted = note_for (option_copied reply.entry) (option_copied session.entry) }) }
+    ensures noted { OnOk result (next.new ≡ record next.old { noted = note_for next.old.delivery.message.reply (option_copied session.entry) }) }
 {
-    put_note(alloc, keys, reply, session, next)?;
+    if has_reply {
+        put_note(alloc, keys, session, next)?;
+    } else {
+        next.noted = None;
+    }
     let has_room = has_room(session);
     let item = item(next, has_room)?;
     Ok(item)
@@ -140,17 +138,16 @@ fn note_rooms(
     by: ByConnection<'_>,
     rooms: &mut [usize],
     all: &mut [Addressed],
-    reply: Option<&SubjectRef<'_>>,
 ) -> Result<(), NoMemory>
     requires keys { by.conns.now ≡ map connection_of by.list.now }
     requires within { length by.list.now ≤ length rooms.old }
     ensures rooms { OnOk result ((k : ℕ) (d : Addressed) → k < length all.old →
         room_at by.entry.list.now rooms.new (slice_index_or all.old k d).conn ≡ rooms_of by.entry.list.now (slice_index_or all.old k d).conn) }
-    ensures noted { OnOk result (all.new ≡ map (with_note by.entry.list.now (option_copied reply.entry)) all.old) }
+    ensures noted { OnOk result (all.new ≡ map (noted_for by.entry.list.now) all.old) }
 {
     for next in all.iter_mut() {
         let session = note_room(by, rooms, next.conn);
-        put_note(alloc, keys, reply, session, next)?;
+        put_note(alloc, keys, session, next)?;
     }
     Ok(())
 }
@@ -227,8 +224,8 @@ fn enter_all(alloc: Global, all: &[Addressed]) -> Result<Vec<Item>, NoMemory>
     Ok(items)
 }
 
-/// Returns what each delivery of a message with this reply will meet, told by the room that is left for each. Also sets
-/// each one's `noted`, what its session is to note. Apart, so that a plan where all have room stays small.
+/// Returns what each delivery of a message will meet, told by the room that is left for each. Also sets each one's
+/// `noted`, what its session is to note. Apart, so that a plan where all have room stays small.
 #[inline(never)]
 fn plan_by_rooms(
     alloc: Global,
@@ -236,21 +233,20 @@ fn plan_by_rooms(
     by: ByConnection<'_>,
     rooms: &mut [usize],
     all: &mut [Addressed],
-    reply: Option<&SubjectRef<'_>>,
 ) -> Result<Vec<Item>, NoMemory>
     requires keys { by.conns.now ≡ map connection_of by.list.now }
     requires within { length by.list.now ≤ length rooms.old }
     ensures items { IfOk result (λ items. (now : ℕ) → items.items ≡ (delivered now all.new by.entry.list.now).1) }
-    ensures noted { OnOk result (all.new ≡ map (with_note by.entry.list.now (option_copied reply.entry)) all.old) }
+    ensures noted { OnOk result (all.new ≡ map (noted_for by.entry.list.now) all.old) }
 {
-    note_rooms(alloc, keys, by, rooms, all, reply)?;
+    note_rooms(alloc, keys, by, rooms, all)?;
     let items = plan_each(alloc, by, rooms, all)?;
     Ok(items)
 }
 
-/// Returns what each delivery of a message with this reply will meet, where they are handed over in turn. Also sets
-/// each one's `noted`, what its session is to note. Where all have room and there is no reply, no room has to be
-/// counted.
+/// Returns what each delivery of a message will meet, where they are handed over in turn. Also sets each one's `noted`,
+/// what its session is to note. `has_reply` is false only where none of the deliveries has a reply; then, where all have
+/// room, no room has to be counted.
 #[inline(never)]
 pub fn plan_all(
     alloc: Global,
@@ -258,21 +254,20 @@ pub fn plan_all(
     by: ByConnection<'_>,
     rooms: &mut [usize],
     all: &mut [Addressed],
-    reply: Option<&SubjectRef<'_>>,
+    has_reply: bool,
 ) -> Result<Vec<Item>, NoMemory>
+    requires none { has_reply ≡ false → All (λ (a : Addressed). a.delivery.message.reply ≡ None) all.old }
     requires keys { by.conns.now ≡ map connection_of by.list.now }
     requires within { length by.list.now ≤ length rooms.old }
     ensures items { IfOk result (λ items. (now : ℕ) → items.items ≡ (delivered now all.new by.entry.list.now).1) }
-    ensures noted { OnOk result (all.new ≡ map (with_note by.entry.list.now (option_copied reply.entry)) all.old) }
+    ensures noted { OnOk result (all.new ≡ map (noted_for by.entry.list.now) all.old) }
 {
-    match reply {
-        None if have_room(by, all) => {
+    if !has_reply {
+        if have_room(by, all) {
             let items = enter_all(alloc, all)?;
-            Ok(items)
-        }
-        _ => {
-            let items = plan_by_rooms(alloc, keys, by, rooms, all, reply)?;
-            Ok(items)
+            return Ok(items);
         }
     }
+    let items = plan_by_rooms(alloc, keys, by, rooms, all)?;
+    Ok(items)
 }

@@ -1,6 +1,5 @@
 -- what is planned by the rooms that are noted is what the deliveries meet
 use Rattle.std.proofs.Common.{◌≡◌, ◌∙◌, List, sym, subst}
-use Rattle.std.specs.Option.{option_copied}
 use Rattle.events.specs.declared.answer.Addressed.{Addressed}
 use Rattle.world_deliveries.specs.Delivered.{delivered}
 use Rattle.world_deliveries.specs.Planned.{room_at, planned}
@@ -13,4 +12,4 @@ returns-clause-items c now =
     let rooms = c.note_rooms.new.rooms in
     c.in_ok-items.ensures
     ∙ subst (λ (all : List Addressed). planned all (room_at zs rooms) ≡ (delivered now all zs).1) (sym c.in_ok-note_rooms.ensures.noted)
-    (plan_noted now (option_copied c.args.reply) c.args.all.now zs rooms c.in_ok-note_rooms.ensures.rooms)
+    (plan_noted now c.args.all.now zs rooms c.in_ok-note_rooms.ensures.rooms)
