@@ -36,13 +36,13 @@ impl Model for Sessions {
 }
 
 impl Sessions {
-    ghost use Rattle.std.specs.Prelude.{◌≡◌, ◌==◌, ◌++◌, ◌∷◌, [], ℕ, None, Some, AllPairs, IfOk, IsSomeAnd, OnOk, OnErr, MatchOption, length, filter, map, not, is_some};
+    ghost use Rattle.std.specs.Prelude.{◌≡◌, ◌==◌, ◌++◌, ◌∷◌, [], ℕ, None, Some, false, All, AllPairs, IfOk, IsSomeAnd, OnOk, OnErr, MatchOption, length, filter, map, not, is_some};
     ghost use Rattle.std.specs.Bool.{Decides};
     ghost use Rattle.std.specs.List.{filter_map};
     ghost use Rattle.std.specs.Option.{option_copied};
     ghost use Rattle.world_deliveries.specs.Sessions.{session_of, with_session, drained, front_of, IsApart, IsNowhere, IsPlace};
     ghost use Rattle.world_deliveries.specs.Delivered.{delivered, after_offer};
-    ghost use Rattle.world_deliveries.specs.Replying.{with_note, answering, ending};
+    ghost use Rattle.world_deliveries.specs.Replying.{noted_for, answering, ending};
     ghost use Rattle.world_sessions.specs.Renewal.{user_again_of, closed_conns, remaining, HasSameLists, HaveOneUser, AreSameLists};
     ghost use Rattle.policy_doc.specs.declared.document.PolicyDoc.{PolicyDoc};
 
@@ -132,23 +132,25 @@ impl Sessions {
         remove_from(&mut self.list, conn);
     }
 
-    /// Returns what each delivery of a message with this reply will meet, where they are handed over in turn. Also sets
-    /// each one's `noted`, what its session is to note where it enters; the memory for that is taken here. `NoMemory`
-    /// where memory could not be had: then only some are set.
+    /// Returns what each delivery of a message will meet, where they are handed over in turn. Also sets each one's
+    /// `noted`, what its session is to note where it enters; the memory for that is taken here. `has_reply` is whether
+    /// the published message or the names of any view have a reply: false only where none of the deliveries has one.
+    /// `NoMemory` where memory could not be had: then only some are set.
     #[inline(always)]
     pub fn plan(
         &mut self,
         keys: RandomState,
         all: &mut [Addressed],
-        reply: Option<&SubjectRef<'_>>,
+        has_reply: bool,
     ) -> Result<Met, NoMemory>
+        requires none { has_reply ≡ false → All (λ (a : Addressed). a.delivery.message.reply ≡ None) all.old }
         ensures items { IfOk result (λ items. (now : ℕ) → items ≡ (delivered now all.new self.old).1) }
-        ensures noted { OnOk result (all.new ≡ map (with_note self.old (option_copied reply.entry)) all.old) }
+        ensures noted { OnOk result (all.new ≡ map (noted_for self.old) all.old) }
         ensures same { self.new ≡ self.old }
     {
         if all.len() == 1 {
             let next = &mut all[0];
-            let item = plan_one(self.alloc, keys, self.find(next.conn), next, reply)?;
+            let item = plan_one(self.alloc, keys, self.find(next.conn), next, has_reply)?;
             return Ok(Met::one(item));
         }
         let rooms = self.rooms.as_mut_slice();
@@ -156,7 +158,7 @@ impl Sessions {
             conns: &self.conns,
             list: self.list.as_slice(),
         };
-        let items = plan_all(self.alloc, keys, by, rooms, all, reply)?;
+        let items = plan_all(self.alloc, keys, by, rooms, all, has_reply)?;
         Ok(Met::from_vec(items))
     }
 
