@@ -3,11 +3,12 @@ ghost use Rattle.std.specs.Prelude.{◌≡◌, ◌++◌, OnOk, OnErr, option_cop
 ghost use Rattle.session_pending.specs.Texts.{delivery_text, payload_text, whole_text, reply_subject_text};
 
 use base::NoMemory;
-use events::{Delivery, Message};
+use events::{Delivery, Sent};
 use wire_write::{write_hmsg, write_msg};
 
 /// The text of the subject to answer on, if a message has one.
-fn reply_subject_text(message: &Message) -> Option<&[u8]>
+#[inline(always)]
+fn reply_subject_text(message: &Sent) -> Option<&[u8]>
     ensures { option_copied result ≡ reply_subject_text message.now.reply }
 {
     match message.reply() {
