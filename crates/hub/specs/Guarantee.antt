@@ -1,7 +1,7 @@
 -- The routing guarantee: what each step of a hub keeps, in terms of the policy in force, which is that of the
 -- world before the step (docs/GUARANTEE.md, "The guarantee").
-use Rattle.std.specs.Prelude.{◌≡◌, ◌==◌, ◌+◌, ◌-◌, ◌&&◌, ◌||◌, ◌∷◌, ◌++◌, ℕ, List, [], Bool, true, false, Option, Some, None, Result, Ok, Err, if◌then◌else◌, filter, map, not, length, is_some, All, IfSome, IsSomeAnd, nat_lt, nat_le, nat_eq, max, take, drop}
-use Rattle.std.specs.List.{list_any}
+use Rattle.std.specs.Prelude.{◌≡◌, ◌==◌, ◌+◌, ◌-◌, ◌^◌, ◌&&◌, ◌||◌, ◌∷◌, ◌++◌, ℕ, List, [], Bool, true, false, Option, Some, None, Result, Ok, Err, if◌then◌else◌, filter, map, not, length, is_some, All, IfSome, IsSomeAnd, nat_lt, nat_le, nat_eq, max, min, take, drop}
+use Rattle.std.specs.List.{list_any, flat_map}
 use Rattle.std.specs.Option.{option_and_then}
 use Rattle.std.specs.Cmp.Lexicographic.{pointwise}
 use Rattle.subjects.specs.Subject.{Token, in_set}
@@ -26,11 +26,12 @@ use Rattle.events.specs.declared.refusal.HubRefusal.{HubRefusal}
 use Rattle.events.specs.declared.refusal.HubRefusal.TheVariants.{HistoryFull, NoSession, SessionTaken, SessionLimit, NoMemory}
 use Rattle.world_deliveries.specs.Sessions.{session_of, new_session, drained}
 use Rattle.world_deliveries.specs.declared.session.Session.{Session}
-use Rattle.world_subscriptions.specs.Subscriptions.{stands, of_connection, has_all, subscription_of}
-use Rattle.world_subscriptions.specs.Limit.{counted, limited}
+use Rattle.world_subscriptions.specs.Subscriptions.{stands, has_all, subscription_of}
+use Rattle.world_subscriptions.specs.Limit.{limited, is_entry_for}
 use Rattle.world_rows.specs.declared.subscription.Subscription.{Subscription}
 use Rattle.queue_choice.specs.Choices.{chosen}
 use Rattle.world.specs.World.{World}
+use Rattle.world.specs.Routing.{View, views}
 use Rattle.world_groups.specs.Served.{is_member, members}
 use Rattle.world_subscriptions.specs.Addressing.{delivery_to}
 use Rattle.hub.specs.Sound.{IsSound, user_at, may_subscribe, HasAllowance, is_to_receive}
@@ -129,9 +130,19 @@ abbrev pub is_for : World → ℕ → List ℕ → List Token → Subscription �
 is_for w conn account s sub =
     in_set sub.subject s && (has_echo (session_of w.sessions conn) || not (sub.conn == conn)) && may_receive account s sub.queue (user_at w sub.conn)
 
--- the subscriptions that a message may be sent to, oldest first
-abbrev pub eligible : World → ℕ → List ℕ → List Token → List Subscription
-eligible w conn account s = filter (is_for w conn account s) w.subscriptions
+-- how often these items of a message tell that it has entered for a subscription
+abbrev pub times_entered : List Item → Subscription → ℕ
+times_entered items sub = length (filter (is_entry_for sub) items)
+
+-- a subscription once these items of a message were told: it has received it as often as they tell; the count stays at
+-- 2^64 - 1
+abbrev pub received_more : List Item → Subscription → Subscription
+received_more items sub = record sub { received = min (2 ^ 64 - 1) (sub.received + times_entered items sub) }
+
+-- the subscriptions that a message may be sent to in a view, oldest first: those that are still to receive, once what
+-- earlier views of the same message have told is counted
+abbrev pub eligible : World → ℕ → List Item → View → List Subscription
+eligible w conn told v = filter (λ (sub : Subscription). is_for w conn v.account v.message.subject sub && is_to_receive (received_more told sub)) w.subscriptions
 
 -- a subscription of no queue group
 abbrev pub is_plain : Subscription → Bool
@@ -159,14 +170,14 @@ abbrev pub room_in : Option Session → ℕ
 room_in None = 0
 room_in (Some z) = z.outbox.capacity - length z.outbox.waiting
 
--- A session after deliveries of a message that a connection has published: its outbox holds what it held, and as many of
--- them, oldest first, as it had room for; one was missed if it has missed one before, or there was no room for all; and
--- its grants are those after the response, if it is one, and after what has entered.
-abbrev pub receives : ℕ → By → ℕ → Message → List Delivery → Session → Session
-receives now by conn m ds z = record z {
+-- A session after deliveries of a message that a connection has published on a subject: its outbox holds what it held,
+-- and as many of them, oldest first, as it had room for; one was missed if it has missed one before, or there was no room
+-- for all; and its grants are those after the response, if it is one, and after what has entered.
+abbrev pub receives : ℕ → By → ℕ → List Token → List Delivery → Session → Session
+receives now by conn s ds z = record z {
   outbox = record z.outbox { waiting = z.outbox.waiting ++ take (room_in (Some z)) ds };
   missed = z.missed || nat_lt (room_in (Some z)) (length ds);
-  replies = replies_after now by conn m (length (take (room_in (Some z)) ds)) z;
+  replies = replies_after now by conn s (take (room_in (Some z)) ds) z;
 }
 
 -- the item of a subscription that its delivery has entered, and of one that found the outbox full
@@ -192,16 +203,60 @@ names_of sub = (sub.conn, sub.sid)
 abbrev pub items_of : ℕ → List Item → List Item
 items_of conn items = filter (λ (item : Item). (item_names item).0 == conn) items
 
--- A message on its way to those that it is for.
-pub record IsDelivered (w : World) (now : ℕ) (by : By) (publisher : ℕ) (m : Message) (subs : List Subscription) (items : List Item) (after : List Session) : Type 0 where
+-- What one view of a message gives: whom it is for there, and what is told of each.
+pub record Part : Type 0 where
+  pub view : View
+  pub subs : List Subscription
+  pub items : List Item
+
+-- A view gives the message to those that it is for, and to nobody else; `told` is what earlier views of it have told.
+pub record IsPart (w : World) (conn word : ℕ) (told : List Item) (p : Part) : Type 0 where
+  -- those that it is for, of those that it may be sent to: the plain ones and one of each queue group
+  pub served : AreServed word (eligible w conn told p.view) p.subs
   -- which of the standing subscriptions may be sent it, is decided with reason
-  pub reasons : All (IsReasonedFor w m.subject) w.subscriptions
+  pub reasons : All (IsReasonedFor w p.view.message.subject) w.subscriptions
   -- each of them has one item, oldest first, and nobody else has one
-  pub one_each : map item_names items ≡ map names_of subs
-  -- those of a connection have entered as long as there was room in its outbox; Full is reported of the others
-  pub with_room : (conn : ℕ) → items_of conn items ≡ items_with_room (room_in (session_of w.sessions conn)) (of_connection conn subs)
+  pub one_each : map item_names p.items ≡ map names_of p.subs
+
+-- A message under the names of a view, for a subscription.
+pub record Sending : Type 0 where
+  pub message : Message
+  pub to : Subscription
+
+abbrev pub sendings_in : Part → List Sending
+sendings_in p = map (λ (sub : Subscription). record { message = p.view.message; to = sub }) p.subs
+
+-- what is sent in these parts, the first first, and in each the oldest subscription first
+abbrev pub sendings : List Part → List Sending
+sendings parts = flat_map sendings_in parts
+
+-- what is sent to a connection
+abbrev pub sent_to : ℕ → List Sending → List Sending
+sent_to conn ss = filter (λ (s : Sending). s.to.conn == conn) ss
+
+abbrev pub delivery_of : Sending → Delivery
+delivery_of s = delivery_to s.message s.to
+
+abbrev pub receiver : Sending → Subscription
+receiver s = s.to
+
+-- A message on its way, in all its views.
+pub record IsDelivered (w : World) (now : ℕ) (by : By) (publisher : ℕ) (subject : List Token) (ss : List Sending) (items : List Item) (after : List Session) : Type 0 where
+  -- those for a connection have entered as long as there was room in its outbox; Full is reported of the others
+  pub with_room : (conn : ℕ) → items_of conn items ≡ items_with_room (room_in (session_of w.sessions conn)) (map receiver (sent_to conn ss))
   -- and these deliveries are what came into the outboxes, and what was noted
-  pub outboxes : after ≡ map (λ (z : Session). receives now by publisher m (map (delivery_to m) (of_connection z.conn subs)) z) w.sessions
+  pub outboxes : after ≡ map (λ (z : Session). receives now by publisher subject (map delivery_of (sent_to z.conn ss)) z) w.sessions
+
+-- A message that a user of the account has published: what each of its views gives, and what comes of all.
+pub record IsSent (w : World) (now : ℕ) (by : By) (conn : ℕ) (m : Message) (word : ℕ) (account : List ℕ) (items : List Item) (after : List Session) : Type 0 where
+  pub parts : List Part
+  -- each view of the message, in order, and no other
+  pub in_views : map (λ (p : Part). p.view) parts ≡ views account m
+  -- each gives what it gives behind what those before it have told
+  pub each : (before : List Part) (p : Part) (later : List Part) → parts ≡ before ++ p ∷ later → IsPart w conn word (flat_map (λ (q : Part). q.items) before) p
+  -- what is told is what they tell
+  pub items_are : items ≡ flat_map (λ (p : Part). p.items) parts
+  pub delivered : IsDelivered w now by conn m.subject (sendings parts) items after
 
 -- ---- what a step does
 
@@ -230,13 +285,12 @@ IsEffect w now (Sub conn p queue sid) (Denied v) after = IsUntouched w after
 -- it has received as many; no other changes
 IsEffect w now (Unsub conn sid most) Unsubscribed after =
     (after.sessions ≡ w.sessions) × (after.subscriptions ≡ filter is_to_receive (map (limited conn sid most) w.subscriptions))
--- the message, to those of the user's account that it is for, and to nobody else: of those
--- that may be sent it the plain ones, and of each queue group the one that the word chooses, room or not; each
--- subscription that it has entered for counts it, and ends where that was the last that it was to receive
+-- the message, in each of its views to those that it is for there, and to nobody else: of those that may be sent it the
+-- plain ones, and of each queue group the one that the word chooses, room or not; each subscription counts it as often
+-- as it has entered for it, and ends where that was the last that it was to receive
 IsEffect w now (Pub conn m word) (Published by items) after =
-    IsSomeAnd (user_at w conn) (λ (u : User). (subs : List Subscription) × AreServed word (eligible w conn u.account m.subject) subs
-    × IsDelivered w now by conn m subs items after.sessions)
-    × (after.subscriptions ≡ filter is_to_receive (map (counted items) w.subscriptions))
+    IsSomeAnd (user_at w conn) (λ (u : User). IsSent w now by conn m word u.account items after.sessions)
+    × (after.subscriptions ≡ filter is_to_receive (map (received_more items) w.subscriptions))
 IsEffect w now (Pub conn m word) (Denied v) after = IsUntouched w after
 -- the oldest deliveries of the connection's session leave its outbox, and what was missed has been told
 IsEffect w now (Take conn most) (Taken deliveries missed) after =

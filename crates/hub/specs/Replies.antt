@@ -1,6 +1,6 @@
 -- What the guarantee says of responses: who may respond on a reply subject, and what becomes of the grants
 -- (docs/GUARANTEE.md, "Reply grants").
-use Rattle.std.specs.Prelude.{◌==◌, ◌-◌, ◌&&◌, ℕ, Bool, true, false, List, [], Option, Some, None, if◌then◌else◌, nat_lt, nat_le}
+use Rattle.std.specs.Prelude.{◌==◌, ◌-◌, ◌&&◌, ℕ, Bool, true, false, List, [], ◌∷◌, Option, Some, None, if◌then◌else◌, nat_le}
 use Rattle.std.specs.List.{list_any}
 use Rattle.subjects.specs.Subject.{Token}
 use Rattle.subjects.specs.Equal.{same_subject}
@@ -10,7 +10,7 @@ use Rattle.permissions.specs.declared.verdict.By.TheVariants.{All as AllowsAll, 
 use Rattle.reply_grants.specs.Grants.{Grant}
 use Rattle.reply_grants.specs.Replies.{Table, grants_of, noted, answered_in, ended_in}
 use Rattle.policy_ready.specs.declared.ready.User.{User}
-use Rattle.events.specs.Messages.{Message}
+use Rattle.events.specs.declared.answer.Delivery.{Delivery}
 use Rattle.world_deliveries.specs.Sessions.{session_of}
 use Rattle.world_deliveries.specs.Replying.{note_of}
 use Rattle.world_deliveries.specs.declared.session.Session.{Session}
@@ -58,16 +58,21 @@ is_by_grant ByGrant = true
 abbrev pub is_response : By → ℕ → Session → Bool
 is_response by conn z = is_by_grant by && (z.conn == conn)
 
--- where so many deliveries of a message enter, at least one, its reply is noted, if it has one and the user has terms
-abbrev pub noted_at : ℕ → ℕ → Option (List Token) → Option Terms → Table → Table
-noted_at now entered None terms table = table
-noted_at now entered (Some s) None table = table
-noted_at now entered (Some s) (Some terms) table = if nat_lt 0 entered then noted (note_of s table) now table else table
+-- once a delivery with this reply has entered: the reply is noted, if it has one and the user has terms
+abbrev pub noted_at : ℕ → Option Terms → Option (List Token) → Table → Table
+noted_at now terms None table = table
+noted_at now None (Some s) table = table
+noted_at now (Some terms) (Some s) table = noted (note_of s table) now table
 
--- A response is counted on its grant; then the reply is noted, once, however many of the session's deliveries enter; then
--- the grant of the response goes, where as many have passed as may.
-abbrev pub replies_after : ℕ → By → ℕ → Message → ℕ → Session → Table
-replies_after now by conn m entered z =
+-- once these have entered: the reply of each, in turn
+abbrev pub noted_each : ℕ → Option Terms → List Delivery → Table → Table
+noted_each now terms [] table = table
+noted_each now terms (d ∷ ds) table = noted_each now terms ds (noted_at now terms d.message.reply table)
+
+-- A response is counted on its grant; then the replies of the session's deliveries that enter are noted; then the grant of
+-- the response goes, where as many have passed as may.
+abbrev pub replies_after : ℕ → By → ℕ → List Token → List Delivery → Session → Table
+replies_after now by conn s entered z =
     if is_response by conn z
-    then ended_in m.subject z.user.rules.allow_responses (noted_at now entered m.reply z.user.rules.allow_responses (answered_in m.subject z.replies))
-    else noted_at now entered m.reply z.user.rules.allow_responses z.replies
+    then ended_in s z.user.rules.allow_responses (noted_each now z.user.rules.allow_responses entered (answered_in s z.replies))
+    else noted_each now z.user.rules.allow_responses entered z.replies

@@ -22,7 +22,7 @@ use Rattle.world_subscriptions.specs.Limit.{unended, limited}
 use Rattle.world_rows.specs.declared.subscription.Subscription.{Subscription}
 use Rattle.world.specs.World.{World, advanced}
 use Rattle.world.specs.Granting.{verdict_on, counted_on, ended_on}
-use Rattle.world.specs.Routing.{own_view, routed}
+use Rattle.world.specs.Routing.{views, in_views}
 use Rattle.world.specs.Reload.{reloaded, IsReasonedReload}
 
 -- a session with an empty outbox, where a user has that name and password
@@ -46,10 +46,11 @@ abbrev pub unsubscribed : World → ℕ → List ℕ → Option ℕ → Outcome 
 unsubscribed w conn sid most =
     (Unsubscribed, record w { subscriptions = unended (map (limited conn sid most) w.subscriptions) })
 
--- the verdict first, then the message to whom it is for, which count it. What a grant has allowed is counted on it
+-- the verdict first, then the message in each of its views to whom it is for there, who count it. What a grant has allowed is
+-- counted on it
 abbrev pub published : World → Session → Message → ℕ → Verdict → Outcome × World
 published w z m word (Allowed by) =
-    let after = routed w (counted_on by z.conn m.subject w.sessions) z (own_view z m) word in
+    let after = in_views w.sessions (record w { sessions = counted_on by z.conn m.subject w.sessions }) z word (views z.user.account m) in
     (Published by after.0, record after.1 { sessions = ended_on by z.conn m.subject after.1.sessions })
 published w z m word (DeniedBy i) = (Denied (DeniedBy i), w)
 published w z m word NoAllow = (Denied NoAllow, w)

@@ -10,7 +10,6 @@ use Rattle.world_deliveries.specs.Replying.{with_note}
 use Rattle.world_deliveries.specs.declared.session.Session.{Session}
 use Rattle.world.specs.World.{World}
 use Rattle.world.specs.Granting.{verdict_on}
-use Rattle.world.specs.Routing.{own_view, deliveries}
 use Rattle.world.specs.Transition.{in_session, published}
 use Rattle.world.specs.Changes.{IsDecided}
 use Rattle.world_subscriptions.specs.Limit.{unended}
@@ -18,7 +17,7 @@ use Rattle.world_rows.specs.declared.subscription.Subscription.{Subscription}
 use Rattle.world.specs.declared.change.Change.{Change}
 use Rattle.world.specs.declared.change.Change.TheVariants.{Nothing, Deliver}
 use Rattle.world_receivers.proofs.Tests.{find-passes}
-use Rattle.world.proofs.Publishing.{published_is, nobody_is}
+use Rattle.world.proofs.Publishing.{own_deliveries, published_is, nobody_is}
 use Rattle.world.proofs.Reasons.{publish_reason}
 use Rattle.world.proofs.world.World.publish.Goals as goal
 
@@ -38,7 +37,7 @@ returns-clause-decided c =
     let before : World = record { capacity = h.capacity; policy = h.ready; epoch = h.epoch; moment = h.moment; sessions = h.sessions; subscriptions = h.subscriptions; number = h.number } in
     let P : World → Type 0 = λ w. IsDecided w (in_session (session_of w.sessions c.args.conn) (λ z. published w z c.args.message.now c.args.word (verdict_on w.moment z c.args.message.now.subject)))
     (Ok record { outcome = Published c.in-Allowed.by c.in_ok-items.items; change = Deliver c.from_vec.result c.in_ok-answered_by-in-Allowed.field-0 }) in
-    let planned : c.plan.new.all.items ≡ deliveries before c.in-Some.session.now (own_view c.in-Some.session.now c.args.message.now) c.args.word =
+    let planned : c.plan.new.all.items ≡ own_deliveries before c.in-Some.session.now c.args.message.now c.args.word =
     c.in_ok-items.ensures.noted
     ∙ ap (map (with_note h.sessions c.args.message.now.reply)) c.in_ok-address-in-Allowed.ensures.all in
     subst P c.self.view_is (published_is before _ _ _ c.args.word c.subject.result c.in-Allowed.by c.in_ok-answered_by-in-Allowed.field-0 c.from_vec.result c.in_ok-items.items
