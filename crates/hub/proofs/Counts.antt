@@ -1,17 +1,15 @@
 -- In every legal run each subscription that stands has received what has entered for it since its SUB.
-use Rattle.std.proofs.Common.{◌≡◌, ◌∙◌, ◌==◌, ◌+◌, ◌-◌, ◌^◌, ◌<◌, ◌≤◌, ◌&&◌, ◌||◌, ℕ, Bool, true, false, not, cond, List, [], ◌∷◌, ◌++◌, map, filter, length, Option, Some, None, Result, Ok, Err, ap, sym, refl, subst, arith, max, nat_lt, nat_le, take}
-use Rattle.std.specs.Prelude.{All, AllPairs, min, nat_eq}
+use Rattle.std.proofs.Common.{◌≡◌, ◌∙◌, ◌==◌, ◌+◌, ◌-◌, ◌^◌, ℕ, Bool, true, false, not, cond, List, [], ◌∷◌, ◌++◌, map, filter, length, Option, Some, None, Result, Ok, Err, ap, sym, refl, subst, arith, max, nat_le, take}
+use Rattle.std.specs.Prelude.{All, AllPairs, min}
 use Rattle.std.specs.List.{flat_map}
-use Rattle.std.specs.Cmp.Lexicographic.{pointwise}
-use Rattle.std.proofs.Math.Nat.{min-eq_left, min-eq_right, min-le_right, min-zero}
-use Rattle.std.proofs.lemmas.Bool.{eqb-true, ltb-true, ltb-false, leb-true, leb-false}
+use Rattle.std.proofs.Math.Nat.{min-le_left, min-zero}
 use Rattle.std.proofs.lemmas.Grind.{flat_map-append}
 use Rattle.std.proofs.lemmas.List.{append_assoc, append-nil, length-append}
-use Rattle.std.proofs.lemmas.List.Elements.{All-nil, All-push, All-map, All-filter, All-weaker, All-head, All-tail, filter-append}
+use Rattle.std.proofs.lemmas.List.Elements.{All-nil, All-push, All-map, All-filter, All-weaker, filter_passes, filter_agree, filter-append}
 use Rattle.std.proofs.lemmas.List.Kept.{AllPairs-filter}
 use Rattle.std.proofs.lemmas.List.Quantifiers.{all_pairs_push}
-use Rattle.std.proofs.lemmas.Slice.Eq.{bytes_eq-Decides}
 use Rattle.subjects.specs.Subject.{Token}
+use Rattle.permissions.specs.declared.verdict.By.{By}
 use Rattle.permissions.specs.declared.verdict.Verdict.{Verdict}
 use Rattle.permissions.specs.declared.verdict.Verdict.TheVariants.{Allowed, DeniedBy, NoAllow, NoQueueAllow}
 use Rattle.policy_doc.specs.declared.document.PolicyDoc.{PolicyDoc}
@@ -25,32 +23,29 @@ use Rattle.events.specs.declared.answer.Item.{Item}
 use Rattle.events.specs.declared.answer.Item.TheVariants.{Entered, Full}
 use Rattle.events.specs.declared.answer.Entry.{Entry}
 use Rattle.events.specs.declared.answer.Outcome.{Outcome}
-use Rattle.events.specs.declared.answer.Outcome.TheVariants.{Connected, AuthViolation, Subscribed, SameSid, SubLimit, Denied, Taken}
+use Rattle.events.specs.declared.answer.Outcome.TheVariants.{Connected, AuthViolation, Subscribed, SameSid, SubLimit, Denied, Published, Taken}
 use Rattle.events.specs.declared.refusal.HubRefusal.{HubRefusal}
 use Rattle.events.specs.declared.refusal.HubRefusal.TheVariants.{SessionLimit}
 use Rattle.world_deliveries.specs.Sessions.{session_of}
-use Rattle.world_deliveries.specs.Delivered.{delivered}
-use Rattle.world_deliveries.specs.Replying.{with_note}
 use Rattle.world_deliveries.specs.declared.session.Session.{Session}
-use Rattle.world_subscriptions.specs.Addressing.{addressed_to}
 use Rattle.world_subscriptions.specs.Subscriptions.{is_under, stands, has_all, subscription_of}
-use Rattle.world_subscriptions.specs.Limit.{is_entry_for, has_entered, has_ended, counted, limit_of, limited}
+use Rattle.world_subscriptions.specs.Limit.{is_entry_for, limit_of, limited}
 use Rattle.world_rows.specs.declared.subscription.Subscription.{Subscription}
 use Rattle.world.specs.World.{World, opening_world, advanced}
-use Rattle.world_groups.specs.Served.{is_served, served}
-use Rattle.world.specs.Granting.{verdict_on, counted_on}
-use Rattle.world.specs.Routing.{own_view, is_admitted, admitted}
+use Rattle.world.specs.Granting.{verdict_on, counted_on, ended_on}
+use Rattle.world.specs.Routing.{views, is_admitted}
 use Rattle.world.specs.Reload.{stands_on}
 use Rattle.world.specs.Changes.{items_in}
 use Rattle.world.specs.Transition.{connected, subscribed, unsubscribed, published, taken, closed, in_session, in_new_session, moved, numbered}
-use Rattle.hub.specs.Sound.{has_same_sid}
+use Rattle.hub.specs.Sound.{has_same_sid, is_to_receive}
 use Rattle.hub.specs.History.{IsEntry, IsLegalRun}
-use Rattle.hub.specs.Guarantee.{item_names, names_of}
+use Rattle.hub.specs.Guarantee.{times_entered, received_more}
 use Rattle.hub.specs.Counts.{is_entered_for, items_told, entered_for, IsCounted}
-use Rattle.hub.proofs.Finds.{any-none, AllPairs-head, AllPairs-tail, AllPairs-map}
-use Rattle.hub.proofs.Soundness.{KeepsSubscription, either, apart-again}
-use Rattle.hub.proofs.Guaranteed.{counted-keeps, limited-keeps}
-use Rattle.hub.proofs.Deliveries.{notes_of, met, one_each}
+use Rattle.hub.proofs.Finds.{any-none, AllPairs-map}
+use Rattle.hub.proofs.Soundness.{KeepsSubscription, HasCount, IsStillToReceive, either, apart-again, unended-same}
+use Rattle.hub.proofs.Entering.{received-keeps}
+use Rattle.hub.proofs.Guaranteed.{limited-keeps}
+use Rattle.hub.proofs.Views.{Setting, standing, sessions_in, told_of, standing-first, published-is}
 
 -- ---- one entry
 
@@ -93,6 +88,14 @@ counts-more es a s t counts is = record {
       ∙ entered-more s.conn s.sid is.since a));
 }
 
+-- the two readings of an item
+same-item : (s : Subscription) (item : Item) → is_entered_for s.conn s.sid item ≡ is_entry_for s item
+same-item s (Entered conn sid) = refl
+same-item s (Full conn sid) = refl
+
+told-times : (a : Entry) (s : Subscription) → told s.conn s.sid a ≡ times_entered (items_told a) s
+told-times a s = ap (λ (l : List Item). length l) (filter_agree (is_entered_for s.conn s.sid) (is_entry_for s) (same-item s) (items_told a))
+
 -- an entry without items tells of nobody
 nothing-told : (a : Entry) (conn : ℕ) (sid : List ℕ) → items_told a ≡ [] → told conn sid a ≡ 0
 nothing-told a conn sid none = ap (λ l. length (filter (is_entered_for conn sid) l)) none
@@ -101,96 +104,11 @@ nothing-told a conn sid none = ap (λ l. length (filter (is_entered_for conn sid
 same-count : (bound r n m : ℕ) → m ≡ 0 → r ≡ min bound n → r ≡ min bound (n + m)
 same-count bound r n m none is = is ∙ ap (min bound) (let e : n ≡ n + m = omega (arith, none) in e)
 
--- one message more, where one has entered
-count-one : (bound r n : ℕ) (h : Bool) → r ≡ min bound n → cond (h && nat_lt r bound) (r + 1) r ≡ min bound (n + cond h 1 0)
-count-one bound r n false is = same-count bound r n 0 refl is
-count-one bound r n true is = here (nat_lt r bound) refl
-  where
-    below : r < bound → r + 1 ≡ min bound (n + 1)
-    below less = by_room (nat_le bound n) refl
-      where
-        by_room : (b : Bool) → nat_le bound n ≡ b → r + 1 ≡ min bound (n + 1)
-        by_room true h = absurd (let e : r ≡ bound = is ∙ min-eq_left (leb-true bound n h) in omega (arith, e, less))
-        by_room false h =
-            let l : n < bound = leb-false bound n h in
-            let e : r ≡ n = is ∙ min-eq_right (omega (arith, l)) in
-            ap (λ k. k + 1) e ∙ sym (min-eq_right (omega (arith, l)))
-
-    here : (b : Bool) → nat_lt r bound ≡ b → cond b (r + 1) r ≡ min bound (n + 1)
-    here true h = below (ltb-true r bound h)
-    here false h =
-        let l : bound ≤ r = ltb-false r bound h in
-        let m : min bound n ≤ n = min-le_right bound n in
-        let k : bound ≤ n = omega (arith, l, m, is) in
-        is ∙ min-eq_left k ∙ sym (min-eq_left (omega (arith, k)))
-
--- ---- what has entered for one
-
--- the two readings of an item
-same-item : (s : Subscription) (item : Item) → is_entered_for s.conn s.sid item ≡ is_entry_for s item
-same-item s (Entered conn sid) = refl
-same-item s (Full conn sid) = refl
-
--- an item of another subscription isn't its own
-none-of : (s : Subscription) (conn : ℕ) (sid : List ℕ) (item : Item) (t : Subscription) → s.conn ≡ conn → s.sid ≡ sid → (item_names item ≡ names_of t) → ((conn == t.conn) && pointwise nat_eq sid t.sid) ≡ false → is_entry_for s item ≡ false
-none-of s conn sid (Entered c b) t same_conn same_sid names apart =
-    ap (λ n. (n == c) && pointwise nat_eq s.sid b) same_conn
-    ∙ ap (λ x. (conn == c) && pointwise nat_eq x b) same_sid
-    ∙ ap (λ (n : ℕ × List ℕ). (conn == n.0) && pointwise nat_eq sid n.1) names
-    ∙ apart
-none-of s conn sid (Full c b) t same_conn same_sid names apart = refl
-
-and-both : (a b : Bool) → (a && b) ≡ true → (a ≡ true) × (b ≡ true)
-and-both true b h = (refl, h)
-and-both false b h = absurd (cc)
-
--- whose an item is
-is-of : (s : Subscription) (item : Item) (t : Subscription) → item_names item ≡ names_of t → is_entry_for s item ≡ true → (s.conn ≡ t.conn) × (s.sid ≡ t.sid)
-is-of s (Entered c b) t names is =
-    let both = and-both (s.conn == c) (pointwise nat_eq s.sid b) is in (
-      eqb-true s.conn c both.0 ∙ ap (λ (n : ℕ × List ℕ). n.0) names,
-      (bytes_eq-Decides s.sid b).0 both.1 ∙ ap (λ (n : ℕ × List ℕ). n.1) names,
-    )
-is-of s (Full c b) t names is = absurd (cc)
-
--- where one is its own, the others aren't
-others : (s x : Subscription) (subs : List Subscription) (items : List Item) → map item_names items ≡ map names_of subs → s.conn ≡ x.conn → s.sid ≡ x.sid → All (λ t. has_same_sid x t ≡ false) subs → has_entered items s ≡ false
-others s x subs [] names same_conn same_sid apart = refl
-others s x [] (i ∷ items) names same_conn same_sid apart = absurd (cc)
-others s x (t ∷ subs) (i ∷ items) names same_conn same_sid apart =
-    let first : item_names i ≡ names_of t = cc in
-    let rest : map item_names items ≡ map names_of subs = cc in
-    ap (λ b. b || has_entered items s) (none-of s x.conn x.sid i t same_conn same_sid first (All-head (λ y. has_same_sid x y ≡ false) t subs apart))
-    ∙ others s x subs items rest same_conn same_sid (All-tail (λ y. has_same_sid x y ≡ false) t subs apart)
-
--- of the items of one message one at most is its own
-once : (s : Subscription) (subs : List Subscription) (items : List Item) → map item_names items ≡ map names_of subs → AllPairs (λ x t. has_same_sid x t ≡ false) subs →
-    length (filter (is_entered_for s.conn s.sid) items) ≡ cond (has_entered items s) 1 0
-once s subs [] names apart = refl
-once s [] (i ∷ items) names apart = absurd (cc)
-once s (x ∷ subs) (i ∷ items) names apart =
-    let first : item_names i ≡ names_of x = cc in
-    let rest : map item_names items ≡ map names_of subs = cc in
-    ap (λ b. length (cond b (i ∷ found) found)) (same-item s i)
-    ∙ here (is_entry_for s i) first rest refl (once s subs items rest (AllPairs-tail (λ y t. has_same_sid y t ≡ false) x subs apart))
-  where
-    found : List Item
-    found = filter (is_entered_for s.conn s.sid) items
-
-    here : (b : Bool) → item_names i ≡ names_of x → map item_names items ≡ map names_of subs → is_entry_for s i ≡ b → length found ≡ cond (has_entered items s) 1 0 →
-        length (cond b (i ∷ found) found) ≡ cond (b || has_entered items s) 1 0
-    here false first rest is later = later
-    here true first rest is later =
-        let own = is-of s i x first is in
-        let none : has_entered items s ≡ false = others s x subs items rest own.0 own.1 (AllPairs-head (λ y t. has_same_sid y t ≡ false) x subs apart) in
-        let nothing : length found ≡ 0 = later ∙ ap (λ b. cond b 1 0) none in
-        omega (arith, nothing)
-
 -- ---- the subscriptions after an entry
 
--- each is counted, and no two have the same connection and sid
+-- each is counted and still to receive, and no two have the same connection and sid
 abbrev Told : List Entry → List Subscription → Type 0
-Told es subs = All (IsCounted es) subs × AllPairs (λ (s t : Subscription). has_same_sid s t ≡ false) subs
+Told es subs = All (IsCounted es) subs × AllPairs (λ (s t : Subscription). has_same_sid s t ≡ false) subs × All IsStillToReceive subs
 
 -- the entry tells of nobody
 counts-same : (a : Entry) (s : Subscription) → items_told a ≡ [] → Counts a s s
@@ -199,17 +117,19 @@ counts-same a s none =
 
 kept : (es : List Entry) (a : Entry) (subs : List Subscription) → items_told a ≡ [] → Told es subs → Told (es ++ a ∷ []) subs
 kept es a subs none t =
-    (All-weaker (IsCounted es) (IsCounted (es ++ a ∷ [])) (λ s is. counts-more es a s s (counts-same a s none) is) subs t.0, t.1)
+    (All-weaker (IsCounted es) (IsCounted (es ++ a ∷ [])) (λ s is. counts-more es a s s (counts-same a s none) is) subs t.0, t.1, t.2)
 
 -- some have gone
 left : (es : List Entry) (p : Subscription → Bool) (subs : List Subscription) → Told es subs → Told es (filter p subs)
-left es p subs t = (All-filter p (IsCounted es) subs t.0, AllPairs-filter (λ (x y : Subscription). has_same_sid x y ≡ false) p subs t.1)
+left es p subs t = (All-filter p (IsCounted es) subs t.0, AllPairs-filter (λ (x y : Subscription). has_same_sid x y ≡ false) p subs t.1, All-filter p IsStillToReceive subs t.2)
 
--- each has counted the entry
-changed : (es : List Entry) (a : Entry) (f : Subscription → Subscription) (subs : List Subscription) → KeepsSubscription f → ((s : Subscription) → Counts a s (f s)) → Told es subs → Told (es ++ a ∷ []) (map f subs)
+-- each has counted the entry, and those that have ended are gone
+changed : (es : List Entry) (a : Entry) (f : Subscription → Subscription) (subs : List Subscription) → KeepsSubscription f → ((s : Subscription) → Counts a s (f s)) → Told es subs → Told (es ++ a ∷ []) (filter is_to_receive (map f subs))
 changed es a f subs keeps counts t = (
-  All-map (IsCounted (es ++ a ∷ [])) f subs (All-weaker (IsCounted es) (λ s. IsCounted (es ++ a ∷ []) (f s)) (λ s is. counts-more es a s (f s) (counts s) is) subs t.0),
-  AllPairs-map (λ (x y : Subscription). has_same_sid x y ≡ false) f subs (apart-again f keeps) t.1,
+  All-filter is_to_receive (IsCounted (es ++ a ∷ [])) (map f subs)
+      (All-map (IsCounted (es ++ a ∷ [])) f subs (All-weaker (IsCounted es) (λ s. IsCounted (es ++ a ∷ []) (f s)) (λ s is. counts-more es a s (f s) (counts s) is) subs t.0)),
+  AllPairs-filter (λ (x y : Subscription). has_same_sid x y ≡ false) is_to_receive (map f subs) (AllPairs-map (λ (x y : Subscription). has_same_sid x y ≡ false) f subs (apart-again f keeps) t.1),
+  filter_passes is_to_receive (map f subs),
 )
 
 -- one has come
@@ -219,30 +139,24 @@ added es a conn account p queue sid subs command outcome free t = (
   All-push (IsCounted (es ++ a ∷ [])) subs new (kept es a subs (ap items_in outcome) t).0
       (record { before = es; made = a; since = []; entries = refl; number = refl; command = command; outcome = outcome; received = sym (min-zero (2 ^ 64 - 1)) }),
   all_pairs_push (λ (x y : Subscription). has_same_sid x y ≡ false) subs new t.1 (any-none (λ (s : Subscription). has_same_sid s new) subs free),
+  All-push IsStillToReceive subs new t.2 refl,
 )
   where
     new : Subscription
     new = subscription_of a.number conn account p queue sid
 
 -- a message was published
-counts-published : (a : Entry) (items : List Item) (s : Subscription) → items_told a ≡ items → length (filter (is_entered_for s.conn s.sid) items) ≡ cond (has_entered items s) 1 0 → Counts a s (counted items s)
-counts-published a items s tells one = record {
-  id = keeps.id s;
-  conn = keeps.conn s;
-  subject = keeps.subject s;
-  queue = keeps.queue s;
-  sid = keeps.sid s;
-  received = λ n is. received_is (has_entered items s && nat_lt s.received 18446744073709551615)
-      ∙ count-one 18446744073709551615 s.received n (has_entered items s) is
-      ∙ ap (λ k. min 18446744073709551615 (n + k)) (sym (ap (λ l. length (filter (is_entered_for s.conn s.sid) l)) tells ∙ one));
+counts-published : (a : Entry) (items : List Item) (s : Subscription) → items_told a ≡ items → Counts a s (received_more items s)
+counts-published a items s tells = record {
+  id = refl;
+  conn = refl;
+  subject = refl;
+  queue = refl;
+  sid = refl;
+  received = λ n is.
+      ap (λ r. min 18446744073709551615 (r + times_entered items s)) is
+      ∙ (let e = told-times a s ∙ ap (λ l. times_entered l s) tells in omega (arith, e));
 }
-  where
-    keeps : KeepsSubscription (counted items)
-    keeps = counted-keeps items
-
-    received_is : (b : Bool) → (cond b (record s { received = s.received + 1 }) s).received ≡ cond b (s.received + 1) s.received
-    received_is true = refl
-    received_is false = refl
 
 -- a limit was set
 counts-limited : (a : Entry) (conn : ℕ) (sid : List ℕ) (most : Option ℕ) (s : Subscription) → items_told a ≡ [] → Counts a s (limited conn sid most s)
@@ -330,7 +244,7 @@ unsub-told es w now conn sid most = by_session (session_of w.sessions conn)
     by_session : (o : Option Session) → Keeps es w (Unsub conn sid most) (numbered (w.number + 1) (in_session o (λ z. unsubscribed (advanced w now) conn sid most)))
     by_session None = tt
     by_session (Some z) = λ a command outcome number t.
-        left (es ++ a ∷ []) (λ (s : Subscription). not (has_ended s)) (map (limited conn sid most) w.subscriptions)
+        subst (Told (es ++ a ∷ [])) (sym (unended-same (map (limited conn sid most) w.subscriptions)))
         (changed es a (limited conn sid most) w.subscriptions (limited-keeps conn sid most) (λ s. counts-limited a conn sid most s (ap items_in outcome)) t)
 
 pub-told : (es : List Entry) (w : World) (now conn : ℕ) (m : Message) (word : ℕ) →
@@ -340,17 +254,27 @@ pub-told es w now conn m word = by_session (session_of w.sessions conn)
     c : Command
     c = Pub conn m word
 
+    setting : Session → Setting
+    setting z = record { world = advanced w now; publisher = z; word = word; may = is_admitted w.sessions z }
+
+    few : (s : Subscription) → IsCounted es s → HasCount s
+    few s is = let e = is.received in let l = min-le_left 18446744073709551615 (entered_for s.conn s.sid is.since) in omega (arith, e, l)
+
+    after : By → Session → World
+    after by z = record (advanced w now) {
+      sessions = ended_on by z.conn m.subject (sessions_in (setting z) [] (counted_on by z.conn m.subject w.sessions) (views z.user.account m));
+      subscriptions = standing (setting z) (told_of (setting z) by m);
+    }
+
+    sent-is : (by : By) (z : Session) → Told es w.subscriptions → published (advanced w now) z m word (Allowed by) ≡ (Published by (told_of (setting z) by m), after by z)
+    sent-is by z t =
+        published-is (setting z) (record { admits = λ v k d h. refl; apart = t.1 }) (standing-first (setting z) (All-weaker (IsCounted es) HasCount few w.subscriptions t.0) t.2) by m
+
     by_verdict : (v : Verdict) (z : Session) → Keeps es w c (numbered (w.number + 1) (Ok (published (advanced w now) z m word v)))
     by_verdict (Allowed by) z = λ a command outcome number t.
-        let all : List Subscription = admitted w z (own_view z m) in
-        let whom : List Subscription = served word all in
-        let notes = notes_of w.sessions m.reply in
-        let items : List Item = (delivered (max w.moment now) (map (with_note w.sessions m.reply) (map (addressed_to m) whom)) (counted_on by z.conn m.subject w.sessions)).1 in
-        let named = ap (map item_names) (met (max w.moment now) by z.conn m whom w.sessions) ∙ one_each (max w.moment now) notes m whom w.sessions in
-        let apart = AllPairs-filter (λ (x y : Subscription). has_same_sid x y ≡ false) (is_served word all) all
-        (AllPairs-filter (λ (x y : Subscription). has_same_sid x y ≡ false) (is_admitted w.sessions z (own_view z m)) w.subscriptions t.1) in
-        left (es ++ a ∷ []) (λ (s : Subscription). not (has_ended s)) (map (counted items) w.subscriptions)
-        (changed es a (counted items) w.subscriptions (counted-keeps items) (λ s. counts-published a items s (ap items_in outcome) (once s whom items named apart)) t)
+        subst (λ (r : Outcome × World). a.outcome ≡ r.0 → Told (es ++ a ∷ []) r.1.subscriptions) (sym (sent-is by z t))
+        (λ tells. changed es a (received_more (told_of (setting z) by m)) w.subscriptions (received-keeps (told_of (setting z) by m)) (λ s. counts-published a (told_of (setting z) by m) s (ap items_in tells)) t)
+        outcome
     by_verdict (DeniedBy i) z = silent es w c (Denied (DeniedBy i)) refl
     by_verdict NoAllow z = silent es w c (Denied NoAllow) refl
     by_verdict (NoQueueAllow i) z = silent es w c (Denied (NoQueueAllow i)) refl
@@ -399,4 +323,4 @@ run-told done (a ∷ es) w after t run =
 -- from an opening on
 pub counted-run : (policy : PolicyDoc) (capacity : ℕ) (es : List Entry) (w : World) → IsLegalRun (opening_world policy capacity) es w → All (IsCounted es) w.subscriptions
 counted-run policy capacity es w run =
-    (run-told [] es (opening_world policy capacity) w (All-nil (IsCounted []), λ i j d below within. absurd (omega (arith, within))) run).0
+    (run-told [] es (opening_world policy capacity) w (All-nil (IsCounted []), (λ i j d below within. absurd (omega (arith, within))), All-nil IsStillToReceive) run).0

@@ -3,35 +3,31 @@ use Rattle.std.proofs.Common.{◌≡◌, ◌∙◌, ◌==◌, ◌||◌, ◌⊎�
 use Rattle.std.specs.Prelude.{All, AllPairs, is_some}
 use Rattle.std.specs.Option.{option_map}
 use Rattle.std.proofs.lemmas.List.{append_assoc, append-nil, length-append}
-use Rattle.std.proofs.lemmas.List.Elements.{All-nil, All-cons, All-head, All-tail}
+use Rattle.std.proofs.lemmas.List.Elements.{All-nil, All-cons, All-head, All-tail, filter_passes}
 use Rattle.std.proofs.Math.Bool.{or-true, or-false}
 use Rattle.std.proofs.lemmas.List.Folds.{map_fixed}
-use Rattle.std.proofs.lemmas.Bool.{eq-eqb, ne_eqb, ltb-true, ltb-false, lt-ltb, le-ltb, cases_eq}
+use Rattle.std.proofs.lemmas.Bool.{eq-eqb, eqb-true, ne_eqb, ltb-true, ltb-false, lt-ltb, le-ltb, cases_eq}
 use Rattle.subjects.specs.Subject.{Token}
 use Rattle.policy_doc.specs.declared.document.Terms.{Terms}
 use Rattle.permissions.specs.declared.verdict.By.{By}
 use Rattle.permissions.specs.declared.verdict.By.TheVariants.{All as AllowsAll, Index, Grant}
-use Rattle.reply_grants.specs.Replies.{Table, answered_in, ended_in}
+use Rattle.reply_grants.specs.Replies.{Table, noted, answered_in, ended_in}
 use Rattle.reply_grants.specs.declared.replies.Note.{Note}
-use Rattle.events.specs.Messages.{Message}
 use Rattle.events.specs.declared.answer.Addressed.{Addressed}
 use Rattle.events.specs.declared.answer.Delivery.{Delivery}
 use Rattle.events.specs.declared.answer.Item.{Item}
 use Rattle.events.specs.declared.answer.Item.TheVariants.{Entered, Full}
 use Rattle.world_deliveries.specs.Sessions.{session_of, with_session}
 use Rattle.world_deliveries.specs.Delivered.{noting, offered, after_offer, item_of, delivered, has_room}
-use Rattle.world_deliveries.specs.Replying.{terms_of, note_of, note_for, with_note, answering, ending}
+use Rattle.world_deliveries.specs.Replying.{terms_of, note_of, note_for, noted_for, answering, ending}
 use Rattle.world_deliveries.specs.declared.session.Session.{Session}
-use Rattle.world_subscriptions.specs.Subscriptions.{of_connection}
 use Rattle.world_rows.specs.declared.subscription.Subscription.{Subscription}
-use Rattle.world_subscriptions.specs.Addressing.{delivery_to, addressed_to}
+use Rattle.world_subscriptions.specs.Addressing.{addressed_to}
 use Rattle.world_deliveries.proofs.Changes.{only, with_session-map, session_of-changed, session_of-other, offered-conn}
 use Rattle.world.specs.Granting.{counted_on, ended_on}
-use Rattle.world.proofs.Publishing.{same_met}
-use Rattle.hub.specs.Replies.{noted_at}
-use Rattle.hub.specs.Guarantee.{receives, room_in, items_of, items_with_room, item_names, names_of}
+use Rattle.hub.specs.Replies.{noted_at, noted_each}
+use Rattle.hub.specs.Guarantee.{Sending, sent_to, delivery_of, receiver, receives, room_in, items_of, items_with_room, item_names, names_of}
 use Rattle.hub.proofs.Finds.{AllPairs-map, AllPairs-head, AllPairs-tail}
-use Rattle.hub.proofs.Grants.{noted_twice}
 use Rattle.hub.proofs.Soundness.{IsApart, either}
 
 -- ---- the outboxes
@@ -83,110 +79,104 @@ missed-full : (missed : Bool) (ws ds : List Delivery) (d : Delivery) (capacity :
 missed-full missed ws ds d capacity h =
     sym (ap (λ b. missed || b) (lt-ltb (capacity - length ws) (length (d ∷ ds)) (omega arith)) ∙ or-true missed)
 
--- ---- what is noted
+-- ---- what is sent
 
--- what a session has noted after so many deliveries with this note have entered
-abbrev noting_any : ℕ → Option Note → ℕ → Table → Table
-noting_any entered note now table = cond (nat_lt 0 entered) (noting note now table) table
+-- what the session of a sending is to note where it enters, by the sessions before the message
+abbrev pub note_in : List Session → Sending → Option Note
+note_in zs s = note_for s.message.reply (session_of zs s.to.conn)
 
-noting_twice : (note : Option Note) (now : ℕ) (table : Table) → noting note now (noting note now table) ≡ noting note now table
-noting_twice None now table = refl
-noting_twice (Some note) now table = noted_twice note now table
+-- a sending as it is addressed
+abbrev pub sent : List Session → Sending → Addressed
+sent zs s = noted_for zs (addressed_to s.message s.to)
 
--- once more is none more
-noting-again : (entered : ℕ) (note : Option Note) (now : ℕ) (table : Table) → noting_any entered note now (noting note now table) ≡ noting note now table
-noting-again entered note now table = here (nat_lt 0 entered)
+-- what a session has noted after these have entered
+abbrev noting_each : List Session → ℕ → List Sending → Table → Table
+noting_each zs now [] table = table
+noting_each zs now (s ∷ ss) table = noting_each zs now ss (noting (note_in zs s) now table)
+
+-- a session after these were offered to it
+abbrev pub takes : List Session → ℕ → List Sending → Session → Session
+takes zs now ss z =
+    holding z (z.outbox.waiting ++ take (room_in (Some z)) (map delivery_of ss)) (z.missed || nat_lt (room_in (Some z)) (length (map delivery_of ss))) (noting_each zs now (take (room_in (Some z)) ss) z.replies)
+
+-- one, then the others
+takes-more : (zs : List Session) (now : ℕ) (s : Sending) (ss : List Sending) (z : Session) → takes zs now ss (offered (delivery_of s) (note_in zs s) now z) ≡ takes zs now (s ∷ ss) z
+takes-more zs now s ss z = here (nat_lt (length z.outbox.waiting) z.outbox.capacity) refl
   where
-    here : (b : Bool) → cond b (noting note now (noting note now table)) (noting note now table) ≡ noting note now table
-    here true = noting_twice note now table
-    here false = refl
+    d : Delivery
+    d = delivery_of s
 
-noting-some : (entered : ℕ) (note : Option Note) (now : ℕ) (table : Table) → noting_any (suc entered) note now table ≡ noting note now table
-noting-some entered note now table = ap (λ b. cond b (noting note now table) table) (lt-ltb 0 (suc entered) (omega arith))
+    ds : List Delivery
+    ds = map delivery_of ss
 
--- a session after deliveries with this note
-abbrev pub takes : ℕ → Option Note → List Delivery → Session → Session
-takes now note ds z =
-    holding z (z.outbox.waiting ++ take (room_in (Some z)) ds) (z.missed || nat_lt (room_in (Some z)) (length ds)) (noting_any (length (take (room_in (Some z)) ds)) note now z.replies)
-
--- one delivery, then the others
-takes-more : (now : ℕ) (note : Option Note) (d : Delivery) (ds : List Delivery) (z : Session) → takes now note ds (offered d note now z) ≡ takes now note (d ∷ ds) z
-takes-more now note d ds z = here (nat_lt (length z.outbox.waiting) z.outbox.capacity) refl
-  where
     here : (b : Bool) → nat_lt (length z.outbox.waiting) z.outbox.capacity ≡ b →
-        takes now note ds (cond b (record z { outbox = record z.outbox { waiting = z.outbox.waiting ++ d ∷ [] }; replies = noting note now z.replies }) (record z { missed = true })) ≡ takes now note (d ∷ ds) z
+        takes zs now ss (cond b (record z { outbox = record z.outbox { waiting = z.outbox.waiting ++ delivery_of s ∷ [] }; replies = noting (note_in zs s) now z.replies }) (record z { missed = true })) ≡ takes zs now (s ∷ ss) z
     here true is =
         let h = ltb-true (length z.outbox.waiting) z.outbox.capacity is in
         let m : ℕ = z.outbox.capacity - (length z.outbox.waiting + 1) in
+        let less : z.outbox.capacity - length (z.outbox.waiting ++ d ∷ []) ≡ m = omega (arith, length-append z.outbox.waiting (d ∷ [])) in
         let more : z.outbox.capacity - length z.outbox.waiting ≡ suc m = omega arith in
         same_holding z _ _ _ _ _ _ (waiting-more z.outbox.waiting ds d z.outbox.capacity h) (ap (λ b. z.missed || b) (missed-more z.outbox.waiting ds d z.outbox.capacity h))
-        (noting-again (length (take (z.outbox.capacity - length (z.outbox.waiting ++ d ∷ [])) ds)) note now z.replies
-        ∙ sym (noting-some (length (take m ds)) note now z.replies)
-        ∙ sym (ap (λ n. noting_any (length (take n (d ∷ ds))) note now z.replies) more))
+        (ap (λ n. noting_each zs now (take n ss) (noting (note_in zs s) now z.replies)) less
+        ∙ sym (ap (λ n. noting_each zs now (take n (s ∷ ss)) z.replies) more))
     here false is =
         let h = ltb-false (length z.outbox.waiting) z.outbox.capacity is in
         let none : z.outbox.capacity - length z.outbox.waiting ≡ 0 = omega arith in
         same_holding z _ _ _ _ _ _ (waiting-full z.outbox.waiting ds d z.outbox.capacity h) (missed-full z.missed z.outbox.waiting ds d z.outbox.capacity h)
-        (ap (λ n. noting_any (length (take n ds)) note now z.replies) none ∙ sym (ap (λ n. noting_any (length (take n (d ∷ ds))) note now z.replies) none))
+        (ap (λ n. noting_each zs now (take n ss) z.replies) none ∙ sym (ap (λ n. noting_each zs now (take n (s ∷ ss)) z.replies) none))
 
-take-none : (n : ℕ) → take n (let none : List Delivery = [] in none) ≡ []
+take-none : {X : Type 0} (n : ℕ) → take n (let none : List X = [] in none) ≡ []
 take-none zero = refl
 take-none (suc n) = refl
 
-takes-none : (now : ℕ) (note : Option Note) (z : Session) → takes now note [] z ≡ z
-takes-none now note z =
+takes-none : (zs : List Session) (now : ℕ) (z : Session) → takes zs now [] z ≡ z
+takes-none zs now z =
     let n : ℕ = z.outbox.capacity - length z.outbox.waiting in
-    same_holding z _ _ _ _ _ _ (ap (λ ds. z.outbox.waiting ++ ds) (take-none n) ∙ append-nil z.outbox.waiting)
+    same_holding z _ _ _ _ _ _ (ap (λ (ds : List Delivery). z.outbox.waiting ++ ds) (take-none n) ∙ append-nil z.outbox.waiting)
     (ap (λ b. z.missed || b) (le-ltb n 0 (omega arith)) ∙ or-false z.missed)
-    (ap (λ (ds : List Delivery). noting_any (length ds) note now z.replies) (take-none n))
+    (ap (λ (ss : List Sending). noting_each zs now ss z.replies) (take-none n))
 
-map-twice : {X Y Z : Type 0} (f : X → Y) (g : Y → Z) (h : X → Z) (xs : List X) → ((x : X) → g (f x) ≡ h x) → map g (map f xs) ≡ map h xs
+pub map-twice : {X Y Z : Type 0} (f : X → Y) (g : Y → Z) (h : X → Z) (xs : List X) → ((x : X) → g (f x) ≡ h x) → map g (map f xs) ≡ map h xs
 map-twice f g h [] same = refl
 map-twice f g h (x ∷ xs) same = ap (λ y. y ∷ map g (map f xs)) (same x) ∙ ap (λ ys. h x ∷ ys) (map-twice f g h xs same)
 
--- a message addressed to a subscription, with what its connection is to note
-abbrev pub sent : (ℕ → Option Note) → Message → Subscription → Addressed
-sent notes m sub = record (addressed_to m sub) { noted = notes sub.conn }
-
 -- what a session gets of a message
-abbrev pub gets : ℕ → (ℕ → Option Note) → Message → List Subscription → Session → Session
-gets now notes m subs z = takes now (notes z.conn) (map (delivery_to m) (of_connection z.conn subs)) z
+abbrev pub gets : List Session → ℕ → List Sending → Session → Session
+gets zs now ss z = takes zs now (sent_to z.conn ss) z
 
 only-conn : (f : Session → Session) (conn : ℕ) (z : Session) → (f z).conn ≡ z.conn → (only f conn z).conn ≡ z.conn
 only-conn f conn z same = either (λ (y : Session). y.conn) (z.conn == conn) (f z) z same
 
-gets-more : (now : ℕ) (notes : ℕ → Option Note) (m : Message) (sub : Subscription) (subs : List Subscription) (z : Session) →
-    gets now notes m subs (only (offered (delivery_to m sub) (notes sub.conn) now) sub.conn z) ≡ gets now notes m (sub ∷ subs) z
-gets-more now notes m sub subs z = here (cases_eq z.conn sub.conn)
+gets-more : (zs : List Session) (now : ℕ) (s : Sending) (ss : List Sending) (z : Session) →
+    gets zs now ss (only (offered (delivery_of s) (note_in zs s) now) s.to.conn z) ≡ gets zs now (s ∷ ss) z
+gets-more zs now s ss z = here (cases_eq z.conn s.to.conn)
   where
-    here : (z.conn ≡ sub.conn) ⊎ (z.conn ≡ sub.conn → ⊥) → gets now notes m subs (only (offered (delivery_to m sub) (notes sub.conn) now) sub.conn z) ≡ gets now notes m (sub ∷ subs) z
+    here : (z.conn ≡ s.to.conn) ⊎ (z.conn ≡ s.to.conn → ⊥) → gets zs now ss (only (offered (delivery_of s) (note_in zs s) now) s.to.conn z) ≡ gets zs now (s ∷ ss) z
     here (inl e) =
-        let d : Delivery = delivery_to m sub in
-        ap (λ b. gets now notes m subs (cond b (offered d (notes sub.conn) now z) z)) (eq-eqb z.conn sub.conn e)
-        ∙ ap (λ n. takes now (notes n) (map (delivery_to m) (of_connection n subs)) (offered d (notes sub.conn) now z)) (offered-conn d (notes sub.conn) now z)
-        ∙ ap (λ n. takes now (notes z.conn) (map (delivery_to m) (of_connection z.conn subs)) (offered d (notes n) now z)) (sym e)
-        ∙ takes-more now (notes z.conn) d (map (delivery_to m) (of_connection z.conn subs)) z
-        ∙ sym (ap (λ b. takes now (notes z.conn) (map (delivery_to m) (cond b (sub ∷ of_connection z.conn subs) (of_connection z.conn subs))) z) (eq-eqb sub.conn z.conn (sym e)))
+        ap (λ b. gets zs now ss (cond b (offered (delivery_of s) (note_in zs s) now z) z)) (eq-eqb z.conn s.to.conn e)
+        ∙ ap (λ n. takes zs now (sent_to n ss) (offered (delivery_of s) (note_in zs s) now z)) (offered-conn (delivery_of s) (note_in zs s) now z)
+        ∙ takes-more zs now s (sent_to z.conn ss) z
+        ∙ sym (ap (λ b. takes zs now (cond b (s ∷ sent_to z.conn ss) (sent_to z.conn ss)) z) (eq-eqb s.to.conn z.conn (sym e)))
     here (inr ne) =
-        ap (λ b. gets now notes m subs (cond b (offered (delivery_to m sub) (notes sub.conn) now z) z)) (ne_eqb z.conn sub.conn ne)
-        ∙ sym (ap (λ b. takes now (notes z.conn) (map (delivery_to m) (cond b (sub ∷ of_connection z.conn subs) (of_connection z.conn subs))) z) (ne_eqb sub.conn z.conn (λ e. ne (sym e))))
+        ap (λ b. gets zs now ss (cond b (offered (delivery_of s) (note_in zs s) now z) z)) (ne_eqb z.conn s.to.conn ne)
+        ∙ sym (ap (λ b. takes zs now (cond b (s ∷ sent_to z.conn ss) (sent_to z.conn ss)) z) (ne_eqb s.to.conn z.conn (λ e. ne (sym e))))
 
-handed : (now : ℕ) (notes : ℕ → Option Note) (m : Message) (subs : List Subscription) (zs : List Session) → AllPairs IsApart zs →
-    (delivered now (map (sent notes m) subs) zs).0 ≡ map (gets now notes m subs) zs
-handed now notes m [] zs apart = sym (map_fixed (gets now notes m []) zs (λ k d h. takes-none now _ _))
-handed now notes m (sub ∷ subs) zs apart =
-    let f : Session → Session = offered (delivery_to m sub) (notes sub.conn) now in
-    let changed = with_session-map f sub.conn zs apart in
-    let same : (z : Session) → (only f sub.conn z).conn ≡ z.conn = λ z. only-conn f sub.conn z (offered-conn (delivery_to m sub) (notes sub.conn) now z) in
-    let still : AllPairs IsApart (map (only f sub.conn) zs) =
-    AllPairs-map IsApart (only f sub.conn) zs (λ y z ne e. ne (sym (same y) ∙ e ∙ same z)) apart in
-    handed now notes m subs (after_offer now (sent notes m sub) zs) (subst (AllPairs IsApart) (sym changed) still)
-    ∙ ap (map (gets now notes m subs)) changed
-    ∙ map-twice (only f sub.conn) (gets now notes m subs) (gets now notes m (sub ∷ subs)) zs (gets-more now notes m sub subs)
+handed : (zs : List Session) (now : ℕ) (ss : List Sending) (ys : List Session) → AllPairs IsApart ys →
+    (delivered now (map (sent zs) ss) ys).0 ≡ map (gets zs now ss) ys
+handed zs now [] ys apart = sym (map_fixed (gets zs now []) ys (λ k d h. takes-none zs now _))
+handed zs now (s ∷ ss) ys apart =
+    let f : Session → Session = offered (delivery_of s) (note_in zs s) now in
+    let changed = with_session-map f s.to.conn ys apart in
+    let same : (z : Session) → (only f s.to.conn z).conn ≡ z.conn = λ z. only-conn f s.to.conn z (offered-conn (delivery_of s) (note_in zs s) now z) in
+    let still : AllPairs IsApart (map (only f s.to.conn) ys) =
+    AllPairs-map IsApart (only f s.to.conn) ys (λ y z ne e. ne (sym (same y) ∙ e ∙ same z)) apart in
+    handed zs now ss (after_offer now (sent zs s) ys) (subst (AllPairs IsApart) (sym changed) still)
+    ∙ ap (map (gets zs now ss)) changed
+    ∙ map-twice (only f s.to.conn) (gets zs now ss) (gets zs now (s ∷ ss)) ys (gets-more zs now s ss)
 
 -- ---- answers
 
-map_same_on : {X Y : Type 0} (f g : X → Y) (xs : List X) → All (λ x. f x ≡ g x) xs → map f xs ≡ map g xs
+pub map_same_on : {X Y : Type 0} (f g : X → Y) (xs : List X) → All (λ x. f x ≡ g x) xs → map f xs ≡ map g xs
 map_same_on f g [] same = refl
 map_same_on f g (x ∷ xs) same =
     ap (λ y. y ∷ map f xs) (All-head (λ x. f x ≡ g x) x xs same) ∙ ap (λ ys. g x ∷ ys) (map_same_on f g xs (All-tail (λ x. f x ≡ g x) x xs same))
@@ -202,39 +192,55 @@ found (y ∷ zs) apart =
     (ap (λ b. cond b (Some y) (session_of zs y.conn)) (eq-eqb y.conn y.conn refl))
     (λ k d h. ap (λ b. cond b (Some y) (session_of zs (get_or zs k d).conn)) (ne_eqb y.conn (get_or zs k d).conn (AllPairs-head IsApart y zs apart k d h)) ∙ found zs (AllPairs-tail IsApart y zs apart) k d h)
 
--- what the sessions are to note of a message
-abbrev pub notes_of : List Session → Option (List Token) → ℕ → Option Note
-notes_of zs reply conn = note_for reply (session_of zs conn)
+-- a table is there, or there was none before
+abbrev IsThere : Table → Table → Type 0
+IsThere None before = is_some before ≡ false
+IsThere (Some gs) before = Unit {0}
 
-whichever : {X : Type 0} (b : Bool) (x : X) → cond b x x ≡ x
-whichever true x = refl
-whichever false x = refl
+there-itself : (table : Table) → IsThere table table
+there-itself None = refl
+there-itself (Some gs) = tt
 
--- it is what the guarantee says, where a table is there as before
-noted-is : (now entered : ℕ) (reply : Option (List Token)) (z : Session) (table : Table) → is_some table ≡ is_some z.replies →
-    noting_any entered (note_for reply (Some z)) now table ≡ noted_at now entered reply (terms_of z) table
-noted-is now entered None z table there = whichever (nat_lt 0 entered) table
-noted-is now entered (Some s) z table there = here (terms_of z)
+there-answered : (s : List Token) (table : Table) → IsThere (answered_in s table) table
+there-answered s None = refl
+there-answered s (Some gs) = tt
+
+there-noted : (now : ℕ) (terms : Option Terms) (reply : Option (List Token)) (table before : Table) → IsThere table before → IsThere (noted_at now terms reply table) before
+there-noted now terms None table before there = there
+there-noted now None (Some s) table before there = there
+there-noted now (Some terms) (Some s) None before there = tt
+there-noted now (Some terms) (Some s) (Some gs) before there = tt
+
+-- what is noted by the sessions before is what the guarantee says
+noted-is : (now : ℕ) (reply : Option (List Token)) (z : Session) (table : Table) → IsThere table z.replies →
+    noting (note_for reply (Some z)) now table ≡ noted_at now (terms_of z) reply table
+noted-is now None z table there = refl
+noted-is now (Some s) z table there = here (terms_of z) table there
   where
-    here : (o : Option Terms) → noting_any entered (option_map (λ (t : Terms). note_of s z.replies) o) now table ≡ noted_at now entered (Some s) o table
-    here None = whichever (nat_lt 0 entered) table
-    here (Some terms) =
-        ap (λ b. noting_any entered (Some record { subject = s; table = cond b None (Some []) }) now table) (sym there)
+    here : (o : Option Terms) (t : Table) → IsThere t z.replies → noting (option_map (λ (x : Terms). note_of s z.replies) o) now t ≡ noted_at now o (Some s) t
+    here None t there = refl
+    here (Some terms) (Some gs) there = refl
+    here (Some terms) None there = ap (λ b. noted record { subject = s; table = cond b None (Some []) } now None) there
 
-answered-there : (s : List Token) (table : Table) → is_some (answered_in s table) ≡ is_some table
-answered-there s None = refl
-answered-there s (Some gs) = refl
+abbrev IsTo : List Session → Session → Sending → Type 0
+IsTo zs z s = session_of zs s.to.conn ≡ Some z
 
--- what a session gets of a message that its publisher may publish
-abbrev pub receives_of : ℕ → By → ℕ → Message → List Subscription → Session → Session
-receives_of now by conn m subs z = receives now by conn m (map (delivery_to m) (of_connection z.conn subs)) z
+each-is : (zs : List Session) (now n : ℕ) (z : Session) (ss : List Sending) (table : Table) → All (IsTo zs z) ss → IsThere table z.replies →
+    noting_each zs now (take n ss) table ≡ noted_each now (terms_of z) (take n (map delivery_of ss)) table
+each-is zs now zero z [] table all there = refl
+each-is zs now zero z (s ∷ ss) table all there = refl
+each-is zs now (suc n) z [] table all there = refl
+each-is zs now (suc n) z (s ∷ ss) table all there =
+    ap (λ t. noting_each zs now (take n ss) t) (ap (λ o. noting (note_for s.message.reply o) now table) (All-head (IsTo zs z) s ss all) ∙ noted-is now s.message.reply z table there)
+    ∙ each-is zs now n z ss (noted_at now (terms_of z) s.message.reply table) (All-tail (IsTo zs z) s ss all) (there-noted now (terms_of z) s.message.reply table z.replies there)
 
-module _ (now conn : ℕ) (m : Message) (subs : List Subscription) (zs : List Session) where
-  abbrev pub notes : ℕ → Option Note
-  notes = notes_of zs m.reply
+-- what a session gets of a message that its publisher may publish on a subject
+abbrev pub receives_of : ℕ → By → ℕ → List Token → List Sending → Session → Session
+receives_of now by conn s ss z = receives now by conn s (map delivery_of (sent_to z.conn ss)) z
 
+module _ (now conn : ℕ) (s : List Token) (ss : List Sending) (zs : List Session) where
   abbrev ds : Session → List Delivery
-  ds z = map (delivery_to m) (of_connection z.conn subs)
+  ds z = map delivery_of (sent_to z.conn ss)
 
   abbrev waiting : Session → List Delivery
   waiting z = z.outbox.waiting ++ take (room_in (Some z)) (ds z)
@@ -242,93 +248,83 @@ module _ (now conn : ℕ) (m : Message) (subs : List Subscription) (zs : List Se
   abbrev missed : Session → Bool
   missed z = z.missed || nat_lt (room_in (Some z)) (length (ds z))
 
-  abbrev entered : Session → ℕ
-  entered z = length (take (room_in (Some z)) (ds z))
+  abbrev noted_by : Session → Table → Table
+  noted_by z table = noted_each now (terms_of z) (take (room_in (Some z)) (ds z)) table
+
+  own-is : (z : Session) → IsFound zs z → All (IsTo zs z) (sent_to z.conn ss)
+  own-is z at k d h = ap (session_of zs) (eqb-true (get_or (sent_to z.conn ss) k d).to.conn z.conn (filter_passes (λ (x : Sending). x.to.conn == z.conn) ss k d h)) ∙ at
 
   -- no answer
-  plain-is : (z : Session) → IsFound zs z → gets now notes m subs z ≡ holding z (waiting z) (missed z) (noted_at now (entered z) m.reply (terms_of z) z.replies)
+  plain-is : (z : Session) → IsFound zs z → gets zs now ss z ≡ holding z (waiting z) (missed z) (noted_by z z.replies)
   plain-is z at =
-      ap (λ o. takes now (note_for m.reply o) (ds z) z) at
-      ∙ ap (λ t. holding z (waiting z) (missed z) t) (noted-is now (entered z) m.reply z z.replies refl)
+      ap (λ t. holding z (waiting z) (missed z) t) (each-is zs now (room_in (Some z)) z (sent_to z.conn ss) z.replies (own-is z at) (there-itself z.replies))
 
   -- an answer
-  answer-is : (z : Session) → IsFound zs z → (z.conn == conn) ≡ true →
-      ending m.subject (gets now notes m subs (answering m.subject z))
-      ≡ holding z (waiting z) (missed z) (ended_in m.subject (terms_of z) (noted_at now (entered z) m.reply (terms_of z) (answered_in m.subject z.replies)))
-  answer-is z at is =
-      ap (λ o. ending m.subject (takes now (note_for m.reply o) (ds z) (answering m.subject z))) at
-      ∙ ap (λ t. holding z (waiting z) (missed z) (ended_in m.subject (terms_of z) t)) (noted-is now (entered z) m.reply z (answered_in m.subject z.replies) (answered-there m.subject z.replies))
+  answer-is : (z : Session) → IsFound zs z →
+      ending s (gets zs now ss (answering s z)) ≡ holding z (waiting z) (missed z) (ended_in s (terms_of z) (noted_by z (answered_in s z.replies)))
+  answer-is z at =
+      ap (λ t. holding z (waiting z) (missed z) (ended_in s (terms_of z) t))
+      (each-is zs now (room_in (Some z)) z (sent_to z.conn ss) (answered_in s z.replies) (own-is z at) (there-answered s z.replies))
 
   by_grant : (z : Session) → IsFound zs z →
-      only (ending m.subject) conn (gets now notes m subs (only (answering m.subject) conn z)) ≡ receives_of now Grant conn m subs z
+      only (ending s) conn (gets zs now ss (only (answering s) conn z)) ≡ receives_of now Grant conn s ss z
   by_grant z at = here (z.conn == conn) refl
     where
       plain : Table
-      plain = noted_at now (entered z) m.reply (terms_of z) z.replies
+      plain = noted_by z z.replies
 
       answer : Table
-      answer = ended_in m.subject (terms_of z) (noted_at now (entered z) m.reply (terms_of z) (answered_in m.subject z.replies))
+      answer = ended_in s (terms_of z) (noted_by z (answered_in s z.replies))
 
-      here : (b : Bool) → (z.conn == conn) ≡ b → only (ending m.subject) conn (gets now notes m subs (only (answering m.subject) conn z)) ≡ receives_of now Grant conn m subs z
+      here : (b : Bool) → (z.conn == conn) ≡ b → only (ending s) conn (gets zs now ss (only (answering s) conn z)) ≡ receives_of now Grant conn s ss z
       here true is =
-          ap (λ c. only (ending m.subject) conn (gets now notes m subs (cond c (answering m.subject z) z))) is
-          ∙ ap (λ c. cond c (ending m.subject (gets now notes m subs (answering m.subject z))) (gets now notes m subs (answering m.subject z))) is
-          ∙ answer-is z at is
+          ap (λ c. only (ending s) conn (gets zs now ss (cond c (answering s z) z))) is
+          ∙ ap (λ c. cond c (ending s (gets zs now ss (answering s z))) (gets zs now ss (answering s z))) is
+          ∙ answer-is z at
           ∙ sym (ap (λ c. holding z (waiting z) (missed z) (cond c answer plain)) is)
       here false is =
-          ap (λ c. only (ending m.subject) conn (gets now notes m subs (cond c (answering m.subject z) z))) is
-          ∙ ap (λ c. cond c (ending m.subject (gets now notes m subs z)) (gets now notes m subs z)) is
+          ap (λ c. only (ending s) conn (gets zs now ss (cond c (answering s z) z))) is
+          ∙ ap (λ c. cond c (ending s (gets zs now ss z)) (gets zs now ss z)) is
           ∙ plain-is z at
           ∙ sym (ap (λ c. holding z (waiting z) (missed z) (cond c answer plain)) is)
 
-  all_plain : AllPairs IsApart zs → (delivered now (map (sent notes m) subs) zs).0 ≡ map (λ z. holding z (waiting z) (missed z) (noted_at now (entered z) m.reply (terms_of z) z.replies)) zs
+  all_plain : AllPairs IsApart zs → (delivered now (map (sent zs) ss) zs).0 ≡ map (λ z. holding z (waiting z) (missed z) (noted_by z z.replies)) zs
   all_plain apart =
-      handed now notes m subs zs apart
-      ∙ map_same_on (gets now notes m subs) _ zs (λ k d h. plain-is (get_or zs k d) (found zs apart k d h))
+      handed zs now ss zs apart
+      ∙ map_same_on (gets zs now ss) _ zs (λ k d h. plain-is (get_or zs k d) (found zs apart k d h))
 
   -- what is handed over of a message that was published
   pub outboxes : (by : By) → AllPairs IsApart zs →
-      ended_on by conn m.subject (delivered now (map (sent notes m) subs) (counted_on by conn m.subject zs)).0 ≡ map (receives_of now by conn m subs) zs
+      ended_on by conn s (delivered now (map (sent zs) ss) (counted_on by conn s zs)).0 ≡ map (receives_of now by conn s ss) zs
   outboxes AllowsAll apart = all_plain apart
   outboxes (Index i) apart = all_plain apart
   outboxes Grant apart =
-      let count : Session → Session = answering m.subject in
-      let end : Session → Session = ending m.subject in
-      let get : Session → Session = gets now notes m subs in
+      let count : Session → Session = answering s in
+      let end : Session → Session = ending s in
+      let get : Session → Session = gets zs now ss in
       let counted = with_session-map count conn zs apart in
       let same : (z : Session) → (only count conn z).conn ≡ z.conn = λ z. only-conn count conn z refl in
       let still : AllPairs IsApart (map (only count conn) zs) = AllPairs-map IsApart (only count conn) zs (λ y z ne e. ne (sym (same y) ∙ e ∙ same z)) apart in
       let later : AllPairs IsApart (map get (map (only count conn) zs)) = AllPairs-map IsApart get (map (only count conn) zs) (λ y z ne e. ne e) still in
-      ap (λ ys. with_session end conn (delivered now (map (sent notes m) subs) ys).0) counted
-      ∙ ap (with_session end conn) (handed now notes m subs (map (only count conn) zs) still)
+      ap (λ ys. with_session end conn (delivered now (map (sent zs) ss) ys).0) counted
+      ∙ ap (with_session end conn) (handed zs now ss (map (only count conn) zs) still)
       ∙ with_session-map end conn (map get (map (only count conn) zs)) later
       ∙ ap (map (only end conn)) (map-twice (only count conn) get (λ z. get (only count conn z)) zs (λ z. refl))
       ∙ map-twice (λ z. get (only count conn z)) (only end conn) (λ z. only end conn (get (only count conn z))) zs (λ z. refl)
-      ∙ map_same_on (λ z. only end conn (get (only count conn z))) (receives_of now Grant conn m subs) zs (λ k d h. by_grant (get_or zs k d) (found zs apart k d h))
+      ∙ map_same_on (λ z. only end conn (get (only count conn z))) (receives_of now Grant conn s ss) zs (λ k d h. by_grant (get_or zs k d) (found zs apart k d h))
 
 -- ---- the items
 
--- deliveries with what their sessions are to note
-pub as_sent : (zs : List Session) (m : Message) (subs : List Subscription) → map (with_note zs m.reply) (map (addressed_to m) subs) ≡ map (sent (notes_of zs m.reply) m) subs
-as_sent zs m subs = map-twice (addressed_to m) (with_note zs m.reply) (sent (notes_of zs m.reply) m) subs (λ s. refl)
+abbrev pub items_after : List Session → ℕ → List Sending → List Session → List Item
+items_after zs now ss ys = (delivered now (map (sent zs) ss) ys).1
 
-abbrev pub items_after : ℕ → (ℕ → Option Note) → Message → List Subscription → List Session → List Item
-items_after now notes m subs zs = (delivered now (map (sent notes m) subs) zs).1
-
--- an answer that is counted before changes none
-pub met : (now : ℕ) (by : By) (conn : ℕ) (m : Message) (subs : List Subscription) (zs : List Session) →
-    (delivered now (map (with_note zs m.reply) (map (addressed_to m) subs)) (counted_on by conn m.subject zs)).1 ≡ items_after now (notes_of zs m.reply) m subs zs
-met now by conn m subs zs =
-    ap (λ (all : List Addressed). (delivered now all (counted_on by conn m.subject zs)).1) (as_sent zs m subs)
-    ∙ same_met by conn m.subject now (map (sent (notes_of zs m.reply) m) subs) zs
-
-pub one_each : (now : ℕ) (notes : ℕ → Option Note) (m : Message) (subs : List Subscription) (zs : List Session) → map item_names (items_after now notes m subs zs) ≡ map names_of subs
-one_each now notes m [] zs = refl
-one_each now notes m (sub ∷ subs) zs =
-    ap (λ n. n ∷ map item_names (items_after now notes m subs (after_offer now (sent notes m sub) zs))) (here (has_room (session_of zs sub.conn)))
-    ∙ ap (λ rest. names_of sub ∷ rest) (one_each now notes m subs (after_offer now (sent notes m sub) zs))
+pub one_each : (zs : List Session) (now : ℕ) (ss : List Sending) (ys : List Session) → map item_names (items_after zs now ss ys) ≡ map (λ (s : Sending). names_of s.to) ss
+one_each zs now [] ys = refl
+one_each zs now (s ∷ ss) ys =
+    ap (λ n. n ∷ map item_names (items_after zs now ss (after_offer now (sent zs s) ys))) (here (has_room (session_of ys s.to.conn)))
+    ∙ ap (λ rest. names_of s.to ∷ rest) (one_each zs now ss (after_offer now (sent zs s) ys))
   where
-    here : (b : Bool) → item_names (cond b (Entered sub.conn sub.sid) (Full sub.conn sub.sid)) ≡ names_of sub
+    here : (b : Bool) → item_names (cond b (Entered s.to.conn s.to.sid) (Full s.to.conn s.to.sid)) ≡ names_of s.to
     here true = refl
     here false = refl
 
@@ -359,41 +355,43 @@ item-conn o sub = here (has_room o)
     here true = refl
     here false = refl
 
-pub with_room : (now : ℕ) (notes : ℕ → Option Note) (m : Message) (subs : List Subscription) (zs : List Session) (conn : ℕ) →
-    items_of conn (items_after now notes m subs zs) ≡ items_with_room (room_in (session_of zs conn)) (of_connection conn subs)
-with_room now notes m [] zs conn = none (room_in (session_of zs conn))
+pub with_room : (zs : List Session) (now : ℕ) (ss : List Sending) (ys : List Session) (conn : ℕ) →
+    items_of conn (items_after zs now ss ys) ≡ items_with_room (room_in (session_of ys conn)) (map receiver (sent_to conn ss))
+with_room zs now [] ys conn = none (room_in (session_of ys conn))
   where
     none : (n : ℕ) → [] ≡ items_with_room n []
     none zero = refl
     none (suc n) = refl
-with_room now notes m (sub ∷ subs) zs conn = here (cases_eq sub.conn conn) (with_room now notes m subs (after_offer now (sent notes m sub) zs) conn)
+with_room zs now (s ∷ ss) ys conn = here (cases_eq s.to.conn conn) (with_room zs now ss (after_offer now (sent zs s) ys) conn)
   where
-    d : Delivery
-    d = delivery_to m sub
-
     offer : Session → Session
-    offer = offered d (notes sub.conn) now
+    offer = offered (delivery_of s) (note_in zs s) now
 
     same : (z : Session) → (offer z).conn ≡ z.conn
-    same = offered-conn d (notes sub.conn) now
+    same = offered-conn (delivery_of s) (note_in zs s) now
 
-    here : (sub.conn ≡ conn) ⊎ (sub.conn ≡ conn → ⊥) →
-        items_of conn (items_after now notes m subs (after_offer now (sent notes m sub) zs)) ≡ items_with_room (room_in (session_of (after_offer now (sent notes m sub) zs) conn)) (of_connection conn subs) →
-        items_of conn (items_after now notes m (sub ∷ subs) zs) ≡ items_with_room (room_in (session_of zs conn)) (of_connection conn (sub ∷ subs))
+    own : List Subscription
+    own = map receiver (sent_to conn ss)
+
+    rest : List Item
+    rest = items_after zs now ss (after_offer now (sent zs s) ys)
+
+    item : Item
+    item = item_of (sent zs s) ys
+
+    here : (s.to.conn ≡ conn) ⊎ (s.to.conn ≡ conn → ⊥) →
+        items_of conn rest ≡ items_with_room (room_in (session_of (after_offer now (sent zs s) ys) conn)) own →
+        items_of conn (item ∷ rest) ≡ items_with_room (room_in (session_of ys conn)) (map receiver (sent_to conn (s ∷ ss)))
     here (inl e) later =
-        let item : Item = item_of (sent notes m sub) zs in
-        let rest : List Item = items_after now notes m subs (after_offer now (sent notes m sub) zs) in
-        let changed : session_of (after_offer now (sent notes m sub) zs) conn ≡ option_map offer (session_of zs conn) =
-        subst (λ n. session_of (with_session offer sub.conn zs) n ≡ option_map offer (session_of zs n)) e (session_of-changed offer sub.conn zs same) in
-        ap (λ b. cond b (item ∷ items_of conn rest) (items_of conn rest)) (eq-eqb _ conn (item-conn (session_of zs sub.conn) sub ∙ e))
-        ∙ ap (λ n. cond (has_room (session_of zs n)) (Entered sub.conn sub.sid) (Full sub.conn sub.sid) ∷ items_of conn rest) e
-        ∙ ap (λ left. cond (has_room (session_of zs conn)) (Entered sub.conn sub.sid) (Full sub.conn sub.sid) ∷ left) (later ∙ ap (λ o. items_with_room (room_in o) (of_connection conn subs)) changed)
-        ∙ with_room-more now (notes sub.conn) (session_of zs conn) d sub (of_connection conn subs)
-        ∙ sym (ap (λ b. items_with_room (room_in (session_of zs conn)) (cond b (sub ∷ of_connection conn subs) (of_connection conn subs))) (eq-eqb sub.conn conn e))
+        let changed : session_of (after_offer now (sent zs s) ys) conn ≡ option_map offer (session_of ys conn) =
+        subst (λ n. session_of (with_session offer s.to.conn ys) n ≡ option_map offer (session_of ys n)) e (session_of-changed offer s.to.conn ys same) in
+        ap (λ b. cond b (item ∷ items_of conn rest) (items_of conn rest)) (eq-eqb _ conn (item-conn (session_of ys s.to.conn) s.to ∙ e))
+        ∙ ap (λ n. cond (has_room (session_of ys n)) (Entered s.to.conn s.to.sid) (Full s.to.conn s.to.sid) ∷ items_of conn rest) e
+        ∙ ap (λ left. cond (has_room (session_of ys conn)) (Entered s.to.conn s.to.sid) (Full s.to.conn s.to.sid) ∷ left) (later ∙ ap (λ o. items_with_room (room_in o) own) changed)
+        ∙ with_room-more now (note_in zs s) (session_of ys conn) (delivery_of s) s.to own
+        ∙ sym (ap (λ b. items_with_room (room_in (session_of ys conn)) (map receiver (cond b (s ∷ sent_to conn ss) (sent_to conn ss)))) (eq-eqb s.to.conn conn e))
     here (inr ne) later =
-        let item : Item = item_of (sent notes m sub) zs in
-        let rest : List Item = items_after now notes m subs (after_offer now (sent notes m sub) zs) in
-        ap (λ b. cond b (item ∷ items_of conn rest) (items_of conn rest)) (ne_eqb _ conn (λ is. ne (sym (item-conn (session_of zs sub.conn) sub) ∙ is)))
+        ap (λ b. cond b (item ∷ items_of conn rest) (items_of conn rest)) (ne_eqb _ conn (λ is. ne (sym (item-conn (session_of ys s.to.conn) s.to) ∙ is)))
         ∙ later
-        ∙ ap (λ o. items_with_room (room_in o) (of_connection conn subs)) (session_of-other offer sub.conn conn zs same ne)
-        ∙ sym (ap (λ b. items_with_room (room_in (session_of zs conn)) (cond b (sub ∷ of_connection conn subs) (of_connection conn subs))) (ne_eqb sub.conn conn ne))
+        ∙ ap (λ o. items_with_room (room_in o) own) (session_of-other offer s.to.conn conn ys same ne)
+        ∙ sym (ap (λ b. items_with_room (room_in (session_of ys conn)) (map receiver (cond b (s ∷ sent_to conn ss) (sent_to conn ss)))) (ne_eqb s.to.conn conn ne))

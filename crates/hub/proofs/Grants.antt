@@ -1,22 +1,23 @@
 -- What always holds of a session's grants is kept by each change of them, and what they allow.
-use Rattle.std.proofs.Common.{◌≡◌, ◌∙◌, ◌==◌, ◌&&◌, ◌||◌, ℕ, ◌-◌, ◌≤◌, suc, zero, Bool, true, false, not, cond, List, [], ◌∷◌, ◌++◌, filter, drop, length, get_or, Option, Some, None, ap, sym, refl, subst, arith, nat_lt}
+use Rattle.std.proofs.Common.{◌≡◌, ◌∙◌, ◌==◌, ◌&&◌, ◌||◌, ℕ, ◌-◌, ◌≤◌, suc, zero, Bool, true, false, not, cond, List, [], ◌∷◌, ◌++◌, filter, drop, length, get_or, Option, Some, None, ap, sym, refl, subst, arith}
 use Rattle.std.specs.Prelude.{All, AllPairs, is_some}
 use Rattle.std.specs.Option.{option_map, option_or}
 use Rattle.std.specs.Cmp.Lexicographic.{pointwise_decides, bytes_decides}
-use Rattle.std.proofs.lemmas.List.{append-nil, length-append, length-drop, length-map, drop-append-le}
-use Rattle.std.proofs.lemmas.List.Elements.{All-nil, All-cons, All-head, All-tail, All-push, All-drop, All-map, All-filter, filter_passes, filter-append}
+use Rattle.std.proofs.lemmas.List.{length-drop, length-map}
+use Rattle.std.proofs.lemmas.List.Elements.{All-nil, All-cons, All-head, All-tail, All-push, All-drop, All-map, All-filter, filter_passes}
 use Rattle.std.proofs.lemmas.List.Kept.{AllPairs-filter}
 use Rattle.std.proofs.lemmas.List.Filters.{length-filter_both}
 use Rattle.std.proofs.lemmas.List.Quantifiers.{all_pairs_push}
 use Rattle.subjects.specs.Subject.{Token}
 use Rattle.subjects.specs.Equal.{same_subject, same_subject-equiv}
 use Rattle.policy_doc.specs.declared.document.Terms.{Terms}
-use Rattle.reply_grants.specs.Grants.{Grant, is_below, is_within, is_live, is_for, has_live, youngest, without, after_note, answered, after_end, after_answer}
+use Rattle.reply_grants.specs.Grants.{Grant, is_below, is_within, is_live, is_for, has_live, without, after_note, answered, after_end, after_answer}
 use Rattle.reply_grants.specs.Replies.{Table, grants_of, noted, answered_in, ended_in, judged}
 use Rattle.reply_grants.specs.declared.replies.Note.{Note}
+use Rattle.events.specs.declared.answer.Delivery.{Delivery}
 use Rattle.hub.specs.Kept.{is_open, has_response_left, IsAfter, AreApart, AreKept, IsKeptTable}
 use Rattle.world_deliveries.specs.Replying.{note_of}
-use Rattle.hub.specs.Replies.{is_young, is_live_for, has_grant, noted_at}
+use Rattle.hub.specs.Replies.{is_young, is_live_for, has_grant, noted_at, noted_each}
 use Rattle.hub.proofs.Finds.{AllPairs-head, AllPairs-tail, AllPairs-map}
 
 -- ---- what they allow
@@ -119,7 +120,7 @@ fresh s now = record { subject = s; noted = now; count = 0 }
 others : (s : List Token) (gs : List Grant) → All (λ (g : Grant). is_for s g ≡ false) (without s gs)
 others s gs k d h = not-false (is_for s (get_or (without s gs) k d)) (filter_passes (λ (g : Grant). not (is_for s g)) gs k d h)
 
-order_note : (now : ℕ) (s : List Token) (gs : List Grant) → AreInOrder now gs → AreInOrder now (after_note s now gs)
+pub order_note : (now : ℕ) (s : List Token) (gs : List Grant) → AreInOrder now gs → AreInOrder now (after_note s now gs)
 order_note now s gs is = record {
   few = omega (arith, length-drop n all);
   apart = AllPairs-drop AreApart n all (all_pairs_push AreApart rest (fresh s now) left.apart (λ k d h. same_subject-equiv.symm (get_or rest k d).subject s ∙ others s gs k d h));
@@ -253,49 +254,56 @@ kept_note now terms note None brings is =
 kept_note now terms note (Some gs) brings is =
     kept_by now terms (after_note note.subject now gs) (order_note now note.subject gs (in_order now terms gs is)) (left_note terms note.subject now gs is.unspent)
 
--- an answer, what is noted between, and the end of its grant
-pub kept_answer : (now : ℕ) (terms : Terms) (s : List Token) (table : Table) → IsKeptTable now (Some terms) table → IsKeptTable now (Some terms) (ended_in s (Some terms) (answered_in s table))
-kept_answer now terms s None is = is
-kept_answer now terms s (Some gs) is =
-    let order = order_answer now s gs (in_order now terms gs is) in
-    kept_by now terms _ (order_end now s (Some terms) (after_answer s gs) order)
-    (left_end terms s (after_answer s gs) order.apart (spared_answer terms s gs (spared terms s gs is.unspent)))
+-- what is noted of one delivery that has entered, and of each in turn
+kept_at : (now : ℕ) (terms : Terms) (reply : Option (List Token)) (table : Table) → IsKeptTable now (Some terms) table → IsKeptTable now (Some terms) (noted_at now (Some terms) reply table)
+kept_at now terms None table is = is
+kept_at now terms (Some r) table is = kept_note now terms (note_of r table) table refl is
 
-pub kept_answer_noted : (now : ℕ) (terms : Terms) (s : List Token) (note : Note) (table : Table) → note.table ≡ cond (is_some table) None (Some []) → IsKeptTable now (Some terms) table →
-    IsKeptTable now (Some terms) (ended_in s (Some terms) (noted note now (answered_in s table)))
-kept_answer_noted now terms s note None brings is =
-    subst (λ (t : Table). AreKept now terms (grants_of (option_map (after_end s (Some terms)) (option_map (after_note note.subject now) (option_or None t))))) (sym brings)
-    (let order = order_note now note.subject [] (order_none now) in
-    kept_by now terms _ (order_end now s (Some terms) (after_note note.subject now []) order)
-    (left_end terms s (after_note note.subject now []) order.apart (spared_note terms s note.subject now [] (All-nil (Spares terms s)))))
-kept_answer_noted now terms s note (Some gs) brings is =
-    let order = order_note now note.subject (after_answer s gs) (order_answer now s gs (in_order now terms gs is)) in
-    kept_by now terms _ (order_end now s (Some terms) (after_note note.subject now (after_answer s gs)) order)
-    (left_end terms s (after_note note.subject now (after_answer s gs)) order.apart (spared_note terms s note.subject now (after_answer s gs) (spared_answer terms s gs (spared terms s gs is.unspent))))
+none_at : (now : ℕ) (reply : Option (List Token)) (table : Table) → noted_at now None reply table ≡ table
+none_at now None table = refl
+none_at now (Some r) table = refl
+
+none_each : (now : ℕ) (ds : List Delivery) (table : Table) → noted_each now None ds table ≡ table
+none_each now [] table = refl
+none_each now (d ∷ ds) table = none_each now ds (noted_at now None d.message.reply table) ∙ none_at now d.message.reply table
+
+kept_each : (now : ℕ) (terms : Option Terms) (ds : List Delivery) (table : Table) → IsKeptTable now terms table → IsKeptTable now terms (noted_each now terms ds table)
+kept_each now None ds table is = none_each now ds table ∙ is
+kept_each now (Some terms) [] table is = is
+kept_each now (Some terms) (d ∷ ds) table is = kept_each now (Some terms) ds (noted_at now (Some terms) d.message.reply table) (kept_at now terms d.message.reply table is)
+
+-- the grants while an answer is under way: its own may have none left
+record AreSpared (now : ℕ) (terms : Terms) (s : List Token) (gs : List Grant) : Type 0 where
+  pub order : AreInOrder now gs
+  pub left : All (Spares terms s) gs
+
+spared_begin : (now : ℕ) (terms : Terms) (s : List Token) (table : Table) → IsKeptTable now (Some terms) table → AreSpared now terms s (grants_of (answered_in s table))
+spared_begin now terms s None is = record { order = order_none now; left = All-nil (Spares terms s) }
+spared_begin now terms s (Some gs) is =
+    record { order = order_answer now s gs (in_order now terms gs is); left = spared_answer terms s gs (spared terms s gs is.unspent) }
+
+spared_at : (now : ℕ) (terms : Terms) (s : List Token) (reply : Option (List Token)) (table : Table) → AreSpared now terms s (grants_of table) → AreSpared now terms s (grants_of (noted_at now (Some terms) reply table))
+spared_at now terms s None table is = is
+spared_at now terms s (Some r) None is = record { order = order_note now r [] is.order; left = spared_note terms s r now [] is.left }
+spared_at now terms s (Some r) (Some gs) is = record { order = order_note now r gs is.order; left = spared_note terms s r now gs is.left }
+
+spared_each : (now : ℕ) (terms : Terms) (s : List Token) (ds : List Delivery) (table : Table) → AreSpared now terms s (grants_of table) → AreSpared now terms s (grants_of (noted_each now (Some terms) ds table))
+spared_each now terms s [] table is = is
+spared_each now terms s (d ∷ ds) table is = spared_each now terms s ds (noted_at now (Some terms) d.message.reply table) (spared_at now terms s d.message.reply table is)
+
+spared_end : (now : ℕ) (terms : Terms) (s : List Token) (table : Table) → AreSpared now terms s (grants_of table) → IsKeptTable now (Some terms) (ended_in s (Some terms) table)
+spared_end now terms s None is = kept_none now (Some terms)
+spared_end now terms s (Some gs) is =
+    kept_by now terms (after_end s (Some terms) gs) (order_end now s (Some terms) gs is.order) (left_end terms s gs is.order.apart is.left)
 
 -- what a publish leaves, be it an answer or not
-pub kept_after : (now entered : ℕ) (answer : Bool) (s : List Token) (reply : Option (List Token)) (terms : Option Terms) (table : Table) → IsKeptTable now terms table →
-    IsKeptTable now terms (cond answer (ended_in s terms (noted_at now entered reply terms (answered_in s table))) (noted_at now entered reply terms table))
-kept_after now entered true s None None table is = ap (λ (t : Table). ended_in s None (answered_in s t)) is
-kept_after now entered true s (Some r) None table is = ap (λ (t : Table). ended_in s None (answered_in s t)) is
-kept_after now entered false s None None table is = is
-kept_after now entered false s (Some r) None table is = is
-kept_after now entered true s None (Some terms) table is = kept_answer now terms s table is
-kept_after now entered false s None (Some terms) table is = is
-kept_after now entered true s (Some r) (Some terms) table is = here (nat_lt 0 entered)
-  where
-    brings : (t : Table) → cond (is_some (answered_in s t)) None (Some []) ≡ cond (is_some t) None (let new : Table = Some [] in new)
-    brings None = refl
-    brings (Some gs) = refl
-
-    here : (b : Bool) → IsKeptTable now (Some terms) (ended_in s (Some terms) (cond b (noted (note_of r (answered_in s table)) now (answered_in s table)) (answered_in s table)))
-    here true = kept_answer_noted now terms s (note_of r (answered_in s table)) table (brings table) is
-    here false = kept_answer now terms s table is
-kept_after now entered false s (Some r) (Some terms) table is = here (nat_lt 0 entered)
-  where
-    here : (b : Bool) → IsKeptTable now (Some terms) (cond b (noted (note_of r table) now table) table)
-    here true = kept_note now terms (note_of r table) table refl is
-    here false = is
+pub kept_after : (now : ℕ) (answer : Bool) (s : List Token) (ds : List Delivery) (terms : Option Terms) (table : Table) → IsKeptTable now terms table →
+    IsKeptTable now terms (cond answer (ended_in s terms (noted_each now terms ds (answered_in s table))) (noted_each now terms ds table))
+kept_after now true s ds None table is = ap (ended_in s None) (none_each now ds (answered_in s table)) ∙ ap (λ (t : Table). ended_in s None (answered_in s t)) is
+kept_after now false s ds None table is = kept_each now None ds table is
+kept_after now true s ds (Some terms) table is =
+    spared_end now terms s (noted_each now (Some terms) ds (answered_in s table)) (spared_each now terms s ds (answered_in s table) (spared_begin now terms s table is))
+kept_after now false s ds (Some terms) table is = kept_each now (Some terms) ds table is
 
 -- other terms come into force
 pub kept_judged : (now : ℕ) (before terms : Option Terms) (table : Table) → IsKeptTable now before table → IsKeptTable now terms (judged now before terms table)
@@ -315,55 +323,9 @@ kept_judged now (Some old) (Some terms) (Some gs) is =
     live_left : (g : Grant) → is_live now (Some terms) g ≡ true → HasLeft terms g
     live_left g h = or-right (g.count == 0) _ (sym (open_is terms.max g.count) ∙ front (is_below terms.max g.count) _ h)
 
--- ---- a note twice is once
-
+-- what all pass is kept whole
 pub all_pass : {X : Type 0} (p : X → Bool) (xs : List X) → All (λ x. p x ≡ true) xs → filter p xs ≡ xs
 all_pass p [] all = refl
 all_pass p (x ∷ xs) all =
     ap (λ b. cond b (x ∷ filter p xs) (filter p xs)) (All-head (λ y. p y ≡ true) x xs all)
     ∙ ap (λ ys. x ∷ ys) (all_pass p xs (All-tail (λ y. p y ≡ true) x xs all))
-
-itself : (s : List Token) → same_subject s s ≡ true
-itself s = same_subject-equiv.refl s
-
-drop-zero : {X : Type 0} (n : ℕ) (xs : List X) → n ≡ 0 → drop n xs ≡ xs
-drop-zero n xs e = ap (λ k. drop k xs) e
-
-note_twice : (s : List Token) (now : ℕ) (gs : List Grant) → after_note s now (after_note s now gs) ≡ after_note s now gs
-note_twice s now gs =
-    ap (λ (xs : List Grant). youngest (without s xs ++ fresh s now ∷ [])) cut
-    ∙ ap (λ (xs : List Grant). youngest (xs ++ fresh s now ∷ [])) (filter-append other (drop n rest) (fresh s now ∷ []) ∙ ap (λ (xs : List Grant). xs ++ without s (fresh s now ∷ [])) kept ∙ last)
-    ∙ drop-zero (length whole - 1024) whole (omega (arith, few))
-    ∙ sym cut
-  where
-    other : Grant → Bool
-    other g = not (is_for s g)
-
-    rest : List Grant
-    rest = without s gs
-
-    n : ℕ
-    n = length (rest ++ fresh s now ∷ []) - 1024
-
-    whole : List Grant
-    whole = drop n rest ++ fresh s now ∷ []
-
-    cut : after_note s now gs ≡ whole
-    cut = drop-append-le n rest (fresh s now ∷ []) (omega (arith, length-append rest (fresh s now ∷ [])))
-
-    few : length whole ≤ 1024
-    few = omega (arith, length-append (drop n rest) (fresh s now ∷ []), length-drop n rest, length-append rest (fresh s now ∷ []))
-
-    kept : filter other (drop n rest) ≡ drop n rest
-    kept = all_pass other (drop n rest) (All-drop (λ (g : Grant). other g ≡ true) n rest (filter_passes other gs))
-
-    last : drop n rest ++ without s (fresh s now ∷ []) ≡ drop n rest
-    last = ap (λ b. drop n rest ++ cond (not b) (fresh s now ∷ []) []) (itself s) ∙ append-nil (drop n rest)
-
-pub noted_twice : (note : Note) (now : ℕ) (table : Table) → noted note now (noted note now table) ≡ noted note now table
-noted_twice note now (Some gs) = ap (λ xs. Some xs) (note_twice note.subject now gs)
-noted_twice note now None = here note.table
-  where
-    here : (t : Table) → option_map (after_note note.subject now) (option_or (option_map (after_note note.subject now) t) t) ≡ option_map (after_note note.subject now) t
-    here None = refl
-    here (Some gs) = ap (λ xs. Some xs) (note_twice note.subject now gs)

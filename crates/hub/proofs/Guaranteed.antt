@@ -1,12 +1,9 @@
 -- The transition keeps the guarantee, command by command.
-use Rattle.std.proofs.Common.{◌||◌, ◌≡◌, ◌∙◌, ◌==◌, ◌&&◌, ℕ, ◌+◌, ◌-◌, ◌<◌, ◌≤◌, Bool, true, false, not, cond, List, [], ◌∷◌, ◌++◌, map, filter, length, get_or, take, drop, Option, Some, None, Result, Ok, Err, ap, sym, refl, subst, arith, max}
-use Rattle.std.specs.Prelude.{IfSome, IsSomeAnd, is_some, nat_lt, nat_le, nat_eq, IfOk}
-use Rattle.std.specs.Cmp.Lexicographic.{pointwise}
-use Rattle.std.proofs.lemmas.List.{length-append, length-take, length-drop}
-use Rattle.std.proofs.lemmas.List.Elements.{All-weaker}
-use Rattle.std.proofs.lemmas.List.Kept.{AllPairs-filter}
-use Rattle.subjects.specs.Subject.{Token, in_set}
-use Rattle.permissions.specs.Verdicts.{publish_verdict, subscribe_verdict, delivery_verdict, is_allowed, IsJustifiedPublish, IsJustifiedSubscribe, IsJustifiedDelivery}
+use Rattle.std.proofs.Common.{◌||◌, ◌≡◌, ◌∙◌, ◌==◌, ◌&&◌, ℕ, ◌+◌, ◌≤◌, Bool, true, false, not, cond, List, [], ◌∷◌, ◌++◌, map, filter, length, take, drop, Option, Some, None, Result, Ok, Err, ap, sym, refl, subst, arith, max}
+use Rattle.std.specs.Prelude.{IfSome, IsSomeAnd, is_some, nat_le, IfOk}
+use Rattle.std.proofs.lemmas.List.{length-drop}
+use Rattle.subjects.specs.Subject.{Token}
+use Rattle.permissions.specs.Verdicts.{publish_verdict, subscribe_verdict, is_allowed, IsJustifiedPublish, IsJustifiedSubscribe}
 use Rattle.permissions.specs.declared.verdict.By.{By}
 use Rattle.permissions.specs.declared.verdict.By.TheVariants.{All as AllowsAll, Index, Grant}
 use Rattle.permissions.specs.declared.verdict.Verdict.{Verdict}
@@ -27,38 +24,35 @@ use Rattle.events.specs.declared.refusal.HubRefusal.{HubRefusal}
 use Rattle.events.specs.declared.refusal.HubRefusal.TheVariants.{HistoryFull, NoSession, SessionTaken, SessionLimit, NoMemory}
 use Rattle.world_deliveries.specs.Sessions.{session_of, with_session, new_session, drained}
 use Rattle.reply_grants.specs.Replies.{grants_of}
-use Rattle.reply_grants.specs.declared.replies.Note.{Note}
 use Rattle.events.specs.declared.answer.Addressed.{Addressed}
 use Rattle.world_deliveries.specs.Delivered.{delivered}
-use Rattle.world_deliveries.specs.Replying.{terms_of, is_granted, with_note}
+use Rattle.world_deliveries.specs.Replying.{terms_of, is_granted}
 use Rattle.world_deliveries.specs.declared.session.Session.{Session}
-use Rattle.world_subscriptions.specs.Subscriptions.{is_under, stands, has_all, subscription_of, of_connection}
-use Rattle.world_subscriptions.specs.Limit.{has_entered, unended, counted, limit_of, limited}
+use Rattle.world_subscriptions.specs.Subscriptions.{is_under, stands, has_all, subscription_of}
+use Rattle.world_subscriptions.specs.Limit.{unended, limit_of, limited}
 use Rattle.world_rows.specs.declared.subscription.Subscription.{Subscription}
 use Rattle.world.specs.World.{World, advanced}
 use Rattle.world.specs.Granting.{or_granted, verdict_on, counted_on, ended_on}
-use Rattle.world_groups.specs.Served.{served}
-use Rattle.world.specs.Routing.{own_view, is_admitted, admitted, may_hear, lets_through}
-use Rattle.world_groups.specs.Chosen.{Rising}
-use Rattle.world_subscriptions.specs.Addressing.{addressed_to, delivery_to}
+use Rattle.world.specs.Routing.{View, views}
+use Rattle.world.proofs.Publishing.{same_met}
 use Rattle.world.specs.Transition.{IsReasoned, IsRefusal, connected, subscribed, unsubscribed, published, taken, closed, in_session, in_new_session, moved, numbered, transition}
-use Rattle.hub.specs.Sound.{IsSound, user_behind, user_at, account_of, may_subscribe, HasAllowance}
+use Rattle.hub.specs.Sound.{IsSound, user_at, account_of, may_subscribe, HasAllowance}
 use Rattle.hub.specs.InForce.{policy_after, epoch_after}
 use Rattle.hub.specs.History.{State, is_history_full, remembered, stepped, IsStep}
-use Rattle.hub.specs.Replies.{terms_in, grants_at, has_grant, may_respond, is_response}
-use Rattle.hub.specs.Guarantee.{room_in, IsAllowance, accepts, allows, may_publish, may_receive, has_echo, is_for, eligible, IsDenial, HasReason, IsReasonedFor, AreServed, IsDelivered, IsUntouched, IsEffect, is_connect, is_nobodys, has_session, is_fit, is_in_order, is_due, is_at_limit, IsRouted, KeepsGuarantee, IsGuarded}
+use Rattle.hub.specs.Replies.{terms_in, grants_at, has_grant, may_respond}
+use Rattle.hub.specs.Guarantee.{items_of, received_more, Sending, sendings, IsPart, IsSent, IsAllowance, accepts, allows, may_publish, IsDenial, HasReason, IsUntouched, IsEffect, is_connect, is_nobodys, has_session, is_fit, is_in_order, is_due, is_at_limit, IsRouted, KeepsGuarantee, IsGuarded}
 use Rattle.std.proofs.Math.Bool.{or-true}
 use Rattle.std.proofs.lemmas.Bool.{eqb-true}
-use Rattle.hub.proofs.Lists.{filter_same_on}
 use Rattle.hub.proofs.Finds.{find-passes}
 use Rattle.hub.proofs.Naming.{user_named-again}
-use Rattle.hub.proofs.Grants.{granted_is, kept_after}
+use Rattle.hub.proofs.Grants.{granted_is}
 use Rattle.hub.proofs.Soundness.{next, HasTable, KeepsSession, KeepsSubscription, either, keeps-where, user_at-session, sound-same, sound-map, unended-same, sound-limits, sound-open, sound-add, sound-close}
-use Rattle.hub.proofs.Reasons.{delivery_justified}
-use Rattle.hub.proofs.Groups.{are_served}
 use Rattle.hub.proofs.Reloads.{in_force, sound-reload}
+use Rattle.hub.proofs.Sent.{receives-keeps, setting_of, is_setting, is_part}
 use Rattle.world_deliveries.proofs.Changes.{only, with_session-map}
-use Rattle.hub.proofs.Deliveries.{receives_of, notes_of, as_sent, items_after, met, outboxes, one_each, with_room}
+use Rattle.hub.proofs.Deliveries.{sent, receives_of, outboxes, with_room}
+use Rattle.hub.proofs.Entering.{received-keeps}
+use Rattle.hub.proofs.Views.{Setting, standing, parts_of, told_of, standing-first, published-is, sessions-are, items-are, parts-views, each-part, each-in}
 
 -- where the tables turn a command away
 abbrev turns_away : World → Command → HubRefusal → Bool
@@ -198,79 +192,6 @@ sub-keeps w now conn p queue sid sound = by_session (session_of w.sessions conn)
 
 -- ---- Pub
 
--- the same four facts in another order
-reordered : (a i h l : Bool) → ((a && i) && (h && l)) ≡ ((i && h) && (a && l))
-reordered true true h l = refl
-reordered true false h l = refl
-reordered false false h l = refl
-reordered false true true l = refl
-reordered false true false l = refl
-
--- A subscription is of the account that its connection's user has in the policy in force, so a message is for those
--- that it is admitted to.
-pub admitted-same : (w : World) (conn : ℕ) (z : Session) (m : Message) (sub : Subscription) → IsSound w → session_of w.sessions conn ≡ Some z → account_of (user_at w sub.conn) ≡ Some sub.account →
-    is_admitted w.sessions z (own_view z m) sub ≡ is_for w conn z.user.account m.subject sub
-admitted-same w conn z m sub sound at owned = by_session (session_of w.sessions sub.conn) refl owned
-  where
-    has : Bool
-    has = in_set sub.subject m.subject
-
-    heard : Bool
-    heard = has_echo (session_of w.sessions conn) || not (sub.conn == conn)
-
-    own : z.conn ≡ conn
-    own = eqb-true z.conn conn (find-passes (λ (y : Session). y.conn == conn) w.sessions z at)
-
-    hears : may_hear z sub.conn ≡ heard
-    hears = ap (λ n. z.echo || not (sub.conn == n)) own ∙ sym (ap (λ o. has_echo o || not (sub.conn == conn)) at)
-
-    by_session : (o : Option Session) → session_of w.sessions sub.conn ≡ o → account_of (user_behind w.policy o) ≡ Some sub.account →
-        is_admitted w.sessions z (own_view z m) sub ≡ is_for w conn z.user.account m.subject sub
-    by_session None e is = absurd (cc)
-    by_session (Some y) e is =
-        let user : user_at w sub.conn ≡ Some y.user = user_at-session w sound sub.conn y e in
-        let known : Some sub.account ≡ Some y.user.account = sym owned ∙ ap account_of user in
-        let same : sub.account ≡ y.user.account = cc in
-        let lets : Bool = is_allowed (delivery_verdict y.user.rules m.subject sub.queue) in
-        ap (λ b. (pointwise nat_eq sub.account z.user.account && has) && (b && lets_through m.subject sub.queue (session_of w.sessions sub.conn))) hears
-        ∙ ap (λ o. (pointwise nat_eq sub.account z.user.account && has) && (heard && lets_through m.subject sub.queue o)) e
-        ∙ ap (λ (a : List ℕ). (pointwise nat_eq a z.user.account && has) && (heard && lets)) same
-        ∙ reordered (pointwise nat_eq y.user.account z.user.account) has heard lets
-        ∙ sym (ap (λ u. (has && heard) && may_receive z.user.account m.subject sub.queue u) user)
-
-pub eligible-same : (w : World) (conn : ℕ) (z : Session) (m : Message) → IsSound w → session_of w.sessions conn ≡ Some z → admitted w z (own_view z m) ≡ eligible w conn z.user.account m.subject
-eligible-same w conn z m sound at =
-    filter_same_on (is_admitted w.sessions z (own_view z m)) (is_for w conn z.user.account m.subject) w.subscriptions
-    (All-weaker (λ (sub : Subscription). account_of (user_at w sub.conn) ≡ Some sub.account) (λ sub. is_admitted w.sessions z (own_view z m) sub ≡ is_for w conn z.user.account m.subject sub)
-    (λ sub owned. admitted-same w conn z m sub sound at owned) w.subscriptions sound.accounts)
-
--- an outbox takes no more than it has room for
-bounded : (ws ds : List Delivery) (capacity bound : ℕ) → (capacity ≡ bound) × (length ws ≤ bound) → length (ws ++ take (capacity - length ws) ds) ≤ bound
-bounded ws ds capacity bound h = omega (arith, h, length-append ws (take (capacity - length ws) ds), length-take (capacity - length ws) ds)
-
--- and its session keeps what it keeps, whatever it gets
-receives-keeps : (capacity now : ℕ) (by : By) (conn : ℕ) (m : Message) (subs : List Subscription) → KeepsSession capacity now (receives_of now by conn m subs)
-receives-keeps capacity now by conn m subs = record {
-  conn = λ z. refl;
-  user = λ z. refl;
-  outbox = λ z is. (is.0, bounded z.outbox.waiting _ z.outbox.capacity capacity is);
-  grants = λ z is. kept_after now (length (take (room_in (Some z)) (map (delivery_to m) (of_connection z.conn subs)))) (is_response by conn z) m.subject m.reply z.user.rules.allow_responses z.replies is;
-}
-
--- counting changes nothing but the count
-pub counted-keeps : (items : List Item) → KeepsSubscription (counted items)
-counted-keeps items =
-    keeps-where (λ s. has_entered items s && nat_lt s.received 18446744073709551615) (λ (s : Subscription). record s { received = s.received + 1 })
-    (record { id = λ s. refl; conn = λ s. refl; account = λ s. refl; subject = λ s. refl; queue = λ s. refl; sid = λ s. refl })
-
--- who may be sent a message, is decided with reason
-receiver-reason : (w : World) (s : List Token) (sub : Subscription) → IsReasonedFor w s sub
-receiver-reason w s sub = here (user_at w sub.conn)
-  where
-    here : (o : Option User) → IfSome o (λ (u : User). IsJustifiedDelivery s sub.queue u.rules.subscribe (delivery_verdict u.rules s sub.queue))
-    here None = tt
-    here (Some u) = delivery_justified u.rules s sub.queue
-
 pub-keeps : (w : World) (now conn : ℕ) (m : Message) (word : ℕ) → IsSound w →
     Keeps w (event now (Pub conn m word)) (numbered (w.number + 1) (moved (advanced w now) (Pub conn m word)))
 pub-keeps w now conn m word sound = by_session (session_of w.sessions conn) refl
@@ -319,57 +240,62 @@ pub-keeps w now conn m word sound = by_session (session_of w.sessions conn) refl
         subst (λ o. IsSomeAnd o (λ (user : User). IsAllowance w later conn m.subject user Grant)) (sym u)
         (ap is_allowed e ∙ refuses, justified (publish_verdict z.user.rules m.subject) z refl at reasoned, may_respond-is z at u ∙ live)
 
-    all : Session → List Subscription
-    all z = admitted w z (own_view z m)
+    -- the message on its way, whatever its views are
+    setting : Session → Setting
+    setting z = setting_of w now conn z word
 
-    whom : Session → List Subscription
-    whom z = served word (all z)
+    ss : By → Session → List Sending
+    ss by z = sendings (parts_of (setting z) by m)
 
-    rising : (z : Session) → Rising (all z)
-    rising z = AllPairs-filter (λ (s t : Subscription). s.id < t.id) (is_admitted w.sessions z (own_view z m)) w.subscriptions sound.ids
+    items : By → Session → List Item
+    items by z = told_of (setting z) by m
 
-    notes : ℕ → Option Note
-    notes = notes_of w.sessions m.reply
+    after : By → Session → World
+    after by z = next w now (map (receives_of later by conn m.subject (ss by z)) w.sessions) (standing (setting z) (items by z))
 
-    Handed : By → Session → List Item → List Session → List Subscription → Type 0
-    Handed by z items zs from = (subs : List Subscription) × AreServed word from subs × IsDelivered w later by conn m subs items zs
+    -- it is what the transition makes of it
+    sent-is : (by : By) (z : Session) → session_of w.sessions conn ≡ Some z →
+        numbered (w.number + 1) (Ok (published (advanced w now) z m word (Allowed by))) ≡ Ok (Published by (items by z), after by z)
+    sent-is by z at =
+        let own : z.conn ≡ conn = eqb-true z.conn conn (find-passes (λ (y : Session). y.conn == conn) w.sessions z at) in
+        let ys : List Session = counted_on by z.conn m.subject w.sessions in
+        let all : List Addressed = map (sent w.sessions) (ss by z) in
+        ap (λ (r : Outcome × World). numbered (w.number + 1) (Ok r)) (published-is (setting z) (is_setting w now conn z word sound at) (standing-first (setting z) sound.counts sound.limits) by m)
+        ∙ ap (λ (zs : List Session). Ok (Published by (items by z), next w now (ended_on by z.conn m.subject zs) (standing (setting z) (items by z)))) (sym (sessions-are (setting z) [] ys (views z.user.account m)))
+        ∙ ap (λ (zs : List Session). Ok (Published by (items by z), next w now zs (standing (setting z) (items by z))))
+        (ap (λ n. ended_on by n m.subject (delivered later all (counted_on by n m.subject w.sessions)).0) own
+        ∙ outboxes later conn m.subject (ss by z) w.sessions by sound.connections)
 
-    handed : (by : By) (z : Session) → session_of w.sessions conn ≡ Some z →
-        Handed by z (items_after later notes m (whom z) w.sessions) (map (receives_of later by conn m (whom z)) w.sessions) (eligible w conn z.user.account m.subject)
-    handed by z at =
-        subst (Handed by z (items_after later notes m (whom z) w.sessions) (map (receives_of later by conn m (whom z)) w.sessions)) (eligible-same w conn z m sound at) (
-          whom z,
-          are_served word (all z) (rising z),
-          record {
-            reasons = λ k d h. receiver-reason w m.subject (get_or w.subscriptions k d);
-            one_each = one_each later notes m (whom z) w.sessions;
-            with_room = with_room later notes m (whom z) w.sessions;
+    -- and what the guarantee says of it
+    is_sent : (by : By) (z : Session) → session_of w.sessions conn ≡ Some z → IsSent w later by conn m word z.user.account (items by z) (after by z).sessions
+    is_sent by z at =
+        let ys : List Session = counted_on by z.conn m.subject w.sessions in
+        let vs : List View = views z.user.account m in
+        record {
+          parts = parts_of (setting z) by m;
+          in_views = parts-views (setting z) [] ys vs;
+          each = each-part (λ told p. IsPart w conn word told p) [] (parts_of (setting z) by m) (each-in (λ told p. IsPart w conn word told p) (setting z) (is_part w now conn z word sound) [] ys vs);
+          items_are = refl;
+          delivered = record {
+            with_room = λ c.
+                ap (items_of c) (sym (items-are (setting z) [] ys vs) ∙ same_met by z.conn m.subject later (map (sent w.sessions) (ss by z)) w.sessions)
+                ∙ with_room w.sessions later (ss by z) w.sessions c;
             outboxes = refl;
-          },
-        )
+          };
+        }
 
     -- the message goes to whom it is for
     sends : (by : By) (z : Session) → session_of w.sessions conn ≡ Some z → user_at w conn ≡ Some z.user → (may_publish (user_at w conn) m.subject || may_respond w later conn m.subject) ≡ true → (Reasoned → Allows by) → is_fit w command ≡ true →
         Keeps w (event now command) (numbered (w.number + 1) (Ok (published (advanced w now) z m word (Allowed by))))
     sends by z at u may reason fit =
-        let own : z.conn ≡ conn = eqb-true z.conn conn (find-passes (λ (y : Session). y.conn == conn) w.sessions z at) in
-        let ds : List Addressed = map (with_note w.sessions m.reply) (map (addressed_to m) (whom z)) in
-        let zs : List Session = ended_on by z.conn m.subject (delivered later ds (counted_on by z.conn m.subject w.sessions)).0 in
-        let items : List Item = (delivered later ds (counted_on by z.conn m.subject w.sessions)).1 in
-        let subs : List Subscription = unended (map (counted items) w.subscriptions) in
-        let same_zs : map (receives_of later by conn m (whom z)) w.sessions ≡ zs =
-        sym (ap (λ n. ended_on by n m.subject (delivered later ds (counted_on by n m.subject w.sessions)).0) own
-        ∙ ap (λ (all : List Addressed). ended_on by conn m.subject (delivered later all (counted_on by conn m.subject w.sessions)).0) (as_sent w.sessions m (whom z))
-        ∙ outboxes later conn m (whom z) w.sessions by sound.connections) in
-        let same_items : items_after later notes m (whom z) w.sessions ≡ items = sym (met later by z.conn m (whom z) w.sessions) in
-        let WithItems : List Item → Type 0 = λ is. Handed by z is (map (receives_of later by conn m (whom z)) w.sessions) (eligible w conn z.user.account m.subject) in
-        let WithSessions : List Session → Type 0 = λ ys. Handed by z items ys (eligible w conn z.user.account m.subject) in
-        let here : Handed by z items zs (eligible w conn z.user.account m.subject) = subst WithSessions same_zs (subst WithItems same_items (handed by z at)) in
-        answered w now command (Published by items) zs subs (refl, refl) fit (sym may) reason
-        (subst (λ o. IsSomeAnd o (λ (user : User). Handed by z items zs (eligible w conn user.account m.subject))) (sym u) here, unended-same (map (counted items) w.subscriptions))
-        (λ _. subst (λ ys. IsSound (next w now ys subs)) same_zs
-        (sound-limits (next w now (map (receives_of later by conn m (whom z)) w.sessions) w.subscriptions) (counted items) (counted-keeps items)
-        (sound-map w now (receives_of later by conn m (whom z)) (receives-keeps w.capacity later by conn m (whom z)) sound)))
+        let zs : List Session = (after by z).sessions in
+        let subs : List Subscription = (after by z).subscriptions in
+        subst (Keeps w (event now command)) (sym (sent-is by z at))
+        (answered w now command (Published by (items by z)) zs subs (refl, refl) fit (sym may) reason
+        (subst (λ o. IsSomeAnd o (λ (user : User). IsSent w later by conn m word user.account (items by z) zs)) (sym u) (is_sent by z at), refl)
+        (λ _. subst (λ (l : List Subscription). IsSound (next w now zs l)) (unended-same (map (received_more (items by z)) w.subscriptions))
+        (sound-limits (next w now zs w.subscriptions) (received_more (items by z)) (received-keeps (items by z))
+        (sound-map w now (receives_of later by conn m.subject (ss by z)) (receives-keeps w.capacity later by conn m.subject (ss by z)) sound))))
 
     refused : (v : Verdict) (z : Session) → publish_verdict z.user.rules m.subject ≡ v → is_allowed v ≡ false → is_granted later m.subject z ≡ false → session_of w.sessions conn ≡ Some z → user_at w conn ≡ Some z.user → is_fit w command ≡ true →
         Keeps w (event now command) (Ok (Denied v, next w now w.sessions w.subscriptions))
@@ -407,7 +333,7 @@ pub-keeps w now conn m word sound = by_session (session_of w.sessions conn) refl
 pub limited-keeps : (conn : ℕ) (sid : List ℕ) (most : Option ℕ) → KeepsSubscription (limited conn sid most)
 limited-keeps conn sid most =
     keeps-where (is_under conn sid) (λ (s : Subscription). record s { most = Some (limit_of most) })
-    (record { id = λ s. refl; conn = λ s. refl; account = λ s. refl; subject = λ s. refl; queue = λ s. refl; sid = λ s. refl })
+    (record { id = λ s. refl; conn = λ s. refl; account = λ s. refl; subject = λ s. refl; queue = λ s. refl; sid = λ s. refl; received = λ s few. few })
 
 unsub-keeps : (w : World) (now conn : ℕ) (sid : List ℕ) (most : Option ℕ) → IsSound w →
     Keeps w (event now (Unsub conn sid most)) (numbered (w.number + 1) (moved (advanced w now) (Unsub conn sid most)))

@@ -6,7 +6,10 @@ pub mod Reasons
 pub mod Grants
 pub mod Soundness
 pub mod Deliveries
+pub mod Entering
+pub mod Views
 pub mod Reloads
+pub mod Sent
 pub mod Guaranteed
 pub mod Counts
 pub mod Legal

@@ -31,7 +31,7 @@ use Rattle.hub.proofs.Finds.{find-map, find-passes, find-All, find-nothing, AllP
 use Rattle.hub.proofs.Naming.{name_of, are_named_once, unlike, named_again}
 use Rattle.world_sessions.proofs.Ascending.{AreApart, among-ascending, ascending-rises}
 use Rattle.hub.proofs.Grants.{kept_judged}
-use Rattle.hub.proofs.Soundness.{IsOfPolicy, HasBound, HasTable, IsApart, IsOwned, IsStillToReceive, quotas-filter, tables-next}
+use Rattle.hub.proofs.Soundness.{IsOfPolicy, HasBound, HasTable, IsApart, IsOwned, IsStillToReceive, HasCount, quotas-filter, tables-next}
 
 -- ---- the same user, found by its name
 
@@ -287,6 +287,7 @@ sound-reload w now doc sound reasoned = let valid = reasoned.0 in record {
   accounts = λ k d h. owned-after (max w.moment now) w.policy doc w.sessions (get_or (filter (stands_on doc w.sessions) w.subscriptions) k d) valid sound.connections sound.users
       (All-filter (stands_on doc w.sessions) (IsOwned w.policy w.sessions) w.subscriptions sound.accounts k d h) (filter_passes (stands_on doc w.sessions) w.subscriptions k d h);
   limits = All-filter (stands_on doc w.sessions) IsStillToReceive w.subscriptions sound.limits;
+  counts = All-filter (stands_on doc w.sessions) HasCount w.subscriptions sound.counts;
   sids = AllPairs-filter (λ (s t : Subscription). has_same_sid s t ≡ false) (stands_on doc w.sessions) w.subscriptions sound.sids;
   quotas = quotas-filter (stands_on doc w.sessions) w.subscriptions sound.quotas;
   ids = AllPairs-filter (λ (s t : Subscription). s.id < t.id) (stands_on doc w.sessions) w.subscriptions sound.ids;

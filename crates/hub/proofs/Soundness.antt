@@ -56,6 +56,9 @@ HasReasonHere doc zs s = HasAllowance (user_behind doc (session_of zs s.conn)) s
 abbrev pub IsStillToReceive : Subscription → Type 0
 IsStillToReceive s = is_to_receive s ≡ true
 
+abbrev pub HasCount : Subscription → Type 0
+HasCount s = s.received ≤ 18446744073709551615
+
 abbrev pub IsOwned : PolicyDoc → List Session → Subscription → Type 0
 IsOwned doc zs s = account_of (user_behind doc (session_of zs s.conn)) ≡ Some s.account
 
@@ -110,6 +113,7 @@ sound-same w now sound = record {
   reasons = sound.reasons;
   accounts = sound.accounts;
   limits = sound.limits;
+  counts = sound.counts;
   sids = sound.sids;
   quotas = sound.quotas;
   ids = sound.ids;
@@ -146,6 +150,7 @@ sound-map w now f keeps sound = record {
   reasons = λ k d h. subst (λ u. HasAllowance u (get_or w.subscriptions k d).subject (get_or w.subscriptions k d).queue) (sym (user_is (get_or w.subscriptions k d))) (sound.reasons k d h);
   accounts = λ k d h. ap account_of (user_is (get_or w.subscriptions k d)) ∙ sound.accounts k d h;
   limits = sound.limits;
+  counts = sound.counts;
   sids = sound.sids;
   quotas = sound.quotas;
   ids = sound.ids;
@@ -187,6 +192,7 @@ sound-open w now conn u echo free room is sound = record {
   reasons = λ k d h. known-open (λ v. HasAllowance v (get_or w.subscriptions k d).subject (get_or w.subscriptions k d).queue) (λ none. none) w.policy w.sessions (new_session conn u echo w.capacity) (get_or w.subscriptions k d).conn (sound.reasons k d h);
   accounts = λ k d h. known-open (λ v. account_of v ≡ Some (get_or w.subscriptions k d).account) (none-owned (get_or w.subscriptions k d).account) w.policy w.sessions (new_session conn u echo w.capacity) (get_or w.subscriptions k d).conn (sound.accounts k d h);
   limits = sound.limits;
+  counts = sound.counts;
   sids = sound.sids;
   quotas = sound.quotas;
   ids = sound.ids;
@@ -216,6 +222,7 @@ sound-add w now conn account p queue sid may reason owned free room sound = reco
   reasons = All-push (HasReasonHere w.policy w.sessions) w.subscriptions added sound.reasons reason;
   accounts = All-push (IsOwned w.policy w.sessions) w.subscriptions added sound.accounts owned;
   limits = All-push IsStillToReceive w.subscriptions added sound.limits refl;
+  counts = All-push HasCount w.subscriptions added sound.counts (omega arith);
   sids = all_pairs_push (λ (s t : Subscription). has_same_sid s t ≡ false) w.subscriptions added sound.sids (any-none (λ (s : Subscription). has_same_sid s added) w.subscriptions free);
   quotas = quotas-add w.subscriptions added room sound.quotas;
   ids = all_pairs_push (λ (s t : Subscription). s.id < t.id) w.subscriptions added sound.ids (λ k d h. let n = sound.numbers k d h in omega arith);
@@ -251,6 +258,7 @@ sound-close w now conn sound = record {
   reasons = λ k d h. subst (λ u. HasAllowance u (get_or left k d).subject (get_or left k d).queue) (sym (user_is k d h)) (All-filter stay (HasReasonHere w.policy w.sessions) w.subscriptions sound.reasons k d h);
   accounts = λ k d h. ap account_of (user_is k d h) ∙ All-filter stay (IsOwned w.policy w.sessions) w.subscriptions sound.accounts k d h;
   limits = All-filter stay IsStillToReceive w.subscriptions sound.limits;
+  counts = All-filter stay HasCount w.subscriptions sound.counts;
   sids = AllPairs-filter (λ (s t : Subscription). has_same_sid s t ≡ false) stay w.subscriptions sound.sids;
   quotas = quotas-filter stay w.subscriptions sound.quotas;
   ids = AllPairs-filter (λ (s t : Subscription). s.id < t.id) stay w.subscriptions sound.ids;
@@ -275,11 +283,16 @@ pub record KeepsSubscription (f : Subscription → Subscription) : Type 0 where
   pub subject : (s : Subscription) → (f s).subject ≡ s.subject
   pub queue : (s : Subscription) → (f s).queue ≡ s.queue
   pub sid : (s : Subscription) → (f s).sid ≡ s.sid
+  pub received : (s : Subscription) → HasCount s → HasCount (f s)
 
 -- what is the same of both is the same of whichever is taken
 pub either : {X Y : Type 0} (part : X → Y) (b : Bool) (x y : X) → part x ≡ part y → part (cond b x y) ≡ part y
 either part true x y same = same
 either part false x y same = refl
+
+either-holds : {X : Type 0} (P : X → Type 0) (b : Bool) (x y : X) → P x → P y → P (cond b x y)
+either-holds P true x y h k = h
+either-holds P false x y h k = k
 
 -- what keeps each subscription keeps each where it is done to some alone
 pub keeps-where : (test : Subscription → Bool) (f : Subscription → Subscription) → KeepsSubscription f → KeepsSubscription (λ s. cond (test s) (f s) s)
@@ -290,6 +303,7 @@ keeps-where test f keeps = record {
   subject = λ s. either (λ (t : Subscription). t.subject) (test s) (f s) s (keeps.subject s);
   queue = λ s. either (λ (t : Subscription). t.queue) (test s) (f s) s (keeps.queue s);
   sid = λ s. either (λ (t : Subscription). t.sid) (test s) (f s) s (keeps.sid s);
+  received = λ s few. either-holds HasCount (test s) (f s) s (keeps.received s few) few;
 }
 
 allowed-again : (doc : PolicyDoc) (zs : List Session) (f : Subscription → Subscription) → KeepsSubscription f → (s : Subscription) → IsAllowed doc zs s → IsAllowed doc zs (f s)
@@ -352,6 +366,7 @@ sound-limits w f keeps sound = record {
   reasons = All-filter IsOpen (HasReasonHere w.policy w.sessions) subs (All-map (HasReasonHere w.policy w.sessions) f w.subscriptions (λ k d h. reason-again w.policy w.sessions f keeps (get_or w.subscriptions k d) (sound.reasons k d h)));
   accounts = All-filter IsOpen (IsOwned w.policy w.sessions) subs (All-map (IsOwned w.policy w.sessions) f w.subscriptions (λ k d h. owned-again w.policy w.sessions f keeps (get_or w.subscriptions k d) (sound.accounts k d h)));
   limits = λ k d h. let s = get_or (unended subs) k d in sym (below-limit s.most s.received) ∙ filter_passes IsOpen subs k d h;
+  counts = All-filter IsOpen HasCount subs (All-map HasCount f w.subscriptions (λ k d h. keeps.received (get_or w.subscriptions k d) (sound.counts k d h)));
   sids = AllPairs-filter (λ (s t : Subscription). has_same_sid s t ≡ false) IsOpen subs (AllPairs-map (λ (s t : Subscription). has_same_sid s t ≡ false) f w.subscriptions (apart-again f keeps) sound.sids);
   quotas = quotas-filter IsOpen subs (quotas-again f keeps w.subscriptions sound.quotas);
   ids = AllPairs-filter (λ (s t : Subscription). s.id < t.id) IsOpen subs (AllPairs-map (λ (s t : Subscription). s.id < t.id) f w.subscriptions (rising-again f keeps) sound.ids);

@@ -1,5 +1,5 @@
 -- What holds of the world of every hub (docs/GUARANTEE.md, "What always holds").
-use Rattle.std.specs.Prelude.{◌≡◌, ◌≢◌, ◌+◌, ◌<◌, ◌≤◌, ℕ, List, Bool, true, false, Option, Some, None, length, All, AllPairs, IsSomeAnd, nat_lt}
+use Rattle.std.specs.Prelude.{◌≡◌, ◌≢◌, ◌+◌, ◌-◌, ◌^◌, ◌<◌, ◌≤◌, ℕ, List, Bool, true, false, Option, Some, None, length, All, AllPairs, IsSomeAnd, nat_lt}
 use Rattle.std.specs.Option.{option_map}
 use Rattle.subjects.specs.Subject.{Token}
 use Rattle.policy_doc.specs.Document.{IsValidPolicy}
@@ -75,6 +75,8 @@ pub record IsSound (w : World) : Type 0 where
   pub accounts : All (λ (s : Subscription). account_of (user_at w s.conn) ≡ Some s.account) w.subscriptions
   -- each is still to receive: none has received as many messages as it was to
   pub limits : All (λ (s : Subscription). is_to_receive s ≡ true) w.subscriptions
+  -- none has counted more than 2^64 - 1
+  pub counts : All (λ (s : Subscription). s.received ≤ 2 ^ 64 - 1) w.subscriptions
   -- no connection has two of one sid
   pub sids : AllPairs (λ (s t : Subscription). has_same_sid s t ≡ false) w.subscriptions
   -- no connection has more than 4,096 standing subscriptions
