@@ -32,10 +32,6 @@ note_for (Some s) (Some z) = option_map (λ (t : Terms). note_of s z.replies) (t
 abbrev pub noted_for : List Session → Addressed → Addressed
 noted_for zs a = record a { noted = note_for a.delivery.message.reply (session_of zs a.conn) }
 
--- the same of a delivery's own reply: what its session is to note where it enters
-abbrev pub noted_for : List Session → Addressed → Addressed
-noted_for zs a = record a { noted = note_for a.delivery.message.reply (session_of zs a.conn) }
-
 -- one answer more on the session's grant for the subject
 abbrev pub answering : List Token → Session → Session
 answering s z = record z { replies = answered_in s z.replies }
