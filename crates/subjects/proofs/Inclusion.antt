@@ -91,7 +91,7 @@ sample_outside (q ∷ qs) [] c = inl refl
 sample_outside (q ∷ qs) (p ∷ ps) c =
     found-cases q qs p (sample one_stand_in qs ps) (sample two_stand_ins qs ps) (is_tail p) (is_star p) (covers qs ps) c (sample_outside qs ps)
 
-concrete-sample : (last : List Token → List Token) → ((qs : List Token) → list_all is_literal (last qs) ≡ true) → ((qs : List Token) → 0 < length (last qs)) → (qs ps : List Token) → IsPattern ps → IsConcreteSubject (sample last qs ps)
+pub concrete-sample : (last : List Token → List Token) → ((qs : List Token) → list_all is_literal (last qs) ≡ true) → ((qs : List Token) → 0 < length (last qs)) → (qs ps : List Token) → IsPattern ps → IsConcreteSubject (sample last qs ps)
 concrete-sample last l some qs [] h = cc
 concrete-sample last l some qs (p ∷ ps) h =
     let tests = all_tests (list_all is_token (p ∷ ps)) (tail_is_last (p ∷ ps)) (leb (length (p ∷ ps)) 512) h in

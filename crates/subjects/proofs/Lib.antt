@@ -8,3 +8,4 @@ pub mod Sharing
 pub mod Exact
 pub mod Text
 pub mod Marks
+pub mod Missing

@@ -7,7 +7,7 @@ use Rattle.std.proofs.lemmas.Bool.{and_parts, not-true}
 use Rattle.std.proofs.lemmas.List.Elements.{All-nil, All-cons}
 use Rattle.std.proofs.lemmas.List.Splits.{slice_split_none, slice_split_at}
 use Rattle.std.proofs.lemmas.Slice.Eq.{bytes_eq-Decides}
-use Rattle.subjects.specs.Subject.{Token, IsPattern, IsSubject, is_text_byte, is_token_byte, is_token, is_wildcard, is_literal, tail_is_last, text_of, tokens_of}
+use Rattle.subjects.specs.Subject.{Token, IsConcreteSubject, IsPattern, IsSubject, is_concrete, is_text_byte, is_token_byte, is_token, is_wildcard, is_literal, tail_is_last, text_of, tokens_of}
 
 -- no byte of a token is a dot
 abbrev HasNoDot : Token → Type 0
@@ -42,10 +42,14 @@ tokens (t ∷ ts) h =
     let parts = and_parts (is_literal t) (list_all is_literal ts) h in
     ap (λ b. b && list_all is_token ts) (and_parts (is_token t) (not (is_wildcard t)) parts.0).0 ∙ tokens ts parts.1
 
--- the text of a subject has its tokens
+-- the text of a concrete subject has its tokens
+pub concrete_again : (s : List Token) → IsConcreteSubject s → tokens_of (text_of s) ≡ s
+concrete_again [] h = absurd (cc)
+concrete_again (t ∷ ts) h = cut t ts (tokens (t ∷ ts) h)
+
+-- and that of a subject
 pub again : (s : List Token) → IsSubject s → tokens_of (text_of s) ≡ s
-again [] h = absurd (cc)
-again (t ∷ ts) h = cut t ts (tokens (t ∷ ts) (and_parts (list_all is_literal (t ∷ ts)) _ h).0)
+again s h = concrete_again s (and_parts (is_concrete s) _ h).0
 
 pub same_patterns : (b : Bool) (p q : List Token) (t u : List ℕ) → IsPattern p → IsPattern q → t ≡ text_of p → u ≡ text_of q → b ≡ pointwise nat_eq t u → Decides b (p ≡ q)
 same_patterns b p q t u hp hq tp uq is = (

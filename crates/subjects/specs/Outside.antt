@@ -1,6 +1,9 @@
 -- Sample subjects of a pattern, chosen so that another pattern has them only where it must.
-use Rattle.std.specs.Prelude.{List, [], ◌∷◌, if◌then◌else◌}
-use Rattle.subjects.specs.Subject.{Token, is_star, is_tail, same_token}
+use Rattle.std.specs.Prelude.{◌≡◌, ◌≤◌, ◌∷◌, ◌++◌, ℕ, IsTrue, false, not, if◌then◌else◌, List, [], length, Option, Some, None}
+use Rattle.std.specs.List.{flat_map}
+use Rattle.subjects.specs.Subject.{Token, IsConcreteSubject, in_set, is_star, is_tail, same_token, tokens_of}
+use Rattle.subjects.specs.declared.outside.Tail.{Tail}
+use Rattle.subjects.specs.declared.outside.Tail.TheVariants.{One, Two}
 
 -- the tokens behind the first
 abbrev pub behind : List Token → List Token
@@ -23,3 +26,26 @@ abbrev pub sample : (List Token → List Token) → List Token → List Token �
 sample last qs [] = []
 sample last qs (p ∷ ps) =
     if is_tail p then last qs else ((if is_star p then stand_in qs else p) ∷ sample last (behind qs) ps)
+
+-- what a last `>` becomes
+abbrev pub stand_ins : Tail → List Token → List Token
+stand_ins One = one_stand_in
+stand_ins Two = two_stand_ins
+
+-- tokens, each with a dot behind it
+abbrev pub dotted : List Token → List ℕ
+dotted ts = flat_map (λ (t : Token). t ++ 46 ∷ []) ts
+
+-- the first of the second pattern's two samples that the first pattern hasn't, if it hasn't both
+abbrev pub outside : List Token → List Token → Option (List Token)
+outside q p =
+    if not (in_set q (sample one_stand_in q p)) then Some (sample one_stand_in q p)
+    else if not (in_set q (sample two_stand_ins q p)) then Some (sample two_stand_ins q p)
+    else None
+
+-- a text is that of a concrete subject of the second pattern, not of the first's, of at most 513 tokens
+pub record IsOutside (q p : List Token) (text : List ℕ) : Type 0 where
+  pub concrete : IsConcreteSubject (tokens_of text)
+  pub member : IsTrue (in_set p (tokens_of text))
+  pub missing : in_set q (tokens_of text) ≡ false
+  pub short : length (tokens_of text) ≤ 513

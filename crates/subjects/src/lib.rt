@@ -7,6 +7,7 @@ mod equality;
 mod error;
 mod faults;
 mod mark;
+mod outside;
 mod pattern;
 mod subject;
 mod subject_ref;

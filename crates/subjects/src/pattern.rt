@@ -1,6 +1,7 @@
 ghost use Rattle.std.specs.Prelude.{◌≡◌, ◌↔◌, IsTrue};
 
 use crate::mark::Mark;
+use crate::outside::{Tail, sample_text};
 use crate::tokens::tokens_in;
 use crate::{SubjectError, SubjectRef, compare, faults};
 use base::{Copying, NoMemory, Pieces, SharedBytes};
@@ -36,8 +37,9 @@ impl Model for Pattern {
 }
 
 impl Pattern {
-    ghost use Rattle.std.specs.Prelude.{◌≡◌, ◌↔◌, IsTrue};
+    ghost use Rattle.std.specs.Prelude.{◌≡◌, ◌↔◌, IfOk, IsTrue, MatchOption, None, Ok, option_map, true};
     ghost use Rattle.std.specs.Bool.{OnFalse};
+    ghost use Rattle.subjects.specs.Outside.{outside, IsOutside};
     ghost use Rattle.subjects.specs.Subject.{in_set, covers, Covers, Lacks, overlaps, Overlaps, text_of, tokens_of, IsPattern};
     ghost use Rattle.subjects.specs.Fault.{pattern_fault, IsParse, AcceptsExactly};
 
@@ -101,6 +103,26 @@ impl Pattern {
         }
         let covers = compare::covers(self.tokens(), other.tokens());
         covers
+    }
+
+    /// Returns the text of a subject of `other` that this pattern hasn't, or `None` exactly where it covers `other`, which
+    /// takes no memory. It has the tokens of `other`, but `a` for each `*`, or `b` where this pattern has the literal `a`
+    /// at that place; a last `>` becomes one such token, or two where this pattern has the subject with one. So it has at
+    /// most 513 tokens. `NoMemory` where memory could not be had.
+    pub fn outside(&self, alloc: Global, other: &Pattern) -> Result<Option<Vec<u8>>, NoMemory>
+        ensures rule { IfOk result (λ found. option_map (λ text. text.items) found ≡ option_map text_of (outside self.now other.now)) }
+        ensures meaning { IfOk result (λ found. MatchOption found (Covers self.now other.now) (λ text. IsOutside self.now other.now text.items)) }
+        ensures covered { Covers self.now other.now → result ≡ Ok None }
+    {
+        if self.covers(other) {
+            return Ok(None);
+        }
+        let shorter = sample_text(alloc, self.tokens(), other.tokens(), Tail::One)?;
+        if !self.matches_text(shorter.as_slice()) {
+            return Ok(Some(shorter));
+        }
+        let longer = sample_text(alloc, self.tokens(), other.tokens(), Tail::Two)?;
+        Ok(Some(longer))
     }
 
     /// Whether some subject is one of both patterns.
