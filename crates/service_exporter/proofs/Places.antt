@@ -17,7 +17,7 @@ use Rattle.service_exporter.specs.Routes.{Numbered, ends_by, kept_route, living,
 use Rattle.service_exporter.specs.Slots.{entry_of, standing_in, passes, is_single, kept_in, is_in, kept_slot, LivesUntil, AreAbove, AreBelow, AreRising, IsAbsent, IsNowhere, IsPlaceOf, IsPlaceOn}
 use Rattle.service_exporter.specs.declared.route.NewRow.{NewRow}
 use Rattle.service_exporter.specs.declared.route.Route.{Route}
-use Rattle.service_exporter.specs.declared.route.Row.{Row}
+use Rattle.exports.specs.declared.document.Row.{Row}
 use Rattle.service_exporter.specs.declared.slots.Slot.{Slot}
 
 -- ---- by place

@@ -6,7 +6,7 @@ use Rattle.subjects.specs.Subject.{Token}
 use Rattle.service_subjects.specs.Names.{is_on}
 use Rattle.service_exporter.specs.Routes.{Numbered, lives, on_row}
 use Rattle.service_exporter.specs.declared.route.NewRow.{NewRow}
-use Rattle.service_exporter.specs.declared.route.Row.{Row}
+use Rattle.exports.specs.declared.document.Row.{Row}
 use Rattle.service_exporter.specs.declared.route.Route.{Route}
 use Rattle.service_exporter.specs.declared.slots.Slot.{Slot}
 

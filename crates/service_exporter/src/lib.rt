@@ -17,5 +17,6 @@ mod tally;
 
 pub use error::RouteError;
 pub use exporter::Exporter;
-pub use route::{NewRow, ResponseTerms, Route, Row, ServiceRows};
+pub use exports::{ResponseTerms, Row};
+pub use route::{NewRow, Route, ServiceRows};
 pub use service_subjects::route_subject;

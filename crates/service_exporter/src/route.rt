@@ -3,26 +3,9 @@ ghost use Rattle.std.specs.Prelude.{◌≡◌, IfOk};
 
 use base::{Copying, NoMemory};
 use bytes::Bytes;
+use exports::{ResponseTerms, Row};
 use std::alloc::Global;
 use subjects::{Subject, SubjectRef};
-
-/// An import row of a service.
-#[derive(Debug, Drop)]
-pub struct Row {
-    /// The name of the importing account.
-    pub importer: Bytes,
-    /// The row's index among the imports of that account.
-    pub index: usize,
-}
-
-/// On what terms an exported service is answered.
-#[derive(Clone, Copy, Debug, PartialEq, Eq)]
-pub struct ResponseTerms {
-    /// For how many milliseconds a route lives (`response_ttl`).
-    pub ttl: u64,
-    /// Whether the first response ends it (`response_type`).
-    pub single: bool,
-}
 
 /// The place of an import row in another policy, and the terms of its export there.
 #[derive(Clone, Copy, Debug, PartialEq, Eq)]
@@ -37,7 +20,7 @@ pub struct NewRow {
 pub trait ServiceRows {
     ghost use Rattle.std.specs.Prelude.{◌≡◌, Option};
     ghost use Rattle.service_exporter.specs.declared.route.NewRow.{NewRow};
-    ghost use Rattle.service_exporter.specs.declared.route.Row.{Row};
+    ghost use Rattle.exports.specs.declared.document.Row.{Row};
 
     /// The least row that is equal to a row of the earlier policy.
     ghost again: { Self → Row → Option NewRow };
