@@ -84,7 +84,7 @@ unfoldable pub account_at : Path → Data → Read AccountDoc
 account_at path d = do
   known ← judged account_rows path d
   users ← users_under (at_key path (codes "users")) (get (codes "users") d)
-  Ok (record { users = users })
+  Ok (record { users = users; exports = []; imports = [] })
 
 -- no control byte, no space, no DEL
 abbrev pub is_account_byte : ℕ → Bool

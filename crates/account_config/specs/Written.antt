@@ -93,7 +93,11 @@ user_in d = record {
 }
 
 abbrev pub account_in : Data → AccountDoc
-account_in d = record { users = or_empty (option_map (list_in user_in) (get (codes "users") d)) }
+account_in d = record {
+  users = or_empty (option_map (list_in user_in) (get (codes "users") d));
+  exports = [];
+  imports = [];
+}
 
 -- accounts, each put under its name
 abbrev pub accounts_in : List NamedAccount → Members → List NamedAccount

@@ -84,7 +84,11 @@ fn account_of(alloc: Global, path: &Path, value: &Value) -> Result<AccountDoc, C
     judge(alloc, &[("users", false)], path, value)?;
     let below = path.key(alloc, "users")?;
     let users = users_under(alloc, &below, value.get("users"))?;
-    Ok(AccountDoc { users })
+    Ok(AccountDoc {
+        users,
+        exports: Items::new(alloc),
+        imports: Items::new(alloc),
+    })
 }
 
 /// The users of a list, if it is there.

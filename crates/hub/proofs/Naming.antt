@@ -53,7 +53,7 @@ again test (v ∷ us) u apart e = here (test v) e (again test us u (IsDistinct-t
 
 -- in a valid policy no name stands twice
 pub are_named_once : (doc : PolicyDoc) → IsValidPolicy doc → IsDistinct bytes_eq (map name_of (users_of doc))
-are_named_once doc valid = subst (IsDistinct bytes_eq) (sym (names doc.accounts)) valid
+are_named_once doc valid = subst (IsDistinct bytes_eq) (sym (names doc.accounts)) valid.names
 
 pub named_again : (test : User → Bool) (doc : PolicyDoc) (u : User) → IsValidPolicy doc → find test (users_of doc) ≡ Some u → user_named doc u.user ≡ Some u
 named_again test doc u valid e = again test (users_of doc) u (are_named_once doc valid) e

@@ -1,3 +1,4 @@
 pub mod Names
 pub mod UniqueNames
 mod Twins
+mod Causes

@@ -1,8 +1,8 @@
 -- Putting an account among accounts in the order of their names.
-use Rattle.std.proofs.Common.{◌≡◌, ◌<◌, ◌≤◌, ℕ, true, false, List, [], ◌∷◌, length, map, filter, refl, sym, ◌∙◌, ap, arith, Less, Equal, Greater, Ordering, cond, suc, slice_set, ◌||◌}
+use Rattle.std.proofs.Common.{◌≡◌, ◌<◌, ◌≤◌, ℕ, true, false, List, [], ◌∷◌, length, map, filter, refl, sym, ◌∙◌, ap, arith, Less, Equal, Greater, Ordering, cond, zero, suc, slice_set, ◌||◌, Some}
 use Rattle.std.specs.Ordering.{nat_cmp, is_lt, is_eq, ordering_reverse}
 use Rattle.std.specs.Cmp.Lexicographic.{slice_cmp}
-use Rattle.std.specs.List.{AllByRecursion, list_any, insert, prefix_len}
+use Rattle.std.specs.List.{AllByRecursion, find, list_any, insert, prefix_len, slice_index_or}
 use Rattle.std.specs.List.Sorted.{IsStrictlySortedBy}
 use Rattle.std.proofs.lemmas.Cmp.{nat_list_cmp_total}
 use Rattle.std.proofs.lemmas.Map.Keys.{sorted_head, sorted_tail}
@@ -159,3 +159,29 @@ insert-with_account n a xs sorted any = insert-put n a xs any ∙ put-with_accou
 -- the order is kept
 pub IsByName-with_account : (n : Name) (a : AccountDoc) (xs : List NamedAccount) → IsByName xs → IsByName (with_account n a xs)
 IsByName-with_account n a xs sorted = rw (sym (put-with_account n a xs sorted)) (IsByName-put (named n a) xs sorted)
+
+-- one of those above a name is above it
+above-at : (n : Name) (xs : List NamedAccount) (i : ℕ) (d : NamedAccount) → AllAbove n xs → i < length xs → name_cmp n (slice_index_or xs i d).name ≡ Less
+above-at n [] i d above within = absurd (omega (arith, within))
+above-at n (x ∷ xs) zero d above within = above.0
+above-at n (x ∷ xs) (suc i) d above within = above-at n xs i d above.1 (omega (arith, within))
+
+-- whoever has a name isn't above it
+not_above : (n m : Name) → name_cmp n m ≡ Less → is_eq (name_cmp m n) ≡ true → ⊥
+not_above n m less at = let other : name_cmp m n ≡ Greater = flipped n m Less less in cc
+
+-- the account at a place of the name is the first of it
+found-by : (n : Name) (x : NamedAccount) (xs : List NamedAccount) (i : ℕ) (d : NamedAccount) (o : Ordering) → name_cmp x.name n ≡ o → IsByName (x ∷ xs) → i < length xs → has_name n (slice_index_or xs i d) ≡ true →
+    Some (slice_index_or xs i d) ≡ find (has_name n) xs → Some (slice_index_or xs i d) ≡ cond (is_eq o) (Some x) (find (has_name n) xs)
+found-by n x xs i d Less e sorted within at later = later
+found-by n x xs i d Greater e sorted within at later = later
+found-by n x xs i d Equal e sorted within at later =
+    let above : AllAbove n xs = AllAbove-same x.name n xs e (sorted_head name_cmp x.name (map account_name xs) sorted) in
+    absurd (not_above n (slice_index_or xs i d).name (above-at n xs i d above within) at)
+
+pub found-at : (n : Name) (xs : List NamedAccount) (i : ℕ) (d : NamedAccount) → IsByName xs → i < length xs → has_name n (slice_index_or xs i d) ≡ true → Some (slice_index_or xs i d) ≡ find (has_name n) xs
+found-at n [] i d sorted within at = absurd (omega (arith, within))
+found-at n (x ∷ xs) zero d sorted within at = rw at refl
+found-at n (x ∷ xs) (suc i) d sorted within at =
+    found-by n x xs i d (name_cmp x.name n) refl sorted (omega (arith, within)) at
+    (found-at n xs i d (sorted_tail name_cmp x.name (map account_name xs) sorted) (omega (arith, within)) at)

@@ -4,6 +4,7 @@ use Rattle.std.specs.List.{slice_get}
 use Rattle.std.specs.Option.{IsSomeAnd}
 use Rattle.std.proofs.lemmas.List.{append-nil}
 use Rattle.policy_doc.specs.Document.{users_of, users_at, is_taken, twin_row, twin_place, policy_fault, HaveUniqueNames, IsTwinRow, IsFirstTwin}
+use Rattle.policy_doc.specs.Imports.{fault_in_imports}
 use Rattle.policy_doc.specs.declared.fault.Place.{Place}
 use Rattle.policy_doc.specs.declared.fault.PolicyFault.TheVariants.{DuplicateUser}
 use Rattle.policy_doc.specs.declared.document.PolicyDoc.{PolicyDoc}
@@ -77,8 +78,8 @@ found_place earlier start (a ∷ more) (suc account) row twin =
     rw (no_twin_row earlier 0 a.account.users (before ++ take row users) (subst HaveUniqueNames grouped twin.0))
     (found_place (earlier ++ a.account.users) (start + 1) more account row later ∙ ap (λ i. at i row) (grind arith))
 
--- a document with unique names has no fault
-pub no_fault : (doc : PolicyDoc) → HaveUniqueNames (users_of doc.accounts) → policy_fault doc ≡ None
+-- a document with unique names has the fault of its import rows
+pub no_fault : (doc : PolicyDoc) → HaveUniqueNames (users_of doc.accounts) → policy_fault doc ≡ fault_in_imports doc.accounts 0 doc.accounts
 no_fault doc unique = rw (no_twin_place [] 0 doc.accounts unique) refl
 
 -- the twin that is said to be the first is the fault

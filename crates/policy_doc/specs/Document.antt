@@ -1,10 +1,11 @@
 -- When a document is valid, and the built-in one (docs/POLICY.md, "Users" and "The built-in policy").
 use Rattle.std.specs.Prelude.{◌∷◌, ◌++◌, ◌+◌, ℕ, Bool, List, [], map, take, Option, Some, None, codes, slice_get, if◌then◌else◌, IsSomeAnd, IsTrue}
 use Rattle.std.specs.List.{flat_map, list_any, IsDistinct}
-use Rattle.std.specs.Option.{option_map, option_map_or}
+use Rattle.std.specs.Option.{option_map, option_map_or, option_or}
 use Rattle.std.specs.Str.{bytes_eq}
 use Rattle.subjects.specs.Subject.{Token, text_of}
 use Rattle.policy_doc.specs.Accounts.{Name}
+use Rattle.policy_doc.specs.Imports.{AreValidImports, fault_in_imports}
 use Rattle.policy_doc.specs.declared.fault.Place.{Place}
 use Rattle.policy_doc.specs.declared.fault.PolicyFault.{PolicyFault}
 use Rattle.policy_doc.specs.declared.fault.PolicyFault.TheVariants.{DuplicateUser, NoMemory}
@@ -24,9 +25,10 @@ user_name u = u.user
 abbrev pub HaveUniqueNames : List UserDoc → Type 0
 HaveUniqueNames users = IsDistinct bytes_eq (map user_name users)
 
--- user names are unique over all accounts
-abbrev pub IsValidPolicy : PolicyDoc → Type 0
-IsValidPolicy doc = HaveUniqueNames (users_of doc.accounts)
+-- user names are unique over all accounts, and each import row holds
+pub record IsValidPolicy (doc : PolicyDoc) : Type 0 where
+  pub names : HaveUniqueNames (users_of doc.accounts)
+  pub imports : AreValidImports doc.accounts doc.accounts
 
 -- whether a user of the name is among users
 abbrev pub is_taken : Name → List UserDoc → Bool
@@ -46,11 +48,6 @@ abbrev pub IsFirstTwin : List NamedAccount → Place → Type 0
 IsFirstTwin accounts place =
     IsTwinRow (users_of (take place.account accounts)) (users_at accounts place.account) place.row
 
--- A duplicate user is the first in the document. A check never wants memory.
-abbrev pub IsPolicyFault : PolicyDoc → PolicyFault → Type 0
-IsPolicyFault doc (DuplicateUser place) = IsFirstTwin doc.accounts place
-IsPolicyFault doc NoMemory = ⊥
-
 -- the same as a search: the row of the first of users whose name is among earlier ones
 abbrev pub twin_row : List UserDoc → ℕ → List UserDoc → Option ℕ
 twin_row earlier row [] = None
@@ -66,9 +63,16 @@ twin_place earlier account [] = None
 twin_place earlier account (a ∷ more) =
     twin_or account (twin_row earlier 0 a.account.users) (twin_place (earlier ++ a.account.users) (account + 1) more)
 
--- the first fault of a document, if it has one
+-- the first fault of a document, if it has one: of its users, or else of its import rows
 abbrev pub policy_fault : PolicyDoc → Option PolicyFault
-policy_fault doc = option_map DuplicateUser (twin_place [] 0 doc.accounts)
+policy_fault doc = option_or (option_map DuplicateUser (twin_place [] 0 doc.accounts)) (fault_in_imports doc.accounts 0 doc.accounts)
+
+-- A duplicate user is the first in the document. Import rows are judged where names are unique. Memory is wanted of a valid
+-- document alone.
+abbrev pub IsPolicyFault : PolicyDoc → PolicyFault → Type 0
+IsPolicyFault doc (DuplicateUser place) = IsFirstTwin doc.accounts place
+IsPolicyFault doc NoMemory = IsValidPolicy doc
+IsPolicyFault doc _ = HaveUniqueNames (users_of doc.accounts)
 
 -- a plain entry for the subjects of a pattern
 abbrev pub entry_of : List Token → PermEntry
@@ -101,17 +105,16 @@ limited_user = record {
   permissions = Some record { publish = limited_direction; subscribe = limited_direction; allow_responses = None };
 }
 
+abbrev pub builtin_account : NamedAccount
+builtin_account = record {
+  name = codes "DEMO";
+  account = record { users = demo_user ∷ limited_user ∷ []; exports = []; imports = [] };
+}
+
 -- the policy that holds where none is given: one account with a free user and a limited one
 abbrev pub builtin_doc : PolicyDoc
-builtin_doc = record {
-  accounts = record { name = codes "DEMO"; account = record { users = demo_user ∷ limited_user ∷ [] } } ∷ [];
-}
+builtin_doc = record { accounts = builtin_account ∷ [] }
 
 -- the name of the account at an index
 abbrev pub name_at : List NamedAccount → ℕ → Name
 name_at accounts i = option_map_or (λ (a : NamedAccount). a.name) (slice_get accounts i) []
-
--- what is said of a fault
-abbrev pub fault_text : PolicyFault → List ℕ
-fault_text (DuplicateUser place) = codes "two users have the same name"
-fault_text NoMemory = codes "no memory"

@@ -1,2 +1,4 @@
 pub mod Accounts
+pub mod Imports
 pub mod Document
+pub mod Faults

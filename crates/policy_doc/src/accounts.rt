@@ -1,6 +1,7 @@
-ghost use Rattle.std.specs.Prelude.{◌≡◌};
+ghost use Rattle.std.specs.Prelude.{◌≡◌, ◌<◌, find, length, IfSome};
 ghost use Rattle.std.specs.List.{list_any, prefix_len};
-ghost use Rattle.policy_doc.specs.Accounts.{has_name, is_before};
+ghost use Rattle.std.specs.Option.{option_copied};
+ghost use Rattle.policy_doc.specs.Accounts.{IsByName, has_name, is_before};
 
 use crate::{AccountDoc, NamedAccount};
 use base::{Copying, Items, NoMemory};
@@ -34,8 +35,9 @@ impl Model for Accounts {
 }
 
 impl Accounts {
-    ghost use Rattle.std.specs.Prelude.{◌≡◌, [], OnOk, OnErr};
-    ghost use Rattle.policy_doc.specs.Accounts.{IsByName, with_account};
+    ghost use Rattle.std.specs.Prelude.{◌≡◌, [], OnOk, OnErr, find};
+    ghost use Rattle.std.specs.Option.{option_copied};
+    ghost use Rattle.policy_doc.specs.Accounts.{IsByName, has_name, with_account};
 
     /// No account.
     pub fn new(alloc: Global) -> Accounts
@@ -54,6 +56,13 @@ impl Accounts {
         self.accounts.as_slice()
     }
 
+    /// The account of a name, found by halves; `None` where there is none.
+    pub fn get(&self, name: &Bytes) -> Option<&NamedAccount>
+        ensures { option_copied result ≡ find (has_name name.now) self.now }
+    {
+        named_in(self.accounts.as_slice(), name)
+    }
+
     /// Adds an account. One that stands under the same name is replaced, as by a key that a JSON
     /// object has twice. `NoMemory` where memory could not be had; the accounts are then unchanged.
     pub fn insert(&mut self, name: Bytes, account: AccountDoc) -> Result<(), NoMemory>
@@ -70,6 +79,48 @@ impl Accounts {
         }
         Ok(())
     }
+}
+
+/// The account of a name among accounts in the order of their names. It is looked for by halves and, where it isn't found
+/// so, by a walk, which shows the prover that it isn't there; a document that names it is refused.
+fn named_in<'a>(accounts: &'a [NamedAccount], name: &Bytes) -> Option<&'a NamedAccount>
+    requires { IsByName accounts.now }
+    ensures { option_copied result ≡ find (has_name name.now) accounts.now }
+{
+    match likely_place(accounts, name) {
+        None => walked_to(accounts, name),
+        Some(place) => {
+            let likely = &accounts[place];
+            if is_named(likely, name) {
+                Some(likely)
+            } else {
+                walked_to(accounts, name)
+            }
+        }
+    }
+}
+
+/// A place by halves, where the account of the name is if it is there.
+fn likely_place(accounts: &[NamedAccount], name: &Bytes) -> Option<usize>
+    ensures { IfSome result (λ place. place < length accounts.now) }
+{
+    match accounts.binary_search_by(|a| a.name.cmp(name)) {
+        Ok(place) => Some(place),
+        Err(_) => None,
+    }
+}
+
+fn is_named(account: &NamedAccount, name: &Bytes) -> bool
+    ensures { result ≡ has_name name.now account.now }
+{
+    account.name.cmp(name).is_eq()
+}
+
+/// The first account of a name.
+fn walked_to<'a>(accounts: &'a [NamedAccount], name: &Bytes) -> Option<&'a NamedAccount>
+    ensures { option_copied result ≡ find (has_name name.now) accounts.now }
+{
+    accounts.iter().find(|a| a.name.cmp(name).is_eq())
 }
 
 /// Whether an account of the name stands.

@@ -19,6 +19,8 @@ pub(crate) fn builtin_document(alloc: Global) -> Result<PolicyDoc, NoMemory>
     users.push(limited(alloc)?)?;
     let account = AccountDoc {
         users: Items::from_vec(users),
+        exports: Items::new(alloc),
+        imports: Items::new(alloc),
     };
     let mut accounts = Accounts::new(alloc);
     accounts.insert(Bytes::from_static(b"DEMO"), account)?;

@@ -1,8 +1,9 @@
 use crate::Accounts;
 use base::{Copying, Items, NoMemory};
 use bytes::Bytes;
+use exports::{ExportDoc, Kind};
 use std::alloc::Global;
-use subjects::Pattern;
+use subjects::{Pattern, Subject};
 
 /// What an operator writes down: the accounts by name. It may be invalid; a `Policy` is not.
 #[derive(Debug)]
@@ -51,16 +52,52 @@ pub struct NamedAccount {
     pub account: AccountDoc,
 }
 
-/// What one account has: its users in the order in which they are written.
+/// What one account has: its users, exports and imports, each in the order in which they are written.
 #[derive(Debug)]
 pub struct AccountDoc {
     /// The users; a valid document has each name once over all accounts.
     pub users: Items<UserDoc>,
+    /// What it offers to other accounts.
+    pub exports: Items<ExportDoc>,
+    /// What it takes of other accounts.
+    pub imports: Items<ImportDoc>,
 }
 
 impl Drop for AccountDoc {
     fn drop(self) {
-        let Self { users: _ } = self;
+        let Self {
+            users: _,
+            exports: _,
+            imports: _,
+        } = self;
+    }
+}
+
+/// What an account takes of another: the subjects of a pattern, under the names that it has for them.
+#[derive(Debug)]
+pub struct ImportDoc {
+    /// Whether it is a stream or a service.
+    pub kind: Kind,
+    /// The name of the exporting account.
+    pub account: Bytes,
+    /// The pattern of the subjects, as the exporter has them.
+    pub subject: Pattern,
+    /// The template of the importer's subjects, or none. Any text may stand here; a valid document has a template.
+    pub to: Option<Bytes>,
+    /// What the importer's subjects have before those of the exporter, or nothing. A valid document has it or `to`,
+    /// or neither.
+    pub prefix: Option<Subject>,
+}
+
+impl Drop for ImportDoc {
+    fn drop(self) {
+        let Self {
+            kind: _,
+            account: _,
+            subject: _,
+            to: _,
+            prefix: _,
+        } = self;
     }
 }
 
@@ -191,6 +228,28 @@ impl Copying for AccountDoc {
     fn copy(&self, alloc: Global) -> Result<AccountDoc, NoMemory> {
         Ok(AccountDoc {
             users: self.users.copy(alloc)?,
+            exports: self.exports.copy(alloc)?,
+            imports: self.imports.copy(alloc)?,
+        })
+    }
+}
+
+impl Copying for ImportDoc {
+    fn copy(&self, alloc: Global) -> Result<ImportDoc, NoMemory> {
+        let to = match &self.to {
+            Some(text) => Some(text.clone()?),
+            None => None,
+        };
+        let prefix = match &self.prefix {
+            Some(prefix) => Some(prefix.copy(alloc)?),
+            None => None,
+        };
+        Ok(ImportDoc {
+            kind: self.kind,
+            account: self.account.clone()?,
+            subject: self.subject.copy(alloc)?,
+            to,
+            prefix,
         })
     }
 }

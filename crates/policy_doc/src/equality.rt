@@ -1,5 +1,7 @@
 //! Whether two documents are equal, part by part.
-use crate::{AccountDoc, Direction, NamedAccount, PermDoc, PermEntry, PolicyDoc, Terms, UserDoc};
+use crate::{
+    AccountDoc, Direction, ImportDoc, NamedAccount, PermDoc, PermEntry, PolicyDoc, Terms, UserDoc,
+};
 use base::{Alike, are_alike};
 
 impl Alike for PolicyDoc {
@@ -17,6 +19,18 @@ impl Alike for NamedAccount {
 impl Alike for AccountDoc {
     fn is_like(&self, other: &AccountDoc) -> bool {
         self.users.is_like(&other.users)
+            && self.exports.is_like(&other.exports)
+            && self.imports.is_like(&other.imports)
+    }
+}
+
+impl Alike for ImportDoc {
+    fn is_like(&self, other: &ImportDoc) -> bool {
+        self.kind.is_like(&other.kind)
+            && self.account.is_like(&other.account)
+            && self.subject.is_like(&other.subject)
+            && self.to.is_like(&other.to)
+            && self.prefix.is_like(&other.prefix)
     }
 }
 

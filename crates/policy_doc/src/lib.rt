@@ -1,4 +1,5 @@
-//! Policy documents: accounts, their users and what each user may do; and the policies that are valid.
+//! Policy documents: accounts, their users and what each user may do, what accounts export and import; and the policies
+//! that are valid.
 #![tactic(auto)]
 
 mod accounts;
@@ -6,12 +7,14 @@ mod builtin;
 mod document;
 mod equality;
 mod fault;
+mod import_rows;
 mod policy;
 mod unique;
 
 pub use accounts::Accounts;
 pub use document::{
-    AccountDoc, Direction, NamedAccount, PermDoc, PermEntry, PolicyDoc, Terms, UserDoc,
+    AccountDoc, Direction, ImportDoc, NamedAccount, PermDoc, PermEntry, PolicyDoc, Terms, UserDoc,
 };
+pub use exports::{ExportDoc, Kind, ResponseTerms, Row};
 pub use fault::{Place, PolicyFault};
 pub use policy::Policy;

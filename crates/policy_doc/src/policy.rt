@@ -1,4 +1,8 @@
+ghost use Rattle.std.specs.Prelude.{◌≡◌, MatchOption};
+ghost use Rattle.policy_doc.specs.Document.{policy_fault, IsValidPolicy, IsPolicyFault};
+
 use crate::builtin::builtin_document;
+use crate::import_rows::fault_in_imports;
 use crate::unique::first_twin;
 use crate::{PolicyDoc, PolicyFault};
 use base::{Copying, NoMemory};
@@ -30,22 +34,24 @@ impl Model for Policy {
 }
 
 impl Policy {
-    ghost use Rattle.std.specs.Prelude.{◌≡◌, ◌↔◌, IsOk, IfOk, IfErr, Some, None};
+    ghost use Rattle.std.specs.Prelude.{◌≡◌, IfOk, IfErr, Some, None, false};
     ghost use Rattle.policy_doc.specs.Document.{builtin_doc, policy_fault, IsValidPolicy, IsPolicyFault};
+    ghost use Rattle.policy_doc.specs.Faults.{is_memory};
 
-    /// The policy of a document, exactly where it is valid. Else the document is handed back unchanged,
-    /// with `DuplicateUser`: the first user, by account and row, whose name stands before it. No memory is taken.
-    pub fn check(doc: PolicyDoc) -> Result<Policy, (PolicyDoc, PolicyFault)>
+    /// The policy of a document, exactly where it is valid. Else the document is handed back unchanged with its first
+    /// fault, in the order of `PolicyFault`. `NoMemory` is of a valid document for which memory could not be had.
+    pub fn check(alloc: Global, doc: PolicyDoc) -> Result<Policy, (PolicyDoc, PolicyFault)>
         ensures same { IfOk result (λ policy. policy ≡ doc) }
-        ensures valid { IsOk result ↔ IsValidPolicy doc }
+        ensures valid { IfOk result (λ _. IsValidPolicy doc) }
+        ensures none { IfOk result (λ _. policy_fault doc ≡ None) }
         ensures back { IfErr result (λ refused. refused.0 ≡ doc) }
+        ensures invalid { IfErr result (λ refused. is_memory refused.1 ≡ false → ¬ IsValidPolicy doc) }
+        ensures first { IfErr result (λ refused. is_memory refused.1 ≡ false → policy_fault doc ≡ Some refused.1) }
         ensures fault { IfErr result (λ refused. IsPolicyFault doc refused.1) }
-        ensures none { IfOk result (λ policy. policy_fault doc ≡ None) }
-        ensures first { IfErr result (λ refused. policy_fault doc ≡ Some refused.1) }
     {
-        match first_twin(doc.accounts.as_slice()) {
+        match first_fault(alloc, &doc) {
             None => Ok(Policy { doc }),
-            Some(place) => Err((doc, PolicyFault::DuplicateUser(place))),
+            Some(fault) => Err((doc, fault)),
         }
     }
 
@@ -65,6 +71,20 @@ impl Policy {
         ensures valid { IsValidPolicy self.now }
     {
         &self.doc
+    }
+}
+
+/// The first fault of a document.
+fn first_fault(alloc: Global, doc: &PolicyDoc) -> Option<PolicyFault>
+    ensures first { result ≡ policy_fault doc.now }
+    ensures fault { MatchOption result (IsValidPolicy doc.now) (λ fault. IsPolicyFault doc.now fault × ¬ IsValidPolicy doc.now) }
+{
+    match first_twin(alloc, doc.accounts.as_slice()) {
+        Some(place) => Some(PolicyFault::DuplicateUser(place)),
+        None => {
+            let fault = fault_in_imports(&doc.accounts);
+            fault
+        }
     }
 }
 

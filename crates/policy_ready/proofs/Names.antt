@@ -32,7 +32,7 @@ names (a ∷ more) =
     ∙ sym (map-append user_name a.account.users (users_of_accounts more))
 
 pub are_named_once : (doc : PolicyDoc) → IsValidPolicy doc → IsDistinct bytes_eq (map name_of (users_of doc))
-are_named_once doc valid = subst (IsDistinct bytes_eq) (sym (names doc.accounts)) valid
+are_named_once doc valid = subst (IsDistinct bytes_eq) (sym (names doc.accounts)) valid.names
 
 pub unlike : (name : List ℕ) (us : List User) → AllByRecursion (λ y. bytes_eq name y ≡ false) (map name_of us) → All (λ (u : User). bytes_eq name u.user ≡ false) us
 unlike name [] all = All-nil (λ (u : User). bytes_eq name u.user ≡ false)

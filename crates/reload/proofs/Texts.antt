@@ -3,7 +3,7 @@ use Rattle.std.proofs.Common.{◌≡◌, ℕ, List, Bool, true, false, if◌then
 use Rattle.std.specs.Str.{IsUtf8, is_utf8}
 use Rattle.std.proofs.lemmas.Str.{IsUtf8-from_is_utf8, is_utf8-from_IsUtf8}
 use Rattle.policy_doc.specs.declared.fault.PolicyFault.{PolicyFault}
-use Rattle.policy_doc.specs.Document as document
+use Rattle.policy_doc.specs.Faults as document
 use Rattle.reload.specs.Fault.{policy_line, fault_text}
 use Rattle.reload.specs.declared.fault.ReloadFault.TheVariants.{Policy}
 

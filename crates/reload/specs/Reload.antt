@@ -1,9 +1,11 @@
 -- What the text of a policy comes to (docs/POLICY.md, "The text of a policy").
 use Rattle.std.specs.Prelude.{◌≡◌, ℕ, List, [], false, Option, Some, None, Result, Ok, Err}
+use Rattle.std.specs.Option.{option_map_or}
 use Rattle.policy_doc.specs.Document.{name_at, policy_fault}
 use Rattle.policy_doc.specs.declared.document.PolicyDoc.{PolicyDoc}
 use Rattle.policy_doc.specs.declared.fault.PolicyFault.{PolicyFault}
-use Rattle.policy_doc.specs.declared.fault.PolicyFault.TheVariants.{DuplicateUser, NoMemory}
+use Rattle.policy_doc.specs.Faults.{fault_place}
+use Rattle.policy_doc.specs.declared.fault.Place.{Place}
 use Rattle.account_config.specs.Policy.{policy_of}
 use Rattle.policy_walk.specs.declared.fault.ConfigFault.{ConfigFault}
 use Rattle.reload.specs.Fault.{is_memory}
@@ -12,8 +14,7 @@ use Rattle.reload.specs.declared.fault.ReloadFault.TheVariants.{Config, Policy}
 
 -- the account whose row has a fault
 abbrev pub account_in : PolicyDoc → PolicyFault → List ℕ
-account_in doc (DuplicateUser place) = name_at doc.accounts place.account
-account_in doc NoMemory = []
+account_in doc fault = option_map_or (λ (place : Place). name_at doc.accounts place.account) (fault_place fault) []
 
 -- a document that has no fault, or its first
 abbrev pub checked : PolicyDoc → Option PolicyFault → Result PolicyDoc ReloadFault

@@ -44,10 +44,7 @@ impl ReloadFault {
     {
         match self {
             ReloadFault::Config(fault) => fault.is_memory(),
-            ReloadFault::Policy { fault, .. } => match fault {
-                PolicyFault::DuplicateUser(_) => false,
-                PolicyFault::NoMemory => true,
-            },
+            ReloadFault::Policy { fault, .. } => fault.place().is_none(),
         }
     }
 }
@@ -59,15 +56,17 @@ ghost use Rattle.reload.specs.Fault.{policy_line};
 fn policy_line(alloc: Global, fault: PolicyFault, account: &[u8]) -> Result<Vec<u8>, NoMemory>
     ensures { IfOk result (λ line. line.items ≡ policy_line fault account.now) }
 {
-    match fault {
-        PolicyFault::DuplicateUser(place) => {
-            let mut line = Vec::from_slice(alloc, b"policy DuplicateUser ")?;
+    match fault.place() {
+        Some(place) => {
+            let mut line = Vec::from_slice(alloc, b"policy ")?;
+            line.extend_from_slice(fault.name().as_bytes())?;
+            line.extend_from_slice(b" ")?;
             line.extend_from_slice(account)?;
             line.extend_from_slice(b" ")?;
             line.extend_from_slice(Buffer::new().format(place.row).as_bytes())?;
             Ok(line)
         }
-        PolicyFault::NoMemory => Ok(Vec::from_slice(alloc, b"no memory")?),
+        None => Ok(Vec::from_slice(alloc, b"no memory")?),
     }
 }
 
@@ -98,13 +97,9 @@ fn show_policy<W: fmt::Write>(
 ) -> fmt::Result
     ensures { WritesOnOk W.write_str_gives f.old result (policy_line fault account.now) f.new }
 {
-    match fault {
-        PolicyFault::DuplicateUser(place) => write!(
-            f,
-            "policy DuplicateUser {account} {}",
-            place.row
-        ),
-        PolicyFault::NoMemory => f.write_str("no memory"),
+    match fault.place() {
+        Some(place) => write!(f, "policy {} {account} {}", fault.name(), place.row),
+        None => f.write_str("no memory"),
     }
 }
 

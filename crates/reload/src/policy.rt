@@ -31,16 +31,16 @@ pub fn read_valid_policy(alloc: Global, text: &[u8]) -> Result<Policy, ReloadFau
     ensures { Answers result (prepared text.now) }
 {
     match read_policy(alloc, text) {
-        Ok(doc) => check(doc),
+        Ok(doc) => check(alloc, doc),
         Err(fault) => Err(ReloadFault::Config(fault)),
     }
 }
 
 /// The policy of a document, or its first fault.
-fn check(doc: PolicyDoc) -> Result<Policy, ReloadFault>
+fn check(alloc: Global, doc: PolicyDoc) -> Result<Policy, ReloadFault>
     ensures { Answers result (checked doc (policy_fault doc)) }
 {
-    match Policy::check(doc) {
+    match Policy::check(alloc, doc) {
         Ok(policy) => Ok(policy),
         Err((doc, fault)) => Err(refusal(&doc, fault)),
     }
@@ -50,8 +50,8 @@ fn check(doc: PolicyDoc) -> Result<Policy, ReloadFault>
 fn refusal(doc: &PolicyDoc, fault: PolicyFault) -> ReloadFault
     ensures { is_memory result ≡ false → result ≡ refused.Policy fault (account_in doc.now fault) }
 {
-    match fault {
-        PolicyFault::DuplicateUser(place) => match doc.accounts.as_slice().get(place.account) {
+    match fault.place() {
+        Some(place) => match doc.accounts.as_slice().get(place.account) {
             Some(named) => match named.name.clone() {
                 Ok(account) => ReloadFault::Policy { fault, account },
                 Err(_) => no_memory(),
@@ -61,7 +61,7 @@ fn refusal(doc: &PolicyDoc, fault: PolicyFault) -> ReloadFault
                 account: Bytes::new(),
             },
         },
-        PolicyFault::NoMemory => no_memory(),
+        None => no_memory(),
     }
 }
 

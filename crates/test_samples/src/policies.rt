@@ -56,12 +56,14 @@ fn account(alloc: Global, permissions: Option<PermDoc>) -> Option<AccountDoc> {
     users.push(demo).ok()?;
     Some(AccountDoc {
         users: Items::from_vec(users),
+        exports: Items::new(alloc),
+        imports: Items::new(alloc),
     })
 }
 
 fn ready(alloc: Global, account: AccountDoc) -> Option<Ready> {
     let mut accounts = Accounts::new(alloc);
     accounts.insert(Bytes::from_static(b"A"), account).ok()?;
-    let policy = Policy::check(PolicyDoc { accounts }).ok()?;
+    let policy = Policy::check(alloc, PolicyDoc { accounts }).ok()?;
     Ready::of(alloc, policy).ok()
 }

@@ -1,6 +1,6 @@
 use Rattle.std.proofs.Common.{sym}
 use Rattle.policy_doc.proofs.UniqueNames.{HaveUniqueNames-nil, users_at-read}
-use Rattle.policy_doc.proofs.unique.first_twin.Goals as goal
+use Rattle.policy_doc.proofs.unique.searched_twin.Goals as goal
 
 pub loop-account-init : goal.loop-account-init
 loop-account-init c = HaveUniqueNames-nil
