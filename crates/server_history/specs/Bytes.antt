@@ -9,7 +9,7 @@ use Rattle.server_history.specs.declared.kept.Telling.{Telling}
 -- for each item of a message, and for each delivery that a Take gave
 abbrev pub listed : Outcome → ℕ
 listed (Published _ met) = 24 * length met
-listed (Taken deliveries _) = 32 * length deliveries
+listed (Taken deliveries _) = 48 * length deliveries
 listed _ = 0
 
 -- How many bytes an entry keeps of its own, beside the texts that were read: its command, and its lists.

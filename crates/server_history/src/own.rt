@@ -10,7 +10,7 @@ const ENTRY: u64 = 250;
 
 const ITEM: u64 = 24;
 
-const DELIVERY: u64 = 32;
+const DELIVERY: u64 = 48;
 
 /// Returns how many bytes the entry of an answer keeps of its own, beside the texts that were read.
 #[inline(always)]
