@@ -16,13 +16,20 @@ pub fn bytes_of(message: &Message) -> usize
     message.head().len() + message.payload().len()
 }
 
+/// Returns how many bytes a delivery has, beside its subjects.
+fn weight_of(delivery: &Delivery) -> usize
+    ensures { result ≡ weight_of delivery.now }
+{
+    delivery.message.head().len() + delivery.message.payload().len()
+}
+
 /// Returns whether deliveries have more bytes than so many.
 fn weigh_more(waiting: &[Delivery], room: usize) -> bool
     ensures { result ≡ nat_lt room (sum_by weight_of waiting.now) }
 {
     let mut left = room;
     for delivery in waiting {
-        let bytes = bytes_of(&delivery.message);
+        let bytes = weight_of(delivery);
         if left < bytes {
             return true;
         }
