@@ -4,7 +4,7 @@ ghost use Rattle.world_subscriptions.specs.Addressing.{addressed_to};
 
 use crate::SharedSubscription;
 use base::NoMemory;
-use events::{Addressed, Delivery, Message};
+use events::{Addressed, Delivery, Message, Sent};
 
 /// Addresses a message to subscriptions, in turn, and adds these deliveries. On `NoMemory` some of them may have been
 /// added.
@@ -34,7 +34,7 @@ pub fn addressed_to(
         id: subscription.id(),
         conn: subscription.conn(),
         delivery: Delivery {
-            message: message.again()?,
+            message: Sent::own(message.again()?),
             sid: subscription.sid().again()?,
         },
         noted: None,
