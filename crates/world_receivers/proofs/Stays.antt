@@ -9,7 +9,6 @@ use Rattle.subjects.specs.Subject.{Token, tokens_of, text_of}
 use Rattle.policy_ready.specs.declared.ready.User.{User}
 use Rattle.permissions.specs.Verdicts.{delivery_verdict, is_allowed}
 use Rattle.events.specs.declared.answer.Addressed.{Addressed}
-use Rattle.events.specs.declared.answer.Item.{Item}
 use Rattle.queue_choice.specs.Choices.{chosen}
 use Rattle.world_groups.specs.Served.{is_named, is_member, members, is_the, is_served_by, is_served, served}
 use Rattle.world_groups.proofs.Chosen.{filter-map, same_tests, chosen-map}
@@ -17,7 +16,9 @@ use Rattle.world_deliveries.specs.Sessions.{session_of, with_session}
 use Rattle.world_deliveries.specs.Delivered.{delivered, offered, after_offer, has_room}
 use Rattle.world_deliveries.specs.declared.session.Session.{Session}
 use Rattle.world_subscriptions.specs.Subscriptions.{has_subject}
-use Rattle.world_subscriptions.specs.Limit.{unended, counted, has_entered, has_ended}
+use Rattle.world_subscriptions.specs.Changes.{only, bumped}
+use Rattle.world_subscriptions.specs.Counting.{in_turn}
+use Rattle.world_subscriptions.specs.Limit.{unended, has_ended}
 use Rattle.world_rows.specs.declared.subscription.Subscription.{Subscription}
 use Rattle.world_receivers.specs.Open.{lets_through, may_hear, is_open, open_among}
 use Rattle.world_receivers.specs.Receivers.{receiver_of}
@@ -155,31 +156,46 @@ current_taken cache zs after subs seated current =
     map-same [] = refl
     map-same (x ∷ xs) = ap (λ rest. x ∷ rest) (map-same xs)
 
-counted-made : (items : List Item) (s : Subscription) → made (counted items s) ≡ made s
-counted-made items s = either (has_entered items s && nat_lt s.received 18446744073709551615) _ _ refl refl
+bumped-made : (id : ℕ) (s : Subscription) → made (only bumped id s) ≡ made s
+bumped-made id s = either (s.id == id) _ _ (either (nat_lt s.received 18446744073709551615) _ _ refl refl) refl
   where
     either : (b : Bool) (x y : Subscription) → made x ≡ made s → made y ≡ made s → made (cond b x y) ≡ made s
     either true x y first second = first
     either false x y first second = second
 
--- where none of those that have counted a message has ended
-pub current_counted : (cache : ReceiverCache) (zs after : List Session) (subs left : List Subscription) (items : List Item) →
-    AreSeated zs after → left ≡ unended (map (counted items) subs) → length subs ≤ length left → IsCurrent zs subs cache → IsCurrent after left cache
-current_counted cache zs after subs left items seated are as_many current =
-    subst (λ (ss : List Subscription). IsCurrent after ss cache)
-    (sym (are ∙ all_stay (λ (s : Subscription). not (has_ended s)) (map (counted items) subs) (omega (arith, as_many, ap length are, length-map subs (counted items)))))
-    (whom-stays (counted items) (counted-made items) zs after seated subs cache.whom cache.conn cache.subject.items current)
-  where
-    fewer : {X : Type 0} (p : X → Bool) (xs : List X) → length (filter p xs) ≤ length xs
-    fewer p [] = omega arith
-    fewer p (x ∷ xs) = elim (cases_Bool (p x)) [
-      | inl y ↦ rw y (let h = fewer p xs in omega (arith, h))
-      | inr e ↦ rw e (let h = fewer p xs in omega (arith, h))
-    ]
+fewer : {X : Type 0} (p : X → Bool) (xs : List X) → length (filter p xs) ≤ length xs
+fewer p [] = omega arith
+fewer p (x ∷ xs) = elim (cases_Bool (p x)) [
+  | inl y ↦ rw y (let h = fewer p xs in omega (arith, h))
+  | inr e ↦ rw e (let h = fewer p xs in omega (arith, h))
+]
 
-    all_stay : {X : Type 0} (p : X → Bool) (xs : List X) → length xs ≤ length (filter p xs) → filter p xs ≡ xs
-    all_stay p [] h = refl
-    all_stay p (x ∷ xs) h = elim (cases_Bool (p x)) [
-      | inl y ↦ rw y (ap (λ ys. x ∷ ys) (all_stay p xs (let k = rw y at h in omega (arith, k))))
-      | inr e ↦ absurd (let k = rw e at h in let l = fewer p xs in omega (arith, k, l))
-    ]
+all_stay : {X : Type 0} (p : X → Bool) (xs : List X) → length xs ≤ length (filter p xs) → filter p xs ≡ xs
+all_stay p [] h = refl
+all_stay p (x ∷ xs) h = elim (cases_Bool (p x)) [
+  | inl y ↦ rw y (ap (λ ys. x ∷ ys) (all_stay p xs (let k = rw y at h in omega (arith, k))))
+  | inr e ↦ absurd (let k = rw e at h in let l = fewer p xs in omega (arith, k, l))
+]
+
+-- those of which one has counted a message, where none has ended by it
+abbrev once : ℕ → List Subscription → List Subscription
+once id subs = unended (map (only bumped id) subs)
+
+fewer_once : (id : ℕ) (subs : List Subscription) → length (once id subs) ≤ length subs
+fewer_once id subs = let h = fewer (λ (s : Subscription). not (has_ended s)) (map (only bumped id) subs) in omega (arith, h, length-map subs (only bumped id))
+
+fewer_turns : (ids : List ℕ) (subs : List Subscription) → length (in_turn ids subs) ≤ length subs
+fewer_turns [] subs = omega arith
+fewer_turns (id ∷ ids) subs = let h = fewer_turns ids (once id subs) in let k = fewer_once id subs in omega (arith, h, k)
+
+-- where none of those that have counted a message in turn has ended
+pub current_in_turn : (cache : ReceiverCache) (zs after : List Session) (ids : List ℕ) (subs : List Subscription) →
+    AreSeated zs after → length subs ≤ length (in_turn ids subs) → IsCurrent zs subs cache → IsCurrent after (in_turn ids subs) cache
+current_in_turn cache zs after [] subs seated as_many current = current_taken cache zs after subs seated current
+current_in_turn cache zs after (id ∷ ids) subs seated as_many current =
+    let more = fewer_turns ids (once id subs) in
+    let fewer = fewer_once id subs in
+    let all : once id subs ≡ map (only bumped id) subs = all_stay (λ (s : Subscription). not (has_ended s)) (map (only bumped id) subs) (omega (arith, as_many, more, length-map subs (only bumped id))) in
+    current_in_turn cache zs after ids (once id subs) seated (omega (arith, as_many, fewer))
+    (subst (λ (ss : List Subscription). IsCurrent zs ss cache) (sym all)
+    (whom-stays (only bumped id) (bumped-made id) zs zs (λ conn. refl) subs cache.whom cache.conn cache.subject.items current))
