@@ -12,7 +12,7 @@ use Rattle.events.specs.declared.refusal.PublishRefusal.TheVariants.{Held}
 use Rattle.world_deliveries.specs.declared.session.Session.{Session}
 use Rattle.world_leniency.specs.Held.{Terms, to_all, held_among}
 use Rattle.world_leniency.proofs.Kept.{none_holds}
-use Rattle.world.specs.World.{World, advanced}
+use Rattle.world_routing.specs.World.{World, advanced}
 use Rattle.world.specs.Transition.{numbered, transition, IsMoved, IsApplied, IsReasoned}
 use Rattle.world.specs.Changes.{items_in}
 use Rattle.world.specs.Holding.{held_in, holders, IsMovedIf, IsAppliedIf}

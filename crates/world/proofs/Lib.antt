@@ -1,5 +1,4 @@
 pub mod Applied
-pub mod Delivering
 pub mod Losing
 pub mod Publishing
 pub mod Reasons

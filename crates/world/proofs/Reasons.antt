@@ -1,8 +1,8 @@
--- A verdict of a user has its reason, by whatever name its subject goes.
+-- A verdict of a user has its reason, by whatever name its pattern goes.
 use Rattle.std.proofs.Common.{◌≡◌, List, Option, Some, None, subst}
 use Rattle.std.specs.Prelude.{IfSome}
 use Rattle.subjects.specs.Subject.{Token}
-use Rattle.permissions.specs.Verdicts.{publish_verdict, subscribe_verdict, IsJustifiedPublish, IsJustifiedSubscribe, HasSubscribeReason}
+use Rattle.permissions.specs.Verdicts.{subscribe_verdict, IsJustifiedSubscribe, HasSubscribeReason}
 use Rattle.permissions.specs.declared.verdict.Verdict.{Verdict}
 use Rattle.policy_ready.specs.declared.ready.User.{User}
 use Rattle.world_deliveries.specs.declared.session.Session.{Session}
@@ -14,14 +14,6 @@ subscribe_reason o z p p' q v is same-p which h =
     let Q : List Token → Type 0 = λ t. IsJustifiedSubscribe t q z.user.rules.subscribe (subscribe_verdict z.user.rules t q) in
     let R : Verdict → Type 0 = λ x. IsJustifiedSubscribe p q z.user.rules.subscribe x in
     subst P is (subst Q same-p (subst R which h))
-
-pub publish_reason : (o : Option Session) (z : Session) (s t : List Token) (v : Verdict) → Some z ≡ o → s ≡ t → v ≡ publish_verdict z.user.rules s →
-    IsJustifiedPublish s z.user.rules.publish v → IfSome o (λ (z : Session). IsJustifiedPublish t z.user.rules.publish (publish_verdict z.user.rules t))
-publish_reason o z s t v is same which h =
-    let P : Option Session → Type 0 = λ o. IfSome o (λ (z : Session). IsJustifiedPublish t z.user.rules.publish (publish_verdict z.user.rules t)) in
-    let Q : List Token → Type 0 = λ t. IsJustifiedPublish t z.user.rules.publish (publish_verdict z.user.rules t) in
-    let R : Verdict → Type 0 = λ x. IsJustifiedPublish s z.user.rules.publish x in
-    subst P is (subst Q same (subst R which h))
 
 pub any_reason : (p p' : List Token) (q : Option (List Token)) (o : Option User) → p ≡ p' → HasSubscribeReason p →
     IfSome o (λ (u : User). IsJustifiedSubscribe p' q u.rules.subscribe (subscribe_verdict u.rules p' q))

@@ -12,7 +12,7 @@ use Rattle.events.specs.declared.refusal.HubRefusal.{HubRefusal}
 use Rattle.world_deliveries.specs.declared.session.Session.{Session}
 use Rattle.world_subscriptions.specs.Subscriptions.{stands, has_all, subscription_of}
 use Rattle.world_rows.specs.declared.subscription.Subscription.{Subscription}
-use Rattle.world.specs.World.{World}
+use Rattle.world_routing.specs.World.{World}
 use Rattle.world.specs.Reload.{verdict_for}
 use Rattle.world.specs.Transition.{in_session, subscribed}
 use Rattle.world.specs.Changes.{done, IsFit, IsDecided}

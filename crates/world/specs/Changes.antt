@@ -1,51 +1,29 @@
 -- What is to be done for a command, once all memory for it is had (docs/ARCHITECTURE.md, "Decide, then do").
-use Rattle.std.specs.Prelude.{◌≡◌, ◌==◌, ◌+◌, ◌∷◌, ◌++◌, ℕ, Bool, List, [], Option, Some, None, Result, Ok, Err, filter, map, not, false, if◌then◌else◌}
+use Rattle.std.specs.Prelude.{◌≡◌, ◌==◌, ◌+◌, ◌∷◌, ◌++◌, ℕ, List, [], Option, Some, None, Result, Ok, Err, filter, map, not, false, if◌then◌else◌}
 use Rattle.std.specs.List.{filter_map}
-use Rattle.permissions.specs.declared.verdict.By.{By}
-use Rattle.permissions.specs.declared.verdict.By.TheVariants.{All as AllowsAll, Index, Grant}
-use Rattle.events.specs.Messages.{Message}
 use Rattle.events.specs.declared.answer.Item.{Item}
 use Rattle.events.specs.declared.answer.Outcome.{Outcome}
 use Rattle.events.specs.declared.answer.Outcome.TheVariants.{Published}
 use Rattle.events.specs.declared.refusal.HubRefusal.{HubRefusal}
 use Rattle.world_deliveries.specs.Sessions.{session_of, with_session, drained}
-use Rattle.world_deliveries.specs.Delivered.{delivered}
-use Rattle.world_deliveries.specs.Replying.{with_note, answering, ending}
 use Rattle.world_sessions.specs.Renewal.{remaining, user_again_of}
 use Rattle.world_deliveries.specs.declared.session.Session.{Session}
-use Rattle.events.specs.declared.answer.Addressed.{Addressed}
 use Rattle.world_subscriptions.specs.Subscriptions.{stands, subscription_of}
-use Rattle.world_subscriptions.specs.Limit.{unended, counted, limited}
-use Rattle.world_subscriptions.specs.Addressing.{addressed_to}
+use Rattle.world_subscriptions.specs.Limit.{unended, limited}
 use Rattle.world_rows.specs.declared.subscription.Subscription.{Subscription}
-use Rattle.world.specs.World.{World}
+use Rattle.world_routing.specs.World.{World}
+use Rattle.world_routing.specs.Handing.{met, carried}
 use Rattle.policy_doc.specs.declared.document.PolicyDoc.{PolicyDoc}
 use Rattle.world.specs.Reload.{stands_on}
 use Rattle.world.specs.Transition.{IsRefusal}
 use Rattle.world.specs.declared.change.Change.{Change}
 use Rattle.world.specs.declared.change.Change.TheVariants.{Nothing, Open, Stand, Limit, Deliver, Drain, Leave, Install}
-use Rattle.world.specs.declared.change.Answered.{Answered}
 use Rattle.world.specs.declared.change.Decided.{Decided}
-
--- deliveries of one message for some of the standing subscriptions, oldest first, each with what its session is to note
-abbrev pub AreAddressed : List Session → List Addressed → List Subscription → Type 0
-AreAddressed zs all subs = (m : Message) × (p : Subscription → Bool) × (all ≡ map (with_note zs m.reply) (map (addressed_to m) (filter p subs)))
-
--- a publish that is to be counted, if a grant has allowed it
-abbrev pub answered_by : By → ℕ → Message → Option Answered
-answered_by AllowsAll conn m = None
-answered_by (Index i) conn m = None
-answered_by Grant conn m = Some record { conn = conn; message = m }
 
 -- the items of an outcome
 abbrev pub items_in : Outcome → List Item
 items_in (Published by items) = items
 items_in _ = []
-
--- deliveries are handed over; an answer is counted on its grant before, and may end it after
-abbrev pub handed_over : ℕ → Option Answered → List Addressed → List Session → List Session
-handed_over now None all zs = (delivered now all zs).0
-handed_over now (Some a) all zs = with_session (ending a.message.subject) a.conn (delivered now all (with_session (answering a.message.subject) a.conn zs)).0
 
 -- the id of a subscription that doesn't stand on
 abbrev pub lost_id : PolicyDoc → List Session → Subscription → Option ℕ
@@ -56,8 +34,7 @@ done w Nothing o = w
 done w (Open z) o = record w { sessions = w.sessions ++ z ∷ [] }
 done w (Stand a) o = record w { subscriptions = w.subscriptions ++ subscription_of (w.number + 1) a.conn a.account a.subject a.queue a.sid ∷ [] }
 done w (Limit conn sid most) o = record w { subscriptions = unended (map (limited conn sid most) w.subscriptions) }
-done w (Deliver all answered) o =
-    record w { sessions = handed_over w.moment answered all w.sessions; subscriptions = unended (map (counted (items_in o)) w.subscriptions) }
+done w (Deliver ds) o = carried w ds.answered ds.all (items_in o)
 done w (Drain conn most) o = record w { sessions = with_session (drained most) conn w.sessions }
 done w (Leave conn) o =
     record w { sessions = filter (λ (z : Session). not (z.conn == conn)) w.sessions; subscriptions = filter (λ (s : Subscription). not (s.conn == conn)) w.subscriptions }
@@ -68,15 +45,14 @@ done w (Install doc users lost) o = record w {
   subscriptions = filter (stands_on doc w.sessions) w.subscriptions;
 }
 
--- what opens has no session yet, and what is to stand doesn't; deliveries are for standing subscriptions, and the
--- outcome tells what each of them meets; a policy comes with the users of the sessions that stay, and the ids of the
+-- what opens has no session yet, and what is to stand doesn't; the outcome tells what each delivery meets; a policy comes with the users of the sessions that stay, and the ids of the
 -- subscriptions that don't stand on
 abbrev pub IsFit : World → Change → Outcome → Type 0
 IsFit w Nothing o = Unit {0}
 IsFit w (Open z) o = session_of w.sessions z.conn ≡ None
 IsFit w (Stand a) o = stands w.subscriptions a.conn a.sid ≡ false
 IsFit w (Limit conn sid most) o = Unit {0}
-IsFit w (Deliver all answered) o = (items_in o ≡ (delivered w.moment all w.sessions).1) × AreAddressed w.sessions all w.subscriptions
+IsFit w (Deliver ds) o = items_in o ≡ met w ds.all
 IsFit w (Drain conn most) o = Unit {0}
 IsFit w (Leave conn) o = Unit {0}
 IsFit w (Install doc users lost) o =

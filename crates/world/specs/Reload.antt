@@ -14,7 +14,7 @@ use Rattle.world_deliveries.specs.Sessions.{session_of}
 use Rattle.world_sessions.specs.Renewal.{user_again_of, remaining, closed_conns, HaveOneUser}
 use Rattle.world_deliveries.specs.declared.session.Session.{Session}
 use Rattle.world_rows.specs.declared.subscription.Subscription.{Subscription}
-use Rattle.world.specs.World.{World}
+use Rattle.world_routing.specs.World.{World}
 
 -- whom a session that stays acts for
 abbrev pub user_after : PolicyDoc → Option Session → Option User

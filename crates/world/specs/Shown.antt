@@ -4,7 +4,7 @@ use Rattle.std.specs.Option.{option_map}
 use Rattle.world_deliveries.specs.Sessions.{session_of}
 use Rattle.world_deliveries.specs.declared.session.Session.{Session}
 use Rattle.world_rows.specs.declared.subscription.Subscription.{Subscription}
-use Rattle.world.specs.World.{World}
+use Rattle.world_routing.specs.World.{World}
 use Rattle.world.specs.declared.standing.Standing.{Standing}
 
 abbrev pub standing_of : Subscription → Standing

@@ -6,23 +6,21 @@ use Rattle.permissions.specs.declared.verdict.Verdict.{Verdict}
 use Rattle.permissions.specs.declared.verdict.Verdict.TheVariants.{Allowed, DeniedBy, NoAllow, NoQueueAllow}
 use Rattle.policy_ready.specs.Users.{user_with_password}
 use Rattle.policy_ready.specs.declared.ready.User.{User}
-use Rattle.events.specs.Messages.{Message}
 use Rattle.events.specs.declared.event.Event.{Event}
 use Rattle.events.specs.declared.event.Command.{Command}
 use Rattle.events.specs.declared.event.Command.TheVariants.{Connect, Sub, Unsub, Pub, Take, Close, Reload}
 use Rattle.events.specs.declared.answer.Entry.{Entry}
 use Rattle.events.specs.declared.answer.Outcome.{Outcome}
-use Rattle.events.specs.declared.answer.Outcome.TheVariants.{Connected, AuthViolation, Subscribed, SameSid, SubLimit, Denied, Unsubscribed, Published, Taken, Closed, Reloaded}
+use Rattle.events.specs.declared.answer.Outcome.TheVariants.{Connected, AuthViolation, Subscribed, SameSid, SubLimit, Denied, Unsubscribed, Taken, Closed, Reloaded}
 use Rattle.events.specs.declared.refusal.HubRefusal.{HubRefusal}
-use Rattle.events.specs.declared.refusal.HubRefusal.TheVariants.{NoSession, SessionTaken, SessionLimit, NoMemory}
+use Rattle.events.specs.declared.refusal.HubRefusal.TheVariants.{SessionTaken, SessionLimit}
 use Rattle.world_deliveries.specs.Sessions.{session_of, with_session, new_session, drained}
 use Rattle.world_deliveries.specs.declared.session.Session.{Session}
 use Rattle.world_subscriptions.specs.Subscriptions.{stands, has_all, subscription_of}
 use Rattle.world_subscriptions.specs.Limit.{unended, limited}
 use Rattle.world_rows.specs.declared.subscription.Subscription.{Subscription}
-use Rattle.world.specs.World.{World, advanced}
-use Rattle.world.specs.Granting.{verdict_on, counted_on, ended_on}
-use Rattle.world.specs.Routing.{views, in_views}
+use Rattle.world_routing.specs.World.{World, advanced}
+pub use Rattle.world_routing.specs.Publishing.{published, in_session, published_by, IsRefusal}
 use Rattle.world.specs.Reload.{reloaded, IsReasonedReload}
 
 -- a session with an empty outbox, where a user has that name and password
@@ -46,16 +44,6 @@ abbrev pub unsubscribed : World → ℕ → List ℕ → Option ℕ → Outcome 
 unsubscribed w conn sid most =
     (Unsubscribed, record w { subscriptions = unended (map (limited conn sid most) w.subscriptions) })
 
--- the verdict first, then the message in each of its views to whom it is for there, who count it. What a grant has allowed is
--- counted on it
-abbrev pub published : World → Session → Message → ℕ → Verdict → Outcome × World
-published w z m word (Allowed by) =
-    let after = in_views w.sessions (record w { sessions = counted_on by z.conn m.subject w.sessions }) z word (views z.user.account m) in
-    (Published by after.0, record after.1 { sessions = ended_on by z.conn m.subject after.1.sessions })
-published w z m word (DeniedBy i) = (Denied (DeniedBy i), w)
-published w z m word NoAllow = (Denied NoAllow, w)
-published w z m word (NoQueueAllow i) = (Denied (NoQueueAllow i), w)
-
 -- the oldest deliveries of a session, and whether one was missed since the last Take
 abbrev pub taken : World → ℕ → ℕ → Session → Outcome × World
 taken w conn most z = (Taken (take most z.outbox.waiting) z.missed, record w { sessions = with_session (drained most) conn w.sessions })
@@ -64,11 +52,6 @@ taken w conn most z = (Taken (take most z.outbox.waiting) z.missed, record w { s
 abbrev pub closed : World → ℕ → Outcome × World
 closed w conn =
     (Closed, record w { sessions = filter (λ (z : Session). not (z.conn == conn)) w.sessions; subscriptions = filter (λ (s : Subscription). not (s.conn == conn)) w.subscriptions })
-
--- a command of a connection with a session, or NoSession
-abbrev pub in_session : {W : Type 0} → Option Session → (Session → Outcome × W) → Result (Outcome × W) HubRefusal
-in_session None _ = Err NoSession
-in_session (Some z) f = Ok (f z)
 
 -- a Connect of a connection without a session, while there is room for one more: 4,096 may stand
 abbrev pub in_new_session : World → Option Session → Outcome × World → Result (Outcome × World) HubRefusal
@@ -82,8 +65,7 @@ moved w (Connect conn user password echo) =
 moved w (Sub conn p queue sid) =
     in_session (session_of w.sessions conn) (λ z. subscribed w conn z.user.account p queue sid (subscribe_verdict z.user.rules p queue))
 moved w (Unsub conn sid most) = in_session (session_of w.sessions conn) (λ z. unsubscribed w conn sid most)
-moved w (Pub conn m word) =
-    in_session (session_of w.sessions conn) (λ z. published w z m word (verdict_on w.moment z m.subject))
+moved w (Pub conn m word) = published_by w conn m word
 moved w (Take conn most) = in_session (session_of w.sessions conn) (taken w conn most)
 moved w (Close conn) = in_session (session_of w.sessions conn) (λ z. closed w conn)
 moved w (Reload doc) = Ok (reloaded w doc)
@@ -105,11 +87,6 @@ entry_with number epoch o e = record { number = number; epoch = epoch; outcome =
 
 abbrev pub entry_of : Outcome → World → Event → Entry
 entry_of o after e = entry_with after.number after.epoch o e
-
--- A refusal is the transition's, or want of memory where it refuses nothing.
-abbrev pub IsRefusal : {R : Type 0} → Result R HubRefusal → HubRefusal → Type 0
-IsRefusal (Ok _) r = r ≡ NoMemory
-IsRefusal (Err e) r = r ≡ e
 
 -- why the transition refuses an event, if it does
 abbrev pub refusal_in : {R : Type 0} → Result R HubRefusal → Option HubRefusal

@@ -1,20 +1,16 @@
 //! What was decided is done.
-ghost use Rattle.std.specs.Prelude.{◌≡◌, ◌≤◌, ◌⊎◌, None, map};
-ghost use Rattle.world_receivers.specs.Cached.{IsCurrent};
-ghost use Rattle.world_deliveries.specs.Delivered.{delivered};
-ghost use Rattle.world_subscriptions.specs.Limit.{unended, counted};
-ghost use Rattle.world.specs.Changes.{AreAddressed, handed_over, items_in};
+ghost use Rattle.std.specs.Prelude.{◌≡◌};
+ghost use Rattle.world.specs.Changes.{items_in};
 
-use crate::change::{Answered, Change};
+use crate::change::Change;
 use crate::reload::remove_lost;
 use crate::world::World;
 use base::NoMemory;
-use events::{Addressed, Item, Outcome};
+use events::{Item, Outcome};
 use policy_ready::{Ready, User};
 use std::collections::VecDeque;
 use world_receivers::Receivers;
-use world_sessions::Sessions;
-use world_subscriptions::Subscriptions;
+use world_routing::carry_publish;
 
 impl World {
     ghost use Rattle.std.specs.Prelude.{◌≡◌, ◌<◌, ◌≤◌, ◌+◌, OnOk, OnErr, All};
@@ -51,18 +47,15 @@ impl World {
                 self.subscriptions.limit(conn, &sid, most);
                 Ok(())
             }
-            Change::Deliver { all, answered } => {
-                let mut all = all.into_vec();
-                deliver(
+            Change::Deliver(deliveries) => {
+                carry_publish(
                     &mut self.sessions,
                     &mut self.subscriptions,
                     &mut self.receivers,
-                    &mut all,
-                    self.moment,
-                    answered,
+                    deliveries,
                     items_in(told),
+                    self.moment,
                 );
-                self.receivers.keep_memory(all);
                 Ok(())
             }
             Change::Drain { conn, most } => {
@@ -102,63 +95,6 @@ impl World {
         self.sessions.renew(&ready, users, self.moment);
         self.ready = ready;
         self.epoch += 1;
-    }
-}
-
-/// Clears the cache of receivers where fewer subscriptions are left than there were before.
-fn clear_if_fewer(receivers: &mut Receivers, before: usize, left: usize)
-    ensures { (receivers.new.cache.whom ≡ None) ⊎ ((receivers.new.cache ≡ receivers.old.cache) × (before ≤ left)) }
-{
-    if left < before {
-        receivers.clear_cache();
-    }
-}
-
-/// Counts the deliveries of a message that have entered, as the items tell, and hands them over. Where a subscription ends
-/// by it, whom the publisher's next message is for is found anew.
-#[inline(always)]
-fn deliver(
-    sessions: &mut Sessions,
-    subscriptions: &mut Subscriptions,
-    receivers: &mut Receivers,
-    all: &mut Vec<Addressed>,
-    now: u64,
-    answered: Option<Answered>,
-    items: &[Item],
-)
-    requires met { items.now ≡ (delivered now all.old.items sessions.old).1 }
-    requires addressed { AreAddressed sessions.old all.old.items subscriptions.old }
-    requires cached { IsCurrent sessions.old subscriptions.old receivers.old.cache }
-    ensures sessions { sessions.new ≡ handed_over now answered all.old.items sessions.old }
-    ensures subscriptions { subscriptions.new ≡ unended (map (counted items.now) subscriptions.old) }
-    ensures cached { IsCurrent sessions.new subscriptions.new receivers.new.cache }
-{
-    let before = subscriptions.len();
-    subscriptions.known();
-    subscriptions.count(all.as_slice(), items);
-    hand_over(sessions, all, now, answered);
-    clear_if_fewer(receivers, before, subscriptions.len());
-}
-
-/// Hands deliveries over in turn, of a message that may be an answer: that is counted before, and its grant goes after
-/// where as many answers have passed as may.
-#[inline(always)]
-fn hand_over(
-    sessions: &mut Sessions,
-    all: &mut Vec<Addressed>,
-    now: u64,
-    answered: Option<Answered>,
-)
-    ensures { sessions.new ≡ handed_over now answered all.old.items sessions.old }
-{
-    match answered {
-        None => sessions.hand_over_all(all, now),
-        Some(answered) => {
-            let subject = answered.message.subject();
-            sessions.answer(answered.conn, &subject);
-            sessions.hand_over_all(all, now);
-            sessions.end(answered.conn, &subject);
-        }
     }
 }
 

@@ -1,8 +1,9 @@
 //! What a command comes to is decided first, and then done.
-use base::{Boxed, Items};
-use events::{Addressed, Message, Outcome, Sid};
+use base::Boxed;
+use events::{Outcome, Sid};
 use policy_ready::{Ready, User};
 use std::collections::VecDeque;
+use world_routing::Deliveries;
 use world_sessions::Session;
 use world_subscriptions::NewSubscription;
 
@@ -23,11 +24,8 @@ pub(crate) enum Change {
         sid: Sid,
         most: Option<u64>,
     },
-    /// Deliveries are handed over, oldest subscription first, of a message that may be an answer.
-    Deliver {
-        all: Items<Addressed>,
-        answered: Option<Answered>,
-    },
+    /// Deliveries are handed over.
+    Deliver(Deliveries),
     /// Deliveries leave an outbox.
     Drain {
         conn: u64,
@@ -44,15 +42,6 @@ pub(crate) enum Change {
         users: VecDeque<User>,
         lost: Vec<u64>,
     },
-}
-
-/// A publish that a grant has allowed.
-#[derive(Drop)]
-pub(crate) struct Answered {
-    /// The connection that publishes.
-    pub conn: u64,
-    /// What it publishes.
-    pub message: Message,
 }
 
 /// What a command comes to: what is told of it, and what is to be done.

@@ -1,17 +1,18 @@
 //! What each command comes to, before anything changes.
 ghost use Rattle.std.specs.Prelude.{◌≡◌, IfOk, IfErr};
 
-use crate::change::{Answered, Change, Decided};
+use crate::change::{Change, Decided};
 use crate::reload::{Lost, lost_by};
-use crate::verdict::{on_publish, on_subscription};
+use crate::verdict::on_subscription;
 use crate::world::World;
 use base::{Boxed, Copying, Items, NoMemory, Shared, SharedText};
 use bytes::Bytes;
-use events::{Addressed, Command, HubRefusal, Message, Met, Outcome, Sid};
-use permissions::{By, Verdict};
+use events::{Command, HubRefusal, Message, Met, Outcome, Sid};
+use permissions::Verdict;
 use policy_ready::Ready;
 use std::alloc::Global;
 use subjects::{Pattern, Subject};
+use world_routing::{Plan, Publish, plan_publish};
 use world_sessions::Session;
 use world_subscriptions::NewSubscription;
 
@@ -27,14 +28,6 @@ fn unchanged(outcome: Outcome) -> Decided
         outcome,
         change: Change::Nothing,
     }
-}
-
-/// Returns the denial by a verdict, which changes nothing.
-fn refused(verdict: Verdict) -> Decided
-    ensures outcome { result.outcome ≡ outcome.Denied verdict }
-    ensures change { result.change ≡ change.Nothing }
-{
-    unchanged(Outcome::Denied(verdict))
 }
 
 /// Returns the change by which a subscription comes to stand. What it holds has one more owner.
@@ -58,43 +51,12 @@ fn stand(
     Ok(Change::Stand(Boxed::new(alloc, wanted)?))
 }
 
-/// Returns the publish, if a grant has allowed it: then it is to be counted.
-fn answered_by(by: By, conn: u64, message: &Message) -> Result<Option<Answered>, NoMemory>
-    ensures { IfOk result (λ answered. answered ≡ answered_by by conn message.now) }
-{
-    match by {
-        By::All => Ok(None),
-        By::Index(_) => Ok(None),
-        By::Grant => Ok(Some(Answered {
-            conn,
-            message: message.again()?,
-        })),
-    }
-}
-
-/// Returns whether a message has no delivery and is no answer.
-fn is_for_nobody(all: &[Addressed], answered: &Option<Answered>) -> bool
-    ensures { IsTrue result → (all.now ≡ []) × (answered.now ≡ None) }
-{
-    match answered {
-        Some(_) => false,
-        None => match all {
-            [] => true,
-            _ => false,
-        },
-    }
-}
-
-ghost use Rattle.std.specs.Prelude.{IsTrue, [], None};
 ghost use Rattle.events.specs.declared.answer.Outcome.TheVariants as outcome;
 ghost use Rattle.world.specs.declared.change.Change.TheVariants as change;
-ghost use Rattle.world.specs.Changes.{answered_by};
 
 impl World {
-    ghost use Rattle.std.specs.Prelude.{◌≡◌, ℕ, IfOk, OnOk, map};
+    ghost use Rattle.std.specs.Prelude.{◌≡◌, IfOk};
     ghost use Rattle.events.specs.declared.event.Command.TheVariants as command;
-    ghost use Rattle.world_deliveries.specs.Delivered.{delivered};
-    ghost use Rattle.world_deliveries.specs.Replying.{with_note};
     ghost use Rattle.world.specs.Transition.{moved, IsReasoned};
     ghost use Rattle.world.specs.Changes.{IsDecided};
     ghost use Rattle.world.specs.Reload.{AreEntitled};
@@ -230,54 +192,29 @@ impl World {
         ensures reason { IfOk result (λ d. IsReasoned self.old (command.Pub conn message.now word) d.outcome) }
         ensures same { self.new ≡ self.old }
     {
-        let (by, answered, mut all) = match self.sessions.find(conn) {
-            None => return Err(HubRefusal::NoSession),
-            Some(session) => match on_publish(session, &message.subject(), self.moment) {
-                Verdict::Allowed(by) => (
-                    by,
-                    answered_by(by, session.conn, message)?,
-                    self.receivers.address(
-                        &self.sessions,
-                        &mut self.subscriptions,
-                        session,
-                        message,
-                        word,
-                    )?,
-                ),
-                Verdict::DeniedBy(index) => return Ok(refused(Verdict::DeniedBy(index))),
-                Verdict::NoAllow => return Ok(refused(Verdict::NoAllow)),
-                Verdict::NoQueueAllow(index) => return Ok(refused(Verdict::NoQueueAllow(index))),
-            },
+        let publish = Publish {
+            conn,
+            message,
+            word,
+            now: self.moment,
         };
-        if is_for_nobody(all.as_slice(), &answered) {
-            self.subscriptions.known();
-            self.receivers.keep_memory(all);
-            let nobody = Met::from_vec(Vec::new(self.alloc));
-            return Ok(unchanged(Outcome::Published(by, nobody)));
+        match plan_publish(
+            &mut self.sessions,
+            &mut self.subscriptions,
+            &mut self.receivers,
+            self.keys,
+            publish,
+        )? {
+            Plan::Refused(verdict) => Ok(unchanged(Outcome::Denied(verdict))),
+            Plan::ToNobody(by) => {
+                let nobody = Met::from_vec(Vec::new(self.alloc));
+                Ok(unchanged(Outcome::Published(by, nobody)))
+            }
+            Plan::ToSome(by, items, deliveries) => Ok(Decided {
+                outcome: Outcome::Published(by, items),
+                change: Change::Deliver(deliveries),
+            }),
         }
-        let items = self.plan(message, &mut all)?;
-        Ok(Decided {
-            outcome: Outcome::Published(by, items),
-            change: Change::Deliver {
-                all: Items::from_vec(all),
-                answered,
-            },
-        })
-    }
-
-    /// Returns what the deliveries of a message will meet. Also sets each one's `noted`, what its session is to note.
-    #[inline(always)]
-    fn plan(&mut self, message: &Message, all: &mut Vec<Addressed>) -> Result<Met, NoMemory>
-        ensures items { IfOk result (λ items. (now : ℕ) → items ≡ (delivered now all.new.items self.old.sessions).1) }
-        ensures noted { OnOk result (all.new.items ≡ map (with_note self.old.sessions message.now.reply) all.old.items) }
-        ensures same { self.new ≡ self.old }
-    {
-        let all = all.as_mut_slice();
-        let items = match message.reply() {
-            None => self.sessions.plan(self.keys, all, None)?,
-            Some(reply) => self.sessions.plan(self.keys, all, Some(&reply))?,
-        };
-        Ok(items)
     }
 
     /// Decides a Take: the oldest deliveries of a session's outbox.

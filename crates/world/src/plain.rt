@@ -19,7 +19,7 @@ pub struct PlainWorld {
 }
 
 impl Model for PlainWorld {
-    ghost use Rattle.world.specs.World as worlds;
+    ghost use Rattle.world_routing.specs.World as worlds;
 
     ghost Value = { worlds.World };
 

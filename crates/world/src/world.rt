@@ -33,7 +33,7 @@ pub struct World {
 impl Model for World {
     ghost use Rattle.std.specs.Prelude.{◌≤◌};
     ghost use Rattle.world_receivers.specs.Cached.{IsCurrent};
-    ghost use Rattle.world.specs.World as worlds;
+    ghost use Rattle.world_routing.specs.World as worlds;
 
     ghost Value = { worlds.World };
 
@@ -56,8 +56,8 @@ impl World {
     ghost use Rattle.world_deliveries.specs.Sessions.{session_of};
     ghost use Rattle.world_deliveries.specs.declared.session.Session.{Session};
     ghost use Rattle.world_rows.specs.declared.subscription.Subscription.{Subscription};
-    ghost use Rattle.world.specs.World as worlds;
-    ghost use Rattle.world.specs.World.{opening_world, advanced};
+    ghost use Rattle.world_routing.specs.World as worlds;
+    ghost use Rattle.world_routing.specs.World.{opening_world, advanced};
     ghost use Rattle.world.specs.Transition.{IsApplied, IsReasoned, IsRefusal, IsMoved, transition, moved, refusal_in, in_session, in_new_session};
     ghost use Rattle.world.specs.Changes.{IsDecided};
     ghost use Rattle.world.specs.Holding.{IsAppliedIf, IsMovedIf};

@@ -1,6 +1,6 @@
 -- the number has risen, or nothing has changed
 use Rattle.std.proofs.Common.{◌+◌, ℕ, Ok, sym, subst}
-use Rattle.world.specs.World.{World, advanced}
+use Rattle.world_routing.specs.World.{World, advanced}
 use Rattle.world.specs.Transition.{IsReasoned}
 use Rattle.world.specs.Holding.{IsMovedIf, IsAppliedIf}
 use Rattle.world.proofs.Applied.{applied_if_is, same_reason}

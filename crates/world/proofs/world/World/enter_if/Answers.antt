@@ -3,7 +3,7 @@ use Rattle.std.proofs.Common.{◌≡◌, ◌∙◌, [], Ok, ap, sym, subst}
 use Rattle.std.proofs.lemmas.Bool.{eqb-true}
 use Rattle.std.proofs.lemmas.List.{nil_from_length}
 use Rattle.events.specs.declared.answer.Outcome.{Outcome}
-use Rattle.world.specs.World.{World}
+use Rattle.world_routing.specs.World.{World}
 use Rattle.world.specs.Holding.{held_in, IsMovedIf}
 use Rattle.world.proofs.Applied.{noted_none}
 use Rattle.world.proofs.world.World.enter_if.Goals as goal

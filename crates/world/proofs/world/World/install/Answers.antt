@@ -2,7 +2,7 @@
 use Rattle.std.proofs.Common.{◌∙◌, ◌+◌, ap, sym}
 use Rattle.std.specs.List.{filter_map}
 use Rattle.world.specs.Changes.{done, lost_id}
-use Rattle.world.specs.World.{World}
+use Rattle.world_routing.specs.World.{World}
 use Rattle.world.specs.declared.change.Change.TheVariants.{Install}
 use Rattle.world.proofs.world.World.install.Goals as goal
 

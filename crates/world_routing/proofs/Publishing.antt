@@ -1,0 +1,164 @@
+-- A message that is published.
+use Rattle.std.proofs.Common.{◌≡◌, ◌∙◌, ◌==◌, ◌∷◌, ◌++◌, ℕ, Bool, true, false, cond, List, [], Option, Some, None, Ok, map, ap, sym, refl, subst}
+use Rattle.std.specs.Prelude.{IfSome}
+use Rattle.subjects.specs.Subject.{Token}
+use Rattle.permissions.specs.Verdicts.{publish_verdict, IsJustifiedPublish}
+use Rattle.permissions.specs.declared.verdict.By.{By}
+use Rattle.permissions.specs.declared.verdict.By.TheVariants.{All as AllowsAll, Index, Grant}
+use Rattle.permissions.specs.declared.verdict.Verdict.{Verdict}
+use Rattle.permissions.specs.declared.verdict.Verdict.TheVariants.{Allowed}
+use Rattle.events.specs.Messages.{Message}
+use Rattle.events.specs.declared.answer.Addressed.{Addressed}
+use Rattle.events.specs.declared.answer.Item.{Item}
+use Rattle.events.specs.declared.answer.Outcome.{Outcome}
+use Rattle.events.specs.declared.answer.Outcome.TheVariants.{Published}
+use Rattle.world_deliveries.specs.Sessions.{session_of, with_session}
+use Rattle.world_deliveries.specs.Delivered.{delivered, room_in}
+use Rattle.world_deliveries.specs.Planned.{rooms_of, planned}
+use Rattle.world_deliveries.specs.Replying.{with_note, noted_for, answering}
+use Rattle.world_deliveries.specs.declared.session.Session.{Session}
+use Rattle.world_deliveries.proofs.Plans.{planned-delivered}
+use Rattle.world_subscriptions.specs.Addressing.{addressed_to}
+use Rattle.world_subscriptions.specs.Limit.{unended}
+use Rattle.world_subscriptions.specs.Counting.{entered_ids, in_turn}
+use Rattle.world_subscriptions.specs.Kept.{Apart}
+use Rattle.world_rows.specs.declared.subscription.Subscription.{Subscription}
+use Rattle.world_groups.specs.Served.{served}
+use Rattle.world_receivers.specs.Receivers.{addressed_among}
+use Rattle.world_routing.specs.World.{World}
+use Rattle.world_routing.specs.Granting.{verdict_on, counted_on, ended_on}
+use Rattle.world_routing.specs.Routing.{View, own_view, views, admitted, deliveries}
+use Rattle.world_routing.specs.Handing.{met, left_by, addressed_behind, answered_by, handed_over, carried}
+use Rattle.world_routing.specs.Publishing.{published, in_session, published_by, IsOf, IsPlanned}
+use Rattle.world_routing.specs.declared.answered.Answered.{Answered}
+use Rattle.world_routing.specs.declared.planning.Plan.TheVariants.{ToNobody, ToSome}
+use Rattle.world_routing.proofs.Views.{told, views_are}
+
+-- ---- an answer that is counted
+
+-- an answer takes no room
+same_rooms : (s : List Token) (conn other : ℕ) (zs : List Session) → rooms_of (with_session (answering s) conn zs) other ≡ rooms_of zs other
+same_rooms s conn other [] = refl
+same_rooms s conn other (z ∷ zs) = here (z.conn == conn) (same_rooms s conn other zs)
+  where
+    own : (b : Bool) → room_in (cond b (Some (answering s z)) (session_of zs other)) ≡ room_in (cond b (Some z) (session_of zs other))
+    own true = refl
+    own false = refl
+
+    later : (b : Bool) → rooms_of (with_session (answering s) conn zs) other ≡ rooms_of zs other →
+        room_in (cond b (Some z) (session_of (with_session (answering s) conn zs) other)) ≡ room_in (cond b (Some z) (session_of zs other))
+    later true e = refl
+    later false e = e
+
+    here : (b : Bool) → rooms_of (with_session (answering s) conn zs) other ≡ rooms_of zs other →
+        rooms_of (cond b (answering s z ∷ zs) (z ∷ with_session (answering s) conn zs)) other ≡ rooms_of (z ∷ zs) other
+    here true e = own (z.conn == other)
+    here false e = later (z.conn == other) e
+
+-- so deliveries meet the same, whether it is counted before or not
+pub same_met : (by : By) (conn : ℕ) (s : List Token) (now : ℕ) (all : List Addressed) (zs : List Session) → (delivered now all (counted_on by conn s zs)).1 ≡ (delivered now all zs).1
+same_met AllowsAll conn s now all zs = refl
+same_met (Index i) conn s now all zs = refl
+same_met Grant conn s now all zs =
+    sym (planned-delivered now all (with_session (answering s) conn zs))
+    ∙ ap (planned all) (λ i other. same_rooms s conn other zs i)
+    ∙ planned-delivered now all zs
+
+-- and those of later views are for the same subscriptions
+same_behind : (by : By) (conn : ℕ) (s : List Token) (zs : List Session) (w : World) (publisher : Session) (word : ℕ) (before : List Addressed) (vs : List View) →
+    addressed_behind zs (record w { sessions = counted_on by conn s w.sessions }) publisher word before vs ≡ addressed_behind zs w publisher word before vs
+same_behind by conn s zs w publisher word before [] = refl
+same_behind by conn s zs w publisher word before (v ∷ vs) =
+    let counting : World = record w { sessions = counted_on by conn s w.sessions } in
+    ap (λ (items : List Item). addressed_behind zs counting publisher word (before ++ deliveries zs (record w { subscriptions = in_turn (entered_ids before items) w.subscriptions }) publisher v word) vs) (same_met by conn s w.moment before w.sessions)
+    ∙ same_behind by conn s zs w publisher word (before ++ deliveries zs (record w { subscriptions = left_by w before }) publisher v word) vs
+
+-- what is handed over of a message that is published
+same_handed : (by : By) (conn : ℕ) (m : Message) (now : ℕ) (all : List Addressed) (zs : List Session) →
+    ended_on by conn m.subject (delivered now all (counted_on by conn m.subject zs)).0 ≡ handed_over now (answered_by by conn m) all zs
+same_handed AllowsAll conn m now all zs = refl
+same_handed (Index i) conn m now all zs = refl
+same_handed Grant conn m now all zs = refl
+
+-- ---- what a publish comes to
+
+-- a message that is allowed comes to the deliveries of all its views in one list, handed over and counted once
+pub published_is : (w : World) (z : Session) (m : Message) (word : ℕ) (by : By) (all : List Addressed) → Apart w.subscriptions → unended w.subscriptions ≡ w.subscriptions →
+    all ≡ addressed_behind w.sessions w z word [] (views z.user.account m) →
+    published w z m word (Allowed by) ≡ (Published by (met w all), carried w (answered_by by z.conn m) all (met w all))
+published_is w z m word by all apart going addressed =
+    let zs : List Session = counted_on by z.conn m.subject w.sessions in
+    let counting : World = record w { sessions = zs } in
+    let outcome : List Item × World → Outcome × World = λ after. (Published by after.0, record after.1 { sessions = ended_on by z.conn m.subject after.1.sessions }) in
+    let by_items : List Item → Outcome × World = λ items. (Published by items, record w { sessions = ended_on by z.conn m.subject (delivered w.moment all zs).0; subscriptions = in_turn (entered_ids all items) w.subscriptions }) in
+    let by_sessions : List Session → Outcome × World = λ ys. (Published by (met w all), record w { sessions = ys; subscriptions = left_by w all }) in
+    ap outcome (views_are w.sessions z word counting apart going (views z.user.account m))
+    ∙ ap (λ (ds : List Addressed). outcome (told counting ds)) (same_behind by z.conn m.subject w.sessions w z word [] (views z.user.account m) ∙ sym addressed)
+    ∙ ap by_items (same_met by z.conn m.subject w.moment all w.sessions)
+    ∙ ap by_sessions (same_handed by z.conn m w.moment all w.sessions)
+
+-- a publish of a session with a verdict
+by_verdict : (w : World) (o : Option Session) (z : Session) (m : Message) (word : ℕ) (s : List Token) (v : Verdict) →
+    Some z ≡ o → s ≡ m.subject → v ≡ verdict_on w.moment z s →
+    in_session o (λ z. published w z m word (verdict_on w.moment z m.subject)) ≡ Ok (published w z m word v)
+by_verdict w o z m word s v is same which =
+    ap (λ (x : Option Session). in_session x (λ z. published w z m word (verdict_on w.moment z m.subject))) (sym is)
+    ∙ ap (λ (x : Verdict). Ok (published w z m word x)) (sym (which ∙ ap (verdict_on w.moment z) same))
+
+-- what the sessions are to note of a message's deliveries is the message's reply
+noted_alike : (zs : List Session) (m : Message) (subs : List Subscription) → map (noted_for zs) (map (addressed_to m) subs) ≡ map (with_note zs m.reply) (map (addressed_to m) subs)
+noted_alike zs m [] = refl
+noted_alike zs m (s ∷ subs) = ap (λ rest. with_note zs m.reply (addressed_to m s) ∷ rest) (noted_alike zs m subs)
+
+-- the deliveries of all views are those in the publisher's own account
+own_are : (w : World) (z : Session) (m : Message) (word : ℕ) →
+    addressed_behind w.sessions w z word [] (views z.user.account m) ≡ map (with_note w.sessions m.reply) (addressed_among w.sessions w.subscriptions z m word)
+own_are w z m word = noted_alike w.sessions m (served word (admitted w.sessions w z (own_view z.user.account m)))
+
+-- the verdict on a publish has its reason, by whatever name its subject goes
+pub publish_reason : (o : Option Session) (z : Session) (s t : List Token) (v : Verdict) → Some z ≡ o → s ≡ t → v ≡ publish_verdict z.user.rules s →
+    IsJustifiedPublish s z.user.rules.publish v → IfSome o (λ (z : Session). IsJustifiedPublish t z.user.rules.publish (publish_verdict z.user.rules t))
+publish_reason o z s t v is same which h =
+    let P : Option Session → Type 0 = λ o. IfSome o (λ (z : Session). IsJustifiedPublish t z.user.rules.publish (publish_verdict z.user.rules t)) in
+    let Q : List Token → Type 0 = λ t. IsJustifiedPublish t z.user.rules.publish (publish_verdict z.user.rules t) in
+    let R : Verdict → Type 0 = λ x. IsJustifiedPublish s z.user.rules.publish x in
+    subst P is (subst Q same (subst R which h))
+
+-- ---- what is planned
+
+module _ (w : World) (conn : ℕ) (m : Message) (word now : ℕ) (zs : List Session) (subs : List Subscription) (of : IsOf w now zs subs)
+    (z : Session) (s : List Token) (is : Some z ≡ session_of zs conn) (same : s ≡ m.subject) where
+  found : Some z ≡ session_of w.sessions conn
+  found = is ∙ ap (λ (ys : List Session). session_of ys conn) (sym of.sessions)
+
+  -- what a verdict comes to
+  pub comes_to : (v : Verdict) → v ≡ verdict_on now z s → published_by w conn m word ≡ Ok (published w z m word v)
+  comes_to v which = by_verdict w (session_of w.sessions conn) z m word s v found same (which ∙ ap (λ n. verdict_on n z s) (sym of.moment))
+
+  module _ (by : By) (answered : Option Answered) (all : List Addressed) (allowed : Allowed by ≡ verdict_on now z s) (noted : answered ≡ answered_by by z.conn m)
+      (apart : Apart subs) (going : unended subs ≡ subs) (addressed : all ≡ map (with_note zs m.reply) (addressed_among zs subs z m word)) where
+    allowed_is : published_by w conn m word ≡ Ok (Published by (met w all), carried w answered all (met w all))
+    allowed_is =
+        comes_to (Allowed by) allowed
+        ∙ ap (λ (r : Outcome × World). Ok r) (published_is w z m word by all
+        (subst Apart (sym of.subscriptions) apart)
+        (subst (λ (ss : List Subscription). unended ss ≡ ss) (sym of.subscriptions) going)
+        (addressed
+        ∙ ap (λ (ys : List Session). map (with_note ys m.reply) (addressed_among ys subs z m word)) (sym of.sessions)
+        ∙ ap (λ (ss : List Subscription). map (with_note w.sessions m.reply) (addressed_among w.sessions ss z m word)) (sym of.subscriptions)
+        ∙ sym (own_are w z m word)))
+        ∙ ap (λ (a : Option Answered). Ok (Published by (met w all), carried w a all (met w all))) (sym noted)
+
+    -- what deliveries meet is planned
+    pub planned_to_some : (items : List Item) → ((n : ℕ) → items ≡ (delivered n all zs).1) →
+        IsPlanned w (published_by w conn m word) (Ok (ToSome by items (record { all = all; answered = answered })))
+    planned_to_some items meets =
+        let is : items ≡ met w all = meets w.moment ∙ ap (λ (ys : List Session). (delivered w.moment all ys).1) (sym of.sessions) in
+        (allowed_is ∙ ap (λ (is : List Item). Ok (Published by is, carried w answered all is)) (sym is), is)
+
+    -- where nobody is there to be sent it, and nothing to be counted, nothing changes
+    pub planned_to_nobody : all ≡ [] → answered ≡ None → IsPlanned w (published_by w conn m word) (Ok (ToNobody by))
+    planned_to_nobody empty none =
+        allowed_is
+        ∙ ap (λ (ds : List Addressed). Ok (Published by (met w ds), carried w answered ds (met w ds))) empty
+        ∙ ap (λ (a : Option Answered). Ok (Published by [], carried w a [] [])) none

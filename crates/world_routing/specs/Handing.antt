@@ -1,0 +1,46 @@
+-- Deliveries handed over, of a message in all its views (docs/ARCHITECTURE.md, "Decide, then do").
+use Rattle.std.specs.Prelude.{◌++◌, ℕ, List, [], ◌∷◌, Option, Some, None}
+use Rattle.permissions.specs.declared.verdict.By.{By}
+use Rattle.permissions.specs.declared.verdict.By.TheVariants.{All as AllowsAll, Index, Grant}
+use Rattle.events.specs.Messages.{Message}
+use Rattle.events.specs.declared.answer.Addressed.{Addressed}
+use Rattle.events.specs.declared.answer.Item.{Item}
+use Rattle.world_deliveries.specs.Sessions.{with_session}
+use Rattle.world_deliveries.specs.Delivered.{delivered}
+use Rattle.world_deliveries.specs.Replying.{answering, ending}
+use Rattle.world_deliveries.specs.declared.session.Session.{Session}
+use Rattle.world_subscriptions.specs.Counting.{entered_ids, in_turn}
+use Rattle.world_rows.specs.declared.subscription.Subscription.{Subscription}
+use Rattle.world_routing.specs.World.{World}
+use Rattle.world_routing.specs.Routing.{View, deliveries}
+use Rattle.world_routing.specs.declared.answered.Answered.{Answered}
+
+-- what deliveries meet, handed over in turn
+abbrev pub met : World → List Addressed → List Item
+met w all = (delivered w.moment all w.sessions).1
+
+-- the subscriptions that still stand, once those that deliveries have entered for have counted them
+abbrev pub left_by : World → List Addressed → List Subscription
+left_by w all = in_turn (entered_ids all (met w all)) w.subscriptions
+
+-- The deliveries of views behind others of the same message: those of each are for the subscriptions that still stand, once
+-- all deliveries before them are counted. So the views' deliveries come to one list.
+abbrev pub addressed_behind : List Session → World → Session → ℕ → List Addressed → List View → List Addressed
+addressed_behind zs w publisher word before [] = before
+addressed_behind zs w publisher word before (v ∷ vs) =
+    addressed_behind zs w publisher word (before ++ deliveries zs (record w { subscriptions = left_by w before }) publisher v word) vs
+
+-- a publish that is to be counted, if a grant has allowed it
+abbrev pub answered_by : By → ℕ → Message → Option Answered
+answered_by AllowsAll conn m = None
+answered_by (Index i) conn m = None
+answered_by Grant conn m = Some record { conn = conn; message = m }
+
+-- deliveries are handed over; an answer is counted on its grant before, and may end it after
+abbrev pub handed_over : ℕ → Option Answered → List Addressed → List Session → List Session
+handed_over now None all zs = (delivered now all zs).0
+handed_over now (Some a) all zs = with_session (ending a.message.subject) a.conn (delivered now all (with_session (answering a.message.subject) a.conn zs)).0
+
+-- the world once deliveries are handed over, and counted where these items tell that they have entered
+abbrev pub carried : World → Option Answered → List Addressed → List Item → World
+carried w answered all items = record w { sessions = handed_over w.moment answered all w.sessions; subscriptions = in_turn (entered_ids all items) w.subscriptions }

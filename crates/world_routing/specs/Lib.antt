@@ -1,0 +1,5 @@
+pub mod World
+pub mod Routing
+pub mod Granting
+pub mod Handing
+pub mod Publishing

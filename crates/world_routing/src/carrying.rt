@@ -1,0 +1,78 @@
+//! What was planned for a publish is done.
+ghost use Rattle.std.specs.Prelude.{◌≡◌, ◌≤◌, ◌⊎◌, None};
+ghost use Rattle.world_receivers.specs.Cached.{IsCurrent};
+ghost use Rattle.world_subscriptions.specs.Counting.{entered_ids, in_turn};
+ghost use Rattle.world_routing.specs.Handing.{handed_over};
+
+use crate::answered::Answered;
+use base::Items;
+use events::{Addressed, Item};
+use world_receivers::Receivers;
+use world_sessions::Sessions;
+use world_subscriptions::Subscriptions;
+
+/// Deliveries that are to be handed over, of a message that may be an answer: oldest view first, and in each view the oldest
+/// subscription first.
+#[derive(Drop)]
+pub struct Deliveries {
+    /// Each with what its session is to note.
+    pub all: Items<Addressed>,
+    /// The publish, where a grant has allowed it.
+    pub answered: Option<Answered>,
+}
+
+/// Clears the cache of receivers where fewer subscriptions are left than there were before.
+fn clear_if_fewer(receivers: &mut Receivers, before: usize, left: usize)
+    ensures { (receivers.new.cache.whom ≡ None) ⊎ ((receivers.new.cache ≡ receivers.old.cache) × (before ≤ left)) }
+{
+    if left < before {
+        receivers.clear_cache();
+    }
+}
+
+/// Counts the deliveries of a message that have entered, as the items tell, and hands them over. Where a subscription ends
+/// by it, whom the publisher's next message is for is found anew. It takes no memory.
+#[inline(always)]
+pub fn carry_publish(
+    sessions: &mut Sessions,
+    subscriptions: &mut Subscriptions,
+    receivers: &mut Receivers,
+    deliveries: Deliveries,
+    items: &[Item],
+    now: u64,
+)
+    requires cached { IsCurrent sessions.old subscriptions.old receivers.old.cache }
+    ensures sessions { sessions.new ≡ handed_over now deliveries.answered deliveries.all sessions.old }
+    ensures subscriptions { subscriptions.new ≡ in_turn (entered_ids deliveries.all items.now) subscriptions.old }
+    ensures cached { IsCurrent sessions.new subscriptions.new receivers.new.cache }
+{
+    let Deliveries { all, answered } = deliveries;
+    let mut all = all.into_vec();
+    let before = subscriptions.len();
+    subscriptions.count(all.as_slice(), items);
+    hand_over(sessions, &mut all, now, answered);
+    clear_if_fewer(receivers, before, subscriptions.len());
+    receivers.keep_memory(all);
+}
+
+/// Hands deliveries over in turn, of a message that may be an answer: that is counted before, and its grant goes after
+/// where as many answers have passed on it as may.
+#[inline(always)]
+fn hand_over(
+    sessions: &mut Sessions,
+    all: &mut Vec<Addressed>,
+    now: u64,
+    answered: Option<Answered>,
+)
+    ensures { sessions.new ≡ handed_over now answered all.old.items sessions.old }
+{
+    match answered {
+        None => sessions.hand_over_all(all, now),
+        Some(answered) => {
+            let subject = answered.message.subject();
+            sessions.answer(answered.conn, &subject);
+            sessions.hand_over_all(all, now);
+            sessions.end(answered.conn, &subject);
+        }
+    }
+}

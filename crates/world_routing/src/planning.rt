@@ -1,0 +1,133 @@
+//! What a publish comes to, before anything changes.
+ghost use Rattle.std.specs.Prelude.{◌≡◌, IsTrue, IfOk, OnOk, IfSome, Some, [], None, ℕ, map};
+ghost use Rattle.permissions.specs.Verdicts.{publish_verdict, IsJustifiedPublish};
+ghost use Rattle.world_deliveries.specs.Sessions.{session_of};
+ghost use Rattle.world_deliveries.specs.Delivered.{delivered};
+ghost use Rattle.world_deliveries.specs.Replying.{with_note};
+ghost use Rattle.world_deliveries.specs.declared.session.Session.{Session as SessionModel};
+ghost use Rattle.world_receivers.specs.Cached.{IsCurrent};
+ghost use Rattle.world_routing.specs.World.{World};
+ghost use Rattle.world_routing.specs.Publishing.{IsOf, IsPlanned, published_by};
+
+use crate::answered::{Answered, answered_by};
+use crate::carrying::Deliveries;
+use crate::verdict::on_publish;
+use base::{Items, NoMemory};
+use events::{Addressed, HubRefusal, Message, Met};
+use permissions::{By, Verdict};
+use std::hash::RandomState;
+use world_receivers::Receivers;
+use world_sessions::{Session, Sessions};
+use world_subscriptions::Subscriptions;
+
+/// A message that a connection publishes.
+#[derive(Clone, Copy, Debug)]
+pub struct Publish<'m> {
+    /// The connection.
+    pub conn: u64,
+    /// What it publishes.
+    pub message: &'m Message,
+    /// What chooses a member of each queue group.
+    pub word: u64,
+    /// The moment at which it does so.
+    pub now: u64,
+}
+
+/// What a publish comes to.
+#[derive(Drop)]
+pub enum Plan {
+    /// It is refused by this verdict.
+    Refused(Verdict),
+    /// It is allowed, is for nobody, and is no answer: nothing changes.
+    ToNobody(By),
+    /// It is allowed: what each delivery meets, and the deliveries to be handed over.
+    ToSome(By, Met, Deliveries),
+}
+
+/// Returns whether a message has no delivery and is no answer.
+fn is_for_nobody(all: &[Addressed], answered: &Option<Answered>) -> bool
+    ensures { IsTrue result → (all.now ≡ []) × (answered.now ≡ None) }
+{
+    match answered {
+        Some(_) => false,
+        None => match all {
+            [] => true,
+            _ => false,
+        },
+    }
+}
+
+/// Returns what the deliveries of a message will meet. Also sets each one's `noted`, what its session is to note.
+#[inline(always)]
+fn plan_all(
+    sessions: &mut Sessions,
+    keys: RandomState,
+    message: &Message,
+    all: &mut Vec<Addressed>,
+) -> Result<Met, NoMemory>
+    ensures items { IfOk result (λ items. (now : ℕ) → items ≡ (delivered now all.new.items sessions.old).1) }
+    ensures noted { OnOk result (all.new.items ≡ map (with_note sessions.old message.now.reply) all.old.items) }
+    ensures same { sessions.new ≡ sessions.old }
+{
+    let all = all.as_mut_slice();
+    let items = match message.reply() {
+        None => sessions.plan(keys, all, None)?,
+        Some(reply) => sessions.plan(keys, all, Some(&reply))?,
+    };
+    Ok(items)
+}
+
+/// Returns what a publish comes to: the verdict of the user's permissions and grants, and where they allow it, the deliveries
+/// to those that the message is for, with what each will meet. Nothing changes but what is cached, and all memory is taken
+/// that handing over needs. `NoSession` where the connection has no session, `NoMemory` where memory could not be had.
+#[inline(always)]
+pub fn plan_publish(
+    sessions: &mut Sessions,
+    subscriptions: &mut Subscriptions,
+    receivers: &mut Receivers,
+    keys: RandomState,
+    publish: Publish<'_>,
+) -> Result<Plan, HubRefusal>
+    requires cached { IsCurrent sessions.old subscriptions.old receivers.old.cache }
+    ensures planned { (w : World) → IsOf w publish.entry.now sessions.old subscriptions.old
+        → IsPlanned w (published_by w publish.entry.conn publish.entry.message.now publish.entry.word) result }
+    ensures reason { IfOk result (λ plan. IfSome (session_of sessions.old publish.entry.conn) (λ (z : SessionModel).
+        IsJustifiedPublish publish.entry.message.now.subject z.user.rules.publish (publish_verdict z.user.rules publish.entry.message.now.subject))) }
+    ensures sessions { sessions.new ≡ sessions.old }
+    ensures subscriptions { subscriptions.new ≡ subscriptions.old }
+    ensures cached { IsCurrent sessions.new subscriptions.new receivers.new.cache }
+{
+    subscriptions.known();
+    let (by, answered, mut all) = match sessions.find(publish.conn) {
+        None => return Err(HubRefusal::NoSession),
+        Some(session) => match on_publish(session, &publish.message.subject(), publish.now) {
+            Verdict::Allowed(by) => (
+                by,
+                answered_by(by, session.conn, publish.message)?,
+                receivers.address(
+                    sessions,
+                    subscriptions,
+                    session,
+                    publish.message,
+                    publish.word,
+                )?,
+            ),
+            Verdict::DeniedBy(index) => return Ok(Plan::Refused(Verdict::DeniedBy(index))),
+            Verdict::NoAllow => return Ok(Plan::Refused(Verdict::NoAllow)),
+            Verdict::NoQueueAllow(index) => return Ok(Plan::Refused(Verdict::NoQueueAllow(index))),
+        },
+    };
+    if is_for_nobody(all.as_slice(), &answered) {
+        receivers.keep_memory(all);
+        return Ok(Plan::ToNobody(by));
+    }
+    let items = plan_all(sessions, keys, publish.message, &mut all)?;
+    Ok(Plan::ToSome(
+        by,
+        items,
+        Deliveries {
+            all: Items::from_vec(all),
+            answered,
+        },
+    ))
+}
