@@ -1,0 +1,4 @@
+mod Lists
+mod Reaching
+mod Denying
+mod Reloading

@@ -1,0 +1,3 @@
+pub mod Reach
+pub mod Denied
+pub mod Standing
