@@ -14,3 +14,5 @@ mod outboxes;
 mod patterns;
 #[cfg(test)]
 mod response_routes;
+#[cfg(test)]
+mod sendings;

@@ -3,7 +3,7 @@ ghost use Rattle.std.specs.Prelude.{◌≡◌, ◌++◌, IfOk, OnOk, map};
 ghost use Rattle.world_receivers.specs.Receivers.{addressed_at, receiver_of};
 
 use base::NoMemory;
-use events::{Addressed, Delivery, Message, Sid};
+use events::{Addressed, Delivery, Message, Sent, Sid};
 use std::alloc::Global;
 use world_subscriptions::SharedSubscription;
 
@@ -35,7 +35,7 @@ impl Receiver {
             id: self.id,
             conn: self.conn,
             delivery: Delivery {
-                message: message.again()?,
+                message: Sent::own(message.again()?),
                 sid: self.sid.again()?,
             },
             noted: None,

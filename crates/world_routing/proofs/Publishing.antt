@@ -1,6 +1,7 @@
 -- A message that is published.
-use Rattle.std.proofs.Common.{◌≡◌, ◌∙◌, ◌==◌, ◌∷◌, ◌++◌, ℕ, Bool, true, false, cond, List, [], Option, Some, None, Ok, map, ap, sym, refl, subst}
+use Rattle.std.proofs.Common.{◌≡◌, ◌∙◌, ◌==◌, ◌∷◌, ◌++◌, ℕ, Bool, true, false, cond, List, [], Option, Some, None, Ok, All, map, ap, sym, refl, subst}
 use Rattle.std.specs.Prelude.{IfSome}
+use Rattle.std.proofs.lemmas.List.Elements.{All-map}
 use Rattle.subjects.specs.Subject.{Token}
 use Rattle.permissions.specs.Verdicts.{publish_verdict, IsJustifiedPublish}
 use Rattle.permissions.specs.declared.verdict.By.{By}
@@ -15,7 +16,7 @@ use Rattle.events.specs.declared.answer.Outcome.TheVariants.{Published}
 use Rattle.world_deliveries.specs.Sessions.{session_of, with_session}
 use Rattle.world_deliveries.specs.Delivered.{delivered, room_in}
 use Rattle.world_deliveries.specs.Planned.{rooms_of, planned}
-use Rattle.world_deliveries.specs.Replying.{with_note, noted_for, answering}
+use Rattle.world_deliveries.specs.Replying.{noted_for, answering}
 use Rattle.world_deliveries.specs.declared.session.Session.{Session}
 use Rattle.world_deliveries.proofs.Plans.{planned-delivered}
 use Rattle.world_subscriptions.specs.Addressing.{addressed_to}
@@ -105,15 +106,17 @@ by_verdict w o z m word s v is same which =
     ap (λ (x : Option Session). in_session x (λ z. published w z m word (verdict_on w.moment z m.subject))) (sym is)
     ∙ ap (λ (x : Verdict). Ok (published w z m word x)) (sym (which ∙ ap (verdict_on w.moment z) same))
 
--- what the sessions are to note of a message's deliveries is the message's reply
-noted_alike : (zs : List Session) (m : Message) (subs : List Subscription) → map (noted_for zs) (map (addressed_to m) subs) ≡ map (with_note zs m.reply) (map (addressed_to m) subs)
-noted_alike zs m [] = refl
-noted_alike zs m (s ∷ subs) = ap (λ rest. with_note zs m.reply (addressed_to m s) ∷ rest) (noted_alike zs m subs)
+-- where a message has no reply, none of its deliveries has one
+pub unsaid : (m : Message) (subs : List Subscription) (all : List Addressed) → all ≡ map (addressed_to m) subs → m.reply ≡ None →
+    All (λ (a : Addressed). a.delivery.message.reply ≡ None) all
+unsaid m subs all addressed none =
+    subst (All (λ (a : Addressed). a.delivery.message.reply ≡ None)) (sym addressed)
+    (All-map (λ (a : Addressed). a.delivery.message.reply ≡ None) (addressed_to m) subs (λ k d h. none))
 
 -- the deliveries of all views are those in the publisher's own account
 own_are : (w : World) (z : Session) (m : Message) (word : ℕ) →
-    addressed_behind w.sessions w z word [] (views z.user.account m) ≡ map (with_note w.sessions m.reply) (addressed_among w.sessions w.subscriptions z m word)
-own_are w z m word = noted_alike w.sessions m (served word (admitted w.sessions w z (own_view z.user.account m)))
+    addressed_behind w.sessions w z word [] (views z.user.account m) ≡ map (noted_for w.sessions) (addressed_among w.sessions w.subscriptions z m word)
+own_are w z m word = refl
 
 -- the verdict on a publish has its reason, by whatever name its subject goes
 pub publish_reason : (o : Option Session) (z : Session) (s t : List Token) (v : Verdict) → Some z ≡ o → s ≡ t → v ≡ publish_verdict z.user.rules s →
@@ -136,7 +139,7 @@ module _ (w : World) (conn : ℕ) (m : Message) (word now : ℕ) (zs : List Sess
   comes_to v which = by_verdict w (session_of w.sessions conn) z m word s v found same (which ∙ ap (λ n. verdict_on n z s) (sym of.moment))
 
   module _ (by : By) (answered : Option Answered) (all : List Addressed) (allowed : Allowed by ≡ verdict_on now z s) (noted : answered ≡ answered_by by z.conn m)
-      (apart : Apart subs) (going : unended subs ≡ subs) (addressed : all ≡ map (with_note zs m.reply) (addressed_among zs subs z m word)) where
+      (apart : Apart subs) (going : unended subs ≡ subs) (addressed : all ≡ map (noted_for zs) (addressed_among zs subs z m word)) where
     allowed_is : published_by w conn m word ≡ Ok (Published by (met w all), carried w answered all (met w all))
     allowed_is =
         comes_to (Allowed by) allowed
@@ -144,8 +147,8 @@ module _ (w : World) (conn : ℕ) (m : Message) (word now : ℕ) (zs : List Sess
         (subst Apart (sym of.subscriptions) apart)
         (subst (λ (ss : List Subscription). unended ss ≡ ss) (sym of.subscriptions) going)
         (addressed
-        ∙ ap (λ (ys : List Session). map (with_note ys m.reply) (addressed_among ys subs z m word)) (sym of.sessions)
-        ∙ ap (λ (ss : List Subscription). map (with_note w.sessions m.reply) (addressed_among w.sessions ss z m word)) (sym of.subscriptions)
+        ∙ ap (λ (ys : List Session). map (noted_for ys) (addressed_among ys subs z m word)) (sym of.sessions)
+        ∙ ap (λ (ss : List Subscription). map (noted_for w.sessions) (addressed_among w.sessions ss z m word)) (sym of.subscriptions)
         ∙ sym (own_are w z m word)))
         ∙ ap (λ (a : Option Answered). Ok (Published by (met w all), carried w a all (met w all))) (sym noted)
 

@@ -1,9 +1,10 @@
 //! What a publish comes to, before anything changes.
-ghost use Rattle.std.specs.Prelude.{◌≡◌, IsTrue, IfOk, OnOk, IfSome, Some, [], None, ℕ, map};
+ghost use Rattle.std.specs.Prelude.{◌≡◌, All, IsTrue, IfOk, OnOk, IfSome, Some, [], None, ℕ, map};
 ghost use Rattle.permissions.specs.Verdicts.{publish_verdict, IsJustifiedPublish};
+ghost use Rattle.events.specs.declared.answer.Addressed.{Addressed as AddressedModel};
 ghost use Rattle.world_deliveries.specs.Sessions.{session_of};
 ghost use Rattle.world_deliveries.specs.Delivered.{delivered};
-ghost use Rattle.world_deliveries.specs.Replying.{with_note};
+ghost use Rattle.world_deliveries.specs.Replying.{noted_for};
 ghost use Rattle.world_deliveries.specs.declared.session.Session.{Session as SessionModel};
 ghost use Rattle.world_receivers.specs.Cached.{IsCurrent};
 ghost use Rattle.world_routing.specs.World.{World};
@@ -65,15 +66,14 @@ fn plan_all(
     message: &Message,
     all: &mut Vec<Addressed>,
 ) -> Result<Met, NoMemory>
+    requires { message.now.reply ≡ None → All (λ (a : AddressedModel). a.delivery.message.reply ≡ None) all.old.items }
     ensures items { IfOk result (λ items. (now : ℕ) → items ≡ (delivered now all.new.items sessions.old).1) }
-    ensures noted { OnOk result (all.new.items ≡ map (with_note sessions.old message.now.reply) all.old.items) }
+    ensures noted { OnOk result (all.new.items ≡ map (noted_for sessions.old) all.old.items) }
     ensures same { sessions.new ≡ sessions.old }
 {
     let all = all.as_mut_slice();
-    let items = match message.reply() {
-        None => sessions.plan(keys, all, None)?,
-        Some(reply) => sessions.plan(keys, all, Some(&reply))?,
-    };
+    let has_reply = message.reply().is_some();
+    let items = sessions.plan(keys, all, has_reply)?;
     Ok(items)
 }
 

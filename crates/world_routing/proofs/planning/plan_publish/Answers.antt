@@ -4,10 +4,10 @@ use Rattle.std.proofs.lemmas.Bool.{eqb-true}
 use Rattle.events.specs.declared.answer.Addressed.{Addressed}
 use Rattle.world_deliveries.specs.Sessions.{session_of}
 use Rattle.world_deliveries.specs.Delivered.{delivered}
-use Rattle.world_deliveries.specs.Replying.{with_note}
+use Rattle.world_deliveries.specs.Replying.{noted_for}
 use Rattle.world_deliveries.specs.declared.session.Session.{Session}
 use Rattle.world_receivers.proofs.Tests.{find-passes}
-use Rattle.world_routing.proofs.Publishing.{planned_to_some, planned_to_nobody, publish_reason}
+use Rattle.world_routing.proofs.Publishing.{planned_to_some, planned_to_nobody, publish_reason, unsaid}
 use Rattle.world_routing.proofs.planning.plan_publish.Goals as goal
 
 pub address-requires-clause-publisher : goal.address-requires-clause-publisher
@@ -16,10 +16,13 @@ address-requires-clause-publisher c =
     let z = c.in-Some.session.now in
     ap (session_of zs) (eqb-true z.conn c.args.publish.conn (find-passes (λ (y : Session). y.conn == c.args.publish.conn) zs z (sym c.in-Some.ensures))) ∙ sym c.in-Some.ensures
 
+pub plan_all-requires : goal.plan_all-requires
+plan_all-requires c = unsaid c.args.publish.message.now _ c.in_ok-address-in-Allowed.field-0.items c.in_ok-address-in-Allowed.ensures.all
+
 pub returns-then-is_for_nobody-clause-planned : goal.returns-then-is_for_nobody-clause-planned
 returns-then-is_for_nobody-clause-planned c = λ w of.
     let m = c.args.publish.message.now in
-    let noted : List Addressed → List Addressed = map (with_note c.args.sessions.now m.reply) in
+    let noted : List Addressed → List Addressed = map (noted_for c.args.sessions.now) in
     let nobody = c.is_for_nobody.ensures c.if-is_for_nobody.true in
     planned_to_nobody w c.args.publish.conn m c.args.publish.word c.args.publish.now c.args.sessions.now c.args.subscriptions.now of c.in-Some.session.now c.subject.result c.in-Some.ensures c.subject.ensures
     c.in-Allowed.by c.in_ok-answered_by-in-Allowed.field-0 (noted c.in_ok-address-in-Allowed.field-0.items)
@@ -44,7 +47,7 @@ returns-clause-planned c = λ w of.
     c.in_ok-answered_by-in-Allowed.ensures
     c.known.ensures.apart
     c.known.ensures.going
-    (c.from_vec.ensures ∙ c.in_ok-items.ensures.noted ∙ ap (map (with_note zs m.reply)) c.in_ok-address-in-Allowed.ensures.all)
+    (c.from_vec.ensures ∙ c.in_ok-items.ensures.noted ∙ ap (map (noted_for zs)) c.in_ok-address-in-Allowed.ensures.all)
     c.in_ok-items.items
     (λ n. c.in_ok-items.ensures.items n ∙ ap (λ (all : List Addressed). (delivered n all zs).1) (sym c.from_vec.ensures))
 
