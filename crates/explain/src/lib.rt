@@ -1,0 +1,13 @@
+//! Why a policy allows or denies something, for an operator who asks (docs/POLICY.md, "Explaining a verdict").
+#![tactic(auto)]
+
+mod asking;
+mod explanation;
+mod fault;
+mod path;
+mod reason;
+
+pub use asking::{explain_delivery, explain_publish, explain_subscribe};
+pub use explanation::{Explanation, Uncovered};
+pub use fault::ExplainFault;
+pub use path::{View, ViewKind, explain_path, view_lines};
