@@ -1,4 +1,5 @@
 pub mod Fault
+pub mod Laws
 pub mod Lines
 pub mod Path
 pub mod Reason

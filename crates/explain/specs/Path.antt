@@ -1,5 +1,5 @@
 -- The accounts that a published message is seen in (docs/POLICY.md, "Explaining a verdict").
-use Rattle.std.specs.Prelude.{ℕ, List, [], ◌∷◌, Option, find}
+use Rattle.std.specs.Prelude.{List, [], ◌∷◌, Option, find}
 use Rattle.std.specs.Option.{option_map}
 use Rattle.std.specs.Str.{bytes_eq}
 use Rattle.subjects.specs.Subject.{Token, text_of}

@@ -9,7 +9,7 @@ use Rattle.policy_doc.specs.Accounts.{Name}
 use Rattle.policy_doc.specs.Document.{entry_text, users_of}
 use Rattle.policy_doc.specs.declared.document.PolicyDoc.{PolicyDoc}
 use Rattle.policy_doc.specs.declared.document.UserDoc.{UserDoc}
-use Rattle.permissions.specs.Lists.{Entry, Lists, Queue, Rules, is_plain, lists_of}
+use Rattle.permissions.specs.Lists.{Entry, Lists, Queue, Rules, is_plain}
 use Rattle.permissions.specs.Verdicts.{delivery_verdict, publish_verdict, subscribe_verdict}
 use Rattle.permissions.specs.declared.verdict.By.TheVariants.{All, Index, Grant}
 use Rattle.permissions.specs.declared.verdict.Verdict.{Verdict}

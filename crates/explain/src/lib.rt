@@ -4,10 +4,12 @@
 mod asking;
 mod explanation;
 mod fault;
+mod laws;
 mod path;
 mod reason;
 
 pub use asking::{explain_delivery, explain_publish, explain_subscribe};
 pub use explanation::{Explanation, Uncovered};
 pub use fault::ExplainFault;
+pub use laws::shows_what_entries_lack;
 pub use path::{View, ViewKind, explain_path, view_lines};

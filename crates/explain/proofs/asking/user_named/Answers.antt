@@ -1,5 +1,5 @@
 -- the account at hand has the user, or those behind it have
-use Rattle.std.proofs.Common.{◌≡◌, ◌∙◌, Some, None, ap, sym}
+use Rattle.std.proofs.Common.{◌∙◌, ap, sym}
 use Rattle.std.specs.List.{find}
 use Rattle.std.specs.Option.{option_copied}
 use Rattle.explain.specs.Reason.{has_user_name}
