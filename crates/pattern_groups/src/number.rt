@@ -1,0 +1,61 @@
+//! Numbers of the literal tokens that a pattern begins with.
+ghost use Rattle.std.specs.Prelude.{◌≡◌, option_copied};
+ghost use Rattle.base.specs.Pieces.{pieces_left};
+ghost use Rattle.subjects.specs.Mark.{with_byte, number_from};
+ghost use Rattle.pattern_groups.specs.Numbers.{front_number, IsPast};
+
+use subjects::{Pattern, is_star, is_tail};
+
+/// The number of no token.
+pub(crate) const NONE: u32 = 7;
+
+/// A number with one byte more.
+#[inline(always)]
+fn with_byte(number: u32, byte: u8) -> u32
+    ensures { result ≡ with_byte number byte }
+{
+    number.wrapping_mul(31).wrapping_add(byte as u32)
+}
+
+/// A number with the bytes of a token more.
+fn with_token(number: u32, token: &[u8]) -> u32
+    ensures { result ≡ number_from number token.now }
+{
+    let mut all = number;
+    for byte in token {
+        all = with_byte(all, *byte);
+    }
+    all
+}
+
+/// Returns the number of the literal tokens that a pattern begins with. Whoever has a subject, or covers a pattern, has
+/// the number of some of its first tokens, so many as stand before its own first wildcard.
+pub fn number_of(pattern: &Pattern) -> u32
+    ensures { result ≡ front_number pattern.now }
+{
+    let mut tokens = pattern.tokens();
+    let mut number = NONE;
+    while let Some(token) = tokens.next_piece() {
+        if is_star(token) || is_tail(token) {
+            return number;
+        }
+        number = with_token(number, token);
+    }
+    number
+}
+
+/// A number with the first token of a text, and the text behind that token's dot where it has one.
+#[inline(always)]
+pub(crate) fn past_token(number: u32, text: &[u8]) -> (u32, Option<&[u8]>)
+    ensures { IsPast number text.now result.0 (pieces_left 46 (option_copied result.1)) }
+{
+    let mut all = number;
+    for at in 0..text.len() {
+        let byte = text[at];
+        if byte == b'.' {
+            return (all, Some(&text[at + 1..]));
+        }
+        all = with_byte(all, byte);
+    }
+    (all, None)
+}
