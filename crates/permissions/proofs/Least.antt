@@ -6,12 +6,8 @@ use Rattle.std.proofs.lemmas.Grind.{common_steps}
 use Rattle.subjects.specs.Subject.{Token, Lacks}
 use Rattle.policy_doc.specs.Document.{entry_of}
 use Rattle.permissions.specs.Lists.{Entry, is_plain, is_queued}
-use Rattle.permissions.specs.Verdicts.{EachLacks, IsLeast, IsFirst, LacksSome, NoneCovers}
-
--- the first n entries fail the test, and lack what is asked
-abbrev pub NoneBefore : (Entry → Bool) → (Entry → Type 0) → List Entry → ℕ → Type 0
-NoneBefore test Misses entries n =
-    (k : ℕ) (d : Entry) → k < n → (test (slice_index_or entries k d) ≡ false) × Misses (slice_index_or entries k d)
+use Rattle.pattern_groups.specs.Links.{IsLeast as IsLeastPlace}
+use Rattle.permissions.specs.Verdicts.{EachLacks, LacksSome, NoneCovers}
 
 -- where the place is the length there is none
 position-at_length : {X : Type 0} (test : X → Bool) (xs : List X) → position_or_len test xs ≡ length xs → None ≡ position test xs
@@ -20,30 +16,14 @@ position-at_length test xs at = grind (arith, common_steps)
 position-at_place : {X : Type 0} (test : X → Bool) (xs : List X) (n : ℕ) → n < length xs → position_or_len test xs ≡ n → Some n ≡ position test xs
 position-at_place test xs n within at = grind (arith, common_steps)
 
--- where no entry passes there is none
-pub position-none : (test : Entry → Bool) (Misses : Entry → Type 0) (entries : List Entry) → NoneBefore test Misses entries (length entries) → None ≡ position test entries
-position-none test Misses entries missed =
+-- the least place that passes is the first
+pub least_position : (test : Entry → Bool) (entries : List Entry) (o : Option ℕ) → IsLeastPlace (λ i. test (slice_index_or entries i (entry_of []))) (length entries) o → o ≡ position test entries
+least_position test entries None none =
     position-at_length test entries
-    (position_or_len_is test entries (length entries) (entry_of []) (omega arith) (λ k below. (missed k (entry_of []) below).0) (λ below. absurd (omega (arith, below))))
-
-pub EachLacks-from_missed : (test : Entry → Bool) (Misses : Entry → Type 0) (entries : List Entry) → NoneBefore test Misses entries (length entries) → EachLacks Misses entries
-EachLacks-from_missed test Misses entries missed k d below = (missed k d below).1
-
--- the first entry that passes is the least
-pub position-some : (test : Entry → Bool) (Misses : Entry → Type 0) (entries : List Entry) (n : ℕ) → n < length entries → NoneBefore test Misses entries n → ((d : Entry) → test (slice_index_or entries n d) ≡ true) → Some n ≡ position test entries
-position-some test Misses entries n within missed passes =
-    position-at_place test entries n within
-    (position_or_len_is test entries n (entry_of []) (omega (arith, within)) (λ k below. (missed k (entry_of []) below).0) (λ _. passes (entry_of [])))
-
-pub IsLeast-from_missed : (test : Entry → Bool) (Has Misses : Entry → Type 0) (entries : List Entry) (n : ℕ) → n < length entries → NoneBefore test Misses entries n → ((d : Entry) → Has (slice_index_or entries n d)) → IsLeast Has Misses entries n
-IsLeast-from_missed test Has Misses entries n within missed has = (within, has, λ k d below. (missed k d below).1)
-
--- a first entry is first in what follows from having and from lacking
-pub IsFirst-weaker : (Has Misses Gets Wants : Entry → Type 0) (entries : List Entry) (o : Option ℕ) →
-    ((e : Entry) → Has e → Gets e) → ((e : Entry) → Misses e → Wants e) → IsFirst Has Misses entries o → IsFirst Gets Wants entries o
-IsFirst-weaker Has Misses Gets Wants entries None gets wants h = λ k d below. wants (slice_index_or entries k d) (h k d below)
-IsFirst-weaker Has Misses Gets Wants entries (Some i) gets wants h =
-    (h.0, (λ d. gets (slice_index_or entries i d) (h.1 d)), λ k d below. wants (slice_index_or entries k d) (h.2 k d below))
+    (position_or_len_is test entries (length entries) (entry_of []) (omega arith) none (λ below. absurd (omega (arith, below))))
+least_position test entries (Some i) least =
+    position-at_place test entries i least.0
+    (position_or_len_is test entries i (entry_of []) (omega (arith, least.0)) least.2 (λ _. least.1))
 
 either_lacks : (pattern : List Token) (e : Entry) (queued : Bool) → is_queued e ≡ queued → LacksSome pattern is_queued e → LacksSome pattern is_plain e → Lacks e.subject pattern
 either_lacks pattern e queued is (inr lacks) h = lacks

@@ -1,3 +1,4 @@
+pub mod Fronts
 pub mod Least
 pub mod One
 pub mod Reason

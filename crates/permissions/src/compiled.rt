@@ -1,5 +1,6 @@
-use crate::decision::{Among, first_entry, on_publish, on_subscribe};
+use crate::decision::{on_delivery, on_publish, on_subscribe};
 use crate::equality::has_no_list;
+use crate::grouped::Parts;
 use crate::{By, Verdict};
 use base::{Alike, Copying, Items, NoMemory};
 use policy_doc::{PermDoc, Terms, UserDoc};
@@ -11,23 +12,28 @@ use subjects::{Pattern, Subject, SubjectRef};
 /// A user's permission lists, ready to be asked. Copies share them. A clause sees the lists.
 #[derive(Debug)]
 pub struct Compiled {
-    permissions: Option<Arc<PermDoc>>,
+    parts: Option<Arc<Parts>>,
 }
 
 impl Drop for Compiled {
     fn drop(self) {
-        let Self { permissions: _ } = self;
+        let Self { parts: _ } = self;
     }
 }
 
 impl Model for Compiled {
+    ghost use Rattle.std.specs.Prelude.{IfSome};
     ghost use Rattle.permissions.specs.Lists.{Lists, lists_of_permissions};
+    ghost use Rattle.permissions.specs.Numbers.{AreGrouped};
+    ghost use Rattle.permissions.specs.declared.grouped.Parts.{Parts};
     ghost use Rattle.std.specs.Option.{option_map};
     ghost use Rattle.std.specs.Arc.{arc_value};
 
     ghost Value = { Lists };
 
-    ghost view = { λ c. lists_of_permissions (option_map arc_value c.permissions) };
+    ghost view = { λ c. lists_of_permissions (option_map (λ parts. (arc_value {X = Parts} parts).lists) c.parts) };
+
+    ghost invariant = { λ c. IfSome c.parts (λ parts. AreGrouped (arc_value {X = Parts} parts)) };
 }
 
 impl Compiled {
@@ -43,13 +49,14 @@ impl Compiled {
         ensures { IfOk result (λ compiled. compiled ≡ lists_of user.now) }
     {
         match &user.permissions {
-            None => Ok(Compiled { permissions: None }),
+            None => Ok(Compiled { parts: None }),
             Some(permissions) => {
                 let mut copy = permissions.copy(alloc)?;
                 bring_allow_list(alloc, &mut copy);
-                let shared = Arc::new(alloc, copy)?;
+                let parts = Parts::of(alloc, copy)?;
+                let shared = Arc::new(alloc, parts)?;
                 Ok(Compiled {
-                    permissions: Some(shared),
+                    parts: Some(shared),
                 })
             }
         }
@@ -59,9 +66,9 @@ impl Compiled {
     pub fn permissions(&self) -> Option<&PermDoc>
         ensures { lists_of_permissions (option_copied result) ≡ self.now }
     {
-        match &self.permissions {
+        match &self.parts {
             None => None,
-            Some(permissions) => Some(permissions),
+            Some(parts) => Some(&parts.lists),
         }
     }
 
@@ -69,9 +76,9 @@ impl Compiled {
     pub fn terms(&self) -> Option<Terms>
         ensures { result ≡ self.now.allow_responses }
     {
-        match &self.permissions {
+        match &self.parts {
             None => None,
-            Some(permissions) => permissions.allow_responses,
+            Some(parts) => parts.lists.allow_responses,
         }
     }
 
@@ -81,9 +88,16 @@ impl Compiled {
         ensures verdict { result ≡ publish_verdict self.now subject.now }
         ensures justified { IsJustifiedPublish subject.now self.now.publish result }
     {
-        match &self.permissions {
+        self.judge_publish(subject)
+    }
+
+    /// The verdict of `publish`.
+    fn judge_publish(&self, subject: &SubjectRef<'_>) -> Verdict
+        ensures { result ≡ publish_verdict self.now subject.now }
+    {
+        match &self.parts {
             None => Verdict::Allowed(By::All),
-            Some(permissions) => on_publish(&permissions.publish, subject),
+            Some(parts) => on_publish(&parts.lists.publish, &parts.publish, subject),
         }
     }
 
@@ -97,9 +111,18 @@ impl Compiled {
         ensures verdict { result ≡ subscribe_verdict self.now pattern.now (option_copied queue.entry) }
         ensures justified { IsJustifiedSubscribe pattern.now (option_copied queue.entry) self.now.subscribe result }
     {
-        match &self.permissions {
+        // The tokens tell the prover that they are those of a pattern.
+        let _ = pattern.tokens();
+        self.judge_subscribe(pattern, queue)
+    }
+
+    /// The verdict of `subscribe`.
+    fn judge_subscribe(&self, pattern: &Pattern, queue: Option<&Subject>) -> Verdict
+        ensures { result ≡ subscribe_verdict self.now pattern.now (option_copied queue.entry) }
+    {
+        match &self.parts {
             None => Verdict::Allowed(By::All),
-            Some(permissions) => on_subscribe(&permissions.subscribe, pattern, queue),
+            Some(parts) => on_subscribe(&parts.lists.subscribe, &parts.subscribe, pattern, queue),
         }
     }
 
@@ -107,11 +130,15 @@ impl Compiled {
     pub fn has_same_subscribe(&self, other: &Compiled) -> bool
         ensures { Decides result (self.now.subscribe ≡ other.now.subscribe) }
     {
-        match (&self.permissions, &other.permissions) {
-            (None, None) => true,
-            (None, Some(other)) => has_no_list(&other.subscribe),
-            (Some(one), None) => has_no_list(&one.subscribe),
-            (Some(one), Some(other)) => one.subscribe.is_like(&other.subscribe),
+        match self.permissions() {
+            None => match other.permissions() {
+                None => true,
+                Some(other) => has_no_list(&other.subscribe),
+            },
+            Some(one) => match other.permissions() {
+                None => has_no_list(&one.subscribe),
+                Some(other) => one.subscribe.is_like(&other.subscribe),
+            },
         }
     }
 
@@ -122,15 +149,16 @@ impl Compiled {
         ensures verdict { result ≡ delivery_verdict self.now subject.now (option_copied queue.entry) }
         ensures justified { IsJustifiedDelivery subject.now (option_copied queue.entry) self.now.subscribe result }
     {
-        match &self.permissions {
+        self.judge_delivery(subject, queue)
+    }
+
+    /// The verdict of `admits`.
+    fn judge_delivery(&self, subject: &SubjectRef<'_>, queue: Option<&Subject>) -> Verdict
+        ensures { result ≡ delivery_verdict self.now subject.now (option_copied queue.entry) }
+    {
+        match &self.parts {
             None => Verdict::Allowed(By::All),
-            Some(permissions) => {
-                let deny = permissions.subscribe.deny.as_slice();
-                match first_entry(deny, Among::PlainAndNamed, queue, subject) {
-                    Some(index) => Verdict::DeniedBy(index),
-                    None => Verdict::Allowed(By::All),
-                }
-            }
+            Some(parts) => on_delivery(&parts.lists.subscribe, &parts.subscribe, subject, queue),
         }
     }
 }
@@ -151,12 +179,12 @@ fn bring_allow_list(alloc: Global, permissions: &mut PermDoc)
 
 impl Copying for Compiled {
     fn copy(&self, alloc: Global) -> Result<Compiled, NoMemory> {
-        match &self.permissions {
-            None => Ok(Compiled { permissions: None }),
-            Some(permissions) => {
-                let shared = Arc::try_clone(permissions)?;
+        match &self.parts {
+            None => Ok(Compiled { parts: None }),
+            Some(parts) => {
+                let shared = Arc::try_clone(parts)?;
                 Ok(Compiled {
-                    permissions: Some(shared),
+                    parts: Some(shared),
                 })
             }
         }

@@ -1,13 +1,19 @@
-ghost use Rattle.std.specs.Prelude.{◌≡◌, ◌↔◌, ◌&&◌, ◌⊎◌, IsTrue, false, position};
-ghost use Rattle.std.specs.Bool.{OnFalse};
+ghost use Rattle.std.specs.Prelude.{◌≡◌, ◌&&◌, [], length, position};
+ghost use Rattle.std.specs.List.{slice_index_or};
 ghost use Rattle.std.specs.Option.{option_copied};
 ghost use Rattle.subjects.specs.Subject.{in_set};
-ghost use Rattle.permissions.specs.Lists.{Entry, names};
-ghost use Rattle.permissions.specs.Looked.{is_looked_at};
-ghost use Rattle.permissions.specs.Verdicts.{publish_by, by_entry_with, subscribe_by, allow_verdict, by_plain_entry, IsFirst, IsByEntry, IsByAllow, IsByPlain, IsJustifiedPublish, IsJustifiedSubscribe};
+ghost use Rattle.policy_doc.specs.Document.{entry_of};
+ghost use Rattle.permissions.specs.Lists.{Entry, names, is_for};
+ghost use Rattle.permissions.specs.Looked.{is_looked_at, has_whole};
+ghost use Rattle.permissions.specs.Numbers.{AreGroupsOf, numbers_of};
+ghost use Rattle.permissions.specs.Verdicts.{publish_by, by_entry_with, subscribe_by, allow_verdict, by_plain_entry, unless_denied};
+ghost use Rattle.permissions.specs.declared.verdict.By.TheVariants.{All as AllowsAll};
+ghost use Rattle.permissions.specs.declared.verdict.Verdict.TheVariants.{Allowed};
 
+use crate::grouped::DirectionGroups;
 use crate::subject_set::SubjectSet;
 use crate::{By, Verdict};
+use pattern_groups::{Groups, Patterns};
 use policy_doc::{Direction, PermEntry};
 use subjects::{Pattern, Subject, SubjectRef};
 
@@ -27,55 +33,69 @@ pub(crate) enum Among {
 }
 
 /// The verdict of a direction's lists on a publish.
-pub(crate) fn on_publish(rules: &Direction, subject: &SubjectRef<'_>) -> Verdict
-    ensures verdict { result ≡ publish_by rules.now subject.now }
-    ensures justified { IsJustifiedPublish subject.now rules.now result }
+pub(crate) fn on_publish(
+    rules: &Direction,
+    groups: &DirectionGroups,
+    subject: &SubjectRef<'_>,
+) -> Verdict
+    requires { AreGroupsOf rules.now groups.now }
+    ensures { result ≡ publish_by rules.now subject.now }
 {
-    match first_with(rules.deny.as_slice(), subject) {
+    match first_with(rules.deny.as_slice(), &groups.deny, subject) {
         Some(index) => Verdict::DeniedBy(index),
         None => match &rules.allow {
             None => Verdict::Allowed(By::All),
-            Some(entries) => by_entry(entries.as_slice(), subject),
+            Some(entries) => by_entry(entries.as_slice(), &groups.allow, subject),
         },
     }
 }
 
 /// The verdict of an allow list on a publish.
-fn by_entry(entries: &[PermEntry], subject: &SubjectRef<'_>) -> Verdict
-    ensures verdict { result ≡ by_entry_with subject.now entries.now }
-    ensures justified { IsByEntry (λ e. IsTrue (in_set e.subject subject.now)) (λ e. in_set e.subject subject.now ≡ false) entries.now result }
+fn by_entry(entries: &[PermEntry], groups: &Groups, subject: &SubjectRef<'_>) -> Verdict
+    requires { groups.now ≡ numbers_of entries.now }
+    ensures { result ≡ by_entry_with subject.now entries.now }
 {
-    match first_with(entries, subject) {
+    match first_with(entries, groups, subject) {
         Some(index) => Verdict::Allowed(By::Index(index)),
         None => Verdict::NoAllow,
     }
 }
 
 /// The verdict of a direction's lists on a subscription.
-pub(crate) fn on_subscribe(rules: &Direction, pattern: &Pattern, queue: Option<&Subject>) -> Verdict
-    ensures verdict { result ≡ subscribe_by rules.now pattern.now (option_copied queue.entry) }
-    ensures justified { IsJustifiedSubscribe pattern.now (option_copied queue.entry) rules.now result }
+pub(crate) fn on_subscribe(
+    rules: &Direction,
+    groups: &DirectionGroups,
+    pattern: &Pattern,
+    queue: Option<&Subject>,
+) -> Verdict
+    requires { AreGroupsOf rules.now groups.now }
+    ensures { result ≡ subscribe_by rules.now pattern.now (option_copied queue.entry) }
 {
-    match first_entry(rules.deny.as_slice(), Among::PlainAndNamed, queue, pattern) {
+    let deny = rules.deny.as_slice();
+    match first_entry(deny, &groups.deny, Among::PlainAndNamed, queue, pattern) {
         Some(least) => Verdict::DeniedBy(least),
         None => match &rules.allow {
             None => Verdict::Allowed(By::All),
-            Some(entries) => allow_verdict(entries.as_slice(), pattern, queue),
+            Some(entries) => allow_verdict(entries.as_slice(), &groups.allow, pattern, queue),
         },
     }
 }
 
 /// The verdict of an allow list on a subscription.
-#[tactic(auto, using(crate::proofs::Least::each_lacks))]
-fn allow_verdict(entries: &[PermEntry], pattern: &Pattern, queue: Option<&Subject>) -> Verdict
-    ensures verdict { result ≡ allow_verdict pattern.now (option_copied queue.entry) entries.now }
-    ensures justified { IsByAllow pattern.now (option_copied queue.entry) entries.now result }
+fn allow_verdict(
+    entries: &[PermEntry],
+    groups: &Groups,
+    pattern: &Pattern,
+    queue: Option<&Subject>,
+) -> Verdict
+    requires { groups.now ≡ numbers_of entries.now }
+    ensures { result ≡ allow_verdict pattern.now (option_copied queue.entry) entries.now }
 {
     match queue {
-        None => by_plain_entry(entries, pattern),
-        Some(name) => match first_entry(entries, Among::Queued, queue, pattern) {
-            None => by_plain_entry(entries, pattern),
-            Some(least) => match first_entry(entries, Among::Named, Some(name), pattern) {
+        None => by_plain_entry(entries, groups, pattern),
+        Some(name) => match first_entry(entries, groups, Among::Queued, queue, pattern) {
+            None => by_plain_entry(entries, groups, pattern),
+            Some(least) => match first_entry(entries, groups, Among::Named, Some(name), pattern) {
                 Some(index) => Verdict::Allowed(By::Index(index)),
                 None => Verdict::NoQueueAllow(least),
             },
@@ -84,55 +104,95 @@ fn allow_verdict(entries: &[PermEntry], pattern: &Pattern, queue: Option<&Subjec
 }
 
 /// The verdict of an allow list's plain entries.
-fn by_plain_entry(entries: &[PermEntry], pattern: &Pattern) -> Verdict
-    ensures verdict { result ≡ by_plain_entry pattern.now entries.now }
-    ensures justified { IsByPlain pattern.now entries.now result }
+fn by_plain_entry(entries: &[PermEntry], groups: &Groups, pattern: &Pattern) -> Verdict
+    requires { groups.now ≡ numbers_of entries.now }
+    ensures { result ≡ by_plain_entry pattern.now entries.now }
 {
-    match first_entry(entries, Among::Plain, None, pattern) {
+    match first_entry(entries, groups, Among::Plain, None, pattern) {
         Some(index) => Verdict::Allowed(By::Index(index)),
         None => Verdict::NoAllow,
     }
 }
 
-/// The index of the first entry that has the whole of what is asked, whatever its queue part.
-fn first_with<A: SubjectSet>(entries: &[PermEntry], asked: &A) -> Option<usize>
-    ensures least { result ≡ position (λ (e : Entry). A.is_within e.subject asked.now) entries.now }
-    ensures first { IsFirst (λ e. A.IsWithin e.subject asked.now) (λ e. A.Lacks e.subject asked.now) entries.now result }
+/// The verdict of a direction's deny list on a delivery.
+pub(crate) fn on_delivery(
+    rules: &Direction,
+    groups: &DirectionGroups,
+    subject: &SubjectRef<'_>,
+    queue: Option<&Subject>,
+) -> Verdict
+    requires { AreGroupsOf rules.now groups.now }
+    ensures { result ≡ unless_denied (position (λ (e : Entry). is_for (option_copied queue.entry) e && in_set e.subject subject.now) rules.now.deny) (Allowed AllowsAll) }
 {
-    first_entry(entries, Among::All, None, asked)
+    let deny = rules.deny.as_slice();
+    match first_entry(deny, &groups.deny, Among::PlainAndNamed, queue, subject) {
+        Some(denied) => Verdict::DeniedBy(denied),
+        None => Verdict::Allowed(By::All),
+    }
 }
 
-/// The index of the first entry that is looked at and has the whole of what is asked.
-pub(crate) fn first_entry<A: SubjectSet>(
+/// The index of the first entry that has the whole of what is asked, whatever its queue part.
+fn first_with<A: SubjectSet>(entries: &[PermEntry], groups: &Groups, asked: &A) -> Option<usize>
+    requires { groups.now ≡ numbers_of entries.now }
+    ensures { result ≡ position (λ (e : Entry). A.is_within e.subject asked.now) entries.now }
+{
+    first_entry(entries, groups, Among::All, None, asked)
+}
+
+/// Entries, which of them are looked at, and what they are asked.
+#[derive(Drop)]
+struct Asked<'a, A> {
+    entries: &'a [PermEntry],
+    among: Among,
+    queue: Option<&'a Subject>,
+    asked: &'a A,
+}
+
+impl<'a, A: SubjectSet> Patterns for Asked<'a, A> {
+    ghost count = { λ a. length a.entries.now };
+
+    ghost passes = { λ a i. has_whole A.is_within a.among (option_copied a.queue) a.asked.now (slice_index_or a.entries.now i (entry_of [])) };
+
+    #[inline(always)]
+    fn passes(&self, index: usize) -> bool {
+        has_whole(&self.entries[index], self.among, self.queue, self.asked)
+    }
+}
+
+/// The index of the first entry that is looked at and has the whole of what is asked. Only those are asked that begin as
+/// it does.
+#[inline(always)]
+#[tactic(auto, using(crate::proofs::Fronts::as_many, crate::proofs::Fronts::passes_by_front, crate::proofs::Least::least_position))]
+fn first_entry<A: SubjectSet>(
     entries: &[PermEntry],
+    groups: &Groups,
     among: Among,
     queue: Option<&Subject>,
     asked: &A,
 ) -> Option<usize>
-    ensures least { result ≡ position (λ (e : Entry). is_looked_at among (option_copied queue.entry) e && A.is_within e.subject asked.now) entries.now }
-    ensures first { IsFirst
-        (λ e. IsTrue (is_looked_at among (option_copied queue.entry) e) × A.IsWithin e.subject asked.now)
-        (λ e. (is_looked_at among (option_copied queue.entry) e ≡ false) ⊎ A.Lacks e.subject asked.now)
-        entries.now result }
+    requires { groups.now ≡ numbers_of entries.now }
+    ensures { result ≡ position (has_whole A.is_within among (option_copied queue.entry) asked.now) entries.now }
 {
-    for (index, entry) in entries.iter().enumerate() {
-        if has_whole(entry, among, queue, asked) {
-            return Some(index);
-        }
-    }
-    None
+    let text = asked.text();
+    let all = Asked {
+        entries,
+        among,
+        queue,
+        asked,
+    };
+    let least = groups.least(text, &all);
+    least
 }
 
 /// Whether an entry is looked at and has the whole of what is asked.
+#[inline(always)]
 fn has_whole<A: SubjectSet>(
     entry: &PermEntry,
     among: Among,
     queue: Option<&Subject>,
     asked: &A,
 ) -> bool
-    ensures test { result ≡ is_looked_at among (option_copied queue.entry) entry.now && A.is_within entry.now.subject asked.now }
-    ensures meaning { IsTrue result ↔ IsTrue (is_looked_at among (option_copied queue.entry) entry.now) × A.IsWithin entry.now.subject asked.now }
-    ensures missing { OnFalse result ((is_looked_at among (option_copied queue.entry) entry.now ≡ false) ⊎ A.Lacks entry.now.subject asked.now) }
+    ensures { result ≡ has_whole A.is_within among (option_copied queue.entry) asked.now entry.now }
 {
     is_looked_at(among, entry, queue) && asked.is_in(&entry.subject)
 }

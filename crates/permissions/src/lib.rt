@@ -4,6 +4,7 @@
 mod compiled;
 mod decision;
 mod equality;
+mod grouped;
 mod laws;
 mod subject_set;
 mod verdict;

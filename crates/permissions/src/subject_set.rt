@@ -1,6 +1,7 @@
-ghost use Rattle.std.specs.Prelude.{◌≡◌, ◌↔◌, IsTrue, false};
-ghost use Rattle.std.specs.Bool.{OnFalse};
-ghost use Rattle.subjects.specs.Subject.{Token, in_set, covers, Covers, Lacks};
+ghost use Rattle.std.specs.Prelude.{◌≡◌, IsTrue, List, true};
+ghost use Rattle.std.specs.Bool.{OnTrue};
+ghost use Rattle.subjects.specs.Subject.{Token, in_set, covers, tokens_of};
+ghost use Rattle.pattern_groups.specs.Numbers.{front_number, IsOfFront};
 
 use subjects::{Pattern, SubjectRef};
 
@@ -10,37 +11,84 @@ pub(crate) trait SubjectSet {
 
     ghost is_within: { List Token → Self → Bool };
 
-    ghost IsWithin: { List Token → Self → Type 0 };
-
-    ghost Lacks: { List Token → Self → Type 0 };
-
     /// Whether the entry has the whole of it.
     fn is_in(&self, entry: &Pattern) -> bool
-        ensures test { result ≡ is_within entry.now self.now }
-        ensures meaning { IsTrue result ↔ IsWithin entry.now self.now }
-        ensures missing { OnFalse result (Lacks entry.now self.now) };
+        ensures { result ≡ is_within entry.now self.now };
+
+    /// Its text. An entry that has the whole of it has the number of some of the text's first tokens.
+    fn text(&self) -> &[u8]
+        ensures { (entry : List Token) → is_within entry self.now ≡ true → IsOfFront (front_number entry) 7 (tokens_of result.now) };
 }
 
 impl SubjectSet for SubjectRef<'_> {
     ghost is_within = { in_set };
 
-    ghost IsWithin = { λ entry subject. IsTrue (in_set entry subject) };
-
-    ghost Lacks = { λ entry subject. in_set entry subject ≡ false };
-
     fn is_in(&self, entry: &Pattern) -> bool {
-        entry.matches(self)
+        has_subject(entry, self)
+    }
+
+    fn text(&self) -> &[u8] {
+        text_of_subject(self)
     }
 }
 
 impl SubjectSet for Pattern {
     ghost is_within = { covers };
 
-    ghost IsWithin = { Covers };
-
-    ghost Lacks = { Lacks };
-
     fn is_in(&self, entry: &Pattern) -> bool {
         entry.covers(self)
     }
+
+    fn text(&self) -> &[u8] {
+        text_of_pattern(self)
+    }
+}
+
+/// Whether an entry has a subject: by the same text first, and then token by token.
+#[inline(always)]
+fn has_subject(entry: &Pattern, subject: &SubjectRef<'_>) -> bool
+    ensures { result ≡ in_set entry.now subject.now }
+{
+    if is_same(entry, subject) {
+        return true;
+    }
+    let has = entry.matches(subject);
+    has
+}
+
+/// Whether a pattern has the same text as a subject. Then it has the subject.
+#[inline(always)]
+#[tactic(auto, using(crate::proofs::Fronts::same_text))]
+fn is_same(entry: &Pattern, subject: &SubjectRef<'_>) -> bool
+    ensures { OnTrue result (in_set entry.now subject.now ≡ true) }
+{
+    // The tokens tell the prover that they are those of a pattern, and of a subject.
+    let _ = entry.tokens();
+    let _ = subject.tokens();
+    let same = entry.bytes() == subject.bytes();
+    same
+}
+
+/// The text of a subject.
+#[inline(always)]
+#[tactic(auto, using(crate::proofs::Fronts::subject_front))]
+fn text_of_subject<'a>(subject: &'a SubjectRef<'_>) -> &'a [u8]
+    ensures { (entry : List Token) → in_set entry subject.now ≡ true → IsOfFront (front_number entry) 7 (tokens_of result.now) }
+{
+    // The tokens tell the prover that they are those of a subject.
+    let _ = subject.tokens();
+    let text = subject.bytes();
+    text
+}
+
+/// The text of a pattern.
+#[inline(always)]
+#[tactic(auto, using(crate::proofs::Fronts::pattern_front))]
+fn text_of_pattern(pattern: &Pattern) -> &[u8]
+    ensures { (entry : List Token) → covers entry pattern.now ≡ true → IsOfFront (front_number entry) 7 (tokens_of result.now) }
+{
+    // The tokens tell the prover that they are those of a pattern.
+    let _ = pattern.tokens();
+    let text = pattern.bytes();
+    text
 }
