@@ -34,7 +34,7 @@ use Rattle.world_rows.specs.declared.subscription.Subscription.{Subscription}
 use Rattle.world.specs.World.{World, advanced}
 use Rattle.world.specs.Granting.{or_granted, verdict_on, counted_on, ended_on}
 use Rattle.world.specs.Routing.{View, views}
-use Rattle.world.proofs.Publishing.{same_met}
+use Rattle.world_routing.proofs.Publishing.{same_met}
 use Rattle.world.specs.Transition.{IsReasoned, IsRefusal, connected, subscribed, unsubscribed, published, taken, closed, in_session, in_new_session, moved, numbered, transition}
 use Rattle.hub.specs.Sound.{IsSound, user_at, account_of, may_subscribe, HasAllowance}
 use Rattle.hub.specs.InForce.{policy_after, epoch_after}

@@ -1,14 +1,19 @@
 //! The policy of a scenario.
 use crate::fault::CostFault;
+use crate::scenario::Scenario;
 use policy_doc::Policy;
 use policy_ready::Ready;
 use reload::prepare;
 use std::alloc::Global;
 
 /// The built-in policy, or one whose user may publish what so many entries allow, of which the last is `foo`.
-pub fn policy_of(alloc: Global, allows: u64) -> Result<Ready, CostFault> {
-    if allows > 0 {
-        let text = listing(alloc, allows)?;
+pub fn policy_of(alloc: Global, scenario: Scenario) -> Result<Ready, CostFault> {
+    if scenario.allows > 0 {
+        let text = listing(
+            alloc,
+            scenario.allows,
+            if scenario.apart { "" } else { "." },
+        )?;
         return prepare(alloc, text.as_str().as_bytes())
             .ok()
             .ok_or(CostFault::NoMemory);
@@ -25,13 +30,13 @@ fn ends() -> (&'static str, &'static str) {
     )
 }
 
-/// The text of a policy with one user and its list.
-fn listing(alloc: Global, allows: u64) -> Result<String, CostFault> {
+/// The text of a policy with one user and its list, each entry with its number behind `other` and a separator.
+fn listing(alloc: Global, allows: u64, separator: &str) -> Result<String, CostFault> {
     let (head, tail) = ends();
     let mut text = String::new(alloc);
     text.push_str(head)?;
     for entry in 1..allows {
-        let entry = format!(in alloc; "\"other.{entry}\",")?;
+        let entry = format!(in alloc; "\"other{separator}{entry}\",")?;
         text.push_str(entry.as_str())?;
     }
     text.push_str(tail)?;

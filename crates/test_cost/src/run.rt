@@ -1,5 +1,6 @@
 //! A run: what stands beside the publisher, and then its messages.
 use crate::fault::CostFault;
+use crate::policy::policy_of;
 use crate::scenario::Scenario;
 use crate::server::Server;
 use session::Conn;
@@ -9,6 +10,12 @@ use std::hash::RandomState;
 /// How many messages a piece of the publisher's stream has: those of 4,096 bytes, as a server reads them. A Take has room for
 /// them all.
 const PIECE: u64 = 136;
+
+/// How many subjects the messages have that have them in turn.
+const SUBJECTS: u64 = 1_000;
+
+/// How many pieces begin with the first of these subjects and end with the last.
+const ROUND: u64 = 125;
 
 /// How many subscriptions one connection makes.
 const MOST: u64 = 4_000;
@@ -68,7 +75,7 @@ fn open_others(alloc: Global, server: &mut Server, scenario: Scenario) -> Result
     Ok(())
 }
 
-/// A piece of messages.
+/// A piece of messages, all on one subject.
 fn piece(alloc: Global) -> Result<Vec<u8>, CostFault> {
     let mut piece = Vec::new(alloc);
     for _ in 0..PIECE {
@@ -77,16 +84,51 @@ fn piece(alloc: Global) -> Result<Vec<u8>, CostFault> {
     Ok(piece)
 }
 
+/// A piece of messages whose subjects take turns, the first of them of this number.
+fn piece_of_turns(alloc: Global, first: u64) -> Result<Vec<u8>, CostFault> {
+    let mut piece = Vec::new(alloc);
+    for each in first..first.saturating_add(PIECE) {
+        let subject = each % SUBJECTS + 1;
+        let message = format!(in alloc; "PUB other.{subject} 16\r\n0123456789abcdef\r\n")?;
+        piece.extend_from_slice(message.as_bytes())?;
+    }
+    Ok(piece)
+}
+
+/// The pieces that the publisher sends in turn.
+fn pieces_of(alloc: Global, scenario: Scenario) -> Result<Vec<Vec<u8>>, CostFault> {
+    let mut pieces = Vec::new(alloc);
+    if !scenario.turns {
+        pieces.push(piece(alloc)?)?;
+        return Ok(pieces);
+    }
+    for first in (0..ROUND * PIECE).step_by(136) {
+        pieces.push(piece_of_turns(alloc, first)?)?;
+    }
+    Ok(pieces)
+}
+
+/// The piece whose turn it is, or the only one.
+fn piece_at(pieces: &[Vec<u8>], turn: u64) -> &[u8] {
+    match pieces.get((turn % ROUND) as usize) {
+        Some(piece) => piece.as_slice(),
+        None => match pieces.first() {
+            Some(piece) => piece.as_slice(),
+            None => b"",
+        },
+    }
+}
+
 /// Publishes pieces of messages, and drains the receivers after each.
 fn publish(
     server: &mut Server,
     receivers: &mut [Conn],
-    piece: &[u8],
-    pieces: u64,
+    pieces: &[Vec<u8>],
+    count: u64,
 ) -> Result<(), CostFault> {
     let mut publisher = server.open()?;
-    for _ in 0..pieces {
-        server.feed(&mut publisher, piece)?;
+    for turn in 0..count {
+        server.feed(&mut publisher, piece_at(pieces, turn))?;
         drain_all(server, receivers)?;
     }
     Ok(())
@@ -105,12 +147,12 @@ fn play(
     alloc: Global,
     server: &mut Server,
     scenario: Scenario,
-    pieces: u64,
+    count: u64,
 ) -> Result<(), CostFault> {
-    let piece = piece(alloc)?;
+    let pieces = pieces_of(alloc, scenario)?;
     open_others(alloc, server, scenario)?;
     let mut receivers = open_receivers(alloc, server, scenario)?;
-    let played = publish(server, receivers.as_mut_slice(), piece.as_slice(), pieces);
+    let played = publish(server, receivers.as_mut_slice(), pieces.as_slice(), count);
     played
 }
 
@@ -121,7 +163,8 @@ pub fn publish_in(
     scenario: Scenario,
     messages: u64,
 ) -> Result<u64, CostFault> {
-    let mut server = Server::new(alloc, keys, scenario.allows)?;
+    let ready = policy_of(alloc, scenario)?;
+    let mut server = Server::new(alloc, keys, ready)?;
     let played = play(alloc, &mut server, scenario, messages / PIECE);
     let sent = server.sent();
     drop(server);

@@ -9,8 +9,12 @@ pub struct Scenario {
     pub sessions: u64,
     /// Subscriptions to subjects of their own.
     pub subscriptions: u64,
-    /// Entries of the publisher's allow list, of which the last allows the messages; 0 where it has no list.
+    /// Entries of the publisher's allow list, of which the last is `foo`; 0 where it has no list.
     pub allows: u64,
+    /// Whether the others differ in their first token, and not in their second.
+    pub apart: bool,
+    /// Whether the messages have the subjects `other.1` to `other.1000` in turn, and not all `foo`.
+    pub turns: bool,
 }
 
 /// One receiver, and nothing else.
@@ -20,6 +24,15 @@ const TO_ONE: Scenario = Scenario {
     sessions: 0,
     subscriptions: 0,
     allows: 0,
+    apart: false,
+    turns: false,
+};
+
+/// 1,000 subjects in turn, and no receiver.
+const TURNS: Scenario = Scenario {
+    receivers: 0,
+    turns: true,
+    ..TO_ONE
 };
 
 impl Scenario {
@@ -55,6 +68,16 @@ impl Scenario {
             "allows" => Some(Scenario {
                 allows: 1_000,
                 ..TO_ONE
+            }),
+            "allows-apart" => Some(Scenario {
+                allows: 1_000,
+                apart: true,
+                ..TO_ONE
+            }),
+            "turns" => Some(TURNS),
+            "allows-turns" => Some(Scenario {
+                allows: 1_001,
+                ..TURNS
             }),
             _ => None,
         }

@@ -1,7 +1,7 @@
 //! The server of a run: its hub, and what its clients are sent.
 use crate::fault::CostFault;
-use crate::policy::policy_of;
 use hub::{Caps, Hub};
+use policy_ready::Ready;
 use session::{Conn, Direct, Output, Words};
 use std::alloc::Global;
 use std::hash::RandomState;
@@ -54,15 +54,14 @@ impl Drop for Server {
 impl Server {
     ghost use Rattle.std.specs.Prelude.{◌≡◌, IfOk};
 
-    /// Makes a server with nobody connected, whose only user may publish by so many allow entries, or everything at 0.
-    pub fn new(alloc: Global, keys: RandomState, allows: u64) -> Result<Server, CostFault>
+    /// Makes a server with nobody connected under a policy.
+    pub fn new(alloc: Global, keys: RandomState, ready: Ready) -> Result<Server, CostFault>
         ensures { IfOk result (λ server. server.sent ≡ 0) }
     {
         let caps = Caps {
             outbox: 1024,
             history: usize::MAX,
         };
-        let ready = policy_of(alloc, allows)?;
         let hub = Hub::new(alloc, ready, caps, keys)
             .ok()
             .ok_or(CostFault::NoMemory)?;
