@@ -5,7 +5,7 @@ use Rattle.std.specs.List.{list_any, filter_map}
 use Rattle.std.proofs.Math.Bool.{and-false}
 use Rattle.std.proofs.lemmas.Bool.{eqb-true, eqb-false, ne_eqb, lt-ltb}
 use Rattle.std.proofs.lemmas.List.{append_assoc, append-nil}
-use Rattle.std.proofs.lemmas.List.Elements.{All-nil, All-cons, All-push, All-map, All-filter, All-head, All-tail, filter_passes}
+use Rattle.std.proofs.lemmas.List.Elements.{All-nil, All-cons, All-push, All-map, All-filter, All-take, All-head, All-tail, filter_passes}
 use Rattle.std.proofs.lemmas.List.Kept.{AllPairs-filter}
 use Rattle.std.proofs.lemmas.List.Quantifiers.{all_pairs_push}
 use Rattle.subjects.specs.Subject.{Token}
@@ -22,8 +22,6 @@ use Rattle.policy_ready.specs.declared.ready.User.{User}
 use Rattle.events.specs.Messages.{Message}
 use Rattle.events.specs.declared.event.Command.{Command}
 use Rattle.events.specs.declared.event.Command.TheVariants.{Connect, Sub, Unsub, Pub, Take, Close, Reload}
-use Rattle.events.specs.declared.answer.Addressed.{Addressed}
-use Rattle.events.specs.declared.answer.Delivery.{Delivery}
 use Rattle.events.specs.declared.answer.Entry.{Entry}
 use Rattle.events.specs.declared.answer.Item.{Item}
 use Rattle.events.specs.declared.answer.Item.TheVariants.{Entered, Full}
@@ -32,32 +30,30 @@ use Rattle.events.specs.declared.answer.Outcome.TheVariants.{Connected, AuthViol
 use Rattle.events.specs.declared.refusal.HubRefusal.{HubRefusal}
 use Rattle.events.specs.declared.refusal.HubRefusal.TheVariants.{SessionLimit}
 use Rattle.world_deliveries.specs.Sessions.{session_of, new_session, drained}
-use Rattle.world_deliveries.specs.Delivered.{delivered}
 use Rattle.world_sessions.specs.Renewal.{user_again_of, stays, goes, with_user, renewed, remaining, connection_of, closed_conns}
 use Rattle.world_deliveries.specs.declared.session.Session.{Session}
 use Rattle.world_sessions.proofs.Ascending.{among-ascending}
 use Rattle.world_deliveries.proofs.Changes.{only, apart-map, with_session-map}
-use Rattle.world_subscriptions.specs.Subscriptions.{stands, has_all, subscription_of, of_connection}
-use Rattle.world_subscriptions.specs.Addressing.{delivery_to}
+use Rattle.world_subscriptions.specs.Subscriptions.{stands, has_all, subscription_of}
 use Rattle.world_rows.specs.declared.subscription.Subscription.{Subscription}
-use Rattle.world_groups.specs.Served.{served}
 use Rattle.world.specs.World.{World, opening_world, advanced}
 use Rattle.world.specs.Changes.{items_in}
 use Rattle.world.specs.Granting.{verdict_on, counted_on, ended_on}
-use Rattle.world.specs.Routing.{own_view, admitted}
+use Rattle.world.specs.Routing.{own_view, views}
 use Rattle.world.specs.Reload.{removal_after}
 use Rattle.world.specs.Transition.{connected, subscribed, unsubscribed, published, taken, closed, in_session, in_new_session, moved, numbered, entry_with}
 use Rattle.hub.specs.History.{IsEntry, IsLegalRun}
-use Rattle.hub.specs.Guarantee.{room_in, items_of, items_with_room}
-use Rattle.hub.specs.Guarantee.{found_full}
+use Rattle.hub.specs.Guarantee.{Sending, sent_to, delivery_of, receiver, room_in, items_of, items_with_room, found_full}
+use Rattle.world.proofs.Publishing.{same_met}
 use Rattle.hub.specs.Kept.{IsKeptTable}
 use Rattle.hub.specs.Replies.{is_by_grant, is_response as is_counted}
 use Rattle.hub.proofs.Finds.{find-passes, find-none, AllPairs-head, AllPairs-tail}
 use Rattle.hub.proofs.Grants.{not-false, kept_none, kept_later, kept_after, kept_judged}
 use Rattle.hub.proofs.Soundness.{IsApart, HasTable}
-use Rattle.hub.proofs.Deliveries.{found, notes_of, receives_of, as_sent, met, outboxes, items_after, with_room}
+use Rattle.hub.proofs.Deliveries.{sent, found, receives_of, outboxes, items_after, with_room}
 use Rattle.hub_grant_laws.specs.Noted.{is_reply, asks_on, is_entered_at, responds_by, ends_for, latest, IsNoted, AreNoted}
-use Rattle.hub_grant_laws.proofs.Noted.{latest-more, after-publish, after-other, after-judged}
+use Rattle.hub_grant_laws.proofs.Noted.{HasReply, latest-more, after-publish, after-other, after-judged}
+use Rattle.hub_grant_laws.proofs.Sends.{Start, IsOf, told_behind, sends}
 
 -- ---- what an entry tells of deliveries
 
@@ -85,10 +81,19 @@ none-full : (subs : List Subscription) → list_any is_entering (map found_full 
 none-full [] = refl
 none-full (sub ∷ subs) = none-full subs
 
-any-room : (f : Subscription → Delivery) (n : ℕ) (subs : List Subscription) → list_any is_entering (items_with_room n subs) ≡ nat_lt 0 (length (take n (map f subs)))
-any-room f zero subs = none-full subs
-any-room f (suc n) [] = refl
-any-room f (suc n) (sub ∷ subs) = sym (lt-ltb 0 (suc (length (take n (map f subs)))) (omega arith))
+any-room : (n : ℕ) (ss : List Sending) → list_any is_entering (items_with_room n (map receiver ss)) ≡ nat_lt 0 (length (take n (map delivery_of ss)))
+any-room zero ss = none-full (map receiver ss)
+any-room (suc n) [] = refl
+any-room (suc n) (s ∷ ss) = sym (lt-ltb 0 (suc (length (take n (map delivery_of ss)))) (omega arith))
+
+-- ---- the reply of what is sent
+
+abbrev AsksOn : Option (List Token) → Sending → Type 0
+AsksOn reply s = s.message.reply ≡ reply
+
+-- each view of a message has the reply that was published
+own_replies : (account : List ℕ) (m : Message) → All (IsOf (AsksOn m.reply)) (views account m)
+own_replies account m = All-cons (IsOf (AsksOn m.reply)) (own_view account m) [] (λ s. refl) (All-nil (IsOf (AsksOn m.reply)))
 
 -- ---- the connections that a reload reports gone
 
@@ -341,43 +346,47 @@ module _ (es : List Entry) (w : World) (now : ℕ) (t : Told es w.moment w.sessi
       denied : (v : Verdict) → Leaves c (Denied v) w.sessions
       denied v = same c (Denied v) (λ n. record { lasts = refl; request = λ s. and-false (asks_on s c); answer = λ s. refl })
 
-      entered-is : (whom : List Subscription) (items : List Item) (z : Session) → items ≡ items_after M (notes_of w.sessions m.reply) m whom w.sessions → session_of w.sessions z.conn ≡ Some z →
-          list_any (is_entered_at z.conn) items ≡ nat_lt 0 (length (take (room_in (Some z)) (map (delivery_to m) (of_connection z.conn whom))))
-      entered-is whom items z met_is at =
+      entered-is : (ss : List Sending) (items : List Item) (z : Session) → items ≡ items_after w.sessions M ss w.sessions → session_of w.sessions z.conn ≡ Some z →
+          list_any (is_entered_at z.conn) items ≡ nat_lt 0 (length (take (room_in (Some z)) (map delivery_of (sent_to z.conn ss))))
+      entered-is ss items z met_is at =
           any-own z.conn items
           ∙ ap (list_any is_entering) (
           ap (items_of z.conn) met_is
-          ∙ with_room M (notes_of w.sessions m.reply) m whom w.sessions z.conn
-          ∙ ap (λ o. items_with_room (room_in o) (of_connection z.conn whom)) at)
-          ∙ any-room (delivery_to m) (room_in (Some z)) (of_connection z.conn whom)
+          ∙ with_room w.sessions M ss w.sessions z.conn
+          ∙ ap (λ o. items_with_room (room_in o) (map receiver (sent_to z.conn ss))) at)
+          ∙ any-room (room_in (Some z)) (sent_to z.conn ss)
 
-      sends : (by : By) (from : ℕ) (whom : List Subscription) (items : List Item) → from ≡ conn → items ≡ items_after M (notes_of w.sessions m.reply) m whom w.sessions →
-          Leaves c (Published by items) (map (receives_of M by from m whom) w.sessions)
-      sends by from whom items from_is met_is number epoch =
+      leaves-sent : (by : By) (sender : ℕ) (ss : List Sending) (items : List Item) → sender ≡ conn → items ≡ items_after w.sessions M ss w.sessions → All (AsksOn m.reply) ss →
+          Leaves c (Published by items) (map (receives_of M by sender m.subject ss) w.sessions)
+      leaves-sent by sender ss items sender_is met_is asks number epoch =
           let a : Entry = told number epoch now c (Published by items) in
-          let get : Session → Session = receives_of M by from m whom in
+          let get : Session → Session = receives_of M by sender m.subject ss in
           record {
             clock = clock_is a refl;
             apart = apart-map get w.sessions (λ z. refl) t.apart;
             tables = All-map (HasTable M) get w.sessions (λ k d h.
                 let z = get_or w.sessions k d in
-                kept_after M _ (is_counted by from z) m.subject m.reply z.user.rules.allow_responses z.replies (tables_are k d h));
+                kept_after M (is_counted by sender z) m.subject (take (room_in (Some z)) (map delivery_of (sent_to z.conn ss))) z.user.rules.allow_responses z.replies (tables_are k d h));
             noted = All-map (HasNoted (es ++ a ∷ [])) get w.sessions (λ k d h.
                 let z = get_or w.sessions k d in
-                after-publish es a z.conn refl M _ (is_counted by from z) m.subject m.reply z.user.rules.allow_responses z.replies
-                (λ s. ap (λ n. (is_by_grant by && (z.conn == n)) && same_subject m.subject s) (sym from_is))
-                (λ s. ap (λ b. is_reply s m.reply && b) (entered-is whom items z met_is (found w.sessions t.apart k d h)))
+                after-publish es a z.conn refl M (is_counted by sender z) m.subject m.reply (take (room_in (Some z)) (map delivery_of (sent_to z.conn ss))) z.user.rules.allow_responses z.replies
+                (All-take (HasReply m.reply) (room_in (Some z)) (map delivery_of (sent_to z.conn ss)) (All-map (HasReply m.reply) delivery_of (sent_to z.conn ss) (All-filter (λ (s : Sending). s.to.conn == z.conn) (AsksOn m.reply) ss asks)))
+                (λ s. ap (λ n. (is_by_grant by && (z.conn == n)) && same_subject m.subject s) (sym sender_is))
+                (λ s. ap (λ b. is_reply s m.reply && b) (entered-is ss items z met_is (found w.sessions t.apart k d h)))
                 (bare M z.user.rules.allow_responses z.replies (tables_are k d h))
                 (clock_is a refl)
                 (t.noted k d h));
           }
 
       by_verdict : (z : Session) (v : Verdict) → z.conn ≡ conn → Keeps c (numbered (w.number + 1) (Ok (published (advanced w now) z m word v)))
-      by_verdict z (Allowed by) from =
-          let whom : List Subscription = served word (admitted (advanced w now) z (own_view z m)) in
-          subst (Leaves c (Published by _))
-          (sym (ap (λ (all : List Addressed). ended_on by z.conn m.subject (delivered M all (counted_on by z.conn m.subject w.sessions)).0) (as_sent w.sessions m whom) ∙ outboxes M z.conn m whom w.sessions by t.apart))
-          (sends by z.conn whom _ from (met M by z.conn m whom w.sessions))
+      by_verdict z (Allowed by) sender_is =
+          let begin : Start = record { before = w.sessions; begun = counted_on by z.conn m.subject w.sessions; world = advanced w now } in
+          let of = sends (AsksOn m.reply) begin z word [] w.subscriptions (views z.user.account m) (own_replies z.user.account m) in
+          let items : List Item = told_behind begin [] of.ss in
+          let finished : List Item × World → Outcome × World = λ r. (Published by r.0, record r.1 { sessions = ended_on by z.conn m.subject r.1.sessions }) in
+          subst (λ (r : Outcome × World). Keeps c (numbered (w.number + 1) (Ok r))) (sym (ap finished of.is))
+          (subst (Leaves c (Published by items)) (sym (outboxes M z.conn m.subject of.ss w.sessions by t.apart))
+          (leaves-sent by z.conn of.ss items sender_is (same_met by z.conn m.subject M (map (sent w.sessions) of.ss) w.sessions) of.each))
       by_verdict z (DeniedBy i) from = denied (DeniedBy i)
       by_verdict z NoAllow from = denied NoAllow
       by_verdict z (NoQueueAllow i) from = denied (NoQueueAllow i)

@@ -28,34 +28,28 @@ use Rattle.events.specs.declared.refusal.HubRefusal.TheVariants.{SessionLimit}
 use Rattle.world_deliveries.specs.Sessions.{session_of, with_session, new_session, drained}
 use Rattle.world_deliveries.specs.Delivered.{delivered, room_in}
 use Rattle.world_deliveries.specs.Planned.{planned}
-use Rattle.world_deliveries.specs.Replying.{terms_of, note_for, with_note}
+use Rattle.world_deliveries.specs.Replying.{terms_of, note_for}
 use Rattle.world_sessions.specs.Renewal.{user_again_of, stays, goes, with_user, renewed, remaining, connection_of, closed_conns, ascending}
 use Rattle.world_deliveries.specs.declared.session.Session.{Session}
 use Rattle.world_deliveries.proofs.Plans.{planned-delivered}
-use Rattle.world_subscriptions.specs.Subscriptions.{has_subject, stands, has_all, subscription_of, of_connection}
-use Rattle.world_subscriptions.specs.Addressing.{addressed_to, delivery_to}
-use Rattle.world_subscriptions.specs.Limit.{unended, counted, limited}
+use Rattle.world_subscriptions.specs.Subscriptions.{has_subject, stands, has_all, subscription_of}
+use Rattle.world_subscriptions.specs.Addressing.{addressed_to}
+use Rattle.world_subscriptions.specs.Limit.{unended, limited}
 use Rattle.world_rows.specs.declared.subscription.Subscription.{Subscription}
-use Rattle.world_groups.specs.Served.{served}
 use Rattle.world.specs.World.{World, advanced}
 use Rattle.world.specs.Granting.{or_granted, verdict_on, counted_on, ended_on}
-use Rattle.world.specs.Routing.{own_view, may_hear, lets_through, is_admitted, admitted}
+use Rattle.world.specs.Routing.{views, may_hear, lets_through}
 use Rattle.world.specs.Reload.{user_after, verdict_for, may_stand, stands_on, removal, removal_after}
 use Rattle.world.specs.Transition.{connected, subscribed, published, in_session, in_new_session, moved, numbered, transition}
 use Rattle.hub.specs.Replies.{is_response}
+use Rattle.hub.specs.Guarantee.{Sending, sent_to, delivery_of}
+use Rattle.world.proofs.Publishing.{same_met}
 use Rattle.hub.proofs.Finds.{find-map, AllPairs-map}
 use Rattle.hub.proofs.Soundness.{IsApart, HasTable, tables-next}
-use Rattle.hub.proofs.Deliveries.{sent, notes_of, receives_of, as_sent, met, outboxes, items_after}
+use Rattle.hub.proofs.Deliveries.{receives_of, outboxes, map-twice, map_same_on}
 use Rattle.hub_grant_laws.specs.Dropping.{with_live, settled, dropping, AreAlike, MakesNoDifference}
+use Rattle.hub_grant_laws.proofs.Sends.{Start, AreAs, sessions_behind, told_behind, world_behind, from, sent-as, send-alike}
 use Rattle.hub_grant_laws.proofs.Tables.{live_in, live_later, filter-map, after_same, judged_same, granted_same}
-
-map-twice : {X Y Z : Type 0} (f : X → Y) (g : Y → Z) (h : X → Z) (xs : List X) → ((x : X) → g (f x) ≡ h x) → map g (map f xs) ≡ map h xs
-map-twice f g h [] same = refl
-map-twice f g h (x ∷ xs) same = ap (λ y. y ∷ map g (map f xs)) (same x) ∙ ap (λ ys. h x ∷ ys) (map-twice f g h xs same)
-
-map-same : {X Y : Type 0} (f g : X → Y) (xs : List X) → ((k : ℕ) (d : X) → k < length xs → f (get_or xs k d) ≡ g (get_or xs k d)) → map f xs ≡ map g xs
-map-same f g [] same = refl
-map-same f g (x ∷ xs) same = ap (λ y. y ∷ map f xs) (same 0 x (omega arith)) ∙ ap (λ ys. g x ∷ ys) (map-same f g xs (λ k d h. same (suc k) d (omega (arith, h))))
 
 -- ---- what is live later
 
@@ -138,41 +132,46 @@ module _ (now : ℕ) where
   note_same (Some s) None = refl
   note_same (Some s) (Some z) = ap (λ (b : Bool). option_map (λ (t : Terms). let note : Note = record { subject = s; table = cond b None (Some []) } in note) (terms_of z)) (there z)
 
--- whom a message is for, among sessions of which the dead grants were dropped
-whom_same : (now : ℕ) (w : World) (z : Session) (m : Message) (word : ℕ) →
-    served word (admitted (record w { sessions = map (with_live now) w.sessions }) (with_live now z) (own_view z m)) ≡ served word (admitted w z (own_view z m))
-whom_same now w z m word =
-    ap (served word) (filter_agree (is_admitted (map (with_live now) w.sessions) (with_live now z) (own_view z m)) (is_admitted w.sessions z (own_view z m))
-    (λ sub. ap (λ o. has_subject z.user.account m.subject sub && (may_hear z sub.conn && lets_through m.subject sub.queue o)) (at now sub.conn w.sessions)
-    ∙ ap (λ b. has_subject z.user.account m.subject sub && (may_hear z sub.conn && b)) (through_same now m.subject sub.queue (session_of w.sessions sub.conn))) w.subscriptions)
+-- a message among sessions of which the dead grants were dropped
+as_before : (now : ℕ) (by : By) (conn : ℕ) (s : List Token) (w : World) (z : Session) →
+    AreAs (record { before = w.sessions; begun = counted_on by conn s w.sessions; world = w }) z (map (with_live now) w.sessions) (counted_on by conn s (map (with_live now) w.sessions)) (with_live now z)
+as_before now by conn s w z = record {
+  admits = λ v sub.
+      ap (λ o. has_subject v.account v.message.subject sub && (may_hear z sub.conn && lets_through v.message.subject sub.queue o)) (at now sub.conn zs)
+      ∙ ap (λ b. has_subject v.account v.message.subject sub && (may_hear z sub.conn && b)) (through_same now v.message.subject sub.queue (session_of zs sub.conn));
+  sends = λ x.
+      ap (λ (note : Option Note). record (addressed_to x.message x.to) { noted = note })
+      (ap (note_for x.message.reply) (at now x.to.conn zs) ∙ note_same now x.message.reply (session_of zs x.to.conn));
+  meets = λ all.
+      same_met by conn s w.moment all ts
+      ∙ sym (planned-delivered w.moment all ts)
+      ∙ ap (planned all) (λ i c. (ap room_in (at now c zs) ∙ room_same now (session_of zs c)) i)
+      ∙ planned-delivered w.moment all zs
+      ∙ sym (same_met by conn s w.moment all zs);
+}
+  where
+    zs : List Session
+    zs = w.sessions
 
-items_same : (now : ℕ) (m : Message) (subs : List Subscription) (zs : List Session) →
-    items_after now (notes_of (map (with_live now) zs) m.reply) m subs (map (with_live now) zs) ≡ items_after now (notes_of zs m.reply) m subs zs
-items_same now m subs zs =
-    let ts : List Session = map (with_live now) zs in
-    let all : List Addressed = map (sent (notes_of zs m.reply) m) subs in
-    ap (λ (notes : ℕ → Option Note). items_after now notes m subs ts) (λ i conn. (ap (note_for m.reply) (at now conn zs) ∙ note_same now m.reply (session_of zs conn)) i)
-    ∙ sym (planned-delivered now all ts)
-    ∙ ap (planned all) (λ i conn. (ap room_in (at now conn zs) ∙ room_same now (session_of zs conn)) i)
-    ∙ planned-delivered now all zs
+    ts : List Session
+    ts = map (with_live now) w.sessions
 
 -- what the sessions have then
-received_same : (now : ℕ) (by : By) (conn : ℕ) (m : Message) (subs : List Subscription) (zs : List Session) → All (HasTable now) zs →
-    map (with_live now) (map (receives_of now by conn m subs) (map (with_live now) zs)) ≡ map (with_live now) (map (receives_of now by conn m subs) zs)
-received_same now by conn m subs zs kept =
+received_same : (now : ℕ) (by : By) (conn : ℕ) (s : List Token) (ss : List Sending) (zs : List Session) → All (HasTable now) zs →
+    map (with_live now) (map (receives_of now by conn s ss) (map (with_live now) zs)) ≡ map (with_live now) (map (receives_of now by conn s ss) zs)
+received_same now by conn s ss zs kept =
     ap (map (with_live now)) (map-twice (with_live now) get (λ z. get (with_live now z)) zs (λ z. refl))
     ∙ map-twice (λ z. get (with_live now z)) (with_live now) (λ z. with_live now (get (with_live now z))) zs (λ z. refl)
-    ∙ map-same (λ z. with_live now (get (with_live now z))) (λ z. with_live now (get z)) zs (λ k d h. one (get_or zs k d) (kept k d h))
+    ∙ map_same_on (λ z. with_live now (get (with_live now z))) (λ z. with_live now (get z)) zs (λ k d h. one (get_or zs k d) (kept k d h))
     ∙ sym (map-twice get (with_live now) (λ z. with_live now (get z)) zs (λ z. refl))
   where
     get : Session → Session
-    get = receives_of now by conn m subs
-
-    entered : Session → ℕ
-    entered z = length (take (room_in (Some z)) (map (delivery_to m) (of_connection z.conn subs)))
+    get = receives_of now by conn s ss
 
     one : (z : Session) → HasTable now z → with_live now (get (with_live now z)) ≡ with_live now (get z)
-    one z is = ap (λ (t : Table). record (receives_of now by conn m subs z) { replies = t }) (sym (after_same now (entered z) (is_response by conn z) m.subject m.reply (terms_of z) z.replies is))
+    one z is =
+        ap (λ (t : Table). record (receives_of now by conn s ss z) { replies = t })
+        (sym (after_same now (is_response by conn z) s (take (room_in (Some z)) (map delivery_of (sent_to z.conn ss))) (terms_of z) z.replies is))
 
 -- ---- each command
 
@@ -289,32 +288,23 @@ module _ (w : World) (moment : ℕ) where
           AreAlike (numbered n (Ok (published whole z m word (Allowed by)))) (numbered n (Ok (published left (with_live (max w.moment moment) z) m word (Allowed by))))
       sends z by =
           let M : ℕ = max w.moment moment in
-          let us : List Subscription = served word (admitted whole z (own_view z m)) in
-          let vs : List Subscription = served word (admitted left (with_live M z) (own_view z m)) in
-          let same : vs ≡ us = whom_same M whole z m word in
-          let ds : List Addressed = map (with_note zs m.reply) (map (addressed_to m) us) in
-          let es : List Addressed = map (with_note ts m.reply) (map (addressed_to m) vs) in
-          let xs : List Session = ended_on by z.conn m.subject (delivered M ds (counted_on by z.conn m.subject zs)).0 in
-          let ys : List Session = ended_on by z.conn m.subject (delivered M es (counted_on by z.conn m.subject ts)).0 in
-          let items : List Item = (delivered M ds (counted_on by z.conn m.subject zs)).1 in
-          let others : List Item = (delivered M es (counted_on by z.conn m.subject ts)).1 in
-          let same_items : others ≡ items =
-          met M by z.conn m vs ts
-          ∙ ap (λ ss. items_after M (notes_of ts m.reply) m ss ts) same
-          ∙ items_same M m us zs
-          ∙ sym (met M by z.conn m us zs) in
-          let xs_is : xs ≡ map (receives_of M by z.conn m us) zs =
-          ap (λ (all : List Addressed). ended_on by z.conn m.subject (delivered M all (counted_on by z.conn m.subject zs)).0) (as_sent zs m us)
-          ∙ outboxes M z.conn m us zs by connections in
-          let ys_is : ys ≡ map (receives_of M by z.conn m us) ts =
-          ap (λ (all : List Addressed). ended_on by z.conn m.subject (delivered M all (counted_on by z.conn m.subject ts)).0) (as_sent ts m vs)
-          ∙ outboxes M z.conn m vs ts by apart
-          ∙ ap (λ ss. map (receives_of M by z.conn m ss) ts) same in
+          let begin : Start = record { before = zs; begun = counted_on by z.conn m.subject zs; world = whole } in
+          let us : List Session = counted_on by z.conn m.subject ts in
+          let same = as_before M by z.conn m.subject whole z in
+          let of = send-alike begin z ts us (with_live M z) same word [] w.subscriptions (views z.user.account m) in
+          let items : List Item = told_behind begin [] of.ss in
+          let xs : List Session = ended_on by z.conn m.subject (sessions_behind begin of.ss) in
+          let ys : List Session = ended_on by z.conn m.subject (sessions_behind (from begin us) of.ss) in
+          let finished : List Item × World → Outcome × World = λ r. (Published by r.0, record r.1 { sessions = ended_on by z.conn m.subject r.1.sessions }) in
+          let xs_is : xs ≡ map (receives_of M by z.conn m.subject of.ss) zs = outboxes M z.conn m.subject of.ss zs by connections in
+          let ys_is : ys ≡ map (receives_of M by z.conn m.subject of.ss) ts =
+          ap (λ (all : List Addressed). ended_on by z.conn m.subject (delivered M all us).0) (sym (sent-as begin z ts us (with_live M z) same of.ss))
+          ∙ outboxes M z.conn m.subject of.ss ts by apart in
           let same_sessions : map (with_live M) ys ≡ map (with_live M) xs =
-          ap (map (with_live M)) ys_is ∙ received_same M by z.conn m us zs tables ∙ sym (ap (map (with_live M)) xs_is) in
-          subst (λ (is : List Item). AreAlike (Ok (Published by items, record whole { sessions = xs; subscriptions = unended (map (counted items) w.subscriptions); number = n })) (Ok (Published by is, record whole { sessions = ys; subscriptions = unended (map (counted is) w.subscriptions); number = n })))
-          (sym same_items)
-          (alike M whole n (Published by items) xs ys (unended (map (counted items) w.subscriptions)) refl same_sessions)
+          ap (map (with_live M)) ys_is ∙ received_same M by z.conn m.subject of.ss zs tables ∙ sym (ap (map (with_live M)) xs_is) in
+          subst (λ (r : Outcome × World). AreAlike (numbered n (Ok r)) (numbered n (Ok (published left (with_live M z) m word (Allowed by))))) (sym (ap finished of.is))
+          (subst (λ (r : Outcome × World). AreAlike (numbered n (Ok (finished (items, world_behind begin of.ss of.left)))) (numbered n (Ok r))) (sym (ap finished of.also))
+          (alike M whole n (Published by items) xs ys of.left refl same_sessions))
 
       by_verdict : (z : Session) (v : Verdict) → AreAlike (numbered n (Ok (published whole z m word v))) (numbered n (Ok (published left (with_live (max w.moment moment) z) m word v)))
       by_verdict z (Allowed by) = sends z by

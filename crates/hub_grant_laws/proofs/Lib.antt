@@ -1,4 +1,5 @@
 pub mod Tables
+pub mod Sends
 pub mod Law
 pub mod Noted
 pub mod History

@@ -1,17 +1,19 @@
 -- What a grant tells of the history, an entry later.
-use Rattle.std.proofs.Common.{◌≡◌, ◌∙◌, ◌&&◌, ℕ, ◌+◌, ◌-◌, ◌^◌, Bool, true, false, not, cond, List, [], ◌∷◌, ◌++◌, filter, length, get_or, Option, Some, None, ap, sym, refl, subst, arith, max, nat_lt}
+use Rattle.std.proofs.Common.{◌≡◌, ◌∙◌, ◌&&◌, ℕ, ◌+◌, ◌-◌, ◌^◌, suc, zero, Bool, true, false, not, cond, List, [], ◌∷◌, ◌++◌, filter, length, get_or, Option, Some, None, ap, sym, refl, subst, arith, max, nat_lt}
 use Rattle.std.specs.Prelude.{All, min}
 use Rattle.std.proofs.Math.Bool.{and-true, and-false}
+use Rattle.std.proofs.lemmas.Bool.{lt-ltb, le-ltb}
 use Rattle.std.proofs.lemmas.List.{append_assoc, length-append}
-use Rattle.std.proofs.lemmas.List.Elements.{All-nil, All-push, All-drop, All-map, All-filter, All-weaker, filter_passes, filter-append}
+use Rattle.std.proofs.lemmas.List.Elements.{All-nil, All-push, All-drop, All-map, All-filter, All-weaker, All-head, All-tail, filter_passes, filter-append}
 use Rattle.subjects.specs.Subject.{Token}
 use Rattle.subjects.specs.Equal.{same_subject, same_subject-equiv}
 use Rattle.policy_doc.specs.declared.document.Terms.{Terms}
 use Rattle.reply_grants.specs.Grants.{Grant, is_live, is_for, has_live, without, answered, after_note}
 use Rattle.reply_grants.specs.Replies.{Table, grants_of, noted, answered_in, ended_in, judged}
+use Rattle.events.specs.declared.answer.Delivery.{Delivery}
 use Rattle.events.specs.declared.answer.Entry.{Entry}
 use Rattle.world_deliveries.specs.Replying.{note_of}
-use Rattle.hub.specs.Replies.{noted_at}
+use Rattle.hub.specs.Replies.{noted_at, noted_each}
 use Rattle.hub.proofs.Grants.{not-false}
 use Rattle.hub_grant_laws.specs.Noted.{is_reply, is_request, is_response, is_end, responses_on, latest, IsNoted}
 
@@ -83,10 +85,34 @@ fresh es a conn s now asks is = record {
   count = omega arith;
 }
 
+-- ---- notes of one reply
+
+abbrev pub HasReply : Option (List Token) → Delivery → Type 0
+HasReply reply d = d.message.reply ≡ reply
+
+abbrev notes : ℕ → Option Terms → Option (List Token) → ℕ → Table → Table
+notes now terms reply zero table = table
+notes now terms reply (suc n) table = notes now terms reply n (noted_at now terms reply table)
+
+notes-are : (now : ℕ) (reply : Option (List Token)) (ds : List Delivery) (terms : Option Terms) (table : Table) → All (HasReply reply) ds → noted_each now terms ds table ≡ notes now terms reply (length ds) table
+notes-are now reply [] terms table all = refl
+notes-are now reply (d ∷ ds) terms table all =
+    ap (λ r. noted_each now terms ds (noted_at now terms r table)) (All-head (HasReply reply) d ds all)
+    ∙ notes-are now reply ds terms (noted_at now terms reply table) (All-tail (HasReply reply) d ds all)
+
+notes-none : (now : ℕ) (terms : Option Terms) (n : ℕ) (table : Table) → notes now terms None n table ≡ table
+notes-none now terms zero table = refl
+notes-none now terms (suc n) table = notes-none now terms n table
+
+notes-bare : (now : ℕ) (reply : Option (List Token)) (n : ℕ) (table : Table) → notes now None reply n table ≡ table
+notes-bare now reply zero table = refl
+notes-bare now None (suc n) table = notes-bare now None n table
+notes-bare now (Some r) (suc n) table = notes-bare now (Some r) n table
+
 -- ---- a publish
 
 -- the grants of one connection, and what the entry of a publish tells of it: whether the publish was its answer, on this
--- subject, and whether so many of its deliveries have entered, with this reply
+-- subject, and whether any of its deliveries have entered, with this reply
 module _ (es : List Entry) (a : Entry) (conn : ℕ) (lasts : is_end conn a ≡ false) where
   answered-one : (s : List Token) (g : Grant) → ((t : List Token) → is_response conn t a ≡ same_subject s t) → IsNoted es conn g → IsNotedUnless es a conn (cond (is_for s g) (answered g) g)
   answered-one s g tells is = here (is_for s g) refl
@@ -119,29 +145,43 @@ module _ (es : List Entry) (a : Entry) (conn : ℕ) (lasts : is_end conn a ≡ f
           All-filter (λ (g : Grant). not (is_for r g)) (IsNotedUnless es a conn) gs all k d h
           (tells (get_or (without r gs) k d).subject ∙ not-false _ (filter_passes (λ (g : Grant). not (is_for r g)) gs k d h))
 
-  noted-table : (now entered : ℕ) (reply : Option (List Token)) (terms : Option Terms) (table : Table) → ((t : List Token) → is_request conn t a ≡ (is_reply t reply && nat_lt 0 entered)) → (terms ≡ None → table ≡ None) →
-      now ≡ latest (es ++ a ∷ []) → All (IsNotedUnless es a conn) (grants_of table) → All (IsNoted (es ++ a ∷ []) conn) (grants_of (noted_at now entered reply terms table))
-  noted-table now entered None terms table tells bare is all = same-table table tells all
-  noted-table now entered (Some r) None table tells bare is all =
-      subst (λ (t : Table). All (IsNoted (es ++ a ∷ []) conn) (grants_of t)) (sym (bare refl)) (All-nil (IsNoted (es ++ a ∷ []) conn))
-  noted-table now entered (Some r) (Some terms) table tells bare is all = here (nat_lt 0 entered) refl
+  -- so many notes of this reply, one after the other
+  noted-times : (now n : ℕ) (reply : Option (List Token)) (terms : Option Terms) (table : Table) → ((t : List Token) → is_request conn t a ≡ (is_reply t reply && nat_lt 0 n)) → (terms ≡ None → table ≡ None) →
+      now ≡ latest (es ++ a ∷ []) → All (IsNotedUnless es a conn) (grants_of table) → All (IsNoted (es ++ a ∷ []) conn) (grants_of (notes now terms reply n table))
+  noted-times now zero reply terms table tells bare is all =
+      same-table table (λ t. tells t ∙ ap (λ c. is_reply t reply && c) (le-ltb 0 0 (omega arith)) ∙ and-false (is_reply t reply)) all
+  noted-times now (suc n) None terms table tells bare is all =
+      subst (λ (t : Table). All (IsNoted (es ++ a ∷ []) conn) (grants_of t)) (sym (notes-none now terms (suc n) table)) (same-table table tells all)
+  noted-times now (suc n) (Some r) None table tells bare is all =
+      subst (λ (t : Table). All (IsNoted (es ++ a ∷ []) conn) (grants_of t)) (sym (notes-bare now (Some r) (suc n) table ∙ bare refl)) (All-nil (IsNoted (es ++ a ∷ []) conn))
+  noted-times now (suc n) (Some r) (Some terms) table tells bare is all = again n (noted (note_of r table) now table) (once table all)
     where
-      by_table : (t : Table) → nat_lt 0 entered ≡ true → All (IsNotedUnless es a conn) (grants_of t) → All (IsNoted (es ++ a ∷ []) conn) (grants_of (noted (note_of r t) now t))
-      by_table None some all = noted-list now r [] (λ s. tells s ∙ ap (λ c. same_subject r s && c) some ∙ and-true (same_subject r s)) (same_subject-equiv.refl r) is all
-      by_table (Some gs) some all = noted-list now r gs (λ s. tells s ∙ ap (λ c. same_subject r s && c) some ∙ and-true (same_subject r s)) (same_subject-equiv.refl r) is all
+      some : (t : List Token) → is_request conn t a ≡ same_subject r t
+      some t = tells t ∙ ap (λ c. same_subject r t && c) (lt-ltb 0 (suc n) (omega arith)) ∙ and-true (same_subject r t)
 
-      here : (b : Bool) → nat_lt 0 entered ≡ b → All (IsNoted (es ++ a ∷ []) conn) (grants_of (cond b (noted (note_of r table) now table) table))
-      here true some = by_table table some all
-      here false none = same-table table (λ t. tells t ∙ ap (λ c. same_subject r t && c) none ∙ and-false (same_subject r t)) all
+      once : (t : Table) → All (IsNotedUnless es a conn) (grants_of t) → All (IsNoted (es ++ a ∷ []) conn) (grants_of (noted (note_of r t) now t))
+      once None all = noted-list now r [] some (same_subject-equiv.refl r) is all
+      once (Some gs) all = noted-list now r gs some (same_subject-equiv.refl r) is all
 
-  -- the table after a publish, be it an answer or not
-  pub after-publish : (now entered : ℕ) (answer : Bool) (s : List Token) (reply : Option (List Token)) (terms : Option Terms) (table : Table) →
-      ((t : List Token) → is_response conn t a ≡ (answer && same_subject s t)) → ((t : List Token) → is_request conn t a ≡ (is_reply t reply && nat_lt 0 entered)) → (terms ≡ None → table ≡ None) →
+      again : (k : ℕ) (t : Table) → All (IsNoted (es ++ a ∷ []) conn) (grants_of t) → All (IsNoted (es ++ a ∷ []) conn) (grants_of (notes now (Some terms) (Some r) k t))
+      again zero t all = all
+      again (suc k) t all = again k (noted (note_of r t) now t) (once t (λ i d h other. all i d h))
+
+  noted-table : (now : ℕ) (reply : Option (List Token)) (ds : List Delivery) (terms : Option Terms) (table : Table) → All (HasReply reply) ds →
+      ((t : List Token) → is_request conn t a ≡ (is_reply t reply && nat_lt 0 (length ds))) → (terms ≡ None → table ≡ None) →
+      now ≡ latest (es ++ a ∷ []) → All (IsNotedUnless es a conn) (grants_of table) → All (IsNoted (es ++ a ∷ []) conn) (grants_of (noted_each now terms ds table))
+  noted-table now reply ds terms table replies tells bare is all =
+      subst (λ (t : Table). All (IsNoted (es ++ a ∷ []) conn) (grants_of t)) (sym (notes-are now reply ds terms table replies))
+      (noted-times now (length ds) reply terms table tells bare is all)
+
+  -- the table after a publish, be it an answer or not, of which these deliveries have entered, with one reply
+  pub after-publish : (now : ℕ) (answer : Bool) (s : List Token) (reply : Option (List Token)) (ds : List Delivery) (terms : Option Terms) (table : Table) → All (HasReply reply) ds →
+      ((t : List Token) → is_response conn t a ≡ (answer && same_subject s t)) → ((t : List Token) → is_request conn t a ≡ (is_reply t reply && nat_lt 0 (length ds))) → (terms ≡ None → table ≡ None) →
       now ≡ latest (es ++ a ∷ []) → All (IsNoted es conn) (grants_of table) →
-      All (IsNoted (es ++ a ∷ []) conn) (grants_of (cond answer (ended_in s terms (noted_at now entered reply terms (answered_in s table))) (noted_at now entered reply terms table)))
-  after-publish now entered true s reply terms table answers requests bare is all =
-      ended-table s terms (noted_at now entered reply terms (answered_in s table))
-      (noted-table now entered reply terms (answered_in s table) requests (λ e. ap (answered_in s) (bare e)) is (answered-table s table answers all))
+      All (IsNoted (es ++ a ∷ []) conn) (grants_of (cond answer (ended_in s terms (noted_each now terms ds (answered_in s table))) (noted_each now terms ds table)))
+  after-publish now true s reply ds terms table replies answers requests bare is all =
+      ended-table s terms (noted_each now terms ds (answered_in s table))
+      (noted-table now reply ds terms (answered_in s table) replies requests (λ e. ap (answered_in s) (bare e)) is (answered-table s table answers all))
     where
       ended-table : (s : List Token) (terms : Option Terms) (t : Table) → All (IsNoted (es ++ a ∷ []) conn) (grants_of t) → All (IsNoted (es ++ a ∷ []) conn) (grants_of (ended_in s terms t))
       ended-table s terms None all = all
@@ -150,8 +190,8 @@ module _ (es : List Entry) (a : Entry) (conn : ℕ) (lasts : is_end conn a ≡ f
           here : (b : Bool) → All (IsNoted (es ++ a ∷ []) conn) (cond b gs (without s gs))
           here true = all
           here false = All-filter (λ (g : Grant). not (is_for s g)) (IsNoted (es ++ a ∷ []) conn) gs all
-  after-publish now entered false s reply terms table answers requests bare is all =
-      noted-table now entered reply terms table requests bare is (plain-table table answers all)
+  after-publish now false s reply ds terms table replies answers requests bare is all =
+      noted-table now reply ds terms table replies requests bare is (plain-table table answers all)
 
   -- and after any other event
   pub after-other : (table : Table) → ((t : List Token) → is_response conn t a ≡ false) → ((t : List Token) → is_request conn t a ≡ false) → All (IsNoted es conn) (grants_of table) → All (IsNoted (es ++ a ∷ []) conn) (grants_of table)

@@ -9,11 +9,11 @@ use Rattle.subjects.specs.Subject.{Token}
 use Rattle.policy_doc.specs.declared.document.Terms.{Terms}
 use Rattle.reply_grants.specs.Grants.{Grant, is_below, is_within, is_live, is_for, has_live, youngest, without, after_note, answered, after_end, after_answer}
 use Rattle.reply_grants.specs.Replies.{Table, grants_of, noted, answered_in, ended_in, judged}
-use Rattle.world_deliveries.specs.Replying.{note_of}
+use Rattle.events.specs.declared.answer.Delivery.{Delivery}
 use Rattle.hub.specs.Kept.{is_open, has_response_left, IsAfter, AreKept, IsKeptTable}
-use Rattle.hub.specs.Replies.{noted_at}
+use Rattle.hub.specs.Replies.{noted_at, noted_each}
 use Rattle.hub.proofs.Finds.{AllPairs-head, AllPairs-tail}
-use Rattle.hub.proofs.Grants.{AreInOrder, in_order, order_filter, order_answer, open_is, all_pass}
+use Rattle.hub.proofs.Grants.{AreInOrder, in_order, order_filter, order_answer, order_note, open_is, all_pass}
 
 -- ---- filters
 
@@ -260,54 +260,67 @@ module _ (now : ℕ) (terms : Terms) where
           ∙ ap (filter below) (swaps (filter young gs) (order_filter now young gs order) ∙ ap change (filter-twice young gs)))
           ∙ ap (λ xs. filter (is_live now (Some terms)) (change xs)) (sym live)
 
-  plain_same : (gs : List Grant) → AreKept now terms gs → filter (is_live now (Some terms)) gs ≡ filter (is_live now (Some terms)) (filter (is_live now (Some terms)) gs)
-  plain_same gs kept = sym (filter-twice (is_live now (Some terms)) gs)
+  -- what is noted of deliveries, of a table that is there
+  note_at : Option (List Token) → List Grant → List Grant
+  note_at None gs = gs
+  note_at (Some r) gs = after_note r now gs
 
-  noted_same : (r : List Token) (gs : List Grant) → AreKept now terms gs →
-      filter (is_live now (Some terms)) (after_note r now gs) ≡ filter (is_live now (Some terms)) (after_note r now (filter (is_live now (Some terms)) gs))
-  noted_same r gs kept = same_live (after_note r now) (note_same r) gs kept
+  notes : List Delivery → List Grant → List Grant
+  notes [] gs = gs
+  notes (d ∷ ds) gs = notes ds (note_at d.message.reply gs)
 
-  answered_same : (s : List Token) (gs : List Grant) → AreKept now terms gs →
-      filter (is_live now (Some terms)) (after_end s (Some terms) (after_answer s gs)) ≡ filter (is_live now (Some terms)) (after_end s (Some terms) (after_answer s (filter (is_live now (Some terms)) gs)))
-  answered_same s gs kept =
-      end_same s (after_answer s gs)
-      ∙ same_live (after_answer s) (λ xs order. answer_same s xs) gs kept
-      ∙ sym (end_same s (after_answer s (filter (is_live now (Some terms)) gs)))
+  as_notes : (ds : List Delivery) (gs : List Grant) → noted_each now (Some terms) ds (Some gs) ≡ Some (notes ds gs)
+  unfolding notes note_at
+  as_notes [] gs = refl
+  as_notes (d ∷ ds) gs = ap (noted_each now (Some terms) ds) (here d.message.reply) ∙ as_notes ds (note_at d.message.reply gs)
+    where
+      here : (reply : Option (List Token)) → noted_at now (Some terms) reply (Some gs) ≡ Some (note_at reply gs)
+      here None = refl
+      here (Some r) = refl
 
-  answered_noted_same : (s r : List Token) (gs : List Grant) → AreKept now terms gs →
-      filter (is_live now (Some terms)) (after_end s (Some terms) (after_note r now (after_answer s gs)))
-      ≡ filter (is_live now (Some terms)) (after_end s (Some terms) (after_note r now (after_answer s (filter (is_live now (Some terms)) gs))))
-  answered_noted_same s r gs kept =
-      end_same s (after_note r now (after_answer s gs))
-      ∙ same_live (λ xs. after_note r now (after_answer s xs)) (λ xs order. note_same r (after_answer s xs) (order_answer now s xs order) ∙ ap (after_note r now) (answer_same s xs)) gs kept
-      ∙ sym (end_same s (after_note r now (after_answer s (filter (is_live now (Some terms)) gs))))
+  order_notes : (reply : Option (List Token)) (gs : List Grant) → AreInOrder now gs → AreInOrder now (note_at reply gs)
+  unfolding note_at
+  order_notes None gs order = order
+  order_notes (Some r) gs order = order_note now r gs order
+
+  notes_same : (ds : List Delivery) (gs : List Grant) → AreInOrder now gs → filter young (notes ds gs) ≡ notes ds (filter young gs)
+  unfolding notes note_at
+  notes_same [] gs order = refl
+  notes_same (d ∷ ds) gs order = notes_same ds (note_at d.message.reply gs) (order_notes d.message.reply gs order) ∙ ap (notes ds) (here d.message.reply)
+    where
+      here : (reply : Option (List Token)) → filter young (note_at reply gs) ≡ note_at reply (filter young gs)
+      here None = refl
+      here (Some r) = note_same r gs order
+
+  noted_same : (ds : List Delivery) (gs : List Grant) → AreKept now terms gs →
+      filter (is_live now (Some terms)) (notes ds gs) ≡ filter (is_live now (Some terms)) (notes ds (filter (is_live now (Some terms)) gs))
+  noted_same ds gs kept = same_live (notes ds) (notes_same ds) gs kept
+
+  answered_same : (s : List Token) (ds : List Delivery) (gs : List Grant) → AreKept now terms gs →
+      filter (is_live now (Some terms)) (after_end s (Some terms) (notes ds (after_answer s gs)))
+      ≡ filter (is_live now (Some terms)) (after_end s (Some terms) (notes ds (after_answer s (filter (is_live now (Some terms)) gs))))
+  answered_same s ds gs kept =
+      end_same s (notes ds (after_answer s gs))
+      ∙ same_live (λ xs. notes ds (after_answer s xs)) (λ xs order. notes_same ds (after_answer s xs) (order_answer now s xs order) ∙ ap (notes ds) (answer_same s xs)) gs kept
+      ∙ sym (end_same s (notes ds (after_answer s (filter (is_live now (Some terms)) gs))))
 
 -- a table after a publish, be it an answer or not
-abbrev pub left_by : ℕ → ℕ → Bool → List Token → Option (List Token) → Option Terms → Table → Table
-left_by now entered answer s reply terms table = cond answer (ended_in s terms (noted_at now entered reply terms (answered_in s table))) (noted_at now entered reply terms table)
+abbrev pub left_by : ℕ → Bool → List Token → List Delivery → Option Terms → Table → Table
+left_by now answer s ds terms table = cond answer (ended_in s terms (noted_each now terms ds (answered_in s table))) (noted_each now terms ds table)
 
-pub after_same : (now entered : ℕ) (answer : Bool) (s : List Token) (reply : Option (List Token)) (terms : Option Terms) (table : Table) → IsKeptTable now terms table →
-    live_in now terms (left_by now entered answer s reply terms table) ≡ live_in now terms (left_by now entered answer s reply terms (live_in now terms table))
-after_same now entered answer s reply None table is =
-    subst (λ (t : Table). live_in now None (left_by now entered answer s reply None t) ≡ live_in now None (left_by now entered answer s reply None (live_in now None t))) (sym is) refl
-after_same now entered answer s reply (Some terms) None is = refl
-after_same now entered true s None (Some terms) (Some gs) is = ap (λ xs. Some xs) (answered_same now terms s gs is)
-after_same now entered false s None (Some terms) (Some gs) is = ap (λ xs. Some xs) (plain_same now terms gs is)
-after_same now entered true s (Some r) (Some terms) (Some gs) is = here (nat_lt 0 entered)
-  where
-    live : List Grant → List Grant
-    live xs = filter (is_live now (Some terms)) xs
-
-    here : (b : Bool) → live_in now (Some terms) (ended_in s (Some terms) (cond b (noted (note_of r (answered_in s (Some gs))) now (answered_in s (Some gs))) (answered_in s (Some gs))))
-        ≡ live_in now (Some terms) (ended_in s (Some terms) (cond b (noted (note_of r (answered_in s (live_in now (Some terms) (Some gs)))) now (answered_in s (live_in now (Some terms) (Some gs)))) (answered_in s (live_in now (Some terms) (Some gs)))))
-    here true = ap (λ xs. Some xs) (answered_noted_same now terms s r gs is)
-    here false = ap (λ xs. Some xs) (answered_same now terms s gs is)
-after_same now entered false s (Some r) (Some terms) (Some gs) is = here (nat_lt 0 entered)
-  where
-    here : (b : Bool) → live_in now (Some terms) (cond b (noted (note_of r (Some gs)) now (Some gs)) (Some gs))
-        ≡ live_in now (Some terms) (cond b (noted (note_of r (live_in now (Some terms) (Some gs))) now (live_in now (Some terms) (Some gs))) (live_in now (Some terms) (Some gs)))
-    here true = ap (λ xs. Some xs) (noted_same now terms r gs is)
-    here false = ap (λ xs. Some xs) (plain_same now terms gs is)
+pub after_same : (now : ℕ) (answer : Bool) (s : List Token) (ds : List Delivery) (terms : Option Terms) (table : Table) → IsKeptTable now terms table →
+    live_in now terms (left_by now answer s ds terms table) ≡ live_in now terms (left_by now answer s ds terms (live_in now terms table))
+after_same now answer s ds None table is =
+    subst (λ (t : Table). live_in now None (left_by now answer s ds None t) ≡ live_in now None (left_by now answer s ds None (live_in now None t))) (sym is) refl
+after_same now answer s ds (Some terms) None is = refl
+after_same now true s ds (Some terms) (Some gs) is =
+    ap (λ (t : Table). live_in now (Some terms) (ended_in s (Some terms) t)) (as_notes now terms ds (after_answer s gs))
+    ∙ ap (λ xs. Some xs) (answered_same now terms s ds gs is)
+    ∙ sym (ap (λ (t : Table). live_in now (Some terms) (ended_in s (Some terms) t)) (as_notes now terms ds (after_answer s (filter (is_live now (Some terms)) gs))))
+after_same now false s ds (Some terms) (Some gs) is =
+    ap (live_in now (Some terms)) (as_notes now terms ds gs)
+    ∙ ap (λ xs. Some xs) (noted_same now terms ds gs is)
+    ∙ sym (ap (live_in now (Some terms)) (as_notes now terms ds (filter (is_live now (Some terms)) gs)))
 
 -- a reload judges the same
 pub judged_same : (now : ℕ) (before terms : Option Terms) (table : Table) → judged now before terms (live_in now before table) ≡ judged now before terms table
