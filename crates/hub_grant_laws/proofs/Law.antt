@@ -1,10 +1,9 @@
 -- Each command does the same, whether what is dead was dropped before it or not.
-use Rattle.std.proofs.Common.{◌≡◌, ◌∙◌, ◌==◌, ◌&&◌, ℕ, ◌+◌, ◌<◌, ◌≤◌, suc, Bool, true, false, not, cond, List, [], ◌∷◌, ◌++◌, map, filter, length, take, get_or, Option, Some, None, Ok, Err, ap, sym, refl, subst, arith, max}
+use Rattle.std.proofs.Common.{◌≡◌, ◌∙◌, ◌==◌, ◌&&◌, ℕ, ◌+◌, ◌≤◌, Bool, true, false, not, cond, List, [], ◌∷◌, ◌++◌, map, filter, length, take, get_or, Option, Some, None, Ok, Err, ap, sym, refl, subst, arith, max}
 use Rattle.std.specs.Prelude.{All, AllPairs, is_some, nat_le}
 use Rattle.std.specs.List.{filter_map}
 use Rattle.std.specs.Option.{option_map}
 use Rattle.std.proofs.lemmas.List.{length-map, map-append}
-use Rattle.std.proofs.lemmas.List.Elements.{filter_agree}
 use Rattle.subjects.specs.Subject.{Token}
 use Rattle.policy_doc.specs.declared.document.PolicyDoc.{PolicyDoc}
 use Rattle.policy_doc.specs.declared.document.Terms.{Terms}
