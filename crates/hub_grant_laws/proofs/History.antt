@@ -44,7 +44,7 @@ use Rattle.world.specs.Reload.{removal_after}
 use Rattle.world.specs.Transition.{connected, subscribed, unsubscribed, published, taken, closed, in_session, in_new_session, moved, numbered, entry_with}
 use Rattle.hub.specs.History.{IsEntry, IsLegalRun}
 use Rattle.hub.specs.Guarantee.{Sending, sent_to, delivery_of, receiver, room_in, items_of, items_with_room, found_full}
-use Rattle.world.proofs.Publishing.{same_met}
+use Rattle.world_routing.proofs.Publishing.{same_met}
 use Rattle.hub.specs.Kept.{IsKeptTable}
 use Rattle.hub.specs.Replies.{is_by_grant, is_response as is_counted}
 use Rattle.hub.proofs.Finds.{find-passes, find-none, AllPairs-head, AllPairs-tail}

@@ -42,7 +42,7 @@ use Rattle.world.specs.Reload.{user_after, verdict_for, may_stand, stands_on, re
 use Rattle.world.specs.Transition.{connected, subscribed, published, in_session, in_new_session, moved, numbered, transition}
 use Rattle.hub.specs.Replies.{is_response}
 use Rattle.hub.specs.Guarantee.{Sending, sent_to, delivery_of}
-use Rattle.world.proofs.Publishing.{same_met}
+use Rattle.world_routing.proofs.Publishing.{same_met}
 use Rattle.hub.proofs.Finds.{find-map, AllPairs-map}
 use Rattle.hub.proofs.Soundness.{IsApart, HasTable, tables-next}
 use Rattle.hub.proofs.Deliveries.{receives_of, outboxes, map-twice, map_same_on}
