@@ -1,7 +1,7 @@
 // The options of `natsd serve` (docs/OPERATING.md, "Options").
 ghost use Rattle.std.specs.Prelude.{◌≡◌, ◌≤◌, false, IfOk, codes, option_map, string_bytes};
 ghost use Rattle.clap.specs.Words.{first_of, found_of, new_app, one_of, rows_of, rule_of};
-ghost use Rattle.command_line.specs.Options.{listen_rule, number_rule, serve_app, text_rule, IsLocalApp, IsNumberIn, IsOptions};
+ghost use Rattle.command_line.specs.Options.{connections_rule, history_bytes_rule, history_rule, listen_rule, number_rule, outbox_rule, policy_rule, serve_app, text_rule, workers_rule, IsLocalApp, IsNumberIn, IsOptions};
 
 use clap::builder::ValueParser;
 use clap::{Arg, ArgMatches, Command};
@@ -78,6 +78,94 @@ fn number_option<'a>(
         .default_value(default)
 }
 
+/// The file of the policy.
+fn policy_option<'a>(alloc: Global) -> Arg<'a>
+    ensures rule { rule_of result ≡ policy_rule }
+    ensures local { result.global ≡ false }
+{
+    text_option(
+        alloc,
+        "policy",
+        "FILE",
+        "The policy, read again when it changes; without it, policies come as frames on standard input",
+    )
+}
+
+/// How many threads serve clients.
+fn workers_option<'a>(alloc: Global) -> Arg<'a>
+    ensures rule { rule_of result ≡ workers_rule }
+    ensures local { result.global ≡ false }
+{
+    number_option(
+        alloc,
+        "workers",
+        "How many threads serve clients, 1 to 64",
+        1,
+        MOST_WORKERS,
+        "2",
+    )
+}
+
+/// How many deliveries may wait for a client.
+fn outbox_option<'a>(alloc: Global) -> Arg<'a>
+    ensures rule { rule_of result ≡ outbox_rule }
+    ensures local { result.global ≡ false }
+{
+    number_option(
+        alloc,
+        "outbox",
+        "How many deliveries may wait for a client, 1 to 65536",
+        1,
+        MOST_OUTBOX,
+        "1024",
+    )
+}
+
+/// How many entries the history holds.
+fn history_option<'a>(alloc: Global) -> Arg<'a>
+    ensures rule { rule_of result ≡ history_rule }
+    ensures local { result.global ≡ false }
+{
+    number_option(
+        alloc,
+        "history",
+        "How many entries the history holds, at least 2",
+        LEAST_HISTORY,
+        u64::MAX,
+        "1000000",
+    )
+}
+
+/// How many bytes its entries may keep.
+fn history_bytes_option<'a>(alloc: Global) -> Arg<'a>
+    ensures rule { rule_of result ≡ history_bytes_rule }
+    ensures local { result.global ≡ false }
+{
+    number_option(
+        alloc,
+        "history-bytes",
+        "How many bytes its entries may keep, at least 1048576",
+        LEAST_BYTES,
+        u64::MAX,
+        "268435456",
+    )
+}
+
+/// How many connections may be open.
+fn connections_option<'a>(alloc: Global) -> Arg<'a>
+    ensures rule { rule_of result ≡ connections_rule }
+    ensures local { result.global ≡ false }
+{
+    number_option(
+        alloc,
+        "connections",
+        "How many connections may be open, at least 1",
+        LEAST_CONNECTIONS,
+        u64::MAX,
+        "8192",
+    )
+}
+
 /// `natsd serve` without options.
 fn bare_command<'a>(alloc: Global) -> Command<'a>
     ensures { IsLocalApp (new_app (codes "serve")) result }
@@ -87,59 +175,19 @@ fn bare_command<'a>(alloc: Global) -> Command<'a>
     )
 }
 
-/// What `natsd serve` takes on its command line.
+/// Returns the command `natsd serve`, with the options that it takes.
 pub fn serve_command<'a>(alloc: Global) -> Result<Command<'a>, AllocError>
     ensures { IfOk result (IsLocalApp serve_app) }
 {
     // Each option is made where it is added, so that no other has to be dropped where memory lacks.
     bare_command(alloc)
-        .arg(text_option(
-            alloc,
-            "policy",
-            "FILE",
-            "The policy, read again when it changes; without it, policies come as frames on standard input",
-        ))?
+        .arg(policy_option(alloc))?
         .arg(listen_option(alloc))?
-        .arg(number_option(
-            alloc,
-            "workers",
-            "How many threads serve clients, 1 to 64",
-            1,
-            MOST_WORKERS,
-            "2",
-        ))?
-        .arg(number_option(
-            alloc,
-            "outbox",
-            "How many deliveries may wait for a client, 1 to 65536",
-            1,
-            MOST_OUTBOX,
-            "1024",
-        ))?
-        .arg(number_option(
-            alloc,
-            "history",
-            "How many entries the history holds, at least 2",
-            LEAST_HISTORY,
-            u64::MAX,
-            "1000000",
-        ))?
-        .arg(number_option(
-            alloc,
-            "history-bytes",
-            "How many bytes its entries may keep, at least 1048576",
-            LEAST_BYTES,
-            u64::MAX,
-            "268435456",
-        ))?
-        .arg(number_option(
-            alloc,
-            "connections",
-            "How many connections may be open, at least 1",
-            LEAST_CONNECTIONS,
-            u64::MAX,
-            "8192",
-        ))
+        .arg(workers_option(alloc))?
+        .arg(outbox_option(alloc))?
+        .arg(history_option(alloc))?
+        .arg(history_bytes_option(alloc))?
+        .arg(connections_option(alloc))
 }
 
 /// The text that was given for an option, or its default.

@@ -5,10 +5,10 @@ use Rattle.command_line.proofs.options.serve_command.Goals as goal
 
 pub returns : goal.returns
 returns c =
-    let first = with_option _ _ _ _ _ c.bare_command.ensures c.in_ok-arg.ensures c.text_option.ensures.rule c.text_option.ensures.local in
+    let first = with_option _ _ _ _ _ c.bare_command.ensures c.in_ok-arg.ensures c.policy_option.ensures.rule c.policy_option.ensures.local in
     let next = with_option _ _ _ _ _ first c.in_ok-arg-2.ensures c.listen_option.ensures.rule c.listen_option.ensures.local in
-    let third = with_option _ _ _ _ _ next c.in_ok-arg-3.ensures c.number_option.ensures.rule c.number_option.ensures.local in
-    let fourth = with_option _ _ _ _ _ third c.in_ok-arg-4.ensures c.number_option-2.ensures.rule c.number_option-2.ensures.local in
-    let fifth = with_option _ _ _ _ _ fourth c.in_ok-arg-5.ensures c.number_option-3.ensures.rule c.number_option-3.ensures.local in
-    let sixth = with_option _ _ _ _ _ fifth c.in_ok-arg-6.ensures c.number_option-4.ensures.rule c.number_option-4.ensures.local in
-    IfOk-weaker c.arg-7.result _ _ (λ command more. with_option _ _ _ _ _ sixth more c.number_option-5.ensures.rule c.number_option-5.ensures.local) c.arg-7.ensures
+    let third = with_option _ _ _ _ _ next c.in_ok-arg-3.ensures c.workers_option.ensures.rule c.workers_option.ensures.local in
+    let fourth = with_option _ _ _ _ _ third c.in_ok-arg-4.ensures c.outbox_option.ensures.rule c.outbox_option.ensures.local in
+    let fifth = with_option _ _ _ _ _ fourth c.in_ok-arg-5.ensures c.history_option.ensures.rule c.history_option.ensures.local in
+    let sixth = with_option _ _ _ _ _ fifth c.in_ok-arg-6.ensures c.history_bytes_option.ensures.rule c.history_bytes_option.ensures.local in
+    IfOk-weaker c.arg-7.result _ _ (λ command more. with_option _ _ _ _ _ sixth more c.connections_option.ensures.rule c.connections_option.ensures.local) c.arg-7.ensures
