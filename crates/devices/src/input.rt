@@ -6,8 +6,8 @@ use crate::device::Source;
 use crate::fault::ReadFault;
 use std::alloc::Global;
 
-/// Reads a source to its end, or returns `None` where it has none within so many bytes and so many reads, the one
-/// that finds it included. Then so many reads have given bytes, or the source had more bytes.
+/// Reads a source to its end, and returns its bytes. It returns `None` if the source has more bytes than `bytes`, or if its
+/// end isn't found within so many reads; the read that finds the end is one of them.
 ///
 /// `ReadFailed` comes where the source failed in this call, `NoMemory` where memory could not be had.
 pub fn read_within<S: Source>(

@@ -22,7 +22,8 @@ impl Connections {
     ghost use Rattle.server_socket.specs.Unknown.{IsBounded};
     ghost use Rattle.server_connections.specs.Work.{is_fresh};
 
-    /// Returns a connection's turn, or `Closed` where too much is kept of a client that hasn't shown who it is.
+    /// Returns a connection's turn. Where too much is kept of a client that hasn't shown who it is, it writes the client an
+    /// error and returns `Closed`.
     pub fn bounded(&self, key: usize, turn: Turn) -> Turn
         ensures { is_over result ≡ false → IfSome (get self.entry.now.slab key) (λ it. IsBounded it.client.conn) }
     {

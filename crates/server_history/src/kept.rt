@@ -88,7 +88,8 @@ impl Kept {
         }
     }
 
-    /// Counts as passed again, since the history could not be handed out.
+    /// Counts half of what may be kept once more, where the history could not be handed out: whoever tells of bytes next is
+    /// to try it.
     pub fn restore(&self) {
         let _ = self.bytes.fetch_add(self.half, Ordering::SeqCst);
     }

@@ -134,7 +134,7 @@ impl Rotation {
         left > 0
     }
 
-    /// Takes over what was handed out. What is left of what was before is dropped.
+    /// Takes over the entries that were handed out, and drops what is left of those that were handed out before.
     pub fn keep(&mut self, entries: Vec<Answer>, kept: &Kept)
         ensures { (part : ℕ) × (self.new ≡ taken_over entries.items part self.old) }
     {

@@ -92,14 +92,14 @@ impl Due {
         self.ahead = Some(count);
     }
 
-    /// Notes that the client is told now what waited behind deliveries.
+    /// Notes that the client is told what had to wait until earlier deliveries were taken.
     pub fn pass(&mut self)
         ensures { self.new ≡ passed self.old }
     {
         self.ahead = None;
     }
 
-    /// Returns whether a Take is due to a client that is connected, or that isn't.
+    /// Returns whether a Take is due: one is only if the client is connected.
     pub fn is_due(self, is_connected: bool) -> bool
         ensures { result ≡ is_due self is_connected }
     {
@@ -116,14 +116,14 @@ impl Due {
         self.awaited.next_take()
     }
 
-    /// Returns whether something waits behind deliveries.
+    /// Returns whether something waits until earlier deliveries are taken.
     pub fn is_barred(self) -> bool
         ensures { result ≡ is_some self.ahead }
     {
         self.ahead.is_some()
     }
 
-    /// Returns whether all deliveries are taken that come before what waits behind them.
+    /// Returns whether something waits until earlier deliveries are taken, and all of these are.
     pub fn has_passed(self) -> bool
         ensures { result ≡ is_nothing self.ahead }
     {

@@ -28,7 +28,8 @@ fn is_beyond(conn: &Conn) -> bool
 }
 
 impl Connection {
-    /// Returns its turn, or `Closed` where too much is kept of a client that hasn't shown who it is.
+    /// Returns its turn. Where too much is kept of a client that hasn't shown who it is, it writes the client an error and
+    /// returns `Closed`.
     pub fn bounded(&self, alloc: Global, turn: Turn) -> Turn
         ensures { is_over result ≡ false → IsBounded self.now.client.conn }
     {
