@@ -72,8 +72,12 @@ fn is_full(error: &io::Error) -> bool {
 }
 
 impl Acceptor {
+    ghost use Rattle.std.specs.Prelude.{◌≡◌, ◌≤◌, ℕ, None, Some, false, true, unwrap_or};
+
     /// Returns what the worker of this number accepts with. It accepts if it has a listener.
-    pub fn new(index: usize, listener: Option<TcpListener>) -> Acceptor {
+    pub fn new(index: usize, listener: Option<TcpListener>) -> Acceptor
+        ensures { result.accept_at ≡ Some 0 }
+    {
         Acceptor {
             index,
             listener,
@@ -94,17 +98,24 @@ impl Acceptor {
     }
 
     /// Notes that somebody waits to be accepted.
-    pub fn note_waiting(&mut self, now: u64) {
+    pub fn note_waiting(&mut self, now: u64)
+        ensures { self.new.accept_at ≡ Some (unwrap_or self.old.accept_at now) }
+    {
         self.accept_at = self.accept_at.or(Some(now));
     }
 
     /// Returns from when on connections are to be accepted, if they are.
-    pub fn due_at(&self) -> Option<u64> {
+    pub fn due_at(&self) -> Option<u64>
+        ensures { result ≡ self.now.accept_at }
+    {
         self.accept_at
     }
 
     /// Begins to accept, if that is due at a moment, and returns whether it is.
-    pub fn begin(&mut self, now: u64) -> bool {
+    pub fn begin(&mut self, now: u64) -> bool
+        ensures due { result ≡ true → (at : ℕ) × (self.old.accept_at ≡ Some at) × (at ≤ now) × (self.new.accept_at ≡ None) }
+        ensures same { result ≡ false → self.new.accept_at ≡ self.old.accept_at }
+    {
         match self.accept_at {
             Some(at) if at <= now => {
                 self.accept_at = None;
@@ -115,7 +126,9 @@ impl Acceptor {
     }
 
     /// Lets accepting go on at a moment.
-    pub fn go_on(&mut self, at: u64) {
+    pub fn go_on(&mut self, at: u64)
+        ensures { self.new.accept_at ≡ Some at }
+    {
         self.accept_at = Some(at);
     }
 
