@@ -89,15 +89,38 @@ Leads steps draws now conn s room all start text fs n (run.Stopped word refusal)
 drop_behind : {X : Type 0} (n : ℕ) (x : X) (xs : List X) → drop (n + 1) (x ∷ xs) ≡ drop n xs
 drop_behind n x xs = let e : n + 1 ≡ suc n = omega arith in rw e refl
 
+last_behind_one : {P W : Type 0} (steps : Steps P) (draws : Draws W) (now conn : ℕ) (s : Stage) (room : ℕ) (all : List Frame) (start : Spot P W) (text : List ℕ)
+    (f : Frame) (fs : List Frame) (k : ℕ) (end : RunEnd) (left : List Message) (p' : P) (w' : W) →
+    LastTurn steps draws now conn s room all start text fs k end left p' w' → LastTurn steps draws now conn s room all start text (f ∷ fs) (k + 1) end left p' w'
+last_behind_one steps draws now conn s room all start text f fs k end left p' w' last =
+    record { f = last.f; rest = last.rest; p = last.p; w = last.w; is = drop_behind k f fs ∙ last.is; done = last.done; turn = last.turn; fits = last.fits; ahead = last.ahead }
+
 behind_one : {P W : Type 0} (steps : Steps P) (draws : Draws W) (now conn : ℕ) (s : Stage) (room : ℕ) (all : List Frame) (start : Spot P W) (text : List ℕ)
     (f : Frame) (fs : List Frame) (n : ℕ) (end : RunEnd) (left : List Message) (p' : P) (w' : W) →
     Leads steps draws now conn s room all start text fs n end left p' w' → Leads steps draws now conn s room all start text (f ∷ fs) (n + 1) end left p' w'
 behind_one steps draws now conn s room all start text f fs n run.Published left p' w' (done, none) =
     (subst (λ (x : List Frame). Completes steps draws now conn all start text x (spot p' w' s None)) (sym (drop_behind n f fs)) done, none)
 behind_one steps draws now conn s room all start text f fs n (run.Answered entry) left p' w' (k, is, last) =
-    (k + 1, ap (λ (x : ℕ). x + 1) is, record { f = last.f; rest = last.rest; p = last.p; w = last.w; is = drop_behind k f fs ∙ last.is; done = last.done; turn = last.turn; fits = last.fits; ahead = last.ahead })
+    (k + 1, ap (λ (x : ℕ). x + 1) is, last_behind_one steps draws now conn s room all start text f fs k (run.Answered entry) left p' w' last)
 behind_one steps draws now conn s room all start text f fs n (run.Stopped word refusal) left p' w' (k, is, last) =
-    (k + 1, ap (λ (x : ℕ). x + 1) is, record { f = last.f; rest = last.rest; p = last.p; w = last.w; is = drop_behind k f fs ∙ last.is; done = last.done; turn = last.turn; fits = last.fits; ahead = last.ahead })
+    (k + 1, ap (λ (x : ℕ). x + 1) is, last_behind_one steps draws now conn s room all start text f fs k (run.Stopped word refusal) left p' w' last)
+
+-- the message at the front ended the run
+last_at_first : {P W : Type 0} (steps : Steps P) (draws : Draws W) (now conn : ℕ) (s : Stage) (room : ℕ) (all : List Frame) (start : Spot P W) (text : List ℕ)
+    (f : Frame) (fs : List Frame) (m : Message) (left : List Message) (p : P) (w : W) (word : ℕ) (w' : W) (end : RunEnd) (p' : P) →
+    IsMessageOf s room f m → IsAhead s room fs left → Completes steps draws now conn all start text (f ∷ fs) (spot p w s None) → draws w word w' →
+    EndsRun steps.post steps.holds p (post conn now m word) word end p' → LastTurn steps draws now conn s room all start text (f ∷ fs) 0 end left p' w'
+last_at_first steps draws now conn s room all start text f fs m left p w word w' end p' of ahead done drawn ends = record {
+  f = f;
+  rest = fs;
+  p = p;
+  w = w;
+  is = refl;
+  done = done;
+  fits = of.fits;
+  ahead = ahead;
+  turn = λ t told. last_turn steps draws now conn s room f m p w word w' end p' t of drawn ends told;
+}
 
 -- the run ends at its first message
 at_first : {P W : Type 0} (steps : Steps P) (draws : Draws W) (now conn : ℕ) (s : Stage) (room : ℕ) (all : List Frame) (start : Spot P W) (text : List ℕ)
@@ -105,36 +128,10 @@ at_first : {P W : Type 0} (steps : Steps P) (draws : Draws W) (now conn : ℕ) (
     IsMessageOf s room f m → IsAhead s room fs left → Completes steps draws now conn all start text (f ∷ fs) (spot p w s None) → draws w word w' →
     EndsRun steps.post steps.holds p (post conn now m word) word end p' → Leads steps draws now conn s room all start text (f ∷ fs) 1 end left p' w'
 at_first steps draws now conn s room all start text f fs m left p w word w' run.Published p' of ahead done drawn ends = absurd ends
-at_first steps draws now conn s room all start text f fs m left p w word w' (run.Answered entry) p' of ahead done drawn ends = (
-  0,
-  refl,
-  record {
-    f = f;
-    rest = fs;
-    p = p;
-    w = w;
-    is = refl;
-    done = done;
-    fits = of.fits;
-    ahead = ahead;
-    turn = λ t told. last_turn steps draws now conn s room f m p w word w' (run.Answered entry) p' t of drawn ends told;
-  },
-)
-at_first steps draws now conn s room all start text f fs m left p w word w' (run.Stopped kept refusal) p' of ahead done drawn ends = (
-  0,
-  refl,
-  record {
-    f = f;
-    rest = fs;
-    p = p;
-    w = w;
-    is = refl;
-    done = done;
-    fits = of.fits;
-    ahead = ahead;
-    turn = λ t told. last_turn steps draws now conn s room f m p w word w' (run.Stopped kept refusal) p' t of drawn ends told;
-  },
-)
+at_first steps draws now conn s room all start text f fs m left p w word w' (run.Answered entry) p' of ahead done drawn ends =
+    (0, refl, last_at_first steps draws now conn s room all start text f fs m left p w word w' (run.Answered entry) p' of ahead done drawn ends)
+at_first steps draws now conn s room all start text f fs m left p w word w' (run.Stopped kept refusal) p' of ahead done drawn ends =
+    (0, refl, last_at_first steps draws now conn s room all start text f fs m left p w word w' (run.Stopped kept refusal) p' of ahead done drawn ends)
 
 -- what so many messages of a run lead to
 abbrev pub LeadsOn : {P W : Type 0} → Steps P → Draws W → ℕ → ℕ → Stage → ℕ → List Frame → Spot P W → List ℕ → List Frame → ℕ → RunEnd → List Message → P → W → Type 0

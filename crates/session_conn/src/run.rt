@@ -6,6 +6,7 @@ ghost use Rattle.session_conn.specs.Turns.{port_of, is_verbose, IsFrameTurned};
 ghost use Rattle.session_conn.specs.Serving.{spot};
 ghost use Rattle.session_conn.specs.Running.{IsAhead, IsAheadAfter, IsAdded, IsPut, IsNearer, IsLastTold, IsToldFirst, HasRoomFirst, Went};
 
+use crate::context::TurnContext;
 use crate::output::Stall;
 use crate::turn::{FrameTurn, is_verbose, turn_of_answer};
 use base::NoMemory;
@@ -204,26 +205,25 @@ fn tell_first(
 
 /// The turns of the frames whose messages are at hand, as far as they are offered together.
 pub fn take_run<P: Port, W: Words>(
-    conn: u64,
-    now: u64,
+    context: TurnContext,
     port: &mut P,
     words: &mut W,
-    stage: Stage,
     frames: &mut Frames,
     ahead: &mut Ahead,
     out: &mut Vec<u8>,
 ) -> FrameTurn
-    requires open { is_closed stage ≡ false }
-    requires ahead { IsAhead stage ahead.old.room frames.old ahead.old.messages.items }
+    requires open { is_closed context.stage ≡ false }
+    requires ahead { IsAhead context.stage ahead.old.room frames.old ahead.old.messages.items }
     requires some { 0 < length ahead.old.messages.items }
     requires room { vec_len out.old + ahead.old.room ≤ vec_capacity out.old }
     ensures place { P.place port.new ≡ P.place port.old }
-    ensures went { Went (port_of P.steps P.posts P.holds) W.draws now conn frames.old (spot port.old words.old stage None) result out.old.items out.new.items frames.new port.new words.new }
+    ensures went { Went (port_of P.steps P.posts P.holds) W.draws context.moment context.conn frames.old (spot port.old words.old context.stage None) result out.old.items out.new.items frames.new port.new words.new }
     ensures nearer { IsNearer result frames.old frames.new }
     ensures ahead { IsAheadAfter result ahead.new.room frames.new ahead.new.messages.items }
 {
+    let stage = context.stage;
     let had = ahead.messages.len();
-    let end = port.publish(conn, now, &mut ahead.messages, words);
+    let end = port.publish(context.conn, context.moment, &mut ahead.messages, words);
     let gone = had.saturating_sub(ahead.messages.len());
     match end {
         RunEnd::Published => {

@@ -87,16 +87,7 @@ fn take_turns<P: Port, W: Words>(
     ensures ahead { IsAheadAfter result ahead.new.room frames.new ahead.new.messages.items }
 {
     if ahead.is_ready(context.stage, context.word, frames, out) {
-        return take_run(
-            context.conn,
-            context.moment,
-            port,
-            words,
-            context.stage,
-            frames,
-            ahead,
-            out,
-        );
+        return take_run(context, port, words, frames, ahead, out);
     }
     ahead.clear();
     take_one(context, port, words, frames, out)
