@@ -148,18 +148,25 @@ fn set_caps(
     }
 }
 
-/// What a line itself does.
+/// A line of a script, with its number and the part that it stands in.
+#[derive(Drop)]
+struct NumberedLine {
+    number: u64,
+    part: Part,
+    line: Line,
+}
+
+/// Does what a line itself says.
 fn on_line(
     alloc: Global,
     server: &mut Server,
     clients: &mut Vec<Client>,
-    number: u64,
-    part: Part,
-    line: Line,
+    numbered: NumberedLine,
     out: &mut Vec<u8>,
 ) -> Result<bool, NoMemory>
-    ensures { IfOk result (λ stops. IsEffect (line_effect number part line server.old clients.old.items) out.old.items out.new.items clients.new.items server.new stops) }
+    ensures { IfOk result (λ stops. IsEffect (line_effect numbered.number numbered.part numbered.line server.old clients.old.items) out.old.items out.new.items clients.new.items server.new stops) }
 {
+    let NumberedLine { number, part, line } = numbered;
     match line {
         Line::Skip => Ok(false),
         Line::Caps { outbox, history } => {
@@ -193,20 +200,18 @@ fn on_line(
     }
 }
 
-/// A line, and then the drains.
+/// Does what a line says, and then drains all connections.
 #[tactic(auto, unfolding(crate::specs::Play::line_and_drains))]
 fn on_line_and_drain(
     alloc: Global,
     server: &mut Server,
     clients: &mut Vec<Client>,
-    number: u64,
-    part: Part,
-    line: Line,
+    numbered: NumberedLine,
     out: &mut Vec<u8>,
 ) -> Result<bool, NoMemory>
-    ensures { IfOk result (λ stops. IsEffect (line_and_drains number part line server.old clients.old.items) out.old.items out.new.items clients.new.items server.new stops) }
+    ensures { IfOk result (λ stops. IsEffect (line_and_drains numbered.number numbered.part numbered.line server.old clients.old.items) out.old.items out.new.items clients.new.items server.new stops) }
 {
-    if on_line(alloc, server, clients, number, part, line, out)? {
+    if on_line(alloc, server, clients, numbered, out)? {
         return Ok(true);
     }
     let stops = drain_all(alloc, server, clients.as_mut_slice(), out)?;
@@ -241,15 +246,8 @@ pub fn play_lines<W: Sink>(
         let line = read_line(alloc, text)?;
         let next = part.after(&line);
         let mut out = Vec::new(alloc);
-        let stops = on_line_and_drain(
-            alloc,
-            &mut server,
-            &mut clients,
-            number,
-            part,
-            line,
-            &mut out,
-        )?;
+        let numbered = NumberedLine { number, part, line };
+        let stops = on_line_and_drain(alloc, &mut server, &mut clients, numbered, &mut out)?;
         part = next;
         match write_all(sink, out.as_slice()) {
             Err(_) => return Err(LinesFault::WriteFailed),
