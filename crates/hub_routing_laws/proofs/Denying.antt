@@ -1,17 +1,16 @@
 -- Where a deny entry has what was asked, no allow entry is looked at.
 use Rattle.std.proofs.Common.{◌≡◌, ◌∙◌, ◌&&◌, ◌⊎◌, inl, inr, ℕ, Bool, true, false, List, Option, Some, None, ap, sym, refl, subst}
 use Rattle.std.proofs.Math.Path.{subst₂}
-use Rattle.std.specs.Prelude.{All, Contains, IsSomeAnd, max, position, nat_eq}
+use Rattle.std.specs.Prelude.{IsSomeAnd, max, position, nat_eq}
 use Rattle.std.specs.Cmp.Lexicographic.{pointwise}
 use Rattle.std.specs.List.{list_any, position_or_len}
-use Rattle.std.proofs.lemmas.List.Elements.{All-contains}
 use Rattle.subjects.specs.Subject.{Token, in_set, covers}
 use Rattle.permissions.specs.Lists.{Entry as ListEntry, is_for as is_entry_for}
-use Rattle.permissions.specs.Verdicts.{unless_denied, by_allow_list, by_entry_with, allow_verdict, publish_verdict, subscribe_verdict, delivery_verdict, is_allowed}
+use Rattle.permissions.specs.Verdicts.{unless_denied, publish_verdict, subscribe_verdict, delivery_verdict, is_allowed}
 use Rattle.permissions.specs.declared.verdict.By.{By}
 use Rattle.permissions.specs.declared.verdict.By.TheVariants.{All as AllowsAll, Index, Grant}
 use Rattle.permissions.specs.declared.verdict.Verdict.{Verdict}
-use Rattle.permissions.specs.declared.verdict.Verdict.TheVariants.{Allowed, DeniedBy, NoAllow, NoQueueAllow}
+use Rattle.permissions.specs.declared.verdict.Verdict.TheVariants.{Allowed, DeniedBy}
 use Rattle.policy_ready.specs.declared.ready.User.{User}
 use Rattle.events.specs.Messages.{Message}
 use Rattle.events.specs.declared.event.Command.TheVariants.{Pub, Sub}
@@ -22,7 +21,7 @@ use Rattle.world_rows.specs.declared.subscription.Subscription.{Subscription}
 use Rattle.world.specs.World.{World}
 use Rattle.world.specs.Routing.{View}
 use Rattle.hub.specs.Sound.{user_at, may_subscribe}
-use Rattle.hub.specs.Guarantee.{IsEffect, HasReason, IsAllowance, IsDenial, IsUntouched, accepts, allows, may_receive}
+use Rattle.hub.specs.Guarantee.{IsEffect, HasReason, IsAllowance, accepts, allows, may_receive}
 use Rattle.hub_routing_laws.specs.Reach.{IsAdmitted, IsDeliveryToAdmitted}
 use Rattle.hub_routing_laws.specs.Denied.{IsDeniedByEntry, IsPublishedByGrant, DenyOverridesPublish, DenyOverridesSubscribe, IsUndenied, IsDeliveryToUndenied, DenyOverridesDelivery, DeniedReachesNobody}
 use Rattle.hub_routing_laws.proofs.Lists.{back, at_some, position-some}

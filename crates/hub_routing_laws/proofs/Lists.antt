@@ -1,10 +1,10 @@
 -- Lists that are put together of parts, and options that have a value.
-use Rattle.std.proofs.Common.{◌≡◌, ◌∙◌, ◌&&◌, ◌+◌, ◌<◌, ◌||◌, ℕ, Bool, true, false, not, cond, List, [], ◌∷◌, ◌++◌, map, length, get_or, Option, Some, None, ap, sym, refl, subst, arith}
-use Rattle.std.specs.Prelude.{All, Contains, IsSomeAnd, position, nat_lt}
+use Rattle.std.proofs.Common.{◌≡◌, ◌&&◌, ◌+◌, ◌<◌, ◌||◌, Bool, true, false, not, cond, List, [], ◌∷◌, ◌++◌, map, length, get_or, Option, Some, None, ap, refl, subst, arith}
+use Rattle.std.specs.Prelude.{All, Contains, IsSomeAnd, position}
 use Rattle.std.specs.List.{flat_map, list_any, position_or_len}
 use Rattle.std.proofs.lemmas.Bool.{lt-ltb}
 use Rattle.std.proofs.lemmas.List.{get_or-map, length-map}
-use Rattle.std.proofs.lemmas.List.Elements.{All-nil, All-cons, All-head, All-tail, All-append, All-contains_itself}
+use Rattle.std.proofs.lemmas.List.Elements.{All-nil, All-cons, All-head, All-tail, All-append}
 
 pub front : (b c : Bool) → (b && c) ≡ true → b ≡ true
 front true c h = refl
@@ -13,10 +13,6 @@ front false c h = absurd (cc)
 pub back : (b c : Bool) → (b && c) ≡ true → c ≡ true
 back true c h = h
 back false c h = absurd (cc)
-
-pub not-false : (b : Bool) → not b ≡ true → b ≡ false
-not-false true h = absurd (cc)
-not-false false h = refl
 
 -- what holds of a value that is known to be there
 pub at_some : {X : Type 0} (P : X → Type 0) (o : Option X) (x : X) → o ≡ Some x → IsSomeAnd o P → P x

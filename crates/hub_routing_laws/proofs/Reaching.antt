@@ -1,8 +1,7 @@
 -- Whom the parts of a publish reach.
-use Rattle.std.proofs.Common.{◌≡◌, ◌∙◌, ◌==◌, ◌&&◌, ◌++◌, ℕ, Bool, true, false, List, [], ◌∷◌, map, filter, take, length, get_or, Option, Some, None, ap, sym, refl, subst, arith}
+use Rattle.std.proofs.Common.{◌≡◌, ◌∙◌, ◌==◌, ◌&&◌, ◌++◌, ℕ, Bool, true, List, [], ◌∷◌, map, length, get_or, Option, Some, None, ap, sym, refl, subst}
 use Rattle.std.proofs.Math.Path.{subst₂}
 use Rattle.std.specs.Prelude.{All, Contains, IfSome, IsSomeAnd, max}
-use Rattle.std.specs.List.{flat_map, list_any}
 use Rattle.std.specs.Option.{option_map}
 use Rattle.std.specs.Cmp.Lexicographic.{bytes_decides}
 use Rattle.std.proofs.lemmas.Bool.{eqb-true}
@@ -11,24 +10,21 @@ use Rattle.std.proofs.lemmas.List.Elements.{All-nil, All-cons, All-head, All-tai
 use Rattle.permissions.specs.declared.verdict.By.{By}
 use Rattle.policy_ready.specs.declared.ready.User.{User}
 use Rattle.events.specs.Messages.{Message}
-use Rattle.events.specs.declared.event.Event.{Event}
 use Rattle.events.specs.declared.event.Command.TheVariants.{Pub}
 use Rattle.events.specs.declared.answer.Delivery.{Delivery}
-use Rattle.events.specs.declared.answer.Entry.{Entry}
 use Rattle.events.specs.declared.answer.Item.{Item}
 use Rattle.events.specs.declared.answer.Outcome.TheVariants.{Published}
 use Rattle.world_deliveries.specs.Sessions.{session_of}
 use Rattle.world_deliveries.specs.declared.session.Session.{Session}
 use Rattle.world_rows.specs.declared.subscription.Subscription.{Subscription}
 use Rattle.world_subscriptions.specs.Addressing.{delivery_to}
-use Rattle.world_groups.specs.Served.{is_member, members}
+use Rattle.world_groups.specs.Served.{members}
 use Rattle.world.specs.World.{World}
 use Rattle.world.specs.Routing.{View, own_view, views}
 use Rattle.hub.specs.Sound.{user_at, is_to_receive}
-use Rattle.hub.specs.History.{State}
-use Rattle.hub.specs.Guarantee.{IsRouted, IsEffect, IsSent, IsPart, Part, Sending, eligible, is_for, may_receive, item_names, names_of, received_more, receives, room_in, sendings_in, sendings, sent_to, delivery_of}
+use Rattle.hub.specs.Guarantee.{IsEffect, IsSent, IsPart, Part, Sending, eligible, is_for, may_receive, item_names, names_of, received_more, receives, room_in, sendings_in, sendings, sent_to, delivery_of}
 use Rattle.hub.proofs.Finds.{find-map, find-passes}
-use Rattle.hub_routing_laws.specs.Reach.{OfEachPublish, AreNew, Reaches, IsAdmitted, IsItemOfAdmitted, IsDeliveryToAdmitted, NothingUnadmitted, IsOfAccount, IsOfViews, IsDeliveryOfViews, ReachesItsViews, StaysInAccount, HasOneOfEach, HasOneInEach, OneOfEachGroup}
+use Rattle.hub_routing_laws.specs.Reach.{OfEachPublish, AreNew, IsAdmitted, IsItemOfAdmitted, IsDeliveryToAdmitted, NothingUnadmitted, IsOfAccount, IsOfViews, IsDeliveryOfViews, ReachesItsViews, StaysInAccount, HasOneOfEach, OneOfEachGroup}
 use Rattle.hub_routing_laws.proofs.Lists.{front, back, from_some, All-flat_map, each_split, All-in_map}
 
 -- what follows from what each publish sends holds of each publish

@@ -1,14 +1,10 @@
 -- What stands after a reload, and what a refusal leaves.
-use Rattle.std.proofs.Common.{◌≡◌, ◌∙◌, ◌==◌, ◌&&◌, ℕ, Bool, true, false, not, List, Option, Some, None, ap, sym, refl, subst}
+use Rattle.std.proofs.Common.{◌≡◌, ◌∙◌, ◌&&◌, Bool, true, false, not, List, Option, Some, None, ap, sym, refl, subst}
 use Rattle.std.proofs.Math.Path.{subst₂}
 use Rattle.std.specs.Prelude.{All, is_some, max, filter}
-use Rattle.std.specs.List.{list_any}
 use Rattle.std.proofs.lemmas.List.Elements.{filter_passes}
 use Rattle.subjects.specs.Subject.{Token}
 use Rattle.policy_doc.specs.declared.document.PolicyDoc.{PolicyDoc}
-use Rattle.events.specs.declared.event.Command.{Command}
-use Rattle.events.specs.declared.event.Command.TheVariants.{Reload}
-use Rattle.events.specs.declared.answer.Outcome.TheVariants.{Reloaded}
 use Rattle.world_deliveries.specs.Sessions.{session_of}
 use Rattle.world_deliveries.specs.declared.session.Session.{Session}
 use Rattle.world_rows.specs.declared.subscription.Subscription.{Subscription}

@@ -1,5 +1,5 @@
 -- A deny entry wins (docs/GUARANTEE.md, "Laws of routing").
-use Rattle.std.specs.Prelude.{◌≡◌, ◌⊎◌, ◌&&◌, ℕ, List, Bool, true, false, Option, Some, Contains, IsSomeAnd}
+use Rattle.std.specs.Prelude.{◌≡◌, ◌⊎◌, ◌&&◌, ℕ, List, true, false, Option, Some, Contains, IsSomeAnd}
 use Rattle.std.specs.List.{list_any}
 use Rattle.subjects.specs.Subject.{Token, in_set, covers}
 use Rattle.permissions.specs.Lists.{Entry as ListEntry, is_for}

@@ -1,5 +1,5 @@
 -- Whom a published message reaches (docs/GUARANTEE.md, "Laws of routing").
-use Rattle.std.specs.Prelude.{◌≡◌, ◌∷◌, ◌++◌, ℕ, List, Bool, true, length, map, Option, All, Contains, IfSome, IsSomeAnd}
+use Rattle.std.specs.Prelude.{◌≡◌, ◌∷◌, ◌++◌, ℕ, List, true, length, map, All, Contains, IfSome, IsSomeAnd}
 use Rattle.std.specs.List.{list_any, flat_map}
 use Rattle.policy_ready.specs.declared.ready.User.{User}
 use Rattle.events.specs.Messages.{Message}
@@ -77,7 +77,7 @@ IsOfViews w account m conn = (v : View) × Contains (views account m) v × IsOfA
 abbrev pub IsDeliveryOfViews : World → List ℕ → Message → ℕ → Delivery → Type 0
 IsDeliveryOfViews w account m to d = (v : View) × Contains (views account m) v × (d.message ≡ v.message) × IsOfAccount w v.account to
 
--- A message reaches sessions of those accounts alone of which it has a view, and there under that view's subject.
+-- A message reaches sessions of those accounts alone for which it has a view, and there as the view has it.
 abbrev pub ReachesItsViews : Type 0
 ReachesItsViews = OfEachPublish (λ w after conn u m items.
     Reaches (λ item. IsOfViews w u.account m (item_names item).0) (IsDeliveryOfViews w u.account m) items w.sessions after.sessions)

@@ -1,5 +1,5 @@
 -- What refusals leave, and what stands after a reload (docs/GUARANTEE.md, "Laws of routing").
-use Rattle.std.specs.Prelude.{◌≡◌, ◌==◌, ℕ, List, Bool, true, false, All}
+use Rattle.std.specs.Prelude.{◌≡◌, ◌==◌, ℕ, List, true, false, All}
 use Rattle.std.specs.List.{list_any}
 use Rattle.policy_doc.specs.declared.document.PolicyDoc.{PolicyDoc}
 use Rattle.events.specs.declared.event.Event.{Event}

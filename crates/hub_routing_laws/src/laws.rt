@@ -33,7 +33,7 @@ pub fn reload_leaves_none_refused()
     ensures { ReloadLeavesNoneRefused }
 {}
 
-/// Tells that a message reaches sessions of those accounts alone of which it has a view, and that its only view is that
+/// Tells that a message reaches sessions of those accounts alone for which it has a view, and that its only view is that
 /// of the publisher's account.
 pub fn accounts_apart()
     ensures views { ReachesItsViews }
