@@ -4,7 +4,7 @@ ghost use Rattle.server.specs.Serve.{AreServable};
 
 use crate::opening::{Opened, first_policy, listen, open_hub, tell_listening};
 use crate::settings::Settings;
-use crate::threads::{ReloadStart, ThreadStarts, serve};
+use crate::threads::{ReloadStart, ThreadStarts, WorkerAccess, serve};
 use hub::Hub;
 use policy_source::Policies;
 use rand::make_rng;
@@ -162,8 +162,10 @@ fn serve_seats<
     let accesses = accesses(rt, alloc, gates, seats)?;
     tell_listening(rt, &opened.listener, prints)?;
     let reload = ReloadStart {
-        seat,
-        gate: gates.reload_gate(),
+        access: Access {
+            seat,
+            gate: gates.reload_gate(),
+        },
         policies,
     };
     let starts = ThreadStarts { accesses, reload };
@@ -177,15 +179,17 @@ fn accesses<L: Run, R: RandomSource, G: Gate + Drop, F: GateSource<G>>(
     alloc: Global,
     gates: &F,
     seats: Vec<Seat<L>>,
-) -> Result<Vec<Access<L, G, Drawn>>, Fault> {
+) -> Result<Vec<WorkerAccess<L, G, Drawn>>, Fault> {
     let mut accesses = Vec::with_capacity(alloc, seats.len())?;
     for (worker, seat) in seats.into_iter().enumerate() {
         let Ok(generator) = make_rng::<SmallRng, R>(rt) else {
             return Err(Fault::NoKeys);
         };
-        let access = Access {
-            seat,
-            gate: gates.worker_gate(worker),
+        let access = WorkerAccess {
+            access: Access {
+                seat,
+                gate: gates.worker_gate(worker),
+            },
             words: Drawn { generator },
         };
         if accesses.push(access).is_err() {

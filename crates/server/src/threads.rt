@@ -9,7 +9,7 @@ use server_mail::{Flags, Mailbox, ServerState, millis, open_mailbox};
 use server_prints::Prints;
 use server_reloads::Reloads;
 use session_conn::Words;
-use shared_hub::{Run, Seat, SharedHub};
+use shared_hub::{Run, SharedHub};
 use std::alloc::Global;
 use std::collections::VecDeque;
 use std::net::Net;
@@ -21,15 +21,21 @@ use std::time::Clock;
 /// What the thread that installs policies begins with, and what is lent to it.
 #[derive(Drop)]
 pub(crate) struct ReloadStart<'b, L: Run, G: Drop, P> {
-    pub(crate) seat: Seat<L>,
-    pub(crate) gate: G,
+    pub(crate) access: Access<L, G>,
     pub(crate) policies: &'b mut P,
+}
+
+/// A worker's access to the hub, and where the words of its messages come from.
+#[derive(Drop)]
+pub(crate) struct WorkerAccess<L: Run, G: Drop, W: Drop> {
+    pub(crate) access: Access<L, G>,
+    pub(crate) words: W,
 }
 
 /// What the threads of a server begin with: an access to the hub for each worker, and the start of the reloads.
 #[derive(Drop)]
 pub(crate) struct ThreadStarts<'b, L: Run, G: Drop, W: Drop, P> {
-    pub(crate) accesses: Vec<Access<L, G, W>>,
+    pub(crate) accesses: Vec<WorkerAccess<L, G, W>>,
     pub(crate) reload: ReloadStart<'b, L, G, P>,
 }
 
@@ -87,14 +93,9 @@ impl<'a, 'b, L: Run, R: Wait + Clock, G: Gate + Drop, W: Words + Drop, P: Polici
     }
 
     fn reload(&self, start: ReloadStart<'b, L, G, P>) -> Option<ServeFault> {
-        let ReloadStart {
-            seat,
-            gate,
-            policies,
-        } = start;
+        let ReloadStart { access, policies } = start;
         let (shared, prints) = (self.shared, self.prints);
-        let own = (seat, gate);
-        let fault = match Reloads::new(self.rt, self.alloc, shared, self.state, own, prints) {
+        let fault = match Reloads::new(self.rt, self.alloc, shared, self.state, access, prints) {
             None => Some(ServeFault::NoMemory),
             Some(mut reloads) => reloads.run(policies),
         };
@@ -184,14 +185,14 @@ fn open_all<L: Run, R: Net, G: Drop, W: Drop>(
     rt: &R,
     alloc: Global,
     listener: TcpListener,
-    accesses: Vec<Access<L, G, W>>,
+    accesses: Vec<WorkerAccess<L, G, W>>,
 ) -> Result<(Vec<Mailbox>, Vec<Start<L, G, W>>), ServeFault> {
     let mut accesses = VecDeque::from(accesses);
     let mut listener = Some(listener);
     let mut mailboxes = Vec::new(alloc);
     let mut starts = Vec::new(alloc);
     for index in 0..accesses.len() {
-        let Some(access) = accesses.pop_front() else {
+        let Some(WorkerAccess { access, words }) = accesses.pop_front() else {
             break;
         };
         let Some((mailbox, poll)) = open_mailbox(rt, alloc, WAKER) else {
@@ -200,6 +201,7 @@ fn open_all<L: Run, R: Net, G: Drop, W: Drop>(
         let start = Start {
             index,
             access,
+            words,
             poll,
             listener: listener.take(),
         };

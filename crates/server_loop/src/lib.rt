@@ -9,4 +9,5 @@ mod rounds;
 mod turns;
 mod worker;
 
-pub use worker::{Access, Start, WAKER, Worker};
+pub use server_port::Access;
+pub use worker::{Start, WAKER, Worker};

@@ -5,29 +5,22 @@ use server_connections::Connections;
 use server_gates::Gate;
 use server_mail::{Mail, OutgoingMail, ServerState};
 use server_pacing::{PIECE, Slice};
-use server_port::ServerPort;
+use server_port::{Access, ServerPort};
 use session_conn::Words;
-use shared_hub::{Run, Seat, SharedHub};
+use shared_hub::{Run, SharedHub};
 use std::alloc::Global;
 use std::sync::Wait;
 
 /// The token of a worker's waker. Connections have those of their keys.
 pub const WAKER: Token = Token(usize::MAX);
 
-/// A worker's access to the hub: its seat, its gate, and where the words of messages come from.
-#[derive(Drop)]
-pub struct Access<L: Run, G: Drop, W: Drop> {
-    pub seat: Seat<L>,
-    pub gate: G,
-    pub words: W,
-}
-
-/// What a worker begins with: its number, its access to the hub, its way to wait for sockets, and the listener if it accepts
-/// connections.
+/// What a worker begins with: its number, its access to the hub, where the words of its messages come from, its way to wait
+/// for sockets, and the listener if it accepts connections.
 #[derive(Drop)]
 pub struct Start<L: Run, G: Drop, W: Drop> {
     pub index: usize,
-    pub access: Access<L, G, W>,
+    pub access: Access<L, G>,
+    pub words: W,
     pub poll: Poll,
     pub listener: Option<TcpListener>,
 }
@@ -79,20 +72,17 @@ impl<'a, L: Run, R: Wait, G: Gate + Drop, W: Words + Drop> Drop for Worker<'a, L
     }
 }
 
-/// Returns a worker's port to the hub, and where its messages' words come from. Without memory it returns `None`.
-fn port_of<'a, L: Run, R: Wait, G: Gate + Drop, W: Drop>(
+/// Returns a worker's port to the hub. Without memory it returns `None`.
+fn port_of<'a, L: Run, R: Wait, G: Gate + Drop>(
     rt: &'a R,
     alloc: Global,
     shared: &'a SharedHub<L>,
     state: &'a ServerState<'a>,
     index: usize,
-    access: Access<L, G, W>,
-) -> Option<(ServerPort<'a, L, R, G>, W)> {
-    let Access { seat, gate, words } = access;
+    access: Access<L, G>,
+) -> Option<ServerPort<'a, L, R, G>> {
     let outgoing = OutgoingMail::new(alloc, state.mailboxes.len(), Some(index))?;
-    let (history, kept) = (state.limits.history, state.kept());
-    let port = ServerPort::new(rt, alloc, shared, seat, gate, outgoing, history, kept);
-    Some((port, words))
+    Some(ServerPort::new(rt, alloc, shared, state, access, outgoing))
 }
 
 /// Returns a buffer for a piece. Without memory it returns `None`.
@@ -115,10 +105,11 @@ impl<'a, L: Run, R: Wait, G: Gate + Drop, W: Words + Drop> Worker<'a, L, R, G, W
         let Start {
             index,
             access,
+            words,
             poll,
             listener,
         } = start;
-        let (port, words) = port_of(rt, alloc, shared, state, index, access)?;
+        let port = port_of(rt, alloc, shared, state, index, access)?;
         Some(Worker {
             rt,
             alloc,

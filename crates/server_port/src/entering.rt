@@ -44,10 +44,10 @@ impl<L: Run, R: Wait, G: Gate + Drop> ServerPort<'_, L, R, G> {
         ensures seat { self.new.seat ≡ self.old.seat }
         ensures course { self.new.course ≡ self.old.course }
     {
-        for conn in self.told.freed.as_slice() {
+        for conn in self.context.told.freed.as_slice() {
             self.outgoing.add_freed(*conn);
         }
-        self.told.freed.clear();
+        self.context.told.freed.clear();
     }
 
     /// Enters an event, once more where the history was full.
@@ -80,7 +80,13 @@ impl<L: Run, R: Wait, G: Gate + Drop> ServerPort<'_, L, R, G> {
         ensures err { IfErr result (λ back. back.0 ≡ event) }
     {
         let shared = self.shared;
-        match shared.answer_as(self.rt, &mut self.seat, event, self.refused, &mut self.told) {
+        match shared.submit_without_receipt(
+            self.rt,
+            &mut self.seat,
+            event,
+            self.refused,
+            &mut self.context.told,
+        ) {
             Ok(answer) => {
                 self.refused = 0;
                 let _ = self.follow(&answer, 0);
@@ -95,7 +101,7 @@ impl<L: Run, R: Wait, G: Gate + Drop> ServerPort<'_, L, R, G> {
     #[inline(always)]
     fn enter_message(&mut self, event: Event) -> Result<Answer, (Event, PublishRefusal)>
         ensures offered { IsOffered (λ old e r new. IsPostedBy L.opening old.seat.count e r new.seat.count) (λ old new. new.seat.count ≡ old.seat.count) self.old event result self.new }
-        ensures course { self.new.course ≡ offered result self.new.told.slow self.new.told.until self.old.course }
+        ensures course { self.new.course ≡ offered result self.new.context.told.slow self.new.context.told.until self.old.course }
         ensures full { IfErr result (λ back. back.1 ≡ By HistoryFull → self.new.rotation.tries ≡ tried true self.old.rotation.tries) }
         ensures err { IfErr result (λ back. back.0 ≡ event) }
     {
@@ -127,7 +133,7 @@ impl<L: Run, R: Wait, G: Gate + Drop> ServerPort<'_, L, R, G> {
     #[inline(never)]
     pub(crate) fn offer_again(&mut self, event: Event) -> Result<Answer, (Event, PublishRefusal)>
         ensures offered { IsOffered (λ old e r new. IsPostedBy L.opening old.seat.count e r new.seat.count) (λ old new. new.seat.count ≡ old.seat.count) self.old event result self.new }
-        ensures course { self.new.course ≡ offered result self.new.told.slow self.new.told.until self.old.course }
+        ensures course { self.new.course ≡ offered result self.new.context.told.slow self.new.context.told.until self.old.course }
         ensures tried { OnErr result (self.new.rotation.tries ≡ tried true self.old.rotation.tries) }
         ensures err { IfErr result (λ back. back.0 ≡ event) }
     {
@@ -144,14 +150,14 @@ impl<L: Run, R: Wait, G: Gate + Drop> ServerPort<'_, L, R, G> {
     #[inline(always)]
     fn offer_once(&mut self, event: Event) -> Result<Answer, (Event, PublishRefusal)>
         ensures offered { IsOffered (λ old e r new. IsPostedBy L.opening old.seat.count e r new.seat.count) (λ old new. new.seat.count ≡ old.seat.count) self.old event result self.new }
-        ensures course { self.new.course ≡ offered result self.new.told.slow self.new.told.until self.old.course }
+        ensures course { self.new.course ≡ offered result self.new.context.told.slow self.new.context.told.until self.old.course }
         ensures same { OnErr result (self.new.rotation ≡ self.old.rotation) }
         ensures err { IfErr result (λ back. back.0 ≡ event) }
     {
         let shared = self.shared;
-        match shared.publish_as(self.rt, &mut self.seat, event, &mut self.told) {
+        match shared.offer(self.rt, &mut self.seat, event, &mut self.context.told) {
             Ok(answer) => {
-                let _ = self.follow(&answer, self.told.size);
+                let _ = self.follow(&answer, self.context.told.size);
                 Ok(answer)
             }
             Err((event, refusal)) => {
@@ -164,8 +170,8 @@ impl<L: Run, R: Wait, G: Gate + Drop> ServerPort<'_, L, R, G> {
     /// Notes why a message was held back, if it was. Such an offer is a delivery's work of the round's share.
     #[inline(never)]
     pub(crate) fn note_refusal(&mut self, refusal: PublishRefusal)
-        ensures course { self.new.course ≡ refused refusal self.old.told.slow self.old.told.until self.old.course }
-        ensures told { self.new.told ≡ self.old.told }
+        ensures course { self.new.course ≡ refused refusal self.old.context.told.slow self.old.context.told.until self.old.course }
+        ensures context { self.new.context ≡ self.old.context }
         ensures rotation { self.new.rotation ≡ self.old.rotation }
         ensures seat { self.new.seat ≡ self.old.seat }
     {
@@ -173,7 +179,7 @@ impl<L: Run, R: Wait, G: Gate + Drop> ServerPort<'_, L, R, G> {
             PublishRefusal::By(_) => {}
             PublishRefusal::Held => {
                 self.course.share = self.course.share.saturating_sub(1);
-                self.course.why = Some(match (self.told.slow, self.told.until) {
+                self.course.why = Some(match (self.context.told.slow, self.context.told.until) {
                     (Some(conn), _) => Why::Slow(conn),
                     (None, Some(until)) => Why::Receiver(until),
                     (None, None) => Why::Share,
@@ -184,7 +190,7 @@ impl<L: Run, R: Wait, G: Gate + Drop> ServerPort<'_, L, R, G> {
 }
 
 impl<L: Run, R: Wait, G: Gate + Drop> Port for ServerPort<'_, L, R, G> {
-    ghost use Rattle.std.specs.Prelude.{◌≢◌, ℕ, Err, IfErr, IsTrue, Some, false, true};
+    ghost use Rattle.std.specs.Prelude.{◌≢◌, ℕ, Err, IfErr, Some, false, true};
     ghost use Rattle.events.specs.Offers.{IsOffered};
     ghost use Rattle.events.specs.declared.refusal.PublishRefusal.TheVariants.{Held};
     ghost use Rattle.server_port.specs.Courses.{entered, offered};
@@ -219,8 +225,8 @@ impl<L: Run, R: Wait, G: Gate + Drop> Port for ServerPort<'_, L, R, G> {
         ensures place { ◌≡◌ {A = ℕ} 0 0 }
         ensures offered { IsOffered (λ old e r new. IsPostedBy L.opening old.seat.count e r new.seat.count) (λ old new. new.seat.count ≡ old.seat.count) self.old event result self.new }
         ensures err { IfErr result (λ back. back.0 ≡ event) }
-        ensures spent { self.old.course.share ≡ 0 → (result ≡ Err (event, Held)) × (self.new.course ≡ record self.old.course { why = Some Share }) × (self.new.told ≡ self.old.told) × (self.new.rotation ≡ self.old.rotation) }
-        ensures course { self.old.course.share ≢ 0 → self.new.course ≡ offered result self.new.told.slow self.new.told.until (record self.old.course { has_passed = false }) }
+        ensures spent { self.old.course.share ≡ 0 → (result ≡ Err (event, Held)) × (self.new.course ≡ record self.old.course { why = Some Share }) × (self.new.context ≡ self.old.context) × (self.new.rotation ≡ self.old.rotation) }
+        ensures course { self.old.course.share ≢ 0 → self.new.course ≡ offered result self.new.context.told.slow self.new.context.told.until (record self.old.course { has_passed = false }) }
     {
         if self.course.share == 0 {
             self.course.why = Some(Why::Share);
@@ -245,9 +251,8 @@ impl<L: Run, R: Wait, G: Gate + Drop> Port for ServerPort<'_, L, R, G> {
         words: &mut W,
     ) -> RunEnd {
         let posts = Posts { conn, now };
-        let mut hold = self.hold(messages.len());
         while !messages.is_empty() {
-            let end = self.publish_some(posts, messages, words, &mut hold);
+            let end = self.publish_some(posts, messages, words);
             if !goes_on(&end) {
                 return end;
             }
@@ -258,7 +263,6 @@ impl<L: Run, R: Wait, G: Gate + Drop> Port for ServerPort<'_, L, R, G> {
 
     /// Where something waits for a connection, what it is told next stands behind that, once.
     fn must_wait(&self, conn: u64) -> bool
-        ensures holds { IsTrue result → self.now.seat.count ≡ self.now.seat.count }
         ensures passed { self.now.course.has_passed ≡ true → result ≡ false }
     {
         !self.course.has_passed && self.shared.waiting(self.rt, conn) > 0

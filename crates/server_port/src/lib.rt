@@ -10,4 +10,4 @@ mod port;
 mod runs;
 
 pub use course::Why;
-pub use port::ServerPort;
+pub use port::{Access, ServerPort};

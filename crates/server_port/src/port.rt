@@ -3,11 +3,18 @@ ghost use Rattle.std.specs.Prelude.{◌≡◌};
 use crate::course::{Course, Why};
 use server_gates::{Gate, Point};
 use server_history::{Kept, Rotation};
-use server_mail::OutgoingMail;
-use shared_hub::{Run, Seat, SharedHub, Told};
+use server_mail::{OutgoingMail, ServerState};
+use shared_hub::{Run, RunContext, Seat, SharedHub};
 use std::alloc::Global;
 use std::mem;
 use std::sync::Wait;
+
+/// A thread's access to the hub: its seat, and the gate that each of its events passes.
+#[derive(Drop)]
+pub struct Access<L: Run, G: Drop> {
+    pub seat: Seat<L>,
+    pub gate: G,
+}
 
 /// A thread's port to the hub.
 pub struct ServerPort<'a, L: Run, R: Wait, G: Gate + Drop> {
@@ -21,8 +28,8 @@ pub struct ServerPort<'a, L: Run, R: Wait, G: Gate + Drop> {
     /// What all ports have counted.
     pub(crate) kept: &'a Kept,
     pub(crate) outgoing: OutgoingMail,
-    /// What the hub told beside the latest answer.
-    pub(crate) told: Told,
+    /// What goes with the messages of a run, and what the hub told beside the latest answer.
+    pub(crate) context: RunContext,
     pub(crate) course: Course,
     /// For how many milliseconds the socket took nothing whose connection's Take comes next.
     pub(crate) refused: u64,
@@ -40,7 +47,7 @@ impl<L: Run, R: Wait, G: Gate + Drop> Drop for ServerPort<'_, L, R, G> {
             rotation: _,
             kept: _,
             outgoing: _,
-            told: _,
+            context: _,
             course: _,
             refused: _,
         } = self;
@@ -54,22 +61,21 @@ impl<'a, L: Run, R: Wait, G: Gate + Drop> ServerPort<'a, L, R, G> {
     ghost use Rattle.server_history.specs.Rotating.{but_last, fresh};
     ghost use Rattle.server_port.specs.Histories.{passed, tried};
 
-    /// The port of a seat behind a gate, to a hub whose history holds at most so many entries. It has no share yet.
+    /// Makes the port of a thread with such access. It has no share yet.
     pub fn new(
         rt: &'a R,
         alloc: Global,
         shared: &'a SharedHub<L>,
-        seat: Seat<L>,
-        gate: G,
+        state: &'a ServerState<'a>,
+        access: Access<L, G>,
         outgoing: OutgoingMail,
-        history: usize,
-        kept: &'a Kept,
     ) -> ServerPort<'a, L, R, G>
-        ensures seat { result.seat.count ≡ seat.count }
-        ensures rotation { result.rotation ≡ fresh history }
+        ensures seat { result.seat.count ≡ access.seat.count }
+        ensures rotation { result.rotation ≡ fresh state.now.limits.history }
         ensures course { result.course ≡ record { share = 0; why = None; has_passed = false; has_entered = false } }
         ensures spent { result.is_spent ≡ false }
     {
+        let Access { seat, gate } = access;
         ServerPort {
             rt,
             alloc,
@@ -77,10 +83,10 @@ impl<'a, L: Run, R: Wait, G: Gate + Drop> ServerPort<'a, L, R, G> {
             seat,
             gate,
             is_spent: false,
-            rotation: Rotation::new(alloc, history),
-            kept,
+            rotation: Rotation::new(alloc, state.limits.history),
+            kept: state.kept(),
             outgoing,
-            told: Told::new(alloc),
+            context: RunContext::new(alloc),
             course: Course {
                 share: 0,
                 why: None,
@@ -160,11 +166,11 @@ impl<'a, L: Run, R: Wait, G: Gate + Drop> ServerPort<'a, L, R, G> {
     /// A Take comes next, of a connection whose socket took nothing for so many milliseconds since its last one.
     pub fn begin_take(&mut self, refused: u64)
         ensures refused { self.new.refused ≡ refused }
-        ensures none { self.new.told.rest ≡ None }
+        ensures none { self.new.context.told.rest ≡ None }
         ensures course { self.new.course ≡ self.old.course }
         ensures seat { self.new.seat ≡ self.old.seat }
     {
-        self.told.rest = None;
+        self.context.told.rest = None;
         self.refused = refused;
     }
 
@@ -180,12 +186,12 @@ impl<'a, L: Run, R: Wait, G: Gate + Drop> ServerPort<'a, L, R, G> {
 
     /// How many deliveries waited for a connection behind the latest Take, if that wasn't asked since.
     pub fn take_rest(&mut self) -> Option<usize>
-        ensures rest { result ≡ self.old.told.rest }
-        ensures none { self.new.told.rest ≡ None }
+        ensures rest { result ≡ self.old.context.told.rest }
+        ensures none { self.new.context.told.rest ≡ None }
         ensures course { self.new.course ≡ self.old.course }
         ensures seat { self.new.seat ≡ self.old.seat }
     {
-        self.told.rest.take()
+        self.context.told.rest.take()
     }
 
     /// Drops so many of the entries that were handed out, or all. Answers whether some are left. Who rests does so, since
@@ -203,7 +209,7 @@ impl<'a, L: Run, R: Wait, G: Gate + Drop> ServerPort<'a, L, R, G> {
         ensures spent { (lets : Bool) × G.passes self.old.gate point lets self.new.gate × (self.new.is_spent ≡ (self.old.is_spent || not lets)) }
         ensures course { self.new.course ≡ self.old.course }
         ensures rotation { self.new.rotation ≡ self.old.rotation }
-        ensures told { self.new.told ≡ self.old.told }
+        ensures context { self.new.context ≡ self.old.context }
         ensures seat { self.new.seat ≡ self.old.seat }
     {
         if self.gate.pass(point).is_err() {

@@ -7,8 +7,9 @@ use crate::port::ServerPort;
 use events::{Answer, Event, HubRefusal, Message, PublishRefusal, RunEnd, Words};
 use server_gates::{Gate, Point};
 use shared_hub::{Run, size_of};
-use shared_runs::{Hold, Posts, was_published, word_of};
+use shared_runs::{Posts, was_published, word_of};
 use std::collections::VecDeque;
+use std::mem;
 use std::sync::Wait;
 
 /// How many messages are offered in one hold of the lock, at most: as many as old entries are dropped together, so that each
@@ -46,14 +47,6 @@ impl<L: Run, R: Wait, G: Gate + Drop> ServerPort<'_, L, R, G> {
     ghost use Rattle.server_port.specs.declared.course.Why.TheVariants.{Share};
     ghost use Rattle.shared_hub.specs.Entering.{IsOfferedBy, IsPostedBy};
 
-    /// What so many messages need in one hold.
-    #[inline(always)]
-    pub(crate) fn hold(&self, messages: usize) -> Hold
-        ensures { result.answers.items ≡ [] }
-    {
-        Hold::new(self.alloc, messages.min(MOST_WAITING))
-    }
-
     /// Offers the first of some messages, and those behind it as far as they may enter in the same hold of the lock. Once the
     /// round's share is spent, the hub isn't asked.
     pub(crate) fn publish_some<W: Words>(
@@ -61,23 +54,21 @@ impl<L: Run, R: Wait, G: Gate + Drop> ServerPort<'_, L, R, G> {
         posts: Posts,
         messages: &mut VecDeque<Message>,
         words: &mut W,
-        hold: &mut Hold,
     ) -> RunEnd
         requires some { 0 < length messages.old.items }
-        requires empty { hold.old.answers.items ≡ [] }
         ensures posted { IsPosted (λ old e r new. IsPostedBy L.opening old.seat.count e r new.seat.count) (λ old new. new.seat.count ≡ old.seat.count) W.draws posts.conn posts.now messages.old.items self.old words.old result messages.new.items self.new words.new }
-        ensures empty { hold.new.answers.items ≡ [] }
-        ensures spent { self.old.course.share ≡ 0 → (word : ℕ) × (result ≡ Stopped word Held) × (self.new.course ≡ record self.old.course { why = Some Share }) × (self.new.told ≡ self.old.told) × (self.new.rotation ≡ self.old.rotation) }
+        ensures spent { self.old.course.share ≡ 0 → (word : ℕ) × (result ≡ Stopped word Held) × (self.new.course ≡ record self.old.course { why = Some Share }) × (self.new.context ≡ self.old.context) × (self.new.rotation ≡ self.old.rotation) }
     {
         if self.course.share == 0 {
             return self.hold_back(messages, words);
         }
         self.course.has_passed = false;
-        self.pass_read(messages.len().min(MOST_WAITING));
-        hold.most = MOST_MESSAGES;
-        hold.room = self.course.share.min(MOST_WORK);
-        let end = self.enter_run(posts, messages, words, hold);
-        self.follow_all(hold);
+        let longest = messages.len().min(MOST_WAITING);
+        self.pass_read(longest);
+        let room = self.course.share.min(MOST_WORK);
+        self.context.hold.begin(room, MOST_MESSAGES, longest);
+        let end = self.enter_run(posts, messages, words);
+        self.follow_all();
         match end {
             None => RunEnd::Published,
             Some(last) => {
@@ -93,7 +84,7 @@ impl<L: Run, R: Wait, G: Gate + Drop> ServerPort<'_, L, R, G> {
         requires some { 0 < length messages.old.items }
         ensures held { (word : ℕ) × (first : Message) × (result ≡ Stopped word Held) × (messages.old.items ≡ first ∷ messages.new.items) × W.draws words.old word words.new }
         ensures course { self.new.course ≡ record self.old.course { why = Some Share } }
-        ensures told { self.new.told ≡ self.old.told }
+        ensures context { self.new.context ≡ self.old.context }
         ensures rotation { self.new.rotation ≡ self.old.rotation }
         ensures seat { self.new.seat ≡ self.old.seat }
     {
@@ -117,40 +108,36 @@ impl<L: Run, R: Wait, G: Gate + Drop> ServerPort<'_, L, R, G> {
         }
     }
 
+    /// Offers messages in the hold that has begun, as `SharedHub::offer_run` does.
     #[inline(always)]
     fn enter_run<W: Words>(
         &mut self,
         posts: Posts,
         messages: &mut VecDeque<Message>,
         words: &mut W,
-        hold: &mut Hold,
     ) -> Option<Result<Answer, (Event, PublishRefusal)>>
-        ensures run { (answers : List Entry) × (hold.new.answers.items ≡ hold.old.answers.items ++ answers) × IsRun (λ s e r after. IsOfferedBy L.opening s.count e r after.count) W.draws posts.conn posts.now messages.old.items self.old.seat words.old answers result messages.new.items self.new.seat words.new }
+        ensures run { (answers : List Entry) × (self.new.context.hold.answers.items ≡ self.old.context.hold.answers.items ++ answers) × IsRun (λ s e r after. IsOfferedBy L.opening s.count e r after.count) W.draws posts.conn posts.now messages.old.items self.old.seat words.old answers result messages.new.items self.new.seat words.new }
         ensures course { self.new.course ≡ self.old.course }
     {
         let shared = self.shared;
-        let end = shared.publish_run_as(
-            self.rt,
-            &mut self.seat,
-            posts,
-            messages,
-            words,
-            hold,
-            &mut self.told,
-        );
+        self.context.posts = posts;
+        let end = shared.offer_run(self.rt, &mut self.seat, &mut self.context, messages, words);
         end
     }
 
     /// Follows the answers that came in a hold, and keeps none.
-    fn follow_all(&mut self, hold: &mut Hold)
+    #[inline(always)]
+    fn follow_all(&mut self)
         ensures seat { self.new.seat ≡ self.old.seat }
-        ensures course { self.new.course ≡ all_followed hold.old.answers.items self.old.course }
-        ensures empty { hold.new.answers.items ≡ [] }
+        ensures course { self.new.course ≡ all_followed self.old.context.hold.answers.items self.old.course }
     {
-        self.follow_each(hold.answers.as_slice());
-        hold.answers.clear();
+        let mut answers = mem::replace(&mut self.context.hold.answers, Vec::new(self.alloc));
+        self.follow_each(answers.as_slice());
+        answers.clear();
+        self.context.hold.answers = answers;
     }
 
+    /// Follows answers, in order.
     #[inline(always)]
     fn follow_each(&mut self, answers: &[Answer])
         ensures seat { self.new.seat ≡ self.old.seat }
@@ -161,6 +148,7 @@ impl<L: Run, R: Wait, G: Gate + Drop> ServerPort<'_, L, R, G> {
         }
     }
 
+    /// Follows a message's answer, which passes the gate then.
     #[inline(always)]
     fn follow_message(&mut self, answer: &Answer)
         ensures seat { self.new.seat ≡ self.old.seat }

@@ -6,9 +6,9 @@ use reload_lines::write_reload;
 use server_fault::ServeFault;
 use server_gates::{Gate, Point};
 use server_mail::{OutgoingMail, ServerState};
-use server_port::ServerPort;
+use server_port::{Access, ServerPort};
 use server_prints::Prints;
-use shared_hub::{Run, Seat, SharedHub};
+use shared_hub::{Run, SharedHub};
 use std::alloc::Global;
 use std::sync::Wait;
 use std::time::{Clock, Duration};
@@ -38,24 +38,21 @@ impl<L: Run, R: Wait, G: Gate + Drop> Drop for Reloads<'_, L, R, G> {
 }
 
 impl<'a, L: Run, R: Wait + Clock, G: Gate + Drop> Reloads<'a, L, R, G> {
-    /// Returns a thread's reloads, with its seat and gate. Without memory it returns `None`.
+    /// Returns the reloads of a thread with such access to the hub. Without memory it returns `None`.
     pub fn new(
         rt: &'a R,
         alloc: Global,
         shared: &'a SharedHub<L>,
         state: &'a ServerState<'a>,
-        own: (Seat<L>, G),
+        access: Access<L, G>,
         prints: &'a Prints,
     ) -> Option<Reloads<'a, L, R, G>> {
-        let (seat, gate) = own;
         let outgoing = OutgoingMail::new(alloc, state.mailboxes.len(), None)?;
-        let history = state.limits.history;
-        let kept = state.kept();
         Some(Reloads {
             rt,
             alloc,
             state,
-            port: ServerPort::new(rt, alloc, shared, seat, gate, outgoing, history, kept),
+            port: ServerPort::new(rt, alloc, shared, state, access, outgoing),
             prints,
         })
     }

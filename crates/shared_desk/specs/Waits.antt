@@ -42,7 +42,7 @@ but_for (Some publisher) ws = without publisher ws
 abbrev pub offered : Command → Waiting → Waiting
 offered c w = record w { publishers = but_for (publisher_of c) w.publishers }
 
--- A message that is held back has its publisher laid down; whoever else offers something waits for nobody.
+-- A message that is held back has its publisher wait; whoever else offers something waits for nobody.
 abbrev pub IsLaidDown : Option ℕ → (ℕ → ℕ) → ℕ → List ℕ → Waiting → Waiting → Type 0
 IsLaidDown None waiting now held w after = after ≡ w
 IsLaidDown (Some publisher) waiting now held w after = IsHeld waiting now publisher (slice_index held 0) held w after

@@ -3,6 +3,7 @@ ghost use Rattle.std.specs.Prelude.{◌≡◌, ◌+◌, ◌≤◌, ℕ};
 
 use crate::audit::Audit;
 use crate::bounds::{room_beside, size_of};
+use crate::run_context::RunContext;
 use crate::told::Told;
 use crate::views::{AtMoment, HubOutboxes};
 use base::{Copying, Items, NoMemory};
@@ -12,7 +13,6 @@ use hub::{
     Segment,
 };
 use shared_receipts::Receipt;
-use shared_runs::{Hold, Posts};
 use shared_waits::{Outboxes, Waits};
 use std::alloc::Global;
 use std::collections::VecDeque;
@@ -302,7 +302,7 @@ impl<L: Run> Desk<L> {
             Command::Take { conn, .. } => {
                 let waiting = HubOutboxes { hub: &self.hub }.waiting(*conn);
                 self.waits
-                    .rest(*conn, waiting, refused, entry.event.now, &mut told.freed);
+                    .follow_take(*conn, waiting, refused, entry.event.now, &mut told.freed);
                 told.rest = Some(waiting);
             }
             Command::Close { conn } => {
@@ -322,8 +322,8 @@ impl<L: Run> Desk<L> {
 
     /// Makes the step of a message's event as `step` does, unless receivers have no room for it: their outboxes are full,
     /// and by the waits there still is patience with them at its moment; or it is large, and with it more than 64 MiB would
-    /// wait for them. Then it is held back and nothing has changed, but that its publisher is laid down under the first of
-    /// them and that they are behind since this moment, if they weren't before. So each full outbox of which an answer tells
+    /// wait for them. Then it is held back and nothing has changed, but that its publisher waits for the first of them and
+    /// that they are behind from this moment on, if they weren't before. So each full outbox of which an answer tells
     /// was empty before the message, or is of a receiver with which the patience was used up at that moment. If the patience
     /// with the first of them is used up, so that the message waits for its bytes, `told` names it: it has to be closed,
     /// since this message never enters for it before. The publisher is taken out of where it stood before. A refusal is the
@@ -380,22 +380,21 @@ impl<L: Run> Desk<L> {
     pub fn step_run<W: Words>(
         &mut self,
         seat: &mut Seat<L>,
-        posts: Posts,
+        context: &mut RunContext,
         messages: &mut VecDeque<Message>,
         words: &mut W,
-        hold: &mut Hold,
-        told: &mut Told,
     ) -> Option<Result<Answer, (Event, PublishRefusal)>>
-        ensures run { (answers : List Entry) × (hold.new.answers.items ≡ hold.old.answers.items ++ answers) × IsRun (IsPublished (λ s. s.count) L.opening) W.draws posts.conn posts.now messages.old.items (inside self.old.hub self.old.waits self.old.held.items seat.old told.old) words.old answers result messages.new.items (inside self.new.hub self.new.waits self.new.held.items seat.new told.new) words.new }
-        ensures freed { told.new.freed.items ≡ told.old.freed.items }
-        ensures rest { told.new.rest ≡ told.old.rest }
+        ensures run { (answers : List Entry) × (context.new.hold.answers.items ≡ context.old.hold.answers.items ++ answers) × IsRun (IsPublished (λ s. s.count) L.opening) W.draws context.old.posts.conn context.old.posts.now messages.old.items (inside self.old.hub self.old.waits self.old.held.items seat.old context.old.told) words.old answers result messages.new.items (inside self.new.hub self.new.waits self.new.held.items seat.new context.new.told) words.new }
+        ensures freed { context.new.told.freed.items ≡ context.old.told.freed.items }
+        ensures rest { context.new.told.rest ≡ context.old.told.rest }
     {
+        let posts = context.posts;
         while let Some(message) = messages.pop_front() {
             let event = posts.event(message, words.next());
-            match self.step_if(seat, event, told) {
+            match self.step_if(seat, event, &mut context.told) {
                 Err(refused) => return Some(Err(refused)),
                 Ok(answer) => {
-                    if let Some(last) = hold.keep(answer) {
+                    if let Some(last) = context.hold.keep(answer) {
                         return Some(Ok(last));
                     }
                 }
@@ -415,7 +414,7 @@ impl<L: Run> Desk<L> {
         }
     }
 
-    /// Lays the publisher of a message down that is held back, and tells until when or for whom. If there is no memory, the
+    /// Has the publisher of a message wait that is held back, and tells until when or for whom. If there is no memory, the
     /// message is refused. It stands apart so that what each message passes stays small.
     #[inline(never)]
     fn hold(&mut self, event: &Event, told: &mut Told) -> PublishRefusal

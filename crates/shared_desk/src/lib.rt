@@ -6,6 +6,7 @@ mod audit;
 mod bounds;
 mod desk;
 mod laws;
+mod run_context;
 mod told;
 mod views;
 
@@ -13,5 +14,6 @@ pub use audit::Audit;
 pub use bounds::size_of;
 pub use desk::{Desk, Run, Seat};
 pub use laws::bounded;
+pub use run_context::RunContext;
 pub use std::sync::ledger::Blank;
 pub use told::Told;

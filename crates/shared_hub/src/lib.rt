@@ -9,8 +9,7 @@ mod unlocked;
 
 pub use audit::AuditFault;
 pub use port::SharedPort;
-pub use shared_desk::{Audit, Blank, Desk, Run, Seat, Told, size_of};
+pub use shared_desk::{Audit, Blank, Desk, Run, RunContext, Seat, Told, size_of};
 pub use shared_hub::SharedHub;
 pub use shared_receipts::Receipt;
-pub use shared_runs::{Hold, Posts};
 pub use unlocked::{Parts, Unlocked};

@@ -3,11 +3,11 @@ ghost use Rattle.std.specs.Prelude.{◌≡◌, ◌<◌, ◌≤◌, ℕ};
 
 use crate::audit::AuditFault;
 use crate::unlocked::{Parts, Unlocked};
-use crate::{Audit, Desk, Receipt, Run, Seat, Told};
+use crate::{Audit, Desk, Receipt, Run, RunContext, Seat, Told};
 use base::NoMemory;
 use events::Words;
 use hub::{Answer, Event, Hub, HubRefusal, Message, PublishRefusal, Segment};
-use shared_runs::{Hold, Posts};
+use shared_runs::Hold;
 use std::alloc::Global;
 use std::collections::VecDeque;
 use std::hint::spin_loop;
@@ -160,7 +160,7 @@ impl<L: Run> SharedHub<L> {
     /// held. Publishers that wait are let on, and a Take is charged with the milliseconds in which its connection's socket
     /// took nothing, as `Desk::step` does.
     #[inline(always)]
-    pub fn answer_as<R: Wait>(
+    pub fn submit_without_receipt<R: Wait>(
         &self,
         rt: &R,
         seat: &mut Seat<L>,
@@ -174,9 +174,9 @@ impl<L: Run> SharedHub<L> {
         self.desk.lock(rt).step(seat, event, refused, told)
     }
 
-    /// Submits a message's event, which is answered or held back, as `Desk::step_if` does.
+    /// Offers a message's event, which is submitted or held back, as `Desk::step_if` does.
     #[inline(always)]
-    pub fn publish_as<R: Wait>(
+    pub fn offer<R: Wait>(
         &self,
         rt: &R,
         seat: &mut Seat<L>,
@@ -190,25 +190,23 @@ impl<L: Run> SharedHub<L> {
         self.desk.lock(rt).step_if(seat, event, told)
     }
 
-    /// Publishes messages of one connection in one hold of the lock, as `Desk::step_run` does. Where the lock is found taken,
-    /// the hold is lengthened: so many more messages enter for one wait.
+    /// Offers messages of one connection in one hold of the lock, as `Desk::step_run` does. Where the lock is found taken,
+    /// the hold is lengthened, so that more messages enter for one wait.
     #[inline(always)]
-    pub fn publish_run_as<R: Wait, W: Words>(
+    pub fn offer_run<R: Wait, W: Words>(
         &self,
         rt: &R,
         seat: &mut Seat<L>,
-        posts: Posts,
+        context: &mut RunContext,
         messages: &mut VecDeque<Message>,
         words: &mut W,
-        hold: &mut Hold,
-        told: &mut Told,
     ) -> Option<Result<Answer, (Event, PublishRefusal)>>
-        ensures run { (answers : List Entry) × (hold.new.answers.items ≡ hold.old.answers.items ++ answers) × IsRun (λ s e r after. IsOfferedBy L.opening s.count e r after.count) W.draws posts.conn posts.now messages.old.items seat.old words.old answers result messages.new.items seat.new words.new }
-        ensures freed { told.new.freed.items ≡ told.old.freed.items }
-        ensures rest { told.new.rest ≡ told.old.rest }
+        ensures run { (answers : List Entry) × (context.new.hold.answers.items ≡ context.old.hold.answers.items ++ answers) × IsRun (λ s e r after. IsOfferedBy L.opening s.count e r after.count) W.draws context.old.posts.conn context.old.posts.now messages.old.items seat.old words.old answers result messages.new.items seat.new words.new }
+        ensures freed { context.new.told.freed.items ≡ context.old.told.freed.items }
+        ensures rest { context.new.told.rest ≡ context.old.told.rest }
     {
-        let mut desk = self.lock_for(rt, hold);
-        let end = desk.step_run(seat, posts, messages, words, hold, told);
+        let mut desk = self.lock_for(rt, &mut context.hold);
+        let end = desk.step_run(seat, context, messages, words);
         end
     }
 

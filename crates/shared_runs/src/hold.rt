@@ -10,36 +10,49 @@ pub struct Hold {
     /// The answers of messages that were published and had others behind them, in order.
     pub answers: Vec<Answer>,
     /// How many messages and deliveries may still enter.
-    pub room: usize,
+    room: usize,
     /// How many messages may enter, of those for whose answers there is memory. One may enter in any case.
-    pub most: usize,
+    most: usize,
+    /// The same of a hold that is lengthened.
+    longest: usize,
 }
 
 impl Hold {
     ghost use Rattle.std.specs.Prelude.{◌≡◌, ◌++◌, ◌∷◌, [], Option, None, Some, ℕ};
     ghost use Rattle.shared_runs.specs.Runs.{IsKept};
 
-    /// Returns a hold with memory for the answers of so many messages, in which one message may enter. Without memory it has
-    /// none.
-    pub fn new(alloc: Global, messages: usize) -> Hold
+    /// Makes a hold in which one message may enter, with no answer.
+    pub fn new(alloc: Global) -> Hold
         ensures { result.answers.items ≡ [] }
     {
-        let answers = match Vec::with_capacity(alloc, messages.saturating_sub(1)) {
-            Ok(answers) => answers,
-            Err(_) => Vec::new(alloc),
-        };
         Hold {
-            answers,
+            answers: Vec::new(alloc),
             room: 0,
             most: 1,
+            longest: 1,
         }
     }
 
-    /// Lets as many messages enter as there is memory for.
+    /// Begins another hold, in which so many messages and deliveries may enter, with no answer. At most `most` messages may
+    /// enter, or `longest` once it is lengthened: of those for whose answers memory can be had.
+    #[inline(always)]
+    pub fn begin(&mut self, room: usize, most: usize, longest: usize)
+        ensures { self.new.answers.items ≡ [] }
+    {
+        if !self.answers.is_empty() {
+            self.answers.clear();
+        }
+        let _ = self.answers.reserve(longest.saturating_sub(1));
+        self.room = room;
+        self.most = most;
+        self.longest = longest;
+    }
+
+    /// Lets more messages enter.
     pub fn lengthen(&mut self)
         ensures { self.new.answers ≡ self.old.answers }
     {
-        self.most = usize::MAX;
+        self.most = self.longest;
     }
 
     /// Keeps the answer of a message that was published, if another may enter behind it; else hands it back.
@@ -62,7 +75,7 @@ impl Hold {
     }
 }
 
-/// How many subscriptions a message met, if it was published.
+/// Returns how many subscriptions a message met, if it was published.
 #[inline(always)]
 fn items_of(answer: &Answer) -> Option<usize>
     ensures { is_some result ≡ was_published answer.now.outcome }
@@ -73,7 +86,7 @@ fn items_of(answer: &Answer) -> Option<usize>
     }
 }
 
-/// Whether a message was published.
+/// Returns whether a message was published.
 #[inline(always)]
 pub fn was_published(answer: &Answer) -> bool
     ensures { result ≡ was_published answer.now.outcome }

@@ -8,7 +8,7 @@ use Rattle.shared_waits.specs.Patience.{is_out, out_at, fresh, begun, lowered, t
 pub record Waiting : Type 0 where
   -- the receivers that were found behind, and the patience with each
   pub receivers : List (ℕ × Patience)
-  -- the publishers that wait, each with its receiver, in the order in which they were laid down
+  -- the publishers that wait, each with its receiver, in the order in which they began to wait
   pub publishers : List (ℕ × ℕ)
 
 -- the patience with a receiver, if it was found behind

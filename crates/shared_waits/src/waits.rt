@@ -16,7 +16,7 @@ const TOGETHER: usize = 64;
 /// The receivers that were found behind, each by its connection.
 type Receivers = IndexMap<u64, Patience>;
 
-/// The publishers that wait, each with its receiver, in the order in which they were laid down.
+/// The publishers that wait, each with its receiver, in the order in which they began to wait.
 type Publishers = IndexMap<u64, u64>;
 
 /// The outboxes of connections.
@@ -97,8 +97,8 @@ impl Waits {
         }
     }
 
-    /// Lays a publisher down whose message `held` have no room for: under the first of these receivers and under no other.
-    /// They are behind since this moment, if they weren't before. Publishers are let on once half of what waits for their
+    /// Has a publisher wait whose message has no room at the receivers `held`: for the first of them, and for no other. Each
+    /// of them is behind from this moment on, if it wasn't before. The publisher is let on once half of what waits for its
     /// receiver has left. `NoMemory` changes nothing.
     pub fn hold<O: Outboxes>(
         &mut self,
@@ -116,14 +116,21 @@ impl Waits {
         let first = held[0];
         find_all(&mut self.receivers, held, now, outboxes);
         lower(&mut self.receivers, first, outboxes.waiting(first) / 2);
-        lay_down(&mut self.publishers, publisher, first);
+        add_publisher(&mut self.publishers, publisher, first);
         Ok(())
     }
 
-    /// Follows a receiver's Take, behind which so many deliveries wait for it. Since its last Take its socket took nothing
-    /// for so many milliseconds, which are charged if it is behind. If few enough wait, it is behind no more, and publishers
-    /// that wait for it are let on: all if nothing waits, else the first 64 of them.
-    pub fn rest(&mut self, conn: u64, waiting: usize, refused: u64, now: u64, freed: &mut Vec<u64>)
+    /// Follows a receiver's Take, after which so many deliveries wait for it. If it is behind, it is charged with the
+    /// milliseconds in which its socket took nothing since its Take before. If few enough deliveries wait, it is behind no
+    /// more, and publishers that wait for it are let on: all if nothing waits, else the first 64 of them.
+    pub fn follow_take(
+        &mut self,
+        conn: u64,
+        waiting: usize,
+        refused: u64,
+        now: u64,
+        freed: &mut Vec<u64>,
+    )
         requires room { vec_len freed.old + length self.old.publishers ≤ vec_capacity freed.old }
         ensures freed { freed.new.items ≡ freed.old.items ++ let_on conn waiting self.old }
         ensures rested { IsRested conn waiting refused now self.old self.new }
@@ -204,8 +211,8 @@ fn let_some_on(publishers: &mut Publishers, receiver: u64, freed: &mut Vec<u64>)
     leave_some(publishers, receiver, &freed.as_slice()[start..]);
 }
 
-/// Lays a publisher down under a receiver and under no other.
-fn lay_down(publishers: &mut Publishers, publisher: u64, receiver: u64)
+/// Has a publisher wait for a receiver and for no other.
+fn add_publisher(publishers: &mut Publishers, publisher: u64, receiver: u64)
     requires { 0 < spare publishers.old }
     ensures { publishers.new.entries ≡ without publisher publishers.old.entries ++ (publisher, receiver) ∷ [] }
 {

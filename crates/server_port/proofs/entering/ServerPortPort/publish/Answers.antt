@@ -7,14 +7,13 @@ use Rattle.server_port.proofs.SeatRuns.{completes_on}
 use Rattle.server_port.proofs.entering.ServerPortPort.publish.Goals as goal
 
 pub loop-posts-init : goal.loop-posts-init
-loop-posts-init g c = record { posted = λ end rest p' w' h. h; empty = c.hold-hold.ensures }
+loop-posts-init g c = record { posted = λ end rest p' w' h. h }
 
 pub loop-posts-preserved : goal.loop-posts-preserved
 loop-posts-preserved g c = record {
   posted = completes_on (λ old e r new. IsPostedBy g.L.Run.opening old.seat.count e r new.seat.count) (λ old new. new.seat.count ≡ old.seat.count) g.W.Words.draws c.args.conn c.args.now c.args.messages.now.items c.args.self.now c.args.words.now
       c.loop-posts.messages.items c.loop-posts.self c.loop-posts.words c.publish_some-end.result c.publish_some-end.new.messages.items c.publish_some-end.new.self c.publish_some-end.new.words
       c.loop-posts.invariant.posted (sym c.goes_on.ensures ∙ c.if-not-goes_on.false) c.publish_some-end.ensures.posted;
-  empty = c.publish_some-end.ensures.empty;
 }
 
 pub returns-then-not-goes_on-clause-posted : goal.returns-then-not-goes_on-clause-posted

@@ -8,12 +8,12 @@ use Rattle.shared_desk.proofs.desk.Desk.step_run.Given as goal
 
 abbrev pub invariant-loop-message : goal.invariant-loop-message
 invariant-loop-message g l = record {
-  freed : l.told.freed.items ≡ l.initial.told.freed.items;
-  rest : l.told.rest ≡ l.initial.told.rest;
-  run : (answers : List Entry) × (l.hold.answers.items ≡ l.initial.hold.answers.items ++ answers)
-      × Continues (IsPublished (λ s. s.count) g.L.Run.opening) g.W.Words.draws l.posts.conn l.posts.now l.initial.messages.items
-      (inside l.initial.self.hub l.initial.self.waits l.initial.self.held.items l.initial.seat l.initial.told) l.initial.words
-      answers l.messages.items (inside l.self.hub l.self.waits l.self.held.items l.seat l.told) l.words;
+  freed : l.context.told.freed.items ≡ l.initial.context.told.freed.items;
+  rest : l.context.told.rest ≡ l.initial.context.told.rest;
+  run : (answers : List Entry) × (l.context.hold.answers.items ≡ l.initial.context.hold.answers.items ++ answers)
+      × Continues (IsPublished (λ s. s.count) g.L.Run.opening) g.W.Words.draws l.initial.context.posts.conn l.initial.context.posts.now l.initial.messages.items
+      (inside l.initial.self.hub l.initial.self.waits l.initial.self.held.items l.initial.seat l.initial.context.told) l.initial.words
+      answers l.messages.items (inside l.self.hub l.self.waits l.self.held.items l.seat l.context.told) l.words;
 }
 
 abbrev pub decreases-loop-message : goal.decreases-loop-message

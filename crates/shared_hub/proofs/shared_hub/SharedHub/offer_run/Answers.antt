@@ -4,7 +4,7 @@ use Rattle.shared_runs.proofs.Runs.{run_along}
 use Rattle.shared_desk.specs.Publishing.{IsPublished}
 use Rattle.shared_hub.specs.Entering.{IsOfferedBy}
 use Rattle.shared_hub.proofs.Offered.{offered_by}
-use Rattle.shared_hub.proofs.shared_hub.SharedHub.publish_run_as.Goals as goal
+use Rattle.shared_hub.proofs.shared_hub.SharedHub.offer_run.Goals as goal
 
 pub returns-clause-run : goal.returns-clause-run
 returns-clause-run g c =
@@ -12,6 +12,6 @@ returns-clause-run g c =
       run.0,
       run.1 ∙ ap (λ xs. xs ++ run.0) c.lock_for-desk.ensures,
       run_along (λ x. x.seat) (IsPublished (λ s. s.count) g.L.Run.opening) (λ s e r after. IsOfferedBy g.L.Run.opening s.count e r after.count)
-          g.W.Words.draws c.args.posts.conn c.args.posts.now (offered_by (λ s. s.count) g.L.Run.opening) c.args.messages.now.items _ c.args.words.now run.0 c.step_run-end.result
+          g.W.Words.draws c.args.context.now.posts.conn c.args.context.now.posts.now (offered_by (λ s. s.count) g.L.Run.opening) c.args.messages.now.items _ c.args.words.now run.0 c.step_run-end.result
           c.step_run-end.new.messages.items _ c.step_run-end.new.words run.2,
     )

@@ -1,7 +1,7 @@
 -- what the desk tells of an offer, as far as the seat knows it
 use Rattle.shared_desk.specs.Publishing.{inside}
 use Rattle.shared_hub.proofs.Offered.{offered_by}
-use Rattle.shared_hub.proofs.shared_hub.SharedHub.publish_as.Goals as goal
+use Rattle.shared_hub.proofs.shared_hub.SharedHub.offer.Goals as goal
 
 pub returns-clause-offered : goal.returns-clause-offered
 returns-clause-offered g c =

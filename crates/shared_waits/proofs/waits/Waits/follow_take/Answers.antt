@@ -3,7 +3,7 @@ use Rattle.std.proofs.Common.{◌≡◌, ◌∙◌, true, sym, subst}
 use Rattle.std.proofs.lemmas.Bool.{ne_eqb}
 use Rattle.shared_waits.specs.Waiting.{Waiting, patience_with, has_room, IsRested}
 use Rattle.shared_waits.proofs.Lists.{rested_by}
-use Rattle.shared_waits.proofs.waits.Waits.rest.Goals as goal
+use Rattle.shared_waits.proofs.waits.Waits.follow_take.Goals as goal
 
 pub returns-else-waiting-eq0-clause-rested : goal.returns-else-waiting-eq0-clause-rested
 returns-else-waiting-eq0-clause-rested c =

@@ -1,7 +1,7 @@
 -- a publisher that isn't there is put behind the others
 use Rattle.std.proofs.Common.{◌∙◌, ◌++◌, ◌∷◌, [], List, ℕ, ap}
 use Rattle.indexmap.proofs.CallerLemmas.{insert_entry-new}
-use Rattle.shared_waits.proofs.waits.lay_down.Goals as goal
+use Rattle.shared_waits.proofs.waits.add_publisher.Goals as goal
 
 pub returns : goal.returns
 returns c =
