@@ -65,8 +65,8 @@ fn queue_from(
     }
 }
 
-/// The pattern of a text. `BadSubject` where it is none.
-fn pattern_from(alloc: Global, path: &Path, text: &[u8]) -> Result<Pattern, ConfigFault>
+/// The pattern of a text. `BadSubject` where it is none, `NoMemory` where memory could not be had.
+pub fn pattern_from(alloc: Global, path: &Path, text: &[u8]) -> Result<Pattern, ConfigFault>
     ensures { Gives (λ x. x) result (pattern_from path.now text.now) }
 {
     match Pattern::parse(alloc, text) {

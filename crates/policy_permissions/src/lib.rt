@@ -6,4 +6,5 @@ mod entry;
 mod responses;
 
 pub use direction::permissions_under;
-pub use entry::Side;
+pub use entry::{Side, pattern_from};
+pub use responses::duration_of;

@@ -122,9 +122,10 @@ fn expires_under(
     }
 }
 
-/// The milliseconds of a duration.
+/// The milliseconds of a duration. `WrongType` where the value is no text, `BadDuration` where the text is no duration,
+/// `NoMemory` where memory could not be had.
 #[tactic(auto, unfolding(crate::specs::Permissions::duration_at))]
-fn duration_of(alloc: Global, path: &Path, value: &Value) -> Result<u64, ConfigFault>
+pub fn duration_of(alloc: Global, path: &Path, value: &Value) -> Result<u64, ConfigFault>
     ensures { Gives (λ x. x) result (duration_at path.now (view value.now)) }
 {
     let text = text_of(alloc, path, value)?;

@@ -1,0 +1,10 @@
+-- the exports so far, and what is left to read, make the whole
+use Rattle.std.proofs.Common.{◌≡◌}
+use Rattle.serde_json.specs.View.{items_view}
+use Rattle.policy_permissions.specs.Permissions.{each}
+use Rattle.policy_rows.specs.Exports.{export_at}
+use Rattle.policy_permissions.proofs.Lists.{from_index}
+use Rattle.policy_rows.proofs.export_row.each_export.Given as goal
+
+abbrev pub invariant-loop-index : goal.invariant-loop-index
+invariant-loop-index l = from_index (export_at l.services) l.path l.exports.items l.index l.values ≡ each (export_at l.services) l.path 0 (items_view l.values)

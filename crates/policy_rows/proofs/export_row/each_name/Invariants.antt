@@ -1,0 +1,10 @@
+-- the names so far, and what is left to read, make the whole
+use Rattle.std.proofs.Common.{◌≡◌}
+use Rattle.serde_json.specs.View.{items_view}
+use Rattle.policy_permissions.specs.Permissions.{each}
+use Rattle.policy_rows.specs.Names.{account_name_at}
+use Rattle.policy_permissions.proofs.Lists.{from_index}
+use Rattle.policy_rows.proofs.export_row.each_name.Given as goal
+
+abbrev pub invariant-loop-index : goal.invariant-loop-index
+invariant-loop-index l = from_index account_name_at l.path l.names.items l.index l.values ≡ each account_name_at l.path 0 (items_view l.values)

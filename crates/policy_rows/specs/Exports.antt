@@ -1,0 +1,128 @@
+-- The exports that a JSON value writes, or its first fault (docs/POLICY.md, "Exports and imports").
+-- A null counts as a value of another kind, and not as absent.
+use Rattle.std.specs.Prelude.{◌∷◌, ◌&&◌, ℕ, Bool, true, false, List, [], codes, if◌then◌else◌, Option, Some, None, Ok, Err, is_some}
+use Rattle.std.specs.Str.{bytes_eq}
+use Rattle.serde_json.specs.Data.{Data}
+use Rattle.serde_json.specs.Find.{get}
+use Rattle.subjects.specs.Subject.{Token}
+use Rattle.exports.specs.declared.document.Kind.{Kind}
+use Rattle.exports.specs.declared.document.Kind.TheVariants.{Stream, Service}
+use Rattle.exports.specs.declared.document.ExportDoc.{ExportDoc}
+use Rattle.exports.specs.declared.document.ResponseTerms.{ResponseTerms}
+use Rattle.policy_walk.specs.declared.fault.ConfigFault.TheVariants.{WrongType}
+use Rattle.policy_walk.specs.Fault.{Read, ◌>>=◌}
+use Rattle.policy_walk.specs.Path.{Path, at_key}
+use Rattle.policy_walk.specs.Object.{Row, judged}
+use Rattle.policy_walk.specs.Texts.{text_at, items_at, required_text_at}
+use Rattle.policy_permissions.specs.Permissions.{each, duration_at, pattern_from}
+use Rattle.policy_rows.specs.Names.{account_name_at, kind_by}
+
+-- ---- the tables: a key of each object, and whether it must be there
+
+abbrev pub stream_rows : List Row
+stream_rows = (codes "stream", true) ∷ (codes "accounts", false) ∷ []
+
+abbrev pub service_rows : List Row
+service_rows = (codes "service", true) ∷ (codes "accounts", false) ∷ (codes "response_type", false) ∷ (codes "response_ttl", false) ∷ []
+
+-- the keys of exports of either kind
+abbrev pub either_rows : List Row
+either_rows = (codes "stream", false) ∷ (codes "service", false) ∷ (codes "accounts", false) ∷ (codes "response_type", false) ∷ (codes "response_ttl", false) ∷ []
+
+-- where services aren't known, those of streams alone
+abbrev pub lone_rows : List Row
+lone_rows = (codes "stream", false) ∷ (codes "accounts", false) ∷ []
+
+abbrev pub known_rows : Bool → List Row
+known_rows services = if services then either_rows else lone_rows
+
+-- a stream or a service, where just one of the two keys is there
+abbrev pub kind_of : Bool → Data → Option Kind
+kind_of services d = kind_by (is_some (get (codes "stream") d)) (services && is_some (get (codes "service") d))
+
+-- the pattern whose subjects are offered
+unfoldable pub offered_at : List ℕ → Path → Data → Read (List Token)
+offered_at key path d = do
+  text ← required_text_at key path d
+  pattern_from (at_key path key) text
+
+unfoldable pub accounts_at : Path → Data → Read (List (List ℕ))
+accounts_at path d = do
+  items ← items_at path d
+  each account_name_at path 0 items
+
+-- without a list it is public
+abbrev pub accounts_under : Path → Option Data → Read (Option (List (List ℕ)))
+accounts_under path None = Ok None
+accounts_under path (Some d) = do
+  names ← accounts_at path d
+  Ok (Some names)
+
+-- one response, or a stream of them
+abbrev pub single_from : Path → List ℕ → Read Bool
+single_from path text =
+    if bytes_eq text (codes "single") then Ok true
+    else (if bytes_eq text (codes "stream") then Ok false else Err (WrongType path))
+
+unfoldable pub single_at : Path → Data → Read Bool
+single_at path d = do
+  text ← text_at path d
+  single_from path text
+
+abbrev pub single_under : Path → Option Data → Read Bool
+single_under path None = Ok true
+single_under path (Some d) = single_at path d
+
+-- two minutes, where no other time is given
+abbrev pub ttl_under : Path → Option Data → Read ℕ
+ttl_under path None = Ok 120000
+ttl_under path (Some d) = duration_at path d
+
+unfoldable pub response_at : Path → Data → Read ResponseTerms
+response_at path d = do
+  single ← single_under (at_key path (codes "response_type")) (get (codes "response_type") d)
+  ttl ← ttl_under (at_key path (codes "response_ttl")) (get (codes "response_ttl") d)
+  Ok (record { ttl = ttl; single = single })
+
+-- the terms where none are given
+abbrev pub usual_response : ResponseTerms
+usual_response = record { ttl = 120000; single = true }
+
+unfoldable pub stream_at : Path → Data → Read ExportDoc
+stream_at path d = do
+  known ← judged stream_rows path d
+  subject ← offered_at (codes "stream") path d
+  accounts ← accounts_under (at_key path (codes "accounts")) (get (codes "accounts") d)
+  Ok (record { kind = Stream; subject = subject; accounts = accounts; response = usual_response })
+
+unfoldable pub service_at : Path → Data → Read ExportDoc
+service_at path d = do
+  known ← judged service_rows path d
+  subject ← offered_at (codes "service") path d
+  accounts ← accounts_under (at_key path (codes "accounts")) (get (codes "accounts") d)
+  response ← response_at path d
+  Ok (record { kind = Service; subject = subject; accounts = accounts; response = response })
+
+-- a row with neither of the two keys, or with both
+unfoldable pub neither_at : Bool → Path → Data → Read ExportDoc
+neither_at services path d = do
+  known ← judged (known_rows services) path d
+  Err (WrongType path)
+
+abbrev pub export_by : Bool → Path → Data → Option Kind → Read ExportDoc
+export_by services path d (Some Stream) = stream_at path d
+export_by services path d (Some Service) = service_at path d
+export_by services path d None = neither_at services path d
+
+abbrev pub export_at : Bool → Path → Data → Read ExportDoc
+export_at services path d = export_by services path d (kind_of services d)
+
+unfoldable pub exports_at : Bool → Path → Data → Read (List ExportDoc)
+exports_at services path d = do
+  items ← items_at path d
+  each (export_at services) path 0 items
+
+-- absent exports are none
+abbrev pub exports_under : Bool → Path → Option Data → Read (List ExportDoc)
+exports_under services path None = Ok []
+exports_under services path (Some d) = exports_at services path d

@@ -1,0 +1,125 @@
+-- The imports that a JSON value writes, or its first fault (docs/POLICY.md, "Exports and imports").
+-- A null counts as a value of another kind, and not as absent.
+use Rattle.std.specs.Prelude.{◌∷◌, ◌&&◌, ℕ, Bool, true, false, List, [], codes, if◌then◌else◌, Option, Some, None, Ok, Err, is_some}
+use Rattle.serde_json.specs.Data.{Data}
+use Rattle.serde_json.specs.Find.{get}
+use Rattle.subjects.specs.Subject.{Token, tokens_of}
+use Rattle.subjects.specs.Fault.{subject_fault}
+use Rattle.exports.specs.declared.document.Kind.{Kind}
+use Rattle.exports.specs.declared.document.Kind.TheVariants.{Stream, Service}
+use Rattle.policy_doc.specs.declared.document.ImportDoc.{ImportDoc}
+use Rattle.policy_walk.specs.declared.fault.ConfigFault.TheVariants.{WrongType, BadSubject}
+use Rattle.policy_walk.specs.Fault.{Read, ◌>>=◌}
+use Rattle.policy_walk.specs.Path.{Path, at_key}
+use Rattle.policy_walk.specs.Object.{Row, judged, required_at}
+use Rattle.policy_walk.specs.Texts.{text_at, items_at, required_text_at}
+use Rattle.policy_permissions.specs.Permissions.{each, pattern_from}
+use Rattle.policy_rows.specs.Names.{account_name_from, kind_by}
+use Rattle.policy_rows.specs.declared.import_row.Source.{Source}
+
+-- ---- the tables: a key of each object, and whether it must be there
+
+abbrev pub stream_rows : List Row
+stream_rows = (codes "stream", true) ∷ (codes "to", false) ∷ (codes "prefix", false) ∷ []
+
+abbrev pub service_rows : List Row
+service_rows = (codes "service", true) ∷ (codes "to", false) ∷ []
+
+-- the keys of imports of either kind
+abbrev pub either_rows : List Row
+either_rows = (codes "stream", false) ∷ (codes "service", false) ∷ (codes "to", false) ∷ (codes "prefix", false) ∷ []
+
+-- where services aren't known, those of streams alone
+abbrev pub lone_rows : List Row
+lone_rows = (codes "stream", false) ∷ (codes "to", false) ∷ (codes "prefix", false) ∷ []
+
+abbrev pub known_rows : Bool → List Row
+known_rows services = if services then either_rows else lone_rows
+
+abbrev pub source_rows : List Row
+source_rows = (codes "account", true) ∷ (codes "subject", true) ∷ []
+
+-- a stream or a service, where just one of the two keys is there
+abbrev pub kind_of : Bool → Data → Option Kind
+kind_of services d = kind_by (is_some (get (codes "stream") d)) (services && is_some (get (codes "service") d))
+
+-- ---- what is imported, and under which names
+
+unfoldable pub account_at : Path → Data → Read (List ℕ)
+account_at path d = do
+  name ← required_text_at (codes "account") path d
+  account_name_from (at_key path (codes "account")) name
+
+unfoldable pub subject_at : Path → Data → Read (List Token)
+subject_at path d = do
+  text ← required_text_at (codes "subject") path d
+  pattern_from (at_key path (codes "subject")) text
+
+unfoldable pub source_at : Path → Data → Read Source
+source_at path d = do
+  known ← judged source_rows path d
+  account ← account_at path d
+  subject ← subject_at path d
+  Ok (record { account = account; subject = subject })
+
+-- what stands under the key of a row's kind
+unfoldable pub source_in : List ℕ → Path → Data → Read Source
+source_in key path d = do
+  value ← required_at key path d
+  source_at (at_key path key) value
+
+-- any text
+abbrev pub to_under : Path → Option Data → Read (Option (List ℕ))
+to_under path None = Ok None
+to_under path (Some d) = do
+  text ← text_at path d
+  Ok (Some text)
+
+abbrev pub subject_from : Path → List ℕ → Read (List Token)
+subject_from path text = if is_some (subject_fault text) then Err (BadSubject path) else Ok (tokens_of text)
+
+abbrev pub prefix_under : Path → Option Data → Read (Option (List Token))
+prefix_under path None = Ok None
+prefix_under path (Some d) = do
+  text ← text_at path d
+  prefix ← subject_from path text
+  Ok (Some prefix)
+
+unfoldable pub stream_at : Path → Data → Read ImportDoc
+stream_at path d = do
+  known ← judged stream_rows path d
+  source ← source_in (codes "stream") path d
+  to ← to_under (at_key path (codes "to")) (get (codes "to") d)
+  prefix ← prefix_under (at_key path (codes "prefix")) (get (codes "prefix") d)
+  Ok (record { kind = Stream; account = source.account; subject = source.subject; to = to; prefix = prefix })
+
+unfoldable pub service_at : Path → Data → Read ImportDoc
+service_at path d = do
+  known ← judged service_rows path d
+  source ← source_in (codes "service") path d
+  to ← to_under (at_key path (codes "to")) (get (codes "to") d)
+  Ok (record { kind = Service; account = source.account; subject = source.subject; to = to; prefix = None })
+
+-- a row with neither of the two keys, or with both
+unfoldable pub neither_at : Bool → Path → Data → Read ImportDoc
+neither_at services path d = do
+  known ← judged (known_rows services) path d
+  Err (WrongType path)
+
+abbrev pub import_by : Bool → Path → Data → Option Kind → Read ImportDoc
+import_by services path d (Some Stream) = stream_at path d
+import_by services path d (Some Service) = service_at path d
+import_by services path d None = neither_at services path d
+
+abbrev pub import_at : Bool → Path → Data → Read ImportDoc
+import_at services path d = import_by services path d (kind_of services d)
+
+unfoldable pub imports_at : Bool → Path → Data → Read (List ImportDoc)
+imports_at services path d = do
+  items ← items_at path d
+  each (import_at services) path 0 items
+
+-- absent imports are none
+abbrev pub imports_under : Bool → Path → Option Data → Read (List ImportDoc)
+imports_under services path None = Ok []
+imports_under services path (Some d) = imports_at services path d

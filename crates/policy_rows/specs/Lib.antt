@@ -1,0 +1,3 @@
+pub mod Names
+pub mod Exports
+pub mod Imports

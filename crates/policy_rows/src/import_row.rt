@@ -1,0 +1,257 @@
+//! The imports of an account.
+ghost use Rattle.std.specs.Prelude.{◌≡◌, ◌&&◌, is_some, option_map};
+ghost use Rattle.serde_json.specs.View.{view, items_view};
+ghost use Rattle.policy_walk.specs.Fault.{Gives};
+ghost use Rattle.policy_walk.specs.Object.{judged};
+ghost use Rattle.policy_permissions.specs.Permissions.{each};
+ghost use Rattle.policy_rows.specs.Imports.{account_at, import_at, import_by, imports_at, imports_under, kind_of, known_rows, neither_at, prefix_under, service_at, source_at, source_in, stream_at, subject_at, subject_from, to_under};
+
+use crate::names::{account_name_from, kind_by};
+use base::Items;
+use bytes::Bytes;
+use exports::Kind;
+use policy_doc::ImportDoc;
+use policy_permissions::pattern_from;
+use policy_walk::{ConfigFault, Path, items_of, judge, required_of, required_text_of, text_of};
+use serde_json::Value;
+use std::alloc::Global;
+use subjects::{Pattern, Subject};
+
+/// What an import is of: subjects of an account.
+#[derive(Drop)]
+struct Source {
+    account: Bytes,
+    subject: Pattern,
+}
+
+/// The imports of a list, if it is there. Where services aren't known, their keys are unknown ones. The first fault, as
+/// docs/POLICY.md has them in order, where it isn't a list of imports; `NoMemory` where memory could not be had.
+pub fn imports_under(
+    alloc: Global,
+    services: bool,
+    path: &Path,
+    found: Option<&Value>,
+) -> Result<Items<ImportDoc>, ConfigFault>
+    ensures { Gives (λ x. x) result (imports_under services path.now (option_map (λ v. view v.now) found.entry)) }
+{
+    match found {
+        None => Ok(Items::new(alloc)),
+        Some(value) => Ok(imports_of(alloc, services, path, value)?),
+    }
+}
+
+/// The imports of a list.
+#[tactic(auto, unfolding(crate::specs::Imports::imports_at))]
+fn imports_of(
+    alloc: Global,
+    services: bool,
+    path: &Path,
+    value: &Value,
+) -> Result<Items<ImportDoc>, ConfigFault>
+    ensures { Gives (λ x. x) result (imports_at services path.now (view value.now)) }
+{
+    let values = items_of(alloc, path, value)?;
+    Ok(each_import(alloc, services, path, values)?)
+}
+
+/// The imports of a list's values in order.
+fn each_import(
+    alloc: Global,
+    services: bool,
+    path: &Path,
+    values: &[Value],
+) -> Result<Items<ImportDoc>, ConfigFault>
+    ensures { Gives (λ x. x) result (each (import_at services) path.now 0 (items_view values.now)) }
+{
+    let mut imports = Vec::with_capacity(alloc, values.len())?;
+    for (index, value) in values.iter().enumerate() {
+        let below = path.index(alloc, index)?;
+        let import = import_of(alloc, services, &below, value)?;
+        imports.push(import)?;
+    }
+    Ok(Items::from_vec(imports))
+}
+
+/// An import of either kind.
+fn import_of(
+    alloc: Global,
+    services: bool,
+    path: &Path,
+    value: &Value,
+) -> Result<ImportDoc, ConfigFault>
+    ensures { Gives (λ x. x) result (import_at services path.now (view value.now)) }
+{
+    match kind_of(services, value) {
+        Some(Kind::Stream) => Ok(stream_of(alloc, path, value)?),
+        Some(Kind::Service) => Ok(service_of(alloc, path, value)?),
+        None => Ok(neither_of(alloc, services, path, value)?),
+    }
+}
+
+/// The kind of an import, by the one of two keys that is there.
+fn kind_of(services: bool, value: &Value) -> Option<Kind>
+    ensures { result ≡ kind_of services (view value.now) }
+{
+    let has_stream = value.get("stream").is_some();
+    let has_service = services && value.get("service").is_some();
+    let kind = kind_by(has_stream, has_service);
+    kind
+}
+
+/// An import of a stream.
+#[tactic(auto, unfolding(crate::specs::Imports::stream_at))]
+fn stream_of(alloc: Global, path: &Path, value: &Value) -> Result<ImportDoc, ConfigFault>
+    ensures { Gives (λ x. x) result (stream_at path.now (view value.now)) }
+{
+    let rows = [("stream", true), ("to", false), ("prefix", false)];
+    judge(alloc, &rows, path, value)?;
+    let source = source_in(alloc, "stream", path, value)?;
+    let below = path.key(alloc, "to")?;
+    let to = to_under(alloc, &below, value.get("to"))?;
+    let below = path.key(alloc, "prefix")?;
+    let prefix = prefix_under(alloc, &below, value.get("prefix"))?;
+    Ok(ImportDoc {
+        kind: Kind::Stream,
+        account: source.account,
+        subject: source.subject,
+        to,
+        prefix,
+    })
+}
+
+/// An import of a service.
+#[tactic(auto, unfolding(crate::specs::Imports::service_at))]
+fn service_of(alloc: Global, path: &Path, value: &Value) -> Result<ImportDoc, ConfigFault>
+    ensures { Gives (λ x. x) result (service_at path.now (view value.now)) }
+{
+    judge(alloc, &[("service", true), ("to", false)], path, value)?;
+    let source = source_in(alloc, "service", path, value)?;
+    let below = path.key(alloc, "to")?;
+    let to = to_under(alloc, &below, value.get("to"))?;
+    Ok(ImportDoc {
+        kind: Kind::Service,
+        account: source.account,
+        subject: source.subject,
+        to,
+        prefix: None,
+    })
+}
+
+/// The fault of a row with neither of the two keys, or with both: `WrongType`, after an unknown key.
+#[tactic(auto, unfolding(crate::specs::Imports::neither_at))]
+fn neither_of(
+    alloc: Global,
+    services: bool,
+    path: &Path,
+    value: &Value,
+) -> Result<ImportDoc, ConfigFault>
+    ensures { Gives (λ x. x) result (neither_at services path.now (view value.now)) }
+{
+    judge_known(alloc, services, path, value)?;
+    Err(ConfigFault::WrongType(path.copy(alloc)?))
+}
+
+/// Refuses what is no object of the keys of imports.
+fn judge_known(alloc: Global, services: bool, path: &Path, value: &Value) -> Result<(), ConfigFault>
+    ensures { Gives (λ x. x) result (judged (known_rows services) path.now (view value.now)) }
+{
+    if services {
+        let rows = [
+            ("stream", false),
+            ("service", false),
+            ("to", false),
+            ("prefix", false),
+        ];
+        judge(alloc, &rows, path, value)
+    } else {
+        let rows = [("stream", false), ("to", false), ("prefix", false)];
+        judge(alloc, &rows, path, value)
+    }
+}
+
+/// What stands under the key of a row's kind.
+#[tactic(auto, unfolding(crate::specs::Imports::source_in))]
+fn source_in(alloc: Global, key: &str, path: &Path, value: &Value) -> Result<Source, ConfigFault>
+    ensures { Gives (λ x. x) result (source_in key.now path.now (view value.now)) }
+{
+    let found = required_of(alloc, key, path, value)?;
+    let below = path.key(alloc, key)?;
+    Ok(source_of(alloc, &below, found)?)
+}
+
+/// An account and the pattern of its subjects.
+#[tactic(auto, unfolding(crate::specs::Imports::source_at))]
+fn source_of(alloc: Global, path: &Path, value: &Value) -> Result<Source, ConfigFault>
+    ensures { Gives (λ x. x) result (source_at path.now (view value.now)) }
+{
+    judge(alloc, &[("account", true), ("subject", true)], path, value)?;
+    let account = account_of(alloc, path, value)?;
+    let subject = subject_of(alloc, path, value)?;
+    Ok(Source { account, subject })
+}
+
+/// The name under `account`.
+#[tactic(auto, unfolding(crate::specs::Imports::account_at))]
+fn account_of(alloc: Global, path: &Path, value: &Value) -> Result<Bytes, ConfigFault>
+    ensures { Gives (λ x. x) result (account_at path.now (view value.now)) }
+{
+    let name = required_text_of(alloc, "account", path, value)?;
+    let below = path.key(alloc, "account")?;
+    Ok(account_name_from(alloc, &below, name.as_bytes())?)
+}
+
+/// The pattern under `subject`.
+#[tactic(auto, unfolding(crate::specs::Imports::subject_at))]
+fn subject_of(alloc: Global, path: &Path, value: &Value) -> Result<Pattern, ConfigFault>
+    ensures { Gives (λ x. x) result (subject_at path.now (view value.now)) }
+{
+    let text = required_text_of(alloc, "subject", path, value)?;
+    let below = path.key(alloc, "subject")?;
+    Ok(pattern_from(alloc, &below, text.as_bytes())?)
+}
+
+/// A template's text, if it is there. It isn't judged here.
+fn to_under(alloc: Global, path: &Path, found: Option<&Value>) -> Result<Option<Bytes>, ConfigFault>
+    ensures { Gives (λ x. x) result (to_under path.now (option_map (λ v. view v.now) found.entry)) }
+{
+    match found {
+        None => Ok(None),
+        Some(value) => {
+            let text = text_of(alloc, path, value)?;
+            Ok(Some(Bytes::copy_from_slice(alloc, text.as_bytes())?))
+        }
+    }
+}
+
+/// A prefix, if it is there.
+fn prefix_under(
+    alloc: Global,
+    path: &Path,
+    found: Option<&Value>,
+) -> Result<Option<Subject>, ConfigFault>
+    ensures { Gives (λ x. x) result (prefix_under path.now (option_map (λ v. view v.now) found.entry)) }
+{
+    match found {
+        None => Ok(None),
+        Some(value) => {
+            let text = text_of(alloc, path, value)?;
+            Ok(Some(subject_from(alloc, path, text.as_bytes())?))
+        }
+    }
+}
+
+/// The subject of a text. `BadSubject` where it is none.
+fn subject_from(alloc: Global, path: &Path, text: &[u8]) -> Result<Subject, ConfigFault>
+    ensures { Gives (λ x. x) result (subject_from path.now text.now) }
+{
+    match Subject::parse(alloc, text) {
+        Ok(subject) => Ok(subject),
+        Err(error) => {
+            if error.is_no_memory() {
+                Err(ConfigFault::NoMemory)
+            } else {
+                Err(ConfigFault::BadSubject(path.copy(alloc)?))
+            }
+        }
+    }
+}

@@ -1,0 +1,68 @@
+//! Names, and the kind of a row.
+ghost use Rattle.std.specs.Prelude.{◌≡◌};
+ghost use Rattle.std.specs.List.{list_all};
+ghost use Rattle.serde_json.specs.View.{view};
+ghost use Rattle.policy_walk.specs.Fault.{Gives};
+ghost use Rattle.policy_rows.specs.Names.{account_name_at, account_name_from, has_name_length, is_account_byte, is_account_name, kind_by};
+
+use bytes::Bytes;
+use exports::Kind;
+use policy_walk::{ConfigFault, Path, text_of};
+use serde_json::Value;
+use std::alloc::Global;
+
+/// An account's name of a value that has to be a text.
+#[tactic(auto, unfolding(crate::specs::Names::account_name_at))]
+pub(crate) fn account_name_of(
+    alloc: Global,
+    path: &Path,
+    value: &Value,
+) -> Result<Bytes, ConfigFault>
+    ensures { Gives (λ x. x) result (account_name_at path.now (view value.now)) }
+{
+    let text = text_of(alloc, path, value)?;
+    Ok(account_name_from(alloc, path, text.as_bytes())?)
+}
+
+/// An account's name. `BadName` where it hasn't 1 to 256 bytes, or has a control byte, a space or DEL.
+pub fn account_name_from(alloc: Global, path: &Path, name: &[u8]) -> Result<Bytes, ConfigFault>
+    ensures { Gives (λ x. x) result (account_name_from path.now name.now) }
+{
+    if is_account_name(name) {
+        Ok(Bytes::copy_from_slice(alloc, name)?)
+    } else {
+        Err(ConfigFault::BadName(path.copy(alloc)?))
+    }
+}
+
+fn is_account_name(name: &[u8]) -> bool
+    ensures { result ≡ is_account_name name.now }
+{
+    has_name_length(name) && has_account_bytes(name)
+}
+
+/// Whether a name of an account or a user has 1 to 256 bytes.
+pub fn has_name_length(name: &[u8]) -> bool
+    ensures { result ≡ has_name_length name.now }
+{
+    !name.is_empty() && name.len() <= 256
+}
+
+/// Whether each byte may stand in an account's name.
+fn has_account_bytes(name: &[u8]) -> bool
+    ensures { result ≡ list_all is_account_byte name.now }
+{
+    name.iter().all(|b| !(*b < 0x21) && !(*b == 0x7f))
+}
+
+/// The kind of a row, by whether it has the key of streams and that of services.
+pub(crate) fn kind_by(has_stream: bool, has_service: bool) -> Option<Kind>
+    ensures { result ≡ kind_by has_stream has_service }
+{
+    match (has_stream, has_service) {
+        (true, false) => Some(Kind::Stream),
+        (false, true) => Some(Kind::Service),
+        (true, true) => None,
+        (false, false) => None,
+    }
+}
