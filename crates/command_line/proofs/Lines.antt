@@ -1,6 +1,6 @@
 -- What a line is read as, from what clap says of it.
-use Rattle.std.proofs.Common.{refl, sym, ap, subst, Bool, true, false, not, List, codes, [], ◌∷◌, ◌≡◌, ◌==◌, ◌∙◌, ◌⊎◌, ℕ, inl, inr, Option, Some, None, Ok, Err, Result, ◌&&◌, true≢false, rules}
-use Rattle.std.specs.Prelude.{option_map, is_some, find, if◌then◌else◌}
+use Rattle.std.proofs.Common.{refl, sym, ap, subst, Bool, true, false, not, List, codes, [], ◌∷◌, ◌≡◌, ◌==◌, ◌∙◌, ◌⊎◌, ℕ, inl, inr, Option, Some, None, Ok, Err, Result, ◌&&◌, rules}
+use Rattle.std.specs.Prelude.{string_bytes, option_map, is_some, find, if◌then◌else◌}
 use Rattle.clap.specs.Words.{App, HasKind, IsAmong, Kinds, Row, Shape, Text, HasMatchesOf, built, fault_of, is_simple, is_simple_and_free, kind_of, subcommand_of, subcommand_rows_of}
 use Rattle.clap.specs.Simple.{entered, rows_at, label_of, argument_words, names_of}
 use Rattle.clap.specs.Walk.{Held, Names, answers_to, finished, nothing_held, settled, stop_after, walk, walk_from}
@@ -17,7 +17,7 @@ use Rattle.clap.proofs.OnLiterals.{clap_on_literals}
 use Rattle.command_line.specs.declared.options.ServeOptions.{ServeOptions}
 use Rattle.command_line.specs.declared.words.Invocation.{Invocation}
 use Rattle.command_line.specs.declared.words.Invocation.TheVariants as invocation
-use Rattle.command_line.specs.declared.words.Task.TheVariants.{Play, Check, Help, Version}
+use Rattle.command_line.specs.declared.words.Task.TheVariants.{Play, Check, Explain, BadKind, Help, Version}
 use Rattle.command_line.specs.declared.words.WordsFault.{WordsFault}
 use Rattle.command_line.specs.declared.words.WordsFault.TheVariants.{WrongLine, NoMemory}
 use Rattle.std.specs.Str.{bytes_eq}
@@ -27,7 +27,8 @@ use Rattle.clap.specs.Words.{IsUnsignedIn}
 use Rattle.clap.specs.declared.builder.value_parser.Reading.TheVariants.{AsWritten}
 use Rattle.clap.specs.declared.parser.matches.ValueSource.TheVariants.{DefaultValue}
 use Rattle.command_line.specs.Options.{AreDefaults, IsOptions, IsNumberIn, default_listen, most_connections, most_history}
-use Rattle.command_line.specs.Words.{natsd_app, kinds_of, found_in, is_mistake, IsInvokedBy, IsReading, IsRefusal, IsServeOrMemory, IsTaskOrMemory, IsUnknown, IsWrongOrMemory}
+use Rattle.command_line.specs.Question.{Word}
+use Rattle.command_line.specs.Words.{natsd_app, kinds_of, found_in, is_mistake, names_task, on_policy, IsFound, IsInvokedBy, IsReading, IsRefusal, IsServeOrMemory, IsServing, IsTaskOrMemory, IsUnknown, IsWrongOrMemory}
 
 simple_and_free : is_simple_and_free natsd_app ≡ true
 unfolding clap_on_literals
@@ -63,33 +64,34 @@ has_one s names h words has below r e =
     (not (s.subcommand_negates_reqs && has) && list_any (λ a. a.required && not (is_given a.id (finished s.rules end))) s.rules)
     r last
 
--- one of three subcommands was found
+-- one of four subcommands was found
 abbrev name_of : Option (Text × List Row) → Option Text
 name_of found = option_map (λ (p : Text × List Row). p.0) found
 
-abbrev IsOneOf : Text → Text → Text → Option (Text × List Row) → Type 0
-IsOneOf x y z found = (name_of found ≡ Some x) ⊎ ((name_of found ≡ Some y) ⊎ (name_of found ≡ Some z))
+abbrev IsOneOf : Text → Text → Text → Text → Option (Text × List Row) → Type 0
+IsOneOf w x y z found = (name_of found ≡ Some w) ⊎ (name_of found ≡ Some x) ⊎ (name_of found ≡ Some y) ⊎ (name_of found ≡ Some z)
 
--- the subcommand that was entered, by the tests of the three
-abbrev first_that : Bool → Bool → Bool → Shape → Shape → Shape → Option Shape
-first_that at_first at_next at_last s t u = if at_first then Some s else if at_next then Some t else if at_last then Some u else None
+-- the subcommand that was entered, by the tests of the four
+abbrev first_that : Bool → Bool → Bool → Bool → Shape → Shape → Shape → Shape → Option Shape
+first_that at_first at_next at_third at_last s t u v = if at_first then Some s else if at_next then Some t else if at_third then Some u else if at_last then Some v else None
 
-by_tests : (at_first at_next at_last : Bool) (s t u : Shape) (words : List Text) →
-    is_some (option_map (λ (x : Shape). rows_at x words) (first_that at_first at_next at_last s t u)) ≡ true →
-    IsOneOf s.name t.name u.name (option_map (λ (x : Shape). rows_at x words) (first_that at_first at_next at_last s t u))
-by_tests true at_next at_last s t u words e = inl refl
-by_tests false true at_last s t u words e = inr (inl refl)
-by_tests false false true s t u words e = inr (inr refl)
-by_tests false false false s t u words e = absurd (cc)
+by_tests : (at_first at_next at_third at_last : Bool) (s t u v : Shape) (words : List Text) →
+    is_some (option_map (λ (x : Shape). rows_at x words) (first_that at_first at_next at_third at_last s t u v)) ≡ true →
+    IsOneOf s.name t.name u.name v.name (option_map (λ (x : Shape). rows_at x words) (first_that at_first at_next at_third at_last s t u v))
+by_tests true at_next at_third at_last s t u v words e = inl refl
+by_tests false true at_third at_last s t u v words e = inr (inl refl)
+by_tests false false true at_last s t u v words e = inr (inr (inl refl))
+by_tests false false false true s t u v words e = inr (inr (inr refl))
+by_tests false false false false s t u v words e = absurd (cc)
 
-by_stop : (a : App) (s t u : Shape) (stop : Option (Text × List Text)) → a.subs ≡ s ∷ t ∷ u ∷ [] → is_some (entered a stop) ≡ true → IsOneOf s.name t.name u.name (entered a stop)
-by_stop a s t u None three e = absurd (cc)
-by_stop a s t u (Some p) three e =
+by_stop : (a : App) (s t u v : Shape) (stop : Option (Text × List Text)) → a.subs ≡ s ∷ t ∷ u ∷ v ∷ [] → is_some (entered a stop) ≡ true → IsOneOf s.name t.name u.name v.name (entered a stop)
+by_stop a s t u v None four e = absurd (cc)
+by_stop a s t u v (Some p) four e =
     let P : List Shape → Type 0 = λ subs.
     is_some (option_map (λ (x : Shape). rows_at x p.1) (find (λ x. answers_to p.0 (label_of x)) subs)) ≡ true →
-    IsOneOf s.name t.name u.name (option_map (λ (x : Shape). rows_at x p.1) (find (λ x. answers_to p.0 (label_of x)) subs)) in
-    let here : P (s ∷ t ∷ u ∷ []) = by_tests (answers_to p.0 (label_of s)) (answers_to p.0 (label_of t)) (answers_to p.0 (label_of u)) s t u p.1 in
-    subst P (sym three) here e
+    IsOneOf s.name t.name u.name v.name (option_map (λ (x : Shape). rows_at x p.1) (find (λ x. answers_to p.0 (label_of x)) subs)) in
+    let here : P (s ∷ t ∷ u ∷ v ∷ []) = by_tests (answers_to p.0 (label_of s)) (answers_to p.0 (label_of t)) (answers_to p.0 (label_of u)) (answers_to p.0 (label_of v)) s t u v p.1 in
+    subst P (sym four) here e
 
 abbrev whole : App
 whole = built natsd_app
@@ -97,9 +99,9 @@ whole = built natsd_app
 abbrev stop_of : List Text → Option (Text × List Text)
 stop_of words = stop_after whole.top.rules (names_of whole) (argument_words natsd_app words)
 
-named : (words : List Text) → kinds_of words ≡ [] → IsOneOf (codes "play") (codes "check") (codes "serve") (found_in words)
+named : (words : List Text) → kinds_of words ≡ [] → IsOneOf (codes "play") (codes "check") (codes "explain") (codes "serve") (found_in words)
 named words none =
-    by_stop whole _ _ _ (stop_of words) refl
+    by_stop whole _ _ _ _ (stop_of words) refl
     (has_one whole.top (names_of whole) nothing_held (argument_words natsd_app words) (is_some (entered whole (stop_of words))) (entered_fault whole (stop_of words)) refl none)
 
 -- ---- what clap's answers come to
@@ -138,36 +140,25 @@ megabytes = search rules
 eight_thousand : IsUnsignedIn 1 most_connections (codes "8192")
 eight_thousand = search rules
 
-abbrev rows_in : Option (Text × List Row) → List Row
-rows_in None = []
-rows_in (Some found) = found.1
-
-abbrev found_as : Text → List Row → Option (Text × List Row)
-found_as name rows = Some (name, rows)
-
-same_rows : (xs ys : List Row) → found_as (codes "serve") ys ≡ found_as (codes "serve") xs → xs ≡ ys
-same_rows xs ys e = sym (ap rows_in e)
-
 some_same : (x y : Text) → Some x ≡ Some y → x ≡ y
 some_same x y e = cc
 
 -- what is asked for, by what was found
-invocation_is : (found : Option (Text × List Row)) (kinds : Kinds) (a : Invocation) → kinds ≡ [] → IsOneOf (codes "play") (codes "check") (codes "serve") found → IsInvokedBy found a → IsReading kinds found (Ok a)
-invocation_is None kinds a none (inl e) h = absurd (cc)
-invocation_is None kinds a none (inr (inl e)) h = absurd (cc)
-invocation_is None kinds a none (inr (inr e)) h = absurd (cc)
-invocation_is (Some found) kinds a none (inl e) h =
-    let P : Text → Type 0 = λ n. IsInvokedBy (Some (n, found.1)) a → IsReading kinds (Some (n, found.1)) (Ok a) in
-    subst P (sym (some_same found.0 (codes "play") e)) (λ h. subst (λ (x : Invocation). IsReading kinds (Some (codes "play", found.1)) (Ok x)) (sym h) (none, refl)) h
-invocation_is (Some found) kinds a none (inr (inl e)) h =
-    let P : Text → Type 0 = λ n. IsInvokedBy (Some (n, found.1)) a → IsReading kinds (Some (n, found.1)) (Ok a) in
-    subst P (sym (some_same found.0 (codes "check") e)) (λ h. subst (λ (x : Invocation). IsReading kinds (Some (codes "check", found.1)) (Ok x)) (sym h) (none, refl)) h
-invocation_is (Some found) kinds (invocation.Serve options) none (inr (inr e)) h =
-    let P : Text → Type 0 = λ n. IsInvokedBy (Some (n, found.1)) (invocation.Serve options) → IsReading kinds (Some (n, found.1)) (Ok (invocation.Serve options)) in
-    subst P (sym (some_same found.0 (codes "serve") e)) (λ h. (none, (found.1, refl, h))) h
-invocation_is (Some found) kinds (invocation.Task task) none (inr (inr e)) h =
-    let P : Text → Type 0 = λ n. IsInvokedBy (Some (n, found.1)) (invocation.Task task) → IsReading kinds (Some (n, found.1)) (Ok (invocation.Task task)) in
-    subst P (sym (some_same found.0 (codes "serve") e)) (λ h. absurd h) h
+is_named : (name wanted : Text) → Some name ≡ Some wanted → names_task wanted ≡ true → names_task name ≡ true
+is_named name wanted e h = ap names_task (some_same name wanted e) ∙ h
+
+names_one : (found : Text × List Row) → IsOneOf (codes "play") (codes "check") (codes "explain") (codes "serve") (Some found) → names_task found.0 ≡ true
+names_one found (inl e) = is_named found.0 (codes "play") e refl
+names_one found (inr (inl e)) = is_named found.0 (codes "check") e refl
+names_one found (inr (inr (inl e))) = is_named found.0 (codes "explain") e refl
+names_one found (inr (inr (inr e))) = is_named found.0 (codes "serve") e refl
+
+is_found : (found : Option (Text × List Row)) (a : Invocation) → IsOneOf (codes "play") (codes "check") (codes "explain") (codes "serve") found → IsInvokedBy found a → IsFound found a
+is_found None a (inl e) h = absurd (cc)
+is_found None a (inr (inl e)) h = absurd (cc)
+is_found None a (inr (inr (inl e))) h = absurd (cc)
+is_found None a (inr (inr (inr e))) h = absurd (cc)
+is_found (Some found) a one h = (names_one found one, h)
 
 -- where the command is natsd's, and clap gives matches
 pub right : (a : App) (words : List Text) (m : ArgMatches) (got : Invocation) → a ≡ natsd_app → (is_simple_and_free a ≡ true → fault_of a words ≡ []) → HasMatchesOf a words m →
@@ -175,7 +166,7 @@ pub right : (a : App) (words : List Text) (m : ArgMatches) (got : Invocation) �
 right a words m got e h found t =
     let none : kinds_of words ≡ [] = sym (ap (λ (x : App). fault_of x words) e) ∙ h (ap is_simple_and_free e ∙ simple_and_free) in
     let rows : subcommand_rows_of m ≡ subcommand_of natsd_app words = (found (ap is_simple e ∙ simple)).1 ∙ ap (λ (x : App). subcommand_of x words) e in
-    invocation_is (found_in words) (kinds_of words) got none (named words none) (subst (λ (f : Option (Text × List Row)). IsInvokedBy f got) rows t)
+    inl (none, is_found (found_in words) got (named words none) (subst (λ (f : Option (Text × List Row)). IsInvokedBy f got) rows t))
 
 among : (k asked : ErrorKind) (kinds : Kinds) → (OutOfMemory ≡ asked → ⊥) → (k ≡ OutOfMemory) ⊎ IsAmong k kinds → IsAmong asked (k ∷ []) → IsAmong asked kinds
 among k asked kinds other (inl e) (inl same) = absurd (other (sym (same ∙ e)))
@@ -187,10 +178,13 @@ no_mistake asked mistake e = let bad : is_mistake OutOfMemory ≡ true = ap is_m
 
 by_kind : (k : ErrorKind) (kinds : Kinds) (found : Option (Text × List Row)) (r : Result Invocation WordsFault) → (k ≡ OutOfMemory) ⊎ IsAmong k kinds → IsRefusal (k ∷ []) r → IsReading kinds found r
 by_kind k kinds found (Ok (invocation.Serve options)) h p = absurd p
+by_kind k kinds found (Ok (invocation.OnFile task file)) h p = absurd p
 by_kind k kinds found (Ok (invocation.Task Play)) h p = absurd p
 by_kind k kinds found (Ok (invocation.Task Check)) h p = absurd p
-by_kind k kinds found (Ok (invocation.Task (Help text))) h p = among k DisplayHelp kinds (λ e. absurd (cc)) h p
-by_kind k kinds found (Ok (invocation.Task (Version text))) h p = among k DisplayVersion kinds (λ e. absurd (cc)) h p
+by_kind k kinds found (Ok (invocation.Task (Explain question))) h p = absurd p
+by_kind k kinds found (Ok (invocation.Task BadKind)) h p = absurd p
+by_kind k kinds found (Ok (invocation.Task (Help text))) h p = inr (among k DisplayHelp kinds (λ e. absurd (cc)) h p)
+by_kind k kinds found (Ok (invocation.Task (Version text))) h p = inr (among k DisplayVersion kinds (λ e. absurd (cc)) h p)
 by_kind k kinds found (Err (WrongLine text)) h p = (p.0, among k p.0 kinds (no_mistake p.0 p.2) h p.1, p.2)
 by_kind k kinds found (Err NoMemory) h p = tt
 
@@ -202,30 +196,35 @@ wrong a words error r e h p =
 
 -- ---- the words of each task
 
-abbrev names_serve : Option Text → Bool
-names_serve None = false
-names_serve (Some name) = bytes_eq name (codes "serve")
+-- a refusal has a kind: a request, or a mistake
+refused_by : (kinds : Kinds) (a : Invocation) → (IsAmong DisplayHelp kinds → ⊥) → (IsAmong DisplayVersion kinds → ⊥) → IsRefusal kinds (Ok a) → ⊥
+refused_by kinds (invocation.Serve options) help version h = absurd h
+refused_by kinds (invocation.OnFile task file) help version h = absurd h
+refused_by kinds (invocation.Task Play) help version h = absurd h
+refused_by kinds (invocation.Task Check) help version h = absurd h
+refused_by kinds (invocation.Task (Explain question)) help version h = absurd h
+refused_by kinds (invocation.Task BadKind) help version h = absurd h
+refused_by kinds (invocation.Task (Help text)) help version h = help h
+refused_by kinds (invocation.Task (Version text)) help version h = version h
 
-differ : (x y : Option Text) → names_serve x ≡ true → names_serve y ≡ false → x ≡ y → ⊥
-differ x y a b e = true≢false (sym a ∙ (ap names_serve e ∙ b))
+none_refused : (a : Invocation) → IsRefusal [] (Ok a) → ⊥
+none_refused a h = refused_by [] a (λ bad. bad) (λ bad. bad) h
 
 play_if : (rows : List Row) (r : Result Invocation WordsFault) → IsReading [] (Some (codes "play", rows)) r → IsTaskOrMemory Play r
-play_if rows (Ok (invocation.Serve options)) h = absurd (differ _ _ refl refl (sym (ap name_of h.1.1)))
-play_if rows (Ok (invocation.Task Play)) h = refl
-play_if rows (Ok (invocation.Task Check)) h = absurd (cc)
-play_if rows (Ok (invocation.Task (Help text))) h = absurd h
-play_if rows (Ok (invocation.Task (Version text))) h = absurd h
+play_if rows (Ok a) (inl h) = h.1.1
+play_if rows (Ok a) (inr h) = absurd (none_refused a h)
 play_if rows (Err (WrongLine text)) h = absurd h.1
 play_if rows (Err NoMemory) h = tt
 
-check_if : (rows : List Row) (r : Result Invocation WordsFault) → IsReading [] (Some (codes "check", rows)) r → IsTaskOrMemory Check r
-check_if rows (Ok (invocation.Serve options)) h = absurd (differ _ _ refl refl (sym (ap name_of h.1.1)))
-check_if rows (Ok (invocation.Task Play)) h = absurd (cc)
-check_if rows (Ok (invocation.Task Check)) h = refl
-check_if rows (Ok (invocation.Task (Help text))) h = absurd h
-check_if rows (Ok (invocation.Task (Version text))) h = absurd h
-check_if rows (Err (WrongLine text)) h = absurd h.1
-check_if rows (Err NoMemory) h = tt
+no_file : (a : Invocation) (file : Option Word) → a ≡ on_policy Check file → option_map string_bytes file ≡ None → a ≡ invocation.Task Check
+no_file a None e h = e
+no_file a (Some file) e h = absurd (cc)
+
+check_if : (r : Result Invocation WordsFault) → IsReading [] (Some (codes "check", [])) r → IsTaskOrMemory Check r
+check_if (Ok a) (inl h) = no_file a h.1.1.0 h.1.1.1 h.1.1.2
+check_if (Ok a) (inr h) = absurd (none_refused a h)
+check_if (Err (WrongLine text)) h = absurd h.1
+check_if (Err NoMemory) h = tt
 
 -- each number is the one of its default's text
 number_is : (least most n m : ℕ) (t : Text) → IsNumberIn least most (Some t) n → IsUnsignedIn least most t → digits_value 10 (without_leading_plus t) ≡ m → n ≡ m
@@ -242,12 +241,14 @@ defaults o h = record {
   connections = number_is 1 most_connections o.connections 8192 (codes "8192") h.connections eight_thousand refl;
 }
 
+is_serving : (a : Invocation) → IsServing default_rows a → IsServeOrMemory AreDefaults (Ok a)
+is_serving (invocation.Serve options) h = defaults options h
+is_serving (invocation.Task task) h = h
+is_serving (invocation.OnFile task file) h = h
+
 serve_if : (r : Result Invocation WordsFault) → IsReading [] (Some (codes "serve", default_rows)) r → IsServeOrMemory AreDefaults r
-serve_if (Ok (invocation.Serve options)) h = defaults options (subst (λ (rows : List Row). IsOptions rows options) (same_rows _ _ h.1.1) h.1.2)
-serve_if (Ok (invocation.Task Play)) h = absurd (differ _ _ refl refl h.1)
-serve_if (Ok (invocation.Task Check)) h = absurd (differ _ _ refl refl h.1)
-serve_if (Ok (invocation.Task (Help text))) h = absurd h
-serve_if (Ok (invocation.Task (Version text))) h = absurd h
+serve_if (Ok a) (inl h) = is_serving a h.1.1
+serve_if (Ok a) (inr h) = absurd (none_refused a h)
 serve_if (Err (WrongLine text)) h = absurd h.1
 serve_if (Err NoMemory) h = tt
 
@@ -267,7 +268,7 @@ play_is_right words name r e p = play_if [] r (read_as words _ _ _ r e (plays na
 
 -- the words of `natsd check`
 pub check_is_right : (words : List Text) (name : Text) (r : Result Invocation WordsFault) → words ≡ name ∷ codes "check" ∷ [] → IsReading (kinds_of words) (found_in words) r → IsTaskOrMemory Check r
-check_is_right words name r e p = check_if [] r (read_as words _ _ _ r e (checks name).0 (checks name).1 p)
+check_is_right words name r e p = check_if r (read_as words _ _ _ r e (checks name).0 (checks name).1 p)
 
 -- the words of `natsd serve`
 pub serve_is_right : (words : List Text) (name : Text) (r : Result Invocation WordsFault) → words ≡ name ∷ codes "serve" ∷ [] → IsReading (kinds_of words) (found_in words) r → IsServeOrMemory AreDefaults r
@@ -278,10 +279,10 @@ serve_is_right words name r e p = serve_if r (read_as words _ _ _ r e (serves na
 abbrev stray : Kinds
 stray = UnknownArgument ∷ InvalidSubcommand ∷ []
 
-other_word : (name : Text) (c : ℕ) (cs : Text) → (c == 45) ≡ false → bytes_eq (codes "play") (c ∷ cs) ≡ false → bytes_eq (codes "check") (c ∷ cs) ≡ false → bytes_eq (codes "serve") (c ∷ cs) ≡ false →
+other_word : (name : Text) (c : ℕ) (cs : Text) → (c == 45) ≡ false → bytes_eq (codes "play") (c ∷ cs) ≡ false → bytes_eq (codes "check") (c ∷ cs) ≡ false → bytes_eq (codes "explain") (c ∷ cs) ≡ false → bytes_eq (codes "serve") (c ∷ cs) ≡ false →
     kinds_of (name ∷ (c ∷ cs) ∷ []) ≡ stray
 unfolding clap_on_literals
-other_word name c cs hyphen play check serve = rw (play, check, serve, hyphen) (rw hyphen refl)
+other_word name c cs hyphen play check explain serve = rw (play, check, explain, serve, hyphen) (rw hyphen refl)
 
 no_hyphen : (c : ℕ) (cs : Text) → strip_byte 45 (c ∷ cs) ≡ None → (c == 45) ≡ false
 no_hyphen c cs e = by_test (c == 45) e
@@ -293,7 +294,7 @@ no_hyphen c cs e = by_test (c == 45) e
 others : (name word : Text) → IsUnknown word → kinds_of (name ∷ word ∷ []) ≡ stray
 unfolding clap_on_literals
 others name [] h = refl
-others name (c ∷ cs) h = other_word name c cs (no_hyphen c cs h.0) h.1 h.2 h.3
+others name (c ∷ cs) h = other_word name c cs (no_hyphen c cs h.0) h.1 h.2 h.3 h.4
 
 nothing : (name : Text) → kinds_of (name ∷ []) ≡ MissingSubcommand ∷ []
 unfolding clap_on_literals
@@ -302,11 +303,8 @@ nothing name = refl
 -- a request is none of these mistakes
 wrong_if : (kinds : Kinds) (found : Option (Text × List Row)) (r : Result Invocation WordsFault) → (kinds ≡ [] → ⊥) → (IsAmong DisplayHelp kinds → ⊥) → (IsAmong DisplayVersion kinds → ⊥) →
     IsReading kinds found r → IsWrongOrMemory r
-wrong_if kinds found (Ok (invocation.Serve options)) some help version h = absurd (some h.0)
-wrong_if kinds found (Ok (invocation.Task Play)) some help version h = absurd (some h.0)
-wrong_if kinds found (Ok (invocation.Task Check)) some help version h = absurd (some h.0)
-wrong_if kinds found (Ok (invocation.Task (Help text))) some help version h = absurd (help h)
-wrong_if kinds found (Ok (invocation.Task (Version text))) some help version h = absurd (version h)
+wrong_if kinds found (Ok a) some help version (inl h) = absurd (some h.0)
+wrong_if kinds found (Ok a) some help version (inr h) = absurd (refused_by kinds a help version h)
 wrong_if kinds found (Err (WrongLine text)) some help version h = tt
 wrong_if kinds found (Err NoMemory) some help version h = tt
 

@@ -27,6 +27,10 @@ most_connections = 18446744073709551615
 abbrev pub policy_rule : Rule
 policy_rule = text_rule (codes "policy")
 
+-- what `check` takes
+abbrev pub check_app : App
+check_app = with_rule (new_app (codes "check")) policy_rule
+
 abbrev pub listen_rule : Rule
 listen_rule = record (text_rule (codes "listen")) { defaults = default_listen ∷ [] }
 

@@ -1,32 +1,32 @@
 -- The command line of `natsd` (docs/SCRIPT.md, "Statuses"), in the words of clap's contracts.
-use Rattle.std.specs.Prelude.{◌≡◌, ⊤, ℕ, List, [], Bool, true, false, if◌then◌else◌, codes, Option, Some, None, option_map, Result, Ok, Err}
+use Rattle.std.specs.Prelude.{◌≡◌, ◌⊎◌, ◌||◌, ⊤, ℕ, IsTrue, List, [], Bool, true, false, codes, Option, Some, None, option_map, Result, Ok, Err, string_bytes}
 use Rattle.std.specs.Str.{bytes_eq}
 use Rattle.clap.specs.Lexer.{strip_byte}
-use Rattle.clap.specs.Words.{App, IsAmong, Kinds, Row, Text, fault_of, new_app, subcommand_of, with_subcommand}
+use Rattle.clap.specs.Words.{App, IsAmong, Kinds, Row, Text, fault_of, first_of, new_app, subcommand_of, with_subcommand}
 use Rattle.clap.specs.declared.error.kind.ErrorKind.{ErrorKind}
 use Rattle.clap.specs.declared.error.kind.ErrorKind.TheVariants.{DisplayHelp, DisplayVersion, OutOfMemory}
-use Rattle.command_line.specs.Options.{serve_app, IsOptions}
+use Rattle.command_line.specs.Options.{check_app, serve_app, IsOptions}
+use Rattle.command_line.specs.Question.{Word, explain_app, kind_named, word_at, IsQuestion}
+use Rattle.command_line.specs.declared.question.Question.{Question}
+use Rattle.command_line.specs.declared.question.QuestionKind.{QuestionKind}
 use Rattle.command_line.specs.declared.options.ServeOptions.{ServeOptions}
 use Rattle.command_line.specs.declared.words.Invocation.{Invocation}
 use Rattle.command_line.specs.declared.words.Invocation.TheVariants as invocation
 use Rattle.command_line.specs.declared.words.Task.{Task}
-use Rattle.command_line.specs.declared.words.Task.TheVariants.{Play, Check, Help, Version}
+use Rattle.command_line.specs.declared.words.Task.TheVariants.{Play, Check, Explain, BadKind, Help, Version}
 use Rattle.command_line.specs.declared.words.WordsFault.{WordsFault}
 use Rattle.command_line.specs.declared.words.WordsFault.TheVariants.{WrongLine, NoMemory}
 
--- `play` and `check` take nothing of their own; what `serve` takes stands in Options
+-- `play` takes nothing of its own; what the others take stands in Options and Question
 abbrev pub play_app : App
 play_app = new_app (codes "play")
-
-abbrev pub check_app : App
-check_app = new_app (codes "check")
 
 -- a version, no subcommand `help`, and one of the subcommands has to be named
 abbrev pub bare_app : App
 bare_app = record { top = record (new_app (codes "natsd")).top { has_version = true; disable_help_subcommand = true; subcommand_required = true }; subs = [] }
 
 abbrev pub natsd_app : App
-natsd_app = with_subcommand (with_subcommand (with_subcommand bare_app play_app.top) check_app.top) serve_app.top
+natsd_app = with_subcommand (with_subcommand (with_subcommand (with_subcommand bare_app play_app.top) check_app.top) explain_app.top) serve_app.top
 
 -- why clap gives no matches for these words: nothing where they are right
 abbrev pub kinds_of : List (List ℕ) → Kinds
@@ -46,17 +46,42 @@ HasMistake kinds = (k : ErrorKind) × IsAmong k kinds × (is_mistake k ≡ true)
 abbrev pub found_in : List Text → Option (Text × List Row)
 found_in words = subcommand_of natsd_app words
 
-abbrev pub task_named : Text → Task
-task_named name = if bytes_eq name (codes "check") then Check else Play
+-- a task on the policy of a file, or on that of standard input where no file is named
+abbrev pub on_policy : Task → Option Word → Invocation
+on_policy task None = invocation.Task task
+on_policy task (Some file) = invocation.OnFile task file
+
+-- the file that the option `policy` names, if it does
+abbrev pub IsPolicyFile : List Row → Option Word → Type 0
+IsPolicyFile rows file = option_map string_bytes file ≡ first_of (codes "policy") rows
+
+-- a policy is to be checked
+abbrev pub IsCheck : List Row → Invocation → Type 0
+IsCheck rows a = (file : Option Word) × (a ≡ on_policy Check file) × IsPolicyFile rows file
+
+-- a question is to be answered, or its kind isn't known
+abbrev pub IsAskedIf : List Row → Option QuestionKind → Invocation → Type 0
+IsAskedIf rows None a = a ≡ invocation.Task BadKind
+IsAskedIf rows (Some kind) a =
+    (question : Question) × (file : Option Word) × (a ≡ on_policy (Explain question) file) × IsQuestion rows kind question × IsPolicyFile rows file
+
+abbrev pub IsAskedBy : List Row → Invocation → Type 0
+IsAskedBy rows a = IsAskedIf rows (kind_named (word_at (codes "kind") rows)) a
+
+-- clients are to be served, by the options
+abbrev pub IsServing : List Row → Invocation → Type 0
+IsServing rows (invocation.Serve options) = IsOptions rows options
+IsServing rows _ = ⊥
 
 -- what a subcommand asks for
-abbrev pub IsInvokedIf : Bool → Text → List Row → Invocation → Type 0
-IsInvokedIf true name rows (invocation.Serve options) = IsOptions rows options
-IsInvokedIf true name rows (invocation.Task task) = ⊥
-IsInvokedIf false name rows a = a ≡ invocation.Task (task_named name)
+abbrev pub IsInvokedIf : Bool → Bool → Bool → List Row → Invocation → Type 0
+IsInvokedIf true explains checks rows a = IsServing rows a
+IsInvokedIf false true checks rows a = IsAskedBy rows a
+IsInvokedIf false false true rows a = IsCheck rows a
+IsInvokedIf false false false rows a = a ≡ invocation.Task Play
 
 abbrev pub IsInvokedAs : Text → List Row → Invocation → Type 0
-IsInvokedAs name rows a = IsInvokedIf (bytes_eq name (codes "serve")) name rows a
+IsInvokedAs name rows a = IsInvokedIf (bytes_eq name (codes "serve")) (bytes_eq name (codes "explain")) (bytes_eq name (codes "check")) rows a
 
 abbrev pub IsInvokedBy : Option (Text × List Row) → Invocation → Type 0
 IsInvokedBy None a = a ≡ invocation.Task Play
@@ -64,29 +89,24 @@ IsInvokedBy (Some found) a = IsInvokedAs found.0 found.1 a
 
 -- what is made of a line that names no task: what was asked for, or that it is wrong
 abbrev pub IsRefusal : Kinds → Result Invocation WordsFault → Type 0
-IsRefusal kinds (Ok (invocation.Serve options)) = ⊥
-IsRefusal kinds (Ok (invocation.Task Play)) = ⊥
-IsRefusal kinds (Ok (invocation.Task Check)) = ⊥
 IsRefusal kinds (Ok (invocation.Task (Help text))) = IsAmong DisplayHelp kinds
 IsRefusal kinds (Ok (invocation.Task (Version text))) = IsAmong DisplayVersion kinds
+IsRefusal kinds (Ok _) = ⊥
 IsRefusal kinds (Err (WrongLine text)) = HasMistake kinds
 IsRefusal kinds (Err NoMemory) = ⊤
 
--- the subcommand of this name was found
-abbrev pub IsNamed : Text → Option (Text × List Row) → Type 0
-IsNamed name found = option_map (λ (f : Text × List Row). f.0) found ≡ Some name
+-- one of the subcommands was found
+abbrev pub names_task : Text → Bool
+names_task name = bytes_eq name (codes "play") || bytes_eq name (codes "check") || bytes_eq name (codes "explain") || bytes_eq name (codes "serve")
 
--- `serve` was found, with these options
-abbrev pub IsServe : Option (Text × List Row) → ServeOptions → Type 0
-IsServe found options = (rows : List Row) × (found ≡ Some (codes "serve", rows)) × IsOptions rows options
+-- what the subcommand that was found asks for
+abbrev pub IsFound : Option (Text × List Row) → Invocation → Type 0
+IsFound None a = ⊥
+IsFound (Some found) a = IsTrue (names_task found.0) × IsInvokedAs found.0 found.1 a
 
 -- what is made of a line: what is named, where nothing is wrong, or a refusal
 abbrev pub IsReading : Kinds → Option (Text × List Row) → Result Invocation WordsFault → Type 0
-IsReading kinds found (Ok (invocation.Serve options)) = (kinds ≡ []) × IsServe found options
-IsReading kinds found (Ok (invocation.Task Play)) = (kinds ≡ []) × IsNamed (codes "play") found
-IsReading kinds found (Ok (invocation.Task Check)) = (kinds ≡ []) × IsNamed (codes "check") found
-IsReading kinds found (Ok (invocation.Task (Help text))) = IsRefusal kinds (Ok (invocation.Task (Help text)))
-IsReading kinds found (Ok (invocation.Task (Version text))) = IsRefusal kinds (Ok (invocation.Task (Version text)))
+IsReading kinds found (Ok a) = ((kinds ≡ []) × IsFound found a) ⊎ IsRefusal kinds (Ok a)
 IsReading kinds found (Err fault) = IsRefusal kinds (Err fault)
 
 -- the task, or want of memory
@@ -99,6 +119,7 @@ IsTaskOrMemory task (Err NoMemory) = ⊤
 abbrev pub IsServeOrMemory : (ServeOptions → Type 0) → Result Invocation WordsFault → Type 0
 IsServeOrMemory P (Ok (invocation.Serve options)) = P options
 IsServeOrMemory P (Ok (invocation.Task task)) = ⊥
+IsServeOrMemory P (Ok (invocation.OnFile task file)) = ⊥
 IsServeOrMemory P (Err (WrongLine text)) = ⊥
 IsServeOrMemory P (Err NoMemory) = ⊤
 
@@ -110,4 +131,4 @@ IsWrongOrMemory (Err NoMemory) = ⊤
 
 -- a word that begins with no hyphen and names no task
 abbrev pub IsUnknown : List ℕ → Type 0
-IsUnknown word = (strip_byte 45 word ≡ None) × (bytes_eq (codes "play") word ≡ false) × (bytes_eq (codes "check") word ≡ false) × (bytes_eq (codes "serve") word ≡ false)
+IsUnknown word = (strip_byte 45 word ≡ None) × (bytes_eq (codes "play") word ≡ false) × (bytes_eq (codes "check") word ≡ false) × (bytes_eq (codes "explain") word ≡ false) × (bytes_eq (codes "serve") word ≡ false)

@@ -2,7 +2,9 @@
 #![tactic(auto)]
 
 mod options;
+mod question;
 mod words;
 
 pub use options::ServeOptions;
+pub use question::{Question, QuestionKind};
 pub use words::{Invocation, Task, WordsFault, read_words};

@@ -1,7 +1,7 @@
-// The options of `natsd serve` (docs/OPERATING.md, "Options").
+// The options of `natsd serve` (docs/OPERATING.md, "Options"), and the policy's file of other commands.
 ghost use Rattle.std.specs.Prelude.{◌≡◌, ◌≤◌, false, IfOk, codes, option_map, string_bytes};
 ghost use Rattle.clap.specs.Words.{first_of, found_of, new_app, one_of, rows_of, rule_of};
-ghost use Rattle.command_line.specs.Options.{connections_rule, history_bytes_rule, history_rule, listen_rule, number_rule, outbox_rule, policy_rule, serve_app, text_rule, workers_rule, IsLocalApp, IsNumberIn, IsOptions};
+ghost use Rattle.command_line.specs.Options.{check_app, connections_rule, history_bytes_rule, history_rule, listen_rule, number_rule, outbox_rule, policy_rule, serve_app, text_rule, workers_rule, IsLocalApp, IsNumberIn, IsOptions};
 
 use clap::builder::ValueParser;
 use clap::{Arg, ArgMatches, Command};
@@ -78,7 +78,7 @@ fn number_option<'a>(
         .default_value(default)
 }
 
-/// The file of the policy.
+/// The file of the policy that `serve` takes.
 fn policy_option<'a>(alloc: Global) -> Arg<'a>
     ensures rule { rule_of result ≡ policy_rule }
     ensures local { result.global ≡ false }
@@ -166,13 +166,36 @@ fn connections_option<'a>(alloc: Global) -> Arg<'a>
     )
 }
 
-/// `natsd serve` without options.
-fn bare_command<'a>(alloc: Global) -> Command<'a>
-    ensures { IsLocalApp (new_app (codes "serve")) result }
+/// The file of the policy that `check` and `explain` take.
+pub(crate) fn policy_file_option<'a>(alloc: Global) -> Arg<'a>
+    ensures rule { rule_of result ≡ policy_rule }
+    ensures local { result.global ≡ false }
 {
-    Command::new(alloc, "serve").about(
-        "Serves clients over sockets, by a policy that may change while it runs",
+    text_option(
+        alloc,
+        "policy",
+        "FILE",
+        "The policy; without it, the policy is read on standard input",
     )
+}
+
+/// A command without options.
+pub(crate) fn local_command<'a>(alloc: Global, name: &'a str, about: &'a str) -> Command<'a>
+    ensures { IsLocalApp (new_app name.entry.now) result }
+{
+    Command::new(alloc, name).about(about)
+}
+
+/// Returns the command `natsd check`, with the option that it takes.
+pub fn check_command<'a>(alloc: Global) -> Result<Command<'a>, AllocError>
+    ensures { IfOk result (IsLocalApp check_app) }
+{
+    local_command(
+        alloc,
+        "check",
+        "Checks a policy: prints how much it has or its first fault",
+    )
+    .arg(policy_file_option(alloc))
 }
 
 /// Returns the command `natsd serve`, with the options that it takes.
@@ -180,19 +203,27 @@ pub fn serve_command<'a>(alloc: Global) -> Result<Command<'a>, AllocError>
     ensures { IfOk result (IsLocalApp serve_app) }
 {
     // Each option is made where it is added, so that no other has to be dropped where memory lacks.
-    bare_command(alloc)
-        .arg(policy_option(alloc))?
-        .arg(listen_option(alloc))?
-        .arg(workers_option(alloc))?
-        .arg(outbox_option(alloc))?
-        .arg(history_option(alloc))?
-        .arg(history_bytes_option(alloc))?
-        .arg(connections_option(alloc))
+    local_command(
+        alloc,
+        "serve",
+        "Serves clients over sockets, by a policy that may change while it runs",
+    )
+    .arg(policy_option(alloc))?
+    .arg(listen_option(alloc))?
+    .arg(workers_option(alloc))?
+    .arg(outbox_option(alloc))?
+    .arg(history_option(alloc))?
+    .arg(history_bytes_option(alloc))?
+    .arg(connections_option(alloc))
 }
 
 /// The text that was given for an option, or its default.
 #[tactic(auto, using(crate::proofs::Rows::first_by_rows))]
-fn text_in(alloc: Global, matches: &ArgMatches<'_>, id: &str) -> Result<Option<String>, AllocError>
+pub(crate) fn text_in(
+    alloc: Global,
+    matches: &ArgMatches<'_>,
+    id: &str,
+) -> Result<Option<String>, AllocError>
     ensures { IfOk result (λ text. option_map string_bytes text ≡ first_of id.now (rows_of (found_of matches.now))) }
 {
     match matches.get_str(id) {

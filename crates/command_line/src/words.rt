@@ -3,7 +3,8 @@ ghost use Rattle.std.specs.Prelude.{◌≡◌, ◌∷◌, [], ℕ, List, IfOk, c
 ghost use Rattle.clap.specs.Words.{app_of, kind_of};
 ghost use Rattle.clap.specs.declared.error.kind.ErrorKind.TheVariants.{OutOfMemory};
 
-use crate::options::{ServeOptions, options_of, serve_command};
+use crate::options::{ServeOptions, check_command, options_of, serve_command, text_in};
+use crate::question::{Question, explain_command, question_of};
 use clap::error::ErrorKind;
 use clap::{ArgMatches, Command, Error};
 use std::alloc::{AllocError, Global};
@@ -14,6 +15,8 @@ use std::convert::AsStr;
 pub enum Invocation {
     /// A task on standard input and output.
     Task(Task),
+    /// A task that reads the file of this name in place of standard input.
+    OnFile(Task, String),
     /// To serve clients over sockets.
     Serve(ServeOptions),
 }
@@ -25,6 +28,10 @@ pub enum Task {
     Play,
     /// To check a policy.
     Check,
+    /// To explain what a policy says to a question.
+    Explain(Question),
+    /// To say that a question is of no known kind.
+    BadKind,
     /// To show this help.
     Help(String),
     /// To show this version.
@@ -65,15 +72,14 @@ fn natsd_command<'a>(alloc: Global) -> Result<Command<'a>, AllocError>
         .subcommand(Command::new(alloc, "play").about(
             "Plays a script of clients against one server: reads it on standard input, prints what each client is sent",
         ))?
-        .subcommand(Command::new(alloc, "check").about(
-            "Checks a policy: reads it on standard input, prints how much it has or its first fault",
-        ))?
+        .subcommand(check_command(alloc)?)?
+        .subcommand(explain_command(alloc)?)?
         .subcommand(serve_command(alloc)?)
 }
 
 ghost use Rattle.clap.specs.Words.{found_of, rows_of, subcommand_rows_of};
 ghost use Rattle.command_line.specs.Options.{AreDefaults};
-ghost use Rattle.command_line.specs.Words.{found_in, kinds_of, IsInvokedAs, IsInvokedBy, IsReading, IsRefusal, IsServeOrMemory, IsTaskOrMemory, IsUnknown, IsWrongOrMemory};
+ghost use Rattle.command_line.specs.Words.{found_in, kinds_of, on_policy, IsAskedBy, IsInvokedAs, IsInvokedBy, IsReading, IsRefusal, IsServeOrMemory, IsTaskOrMemory, IsUnknown, IsWrongOrMemory};
 
 /// What is made of a line for which clap gives no matches.
 fn read_refusal(alloc: Global, error: &Error) -> Result<Invocation, WordsFault>
@@ -89,17 +95,45 @@ fn read_refusal(alloc: Global, error: &Error) -> Result<Invocation, WordsFault>
     }
 }
 
-/// What a subcommand asks for, by its name and its options: `serve`, `check`, or else `play`.
+/// What a subcommand asks for, by its name and its arguments: `serve`, `explain`, `check`, or else `play`.
 fn invoked_as(alloc: Global, name: &str, options: &ArgMatches<'_>) -> Result<Invocation, AllocError>
     ensures { IfOk result (IsInvokedAs name.now (rows_of (found_of options.now))) }
 {
     if name == "serve" {
         return Ok(Invocation::Serve(options_of(alloc, options)?));
     }
+    if name == "explain" {
+        let asked = asked_by(alloc, options)?;
+        return Ok(asked);
+    }
     if name == "check" {
-        return Ok(Invocation::Task(Task::Check));
+        let policy = text_in(alloc, options, "policy")?;
+        return Ok(on_policy(Task::Check, policy));
     }
     Ok(Invocation::Task(Task::Play))
+}
+
+/// What `explain` asks for, by its arguments.
+fn asked_by(alloc: Global, options: &ArgMatches<'_>) -> Result<Invocation, AllocError>
+    ensures { IfOk result (IsAskedBy (rows_of (found_of options.now))) }
+{
+    match question_of(alloc, options)? {
+        None => Ok(Invocation::Task(Task::BadKind)),
+        Some(question) => {
+            let policy = text_in(alloc, options, "policy")?;
+            Ok(on_policy(Task::Explain(question), policy))
+        }
+    }
+}
+
+/// A task on the policy of a file, or on that of standard input where no file is named.
+fn on_policy(task: Task, file: Option<String>) -> Invocation
+    ensures { result ≡ on_policy task file }
+{
+    match file {
+        None => Invocation::Task(task),
+        Some(file) => Invocation::OnFile(task, file),
+    }
 }
 
 /// What the subcommand that the words name asks for.
@@ -114,8 +148,11 @@ fn invoked_by(alloc: Global, matches: &ArgMatches<'_>) -> Result<Invocation, All
 
 /// What the words of a command line ask for. The first is the program's name.
 ///
-/// The words are judged by clap: `play` asks for a script to be played, `check` for a policy to be checked, `serve`
-/// for clients to be served by its options, `--help`, `-h` and `play --help` for help, `--version` for the version.
+/// The words are judged by clap: `play` asks for a script to be played, `check` for a policy to be checked, `explain` for
+/// what a policy says to a question, `serve` for clients to be served by its options, `--help`, `-h` and `play --help` for
+/// help, `--version` for the version. `check` and `explain` read the policy on standard input, or in the file that their
+/// option `--policy` names. Where they have the right number, the words of `explain` are a question; one of another kind
+/// than `publish`, `subscribe`, `delivery` and `path` asks for that to be said.
 /// `WrongLine` comes with clap's text where the line is another, such as one with no word behind the name, with one
 /// that is none of these or with a number out of its bounds; `NoMemory` where memory could not be had. No clause says
 /// what the texts are.

@@ -5,7 +5,7 @@ use Rattle.command_line.proofs.options.serve_command.Goals as goal
 
 pub returns : goal.returns
 returns c =
-    let first = with_option _ _ _ _ _ c.bare_command.ensures c.in_ok-arg.ensures c.policy_option.ensures.rule c.policy_option.ensures.local in
+    let first = with_option _ _ _ _ _ c.local_command.ensures c.in_ok-arg.ensures c.policy_option.ensures.rule c.policy_option.ensures.local in
     let next = with_option _ _ _ _ _ first c.in_ok-arg-2.ensures c.listen_option.ensures.rule c.listen_option.ensures.local in
     let third = with_option _ _ _ _ _ next c.in_ok-arg-3.ensures c.workers_option.ensures.rule c.workers_option.ensures.local in
     let fourth = with_option _ _ _ _ _ third c.in_ok-arg-4.ensures c.outbox_option.ensures.rule c.outbox_option.ensures.local in
