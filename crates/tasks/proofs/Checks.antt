@@ -1,12 +1,14 @@
 -- What is said of a text that is longer than a policy's may be.
-use Rattle.std.proofs.Common.{◌≡◌, ◌<◌, ◌++◌, ℕ, List, codes, length, ap, refl, Err}
+use Rattle.std.proofs.Common.{◌≡◌, ◌∙◌, ◌<◌, ◌++◌, ℕ, List, codes, length, ap, sym, refl, Err}
 use Rattle.std.proofs.lemmas.Bool.{lt-ltb}
 use Rattle.account_config.specs.Policy.{policy_of}
 use Rattle.policy_walk.specs.declared.fault.ConfigFault.TheVariants.{TooLarge}
 use Rattle.reload.specs.Fault.{fault_line}
 use Rattle.reload.specs.Reload.{judged}
 use Rattle.reload.specs.declared.fault.ReloadFault.TheVariants.{Config}
+use Rattle.command_line.specs.declared.question.Question.{Question}
 use Rattle.tasks.specs.Check.{report_of, reported}
+use Rattle.tasks.specs.Explaining.{explained_by, replied}
 
 too_large : (text : List ℕ) → 1048576 < length text → policy_of text ≡ Err TooLarge
 unfolding policy_of
@@ -14,3 +16,7 @@ too_large text long = rw (lt-ltb 1048576 (length text) long) refl
 
 pub report_is : (text : List ℕ) → 1048576 < length text → report_of text ≡ record { text = fault_line (Config TooLarge) ++ codes "\n"; status = 1 }
 report_is text long = ap (λ read. reported (judged read)) (too_large text long)
+
+-- no question to it is answered
+pub reply_is : (question : Question) (text : List ℕ) → 1048576 < length text → explained_by question text ≡ report_of text
+reply_is question text long = ap (λ read. replied question (judged read)) (too_large text long) ∙ sym (report_is text long)

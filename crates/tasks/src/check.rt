@@ -17,15 +17,15 @@ use reload::{ReloadFault, read_valid_policy};
 use std::alloc::Global;
 
 /// The most reads that bring a policy, with the one that finds its end.
-const MOST_READS: usize = MOST_BYTES + 1;
+pub(crate) const MOST_READS: usize = MOST_BYTES + 1;
 
 /// What is said of a policy.
 #[derive(Debug, Drop)]
-struct Report {
-    /// The line that is printed.
-    text: Items<u8>,
-    /// 0 where it is a policy, else 1.
-    status: u8,
+pub(crate) struct Report {
+    /// The lines that are printed.
+    pub text: Items<u8>,
+    /// 0 where it is a policy that answers, else 1.
+    pub status: u8,
 }
 
 /// The report on the text of a policy.
@@ -46,7 +46,7 @@ fn report_of(alloc: Global, text: &[u8]) -> Result<Report, NoMemory>
 }
 
 /// The report on a text that is longer than a policy's may be.
-fn report_too_large(alloc: Global) -> Result<Report, NoMemory>
+pub(crate) fn report_too_large(alloc: Global) -> Result<Report, NoMemory>
     ensures text { (text : List ℕ) → 1048576 < length text → IfOk result (λ report. report.text ≡ (report_of text).text) }
     ensures status { (text : List ℕ) → 1048576 < length text → IfOk result (λ report. report.status ≡ (report_of text).status) }
 {
@@ -76,7 +76,7 @@ fn counts_line(alloc: Global, policy: &Policy) -> Result<Items<u8>, NoMemory>
 
 /// The line of a fault of a text, with its LF. `NoMemory` comes also where that is the fault, which says nothing of
 /// the text.
-fn fault_line(alloc: Global, fault: &ReloadFault) -> Result<Items<u8>, NoMemory>
+pub(crate) fn fault_line(alloc: Global, fault: &ReloadFault) -> Result<Items<u8>, NoMemory>
     ensures told { IfOk result (λ line. line ≡ fault_line fault.now ++ codes "\n") }
     ensures fault { IfOk result (λ line. is_memory fault.now ≡ false) }
 {

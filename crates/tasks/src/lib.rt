@@ -1,11 +1,13 @@
 //! Does what the words of a command line ask for, and tells what came of it (docs/SCRIPT.md, "Statuses").
 #![tactic(auto)]
 
+mod answer;
 mod check;
+mod explaining;
 mod fault;
 mod playing;
 mod status;
 
 pub use fault::TaskFault;
 pub use playing::play;
-pub use status::{Ran, Start, StartFault, run};
+pub use status::{Ran, Start, StartFault, run, run_and_tell};

@@ -8,6 +8,7 @@ ghost use Rattle.command_line.specs.Options.{AreServable};
 ghost use Rattle.tasks.specs.Run.{reads, writes, IsMistake, IsRun, IsTaskRun, IsWordsRun};
 
 use crate::check::check;
+use crate::explaining::explain;
 use crate::fault::TaskFault;
 use crate::playing::play;
 use command_line::{Invocation, ServeOptions, Task, WordsFault, read_words};
@@ -58,6 +59,8 @@ impl StartFault {
 pub enum Ran {
     /// The program has ended with this status.
     Ended(u8),
+    /// A task is to be done that reads the file of this name in place of the source. Nothing was read or written.
+    OnFile(Task, String),
     /// Clients are to be served. Nothing was read or written.
     Serve(ServeOptions),
 }
@@ -91,25 +94,26 @@ fn tell_fault<E: Sink>(errors: &mut E, fault: TaskFault) -> u8
     tell(errors, fault_line(fault), 1)
 }
 
-/// Writes a text.
-fn show<W: Sink>(text: &str, sink: &mut W) -> Result<u8, TaskFault>
-    ensures shown { IfOk result (λ status. Appends (W.contents sink.old) (W.contents sink.new) text.now × (status ≡ 0)) }
+/// Writes a text, and returns the status.
+fn show<W: Sink>(text: &str, status: u8, sink: &mut W) -> Result<u8, TaskFault>
+    ensures shown { IfOk result (λ shown. Appends (W.contents sink.old) (W.contents sink.new) text.now × (shown ≡ status)) }
     ensures prefix { OnErr result (AppendsFront (W.contents sink.old) (W.contents sink.new) text.now) }
     ensures failed { W.failed sink.new ≡ (W.failed sink.old || is_write_failed result) }
     ensures read { is_read_failed result ≡ false }
     ensures long { result ≢ Err TaskFault.ScriptTooLong }
 {
     match write_all(sink, text.as_bytes()) {
-        Ok(()) => Ok(0),
+        Ok(()) => Ok(status),
         Err(_) => Err(TaskFault::WriteFailed),
     }
 }
 
-/// Does a task: plays the script that the source holds, as `play` does, or checks the policy, as `check` does, or
-/// writes the text that was asked for. Returns the status, 0 or 1.
+/// Does a task: plays the script that the source holds, as `play` does, or checks the policy, as `check` does, or answers
+/// a question to it, as `explain` does, or writes the text that was asked for. Returns the status: 0, 1 or, of a question
+/// of no known kind, 2.
 ///
-/// The faults are those of `play` and `check`; `ScriptTooLong` is of scripts alone. What was written then is a front
-/// of what the task writes.
+/// The faults are those of `play`, `check` and `explain`; `ScriptTooLong` is of scripts alone. What was written then is a
+/// front of what the task writes.
 pub fn run_task<R: Source, W: Sink>(
     alloc: Global,
     keys: RandomState,
@@ -130,13 +134,16 @@ pub fn run_task<R: Source, W: Sink>(
     match task {
         Task::Play => play(alloc, keys, source, sink),
         Task::Check => check(alloc, source, sink),
-        Task::Help(text) => show(text.as_str(), sink),
-        Task::Version(text) => show(text.as_str(), sink),
+        Task::Explain(question) => explain(alloc, question, source, sink),
+        Task::BadKind => show("bad kind\n", 2, sink),
+        Task::Help(text) => show(text.as_str(), 0, sink),
+        Task::Version(text) => show(text.as_str(), 0, sink),
     }
 }
 
-/// Does a task, and tells its fault.
-fn run_and_tell<R: Source, W: Sink, E: Sink>(
+/// Does a task as `run_task`, tells its fault on the error sink, as far as that can be written, and returns the status,
+/// which is 1 of a fault.
+pub fn run_and_tell<R: Source, W: Sink, E: Sink>(
     alloc: Global,
     keys: RandomState,
     task: &Task,
@@ -174,6 +181,7 @@ fn run_words<S: AsStr, R: Source, W: Sink, E: Sink>(
             Invocation::Task(task) => {
                 Ran::Ended(run_and_tell(alloc, keys, &task, source, sink, errors))
             }
+            Invocation::OnFile(task, file) => Ran::OnFile(task, file),
             Invocation::Serve(options) => Ran::Serve(options),
         },
         Err(fault) => match fault {
@@ -184,9 +192,9 @@ fn run_words<S: AsStr, R: Source, W: Sink, E: Sink>(
 }
 
 /// The program: does what the words of its command line ask for, and returns its status; or hands out the options of
-/// `serve`, before anything is read or written.
+/// `serve`, or a task with the name of the file that it is to read, before anything is read or written.
 ///
-/// The status is the task's, 0 or 1, with nothing on the error sink. A fault of the task has status 1, and so has want
+/// The status is the task's, with nothing on the error sink. A fault of the task has status 1, and so has want
 /// of memory for the words or of random keys; a wrong line, or a word that isn't UTF-8, has status 2. Each is told on
 /// the error sink, as far as that can be written.
 pub fn run<S: AsStr, R: Source, W: Sink, E: Sink>(
