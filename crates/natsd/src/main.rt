@@ -3,9 +3,11 @@
 
 ghost use Rattle.command_line.specs.Options.{AreServable};
 
+mod on_file;
 mod serve;
 
 use devices::{ReadSource, WriteSink};
+use on_file::run_on_file;
 use policy_source::{Frames, WatchedFile};
 use serve::serve_clients;
 use server_prints::{Prints, print_all};
@@ -23,6 +25,18 @@ fn main(rt: HostRuntime) -> ExitCode {
     let mut errors = WriteSink::new(rt.stderr());
     match run(rt.alloc(), &start, &mut source, &mut sink, &mut errors) {
         Ran::Ended(status) => ExitCode::from(status),
+        Ran::OnFile(task, file) => match &start {
+            Ok(start) => ExitCode::from(run_on_file(
+                &rt,
+                start.keys,
+                &task,
+                file.as_str(),
+                &mut sink,
+                &mut errors,
+            )),
+            // (who hasn't started names no file)
+            Err(_) => ExitCode::from(1),
+        },
         Ran::Serve(options) => {
             let prints = Prints::new(rt.alloc());
             let mut stdout = rt.stdout();
