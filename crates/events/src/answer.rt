@@ -3,6 +3,7 @@ ghost use Rattle.std.specs.Prelude.{◌≡◌, IfOk};
 use crate::event::{Event, Sid};
 use crate::sent::Sent;
 use base::{Boxed, Copying, Items, NoMemory, Shared};
+use exports::Row;
 use outbox::Batch;
 use permissions::{By, Verdict};
 use reply_grants::Note;
@@ -48,13 +49,15 @@ pub struct Addressed {
     pub noted: Option<Boxed<Note>>,
 }
 
-/// What a message met at one subscription.
+/// What a message met at one subscription, or at an import row.
 #[derive(Debug, Drop)]
 pub enum Item {
     /// It is in the outbox of that connection's session, for that subscription.
     Entered { conn: u64, sid: Sid },
     /// The outbox had no room left, and the message is not in it.
     Full { conn: u64, sid: Sid },
+    /// It doesn't cross this import row, since its subject there would have more than 512 tokens.
+    MapTooLong(Shared<Row>),
 }
 
 /// What a message met at the subscriptions that it is for. A clause sees the items, oldest subscription first. A

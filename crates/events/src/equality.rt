@@ -58,6 +58,10 @@ impl Alike for Item {
                 } => *conn == *number && sid.is_like(name),
                 _ => false,
             },
+            Item::MapTooLong(row) => match other {
+                Item::MapTooLong(same) => row.is_like(same),
+                _ => false,
+            },
         }
     }
 }

@@ -101,6 +101,12 @@ impl Alike for ResponseTerms {
     }
 }
 
+impl Alike for Row {
+    fn is_like(&self, other: &Row) -> bool {
+        self.importer.is_like(&other.importer) && self.index == other.index
+    }
+}
+
 impl Alike for ExportDoc {
     fn is_like(&self, other: &ExportDoc) -> bool {
         self.kind.is_like(&other.kind)

@@ -1,12 +1,12 @@
 -- Whoever has a subject has the number of some of its first tokens, and so has whoever covers a pattern.
-use Rattle.std.proofs.Common.{◌≡◌, ◌∙◌, ◌==◌, ◌&&◌, ◌||◌, ◌⊎◌, inl, inr, ℕ, Bool, true, false, not, List, [], ◌∷◌, ap, sym, subst, refl, arith}
+use Rattle.std.proofs.Common.{◌≡◌, ◌∙◌, ◌==◌, ◌&&◌, ◌||◌, inl, inr, ℕ, Bool, true, false, not, List, [], ◌∷◌, sym, subst, refl, arith}
 use Rattle.std.proofs.lemmas.Bool.{cases_Bool, and_parts}
 use Rattle.std.proofs.lemmas.Bool.Decides.{nat_tests}
 use Rattle.std.proofs.lemmas.Slice.Eq.{bytes_eq-Decides}
 use Rattle.std.proofs.lemmas.List.Splits.{slice_split-cons_yes, slice_split-cons_no}
 use Rattle.subjects.specs.Subject.{Token, is_star, is_tail, is_wildcard, same_token, in_set, covers, tokens_of}
 use Rattle.subjects.specs.Mark.{with_byte, number_from}
-use Rattle.pattern_groups.specs.Numbers.{front_from, front_number, IsOfFront, IsPast}
+use Rattle.pattern_groups.specs.Numbers.{front_from, IsOfFront, IsPast}
 
 -- some of the first tokens may be none
 at_front : (n : ℕ) (ts : List Token) → IsOfFront n n ts

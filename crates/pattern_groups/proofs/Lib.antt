@@ -1,3 +1,4 @@
 pub mod Fronts
 pub mod Linked
 pub mod Search
+pub mod Found

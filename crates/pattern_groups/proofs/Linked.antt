@@ -1,7 +1,7 @@
 -- The places of numbers, put in from the last to the first, and the walk along a row.
-use Rattle.std.proofs.Common.{◌≡◌, ◌≢◌, ◌∙◌, ◌<◌, ◌≤◌, ◌+◌, ◌-◌, ◌⊎◌, inl, inr, ℕ, suc, Bool, true, false, List, length, replicate, slice_index_or, slice_set, get_or, set, ap, sym, subst, refl, arith}
-use Rattle.std.proofs.lemmas.List.{get_or-set_same, get_or-set_other, get_or-replicate, length-replicate}
-use Rattle.pattern_groups.specs.Links.{at, row_of, IsNext, AreLinksFrom, IsWalked, IsLeastWith}
+use Rattle.std.proofs.Common.{◌≡◌, ◌∙◌, ◌<◌, ◌≤◌, ℕ, List, length, replicate, ap, arith}
+use Rattle.std.proofs.lemmas.List.{get_or-replicate, length-replicate}
+use Rattle.pattern_groups.specs.Links.{at, AreLinksFrom}
 
 -- where no place is put in yet, each row ends behind the list
 pub none_linked : (numbers first next : List ℕ) (from : ℕ) → length numbers ≤ from → from ≤ length numbers → 0 < length first → length next ≡ length numbers →

@@ -1,5 +1,5 @@
 -- Which places of a list of numbers a search asks.
-use Rattle.std.specs.Prelude.{◌≡◌, ◌<◌, ◌≤◌, ◌+◌, ◌-◌, ℕ, Bool, true, false, List, length, Option, Some, None}
+use Rattle.std.specs.Prelude.{◌≡◌, ◌<◌, ◌≤◌, ◌+◌, ◌-◌, ◌⊎◌, ℕ, Bool, true, false, List, length, Option, Some, None, All, Contains}
 use Rattle.std.specs.List.{slice_index_or}
 use Rattle.std.specs.Int.Bits.{bit_and}
 use Rattle.pattern_groups.specs.Numbers.{IsOfFront}
@@ -56,6 +56,31 @@ abbrev pub IsLeast : (ℕ → Bool) → ℕ → Option ℕ → Type 0
 IsLeast passes count None = (j : ℕ) → j < count → passes j ≡ false
 IsLeast passes count (Some i) = (i < count) × (passes i ≡ true) × ((j : ℕ) → j < i → passes j ≡ false)
 
+-- what passes has the number of some of the tokens, behind those of a first number
+abbrev pub PassesBehind : (ℕ → Bool) → List ℕ → ℕ → List (List ℕ) → Type 0
+PassesBehind passes numbers first tokens = (j : ℕ) → j < length numbers → passes j ≡ true → IsOfFront (at numbers j) first tokens
+
 -- what passes has the number of some of the first tokens
 abbrev pub PassesByFront : (ℕ → Bool) → List ℕ → List (List ℕ) → Type 0
-PassesByFront passes numbers tokens = (j : ℕ) → j < length numbers → passes j ≡ true → IsOfFront (at numbers j) 7 tokens
+PassesByFront passes numbers tokens = PassesBehind passes numbers 7 tokens
+
+-- a place that passes
+abbrev pub IsFound : (ℕ → Bool) → ℕ → ℕ → Type 0
+IsFound passes count j = (j < count) × (passes j ≡ true)
+
+-- what a walk for a number, up to a place, adds to those found: they stay, what it adds passes, and what has the number and
+-- passes is there
+pub record Finds (passes : ℕ → Bool) (numbers : List ℕ) (number place : ℕ) (old new : List ℕ) : Type 0 where
+  pub kept : (j : ℕ) → Contains old j → Contains new j
+  pub sound : All (IsFound passes (length numbers)) old → All (IsFound passes (length numbers)) new
+  pub each : (j : ℕ) → j < place → j < length numbers → at numbers j ≡ number → passes j ≡ true → Contains new j
+
+-- those found so far: each passes, and what passes is there, or has a number that is still to come
+pub record AreFoundBut (passes : ℕ → Bool) (numbers : List ℕ) (IsLeft : ℕ → Type 0) (found : List ℕ) : Type 0 where
+  pub sound : All (IsFound passes (length numbers)) found
+  pub each : (j : ℕ) → j < length numbers → passes j ≡ true → Contains found j ⊎ IsLeft (at numbers j)
+
+-- those found: just the places that pass, in any order, some perhaps twice
+pub record AreFound (passes : ℕ → Bool) (count : ℕ) (found : List ℕ) : Type 0 where
+  pub sound : All (IsFound passes count) found
+  pub each : (j : ℕ) → j < count → passes j ≡ true → Contains found j

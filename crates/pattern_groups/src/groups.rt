@@ -1,9 +1,11 @@
-ghost use Rattle.std.specs.Prelude.{◌≡◌, ◌<◌, ◌≤◌, ◌^◌, ℕ, Bool, length, IfOk, IfSome};
+ghost use Rattle.std.specs.Prelude.{◌≡◌, ◌<◌, ◌≤◌, ◌^◌, ℕ, Bool, length, filter, IfOk, IfSome};
+ghost use Rattle.std.specs.List.{range_with_len};
 ghost use Rattle.subjects.specs.Subject.{tokens_of};
-ghost use Rattle.pattern_groups.specs.Links.{AreLinks, IsLeast, IsLeastBelow, PassesByFront};
+ghost use Rattle.subjects.specs.Mark.{number_from};
+ghost use Rattle.pattern_groups.specs.Links.{AreFound, AreLinks, IsLeast, IsLeastBelow, PassesBehind, PassesByFront};
 
 use crate::links::Links;
-use crate::number::{NONE, past_token};
+use crate::number::{NONE, past_token, with_token};
 use crate::patterns::Patterns;
 use base::NoMemory;
 use std::alloc::Global;
@@ -32,9 +34,11 @@ impl Model for Groups {
 }
 
 impl Groups {
-    ghost use Rattle.std.specs.Prelude.{◌≡◌, ◌≤◌, length, IfOk};
+    ghost use Rattle.std.specs.Prelude.{◌≡◌, ◌≤◌, length, filter, IfOk};
+    ghost use Rattle.std.specs.List.{range_with_len};
+    ghost use Rattle.subjects.specs.Mark.{number_from};
     ghost use Rattle.subjects.specs.Subject.{tokens_of};
-    ghost use Rattle.pattern_groups.specs.Links.{IsLeast, IsLeastBelow, PassesByFront};
+    ghost use Rattle.pattern_groups.specs.Links.{IsLeast, IsLeastBelow, PassesBehind, PassesByFront};
 
     /// Groups patterns by their numbers, those of `number_of`. `NoMemory` where memory could not be had.
     pub fn of(alloc: Global, numbers: Vec<u32>) -> Result<Groups, NoMemory>
@@ -53,6 +57,34 @@ impl Groups {
         ensures { IsLeast (P.passes patterns.now) (length self.now) result }
     {
         place_below(self.len(), self.least_place(text, patterns))
+    }
+
+    /// Returns the indexes of all patterns that pass, in rising order, where each pattern stands behind a token: its number
+    /// is that of `number_under`. Only those are asked that begin as this token and the text do. It takes no memory where
+    /// none passes; `NoMemory` where it could not be had.
+    pub fn all_under<P: Patterns>(
+        &self,
+        alloc: Global,
+        token: &[u8],
+        text: &[u8],
+        patterns: &P,
+    ) -> Result<Vec<usize>, NoMemory>
+        requires count { length self.now ≤ P.count patterns.now }
+        requires front { PassesBehind (P.passes patterns.now) self.now (number_from 7 token.now) (tokens_of text.now) }
+        ensures { IfOk result (λ all. all.items ≡ filter (P.passes patterns.now) (range_with_len 0 (length self.now))) }
+    {
+        let numbers = self.numbers.as_slice();
+        match &self.links {
+            None => {
+                let all = walk_all(alloc, numbers.len(), patterns)?;
+                Ok(all)
+            }
+            Some(links) => {
+                let first = with_token(NONE, token);
+                let all = search_all(alloc, links, numbers, first, text, patterns)?;
+                Ok(all)
+            }
+        }
     }
 
     /// How many patterns there are.
@@ -129,4 +161,65 @@ fn search<P: Patterns>(links: &Links, numbers: &[u32], text: &[u8], patterns: &P
         rest = behind;
     }
     links.least_with(numbers, number, best, patterns)
+}
+
+/// All of so many patterns that pass.
+fn walk_all<P: Patterns>(alloc: Global, count: usize, patterns: &P) -> Result<Vec<usize>, NoMemory>
+    requires { count ≤ P.count patterns.now }
+    ensures { IfOk result (λ all. all.items ≡ filter (P.passes patterns.now) (range_with_len 0 count)) }
+{
+    let mut all = Vec::new(alloc);
+    for index in 0..count {
+        if patterns.passes(index) {
+            all.push(index)?;
+        }
+    }
+    Ok(all)
+}
+
+/// All patterns that pass, of those that begin as the text does behind the tokens of a number.
+fn search_all<P: Patterns>(
+    alloc: Global,
+    links: &Links,
+    numbers: &[u32],
+    first: u32,
+    text: &[u8],
+    patterns: &P,
+) -> Result<Vec<usize>, NoMemory>
+    requires links { AreLinks numbers.now links.now.first.items links.now.next.items }
+    requires count { length numbers.now ≤ P.count patterns.now }
+    requires front { PassesBehind (P.passes patterns.now) numbers.now first (tokens_of text.now) }
+    ensures { IfOk result (λ all. all.items ≡ filter (P.passes patterns.now) (range_with_len 0 (length numbers.now))) }
+{
+    let mut found = found_by(alloc, links, numbers, first, text, patterns)?;
+    found.sort_unstable();
+    found.dedup();
+    Ok(found)
+}
+
+/// The same in any order, and some perhaps twice: two fronts may have one number.
+fn found_by<P: Patterns>(
+    alloc: Global,
+    links: &Links,
+    numbers: &[u32],
+    first: u32,
+    text: &[u8],
+    patterns: &P,
+) -> Result<Vec<usize>, NoMemory>
+    requires links { AreLinks numbers.now links.now.first.items links.now.next.items }
+    requires count { length numbers.now ≤ P.count patterns.now }
+    requires front { PassesBehind (P.passes patterns.now) numbers.now first (tokens_of text.now) }
+    ensures { IfOk result (λ found. AreFound (P.passes patterns.now) (length numbers.now) found.items) }
+{
+    let mut found = Vec::new(alloc);
+    let mut number = first;
+    let mut rest = Some(text);
+    while let Some(text) = rest {
+        links.add_with(numbers, number, patterns, &mut found)?;
+        let (next, behind) = past_token(number, text);
+        number = next;
+        rest = behind;
+    }
+    links.add_with(numbers, number, patterns, &mut found)?;
+    Ok(found)
 }

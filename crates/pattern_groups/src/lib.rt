@@ -7,5 +7,5 @@ mod number;
 mod patterns;
 
 pub use groups::Groups;
-pub use number::number_of;
+pub use number::{number_of, number_under};
 pub use patterns::Patterns;

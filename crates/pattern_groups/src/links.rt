@@ -1,6 +1,6 @@
 //! Where the numbers of a list stand.
-ghost use Rattle.std.specs.Prelude.{◌≡◌, ◌<◌, ◌≤◌, ◌^◌, length, IfOk};
-ghost use Rattle.pattern_groups.specs.Links.{row_of, AreLinks, IsLeastWith};
+ghost use Rattle.std.specs.Prelude.{◌≡◌, ◌<◌, ◌≤◌, ◌^◌, length, IfOk, OnOk};
+ghost use Rattle.pattern_groups.specs.Links.{row_of, AreLinks, Finds, IsLeastWith};
 
 use crate::patterns::Patterns;
 use base::NoMemory;
@@ -66,5 +66,27 @@ impl Links {
             at = self.next[at] as usize;
         }
         best
+    }
+
+    /// Appends the places that have the number and pass.
+    pub fn add_with<P: Patterns>(
+        &self,
+        numbers: &[u32],
+        number: u32,
+        patterns: &P,
+        found: &mut Vec<usize>,
+    ) -> Result<(), NoMemory>
+        requires links { AreLinks numbers.now self.now.first.items self.now.next.items }
+        requires count { length numbers.now ≤ P.count patterns.now }
+        ensures { OnOk result (Finds (P.passes patterns.now) numbers.now number (length numbers.now) found.old.items found.new.items) }
+    {
+        let mut at = self.first[row_of(number, self.first.len())] as usize;
+        while at < numbers.len() {
+            if numbers[at] == number && patterns.passes(at) {
+                found.push(at)?;
+            }
+            at = self.next[at] as usize;
+        }
+        Ok(())
     }
 }

@@ -2,7 +2,7 @@
 ghost use Rattle.std.specs.Prelude.{◌≡◌, option_copied};
 ghost use Rattle.base.specs.Pieces.{pieces_left};
 ghost use Rattle.subjects.specs.Mark.{with_byte, number_from};
-ghost use Rattle.pattern_groups.specs.Numbers.{front_number, IsPast};
+ghost use Rattle.pattern_groups.specs.Numbers.{front_from, front_number, IsPast};
 
 use subjects::{Pattern, is_star, is_tail};
 
@@ -18,7 +18,7 @@ fn with_byte(number: u32, byte: u8) -> u32
 }
 
 /// A number with the bytes of a token more.
-fn with_token(number: u32, token: &[u8]) -> u32
+pub(crate) fn with_token(number: u32, token: &[u8]) -> u32
     ensures { result ≡ number_from number token.now }
 {
     let mut all = number;
@@ -33,8 +33,22 @@ fn with_token(number: u32, token: &[u8]) -> u32
 pub fn number_of(pattern: &Pattern) -> u32
     ensures { result ≡ front_number pattern.now }
 {
+    number_behind(NONE, pattern)
+}
+
+/// Returns the same number of a token and the pattern's tokens behind it.
+pub fn number_under(token: &[u8], pattern: &Pattern) -> u32
+    ensures { result ≡ front_from (number_from 7 token.now) pattern.now }
+{
+    number_behind(with_token(NONE, token), pattern)
+}
+
+/// A number with the literal tokens that a pattern begins with.
+fn number_behind(first: u32, pattern: &Pattern) -> u32
+    ensures { result ≡ front_from first pattern.now }
+{
     let mut tokens = pattern.tokens();
-    let mut number = NONE;
+    let mut number = first;
     while let Some(token) = tokens.next_piece() {
         if is_star(token) || is_tail(token) {
             return number;

@@ -84,6 +84,7 @@ impl Compiled {
 
     /// Whether the user may publish on a subject (docs/POLICY.md, "Publish"). A denial names its reason:
     /// the least deny entry that has the subject, or an allow list none of whose entries has it.
+    #[inline(always)]
     pub fn publish(&self, subject: &SubjectRef<'_>) -> Verdict
         ensures verdict { result ≡ publish_verdict self.now subject.now }
         ensures justified { IsJustifiedPublish subject.now self.now.publish result }
@@ -92,6 +93,7 @@ impl Compiled {
     }
 
     /// The verdict of `publish`.
+    #[inline(always)]
     fn judge_publish(&self, subject: &SubjectRef<'_>) -> Verdict
         ensures { result ≡ publish_verdict self.now subject.now }
     {

@@ -2,6 +2,7 @@ ghost use Rattle.std.specs.Prelude.{◌≡◌, ◌++◌, IfOk, OnOk};
 
 use base::{Alike, Copying, NoMemory, SharedText};
 use bytes::Bytes;
+use imports::Rows;
 use permissions::Compiled;
 use policy_doc::{NamedAccount, Policy, PolicyDoc, UserDoc};
 use std::alloc::Global;
@@ -59,17 +60,18 @@ struct Named {
     place: usize,
 }
 
-/// A policy with its users, each with compiled permissions.
+/// A policy with its users, each with compiled permissions, and its import rows.
 #[derive(Debug, Drop)]
 struct Parts {
     policy: Policy,
     users: Vec<User>,
     /// Where each user is likely to stand, by rising names. Whoever is looked for is compared there.
     by_name: Vec<Named>,
+    rows: Rows,
 }
 
-/// A policy made ready to be asked: each of its users has compiled permissions. Copies share it. A clause sees the
-/// policy.
+/// A policy made ready to be asked: each of its users has compiled permissions, each import row its mapping. Copies share
+/// it. A clause sees the policy.
 #[derive(Debug)]
 pub struct Ready {
     shared: Arc<Parts>,
@@ -90,17 +92,20 @@ impl Model for Ready {
     ghost use Rattle.policy_ready.specs.Users.{users_of};
     ghost use Rattle.std.specs.Arc.{arc_value};
     ghost use Rattle.policy_doc.specs.Document.{IsValidPolicy};
+    ghost use Rattle.imports.specs.Views.{rows_of};
 
     ghost view = { λ r. (arc_value r.shared).policy };
 
     ghost invariant = { λ r. IsValidPolicy (arc_value r.shared).policy
-        × ((arc_value r.shared).users.items ≡ users_of (arc_value r.shared).policy) };
+        × ((arc_value r.shared).users.items ≡ users_of (arc_value r.shared).policy)
+        × ((arc_value r.shared).rows ≡ rows_of (arc_value r.shared).policy) };
 }
 
 impl Ready {
     ghost use Rattle.std.specs.Prelude.{◌≡◌, Some, IfOk, IfErr};
     ghost use Rattle.std.specs.Option.{option_copied};
     ghost use Rattle.policy_ready.specs.Users.{users_of, user_with_password, user_again};
+    ghost use Rattle.imports.specs.Views.{rows_of};
 
     /// The policy, made ready. Where memory could not be had, the policy is handed back.
     pub fn of(alloc: Global, policy: Policy) -> Result<Ready, (Policy, NoMemory)>
@@ -111,6 +116,10 @@ impl Ready {
             Ok(users) => users,
             Err(refused) => return Err((policy, refused)),
         };
+        let rows = match Rows::of(alloc, &policy) {
+            Ok(rows) => rows,
+            Err(refused) => return Err((policy, refused)),
+        };
         match names_of(alloc, users.as_slice()) {
             Ok(by_name) => share(
                 alloc,
@@ -118,6 +127,7 @@ impl Ready {
                     policy,
                     users,
                     by_name,
+                    rows,
                 },
             ),
             Err(refused) => Err((policy, refused)),
@@ -136,6 +146,13 @@ impl Ready {
         ensures { result.now ≡ users_of self.now }
     {
         self.shared.users.as_slice()
+    }
+
+    /// The import rows.
+    pub fn rows(&self) -> &Rows
+        ensures { result.now ≡ rows_of self.now }
+    {
+        &self.shared.rows
     }
 
     /// The user with that name and password, if there is one. Without a name there is none.
@@ -188,10 +205,12 @@ impl Alike for Ready {
 ghost use Rattle.std.specs.Prelude.{◌<◌, IfErr, IfSome, true, length};
 ghost use Rattle.std.specs.List.{HoldsAt};
 ghost use Rattle.policy_ready.specs.Users.{is_same_user, user_in, users_in, users_of as all_users_of};
+ghost use Rattle.imports.specs.Views.{rows_of};
 
 /// Shares what was made ready. Where memory could not be had, the policy is handed back.
 fn share(alloc: Global, parts: Parts) -> Result<Ready, (Policy, NoMemory)>
-    requires { parts.users.items ≡ all_users_of parts.policy }
+    requires users { parts.users.items ≡ all_users_of parts.policy }
+    requires rows { parts.rows ≡ rows_of parts.policy }
     ensures ok { IfOk result (λ ready. ready ≡ parts.policy) }
     ensures err { IfErr result (λ refused. refused.0 ≡ parts.policy) }
 {

@@ -2,13 +2,13 @@
 use Rattle.std.proofs.Common.{◌≡◌, Bool, true, false, inl, inr, List, Option, Some, None, Ok, Err, Result, subst}
 use Rattle.clap.specs.Words.{Kinds, Row, Text}
 use Rattle.command_line.specs.Options.{AreServable, IsOptions}
-use Rattle.command_line.specs.Words.{on_policy, IsAskedIf, IsFound, IsInvokedIf, IsReading}
+use Rattle.command_line.specs.Words.{checking, on_policy, IsAskedIf, IsFound, IsInvokedIf, IsReading}
 use Rattle.tasks.specs.Run.{IsReadingRun, IsWordsRun, Reads, Writes}
 use Rattle.command_line.specs.Question.{Word}
 use Rattle.command_line.specs.declared.options.ServeOptions.{ServeOptions}
 use Rattle.command_line.specs.declared.question.QuestionKind.{QuestionKind}
 use Rattle.command_line.specs.declared.words.Task.{Task}
-use Rattle.command_line.specs.declared.words.Task.TheVariants.{Check, Explain}
+use Rattle.command_line.specs.declared.words.Task.TheVariants.{Explain}
 use Rattle.tasks.specs.declared.status.Ran.{Ran}
 use Rattle.tasks.specs.declared.status.Ran.TheVariants as ran
 use Rattle.command_line.specs.declared.words.Invocation.{Invocation}
@@ -38,7 +38,7 @@ no_question (Some kind) rows o h = no_file (Explain h.0) h.1 o h.2
 by_serving : (serves explains checks : Bool) (rows : List Row) (o : ServeOptions) → IsInvokedIf serves explains checks rows (invocation.Serve o) → AreServable o
 by_serving true explains checks rows o h = by_options rows o h
 by_serving false true checks rows o h = absurd (no_question _ rows o h)
-by_serving false false true rows o h = absurd (no_file Check h.0 o h.1)
+by_serving false false true rows o h = absurd (no_file (checking rows) h.0 o h.1)
 by_serving false false false rows o h = absurd (cc)
 
 by_found : (found : Option (Text × List Row)) (o : ServeOptions) → IsFound found (invocation.Serve o) → AreServable o

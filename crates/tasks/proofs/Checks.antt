@@ -7,7 +7,7 @@ use Rattle.reload.specs.Fault.{fault_line}
 use Rattle.reload.specs.Reload.{judged}
 use Rattle.reload.specs.declared.fault.ReloadFault.TheVariants.{Config}
 use Rattle.command_line.specs.declared.question.Question.{Question}
-use Rattle.tasks.specs.Check.{report_of, reported}
+use Rattle.tasks.specs.Check.{parted, report_of, reported, sets_of_text}
 use Rattle.tasks.specs.Explaining.{explained_by, replied}
 
 too_large : (text : List ℕ) → 1048576 < length text → policy_of text ≡ Err TooLarge
@@ -20,3 +20,7 @@ report_is text long = ap (λ read. reported (judged read)) (too_large text long)
 -- no question to it is answered
 pub reply_is : (question : Question) (text : List ℕ) → 1048576 < length text → explained_by question text ≡ report_of text
 reply_is question text long = ap (λ read. replied question (judged read)) (too_large text long) ∙ sym (report_is text long)
+
+-- nor has it sets
+pub parted_is : (text : List ℕ) → 1048576 < length text → sets_of_text text ≡ report_of text
+parted_is text long = ap (λ read. parted (judged read)) (too_large text long) ∙ sym (report_is text long)

@@ -57,11 +57,11 @@ pub(crate) fn report_too_large(alloc: Global) -> Result<Report, NoMemory>
 }
 
 /// The line that says how much a policy has, with its LF: `ok`, then how many accounts, users, exports and imports.
-/// There are no exports and imports.
 fn counts_line(alloc: Global, policy: &Policy) -> Result<Items<u8>, NoMemory>
     ensures { IfOk result (λ line. line ≡ counts_line policy.now) }
 {
     let doc = policy.doc();
+    let counts = doc.counts();
     let mut line = Vec::from_slice(alloc, b"ok ")?;
     line.extend_from_slice(
         Buffer::new()
@@ -69,8 +69,12 @@ fn counts_line(alloc: Global, policy: &Policy) -> Result<Items<u8>, NoMemory>
             .as_bytes(),
     )?;
     line.extend_from_slice(b" ")?;
-    line.extend_from_slice(Buffer::new().format(doc.count_users()).as_bytes())?;
-    line.extend_from_slice(b" 0 0\n")?;
+    line.extend_from_slice(Buffer::new().format(counts.users).as_bytes())?;
+    line.extend_from_slice(b" ")?;
+    line.extend_from_slice(Buffer::new().format(counts.exports).as_bytes())?;
+    line.extend_from_slice(b" ")?;
+    line.extend_from_slice(Buffer::new().format(counts.imports).as_bytes())?;
+    line.extend_from_slice(b"\n")?;
     Ok(Items::from_vec(line))
 }
 

@@ -5,6 +5,7 @@ mod answer;
 mod check;
 mod explaining;
 mod fault;
+mod parting;
 mod playing;
 mod status;
 

@@ -10,6 +10,7 @@ ghost use Rattle.tasks.specs.Run.{reads, writes, IsMistake, IsRun, IsTaskRun, Is
 use crate::check::check;
 use crate::explaining::explain;
 use crate::fault::TaskFault;
+use crate::parting::tell_sets;
 use crate::playing::play;
 use command_line::{Invocation, ServeOptions, Task, WordsFault, read_words};
 use devices::{Sink, Source, write_all};
@@ -108,11 +109,11 @@ fn show<W: Sink>(text: &str, status: u8, sink: &mut W) -> Result<u8, TaskFault>
     }
 }
 
-/// Does a task: plays the script that the source holds, as `play` does, or checks the policy, as `check` does, or answers
-/// a question to it, as `explain` does, or writes the text that was asked for. Returns the status: 0, 1 or, of a question
+/// Does a task: plays the script that the source holds, as `play` does, or checks the policy, as `check` does, or says which of
+/// its accounts exchange messages, as `tell_sets` does, or answers a question to it, as `explain` does, or writes the text that was asked for. Returns the status: 0, 1 or, of a question
 /// of no known kind, 2.
 ///
-/// The faults are those of `play`, `check` and `explain`; `ScriptTooLong` is of scripts alone. What was written then is a
+/// The faults are those of `play`, `check`, `tell_sets` and `explain`; `ScriptTooLong` is of scripts alone. What was written then is a
 /// front of what the task writes.
 pub fn run_task<R: Source, W: Sink>(
     alloc: Global,
@@ -134,8 +135,10 @@ pub fn run_task<R: Source, W: Sink>(
     match task {
         Task::Play => play(alloc, keys, source, sink),
         Task::Check => check(alloc, source, sink),
+        Task::Sets => tell_sets(alloc, source, sink),
         Task::Explain(question) => explain(alloc, question, source, sink),
         Task::BadKind => show("bad kind\n", 2, sink),
+        Task::BadLog => show("bad log\n", 2, sink),
         Task::Help(text) => show(text.as_str(), 0, sink),
         Task::Version(text) => show(text.as_str(), 0, sink),
     }

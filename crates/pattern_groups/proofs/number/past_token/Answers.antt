@@ -1,4 +1,4 @@
-use Rattle.std.proofs.Common.{◌≡◌, ◌+◌, sym, subst, drop, slice_index_or}
+use Rattle.std.proofs.Common.{◌+◌, sym, subst, drop, slice_index_or}
 use Rattle.std.proofs.lemmas.List.{at_drop_more}
 use Rattle.pattern_groups.specs.Numbers.{IsPast}
 use Rattle.pattern_groups.proofs.Fronts.{past_more}

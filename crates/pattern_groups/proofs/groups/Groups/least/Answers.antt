@@ -1,4 +1,4 @@
-use Rattle.std.proofs.Common.{◌≡◌, sym, subst}
+use Rattle.std.proofs.Common.{sym, subst}
 use Rattle.pattern_groups.specs.Links.{IsLeast, IsLeastBelow}
 use Rattle.pattern_groups.proofs.groups.Groups.least.Goals as goal
 

@@ -1,4 +1,4 @@
-use Rattle.std.proofs.Common.{◌≡◌, ◌∙◌, ◌<◌, sym, length, arith}
+use Rattle.std.proofs.Common.{◌≡◌, length, arith}
 use Rattle.pattern_groups.proofs.Linked.{none_linked, ends_of, length_of}
 use Rattle.pattern_groups.proofs.links.Links.of.Goals as goal
 

@@ -1,0 +1,5 @@
+pub mod Firsts
+pub mod Appended
+pub mod Crossed
+pub mod Places
+pub mod Seen

@@ -1,0 +1,165 @@
+-- Views come by rows, and rows give views.
+use Rattle.std.proofs.Common.{◌≡◌, ◌∙◌, ◌&&◌, ◌||◌, ◌<◌, ◌≤◌, ◌⊎◌, inl, inr, ℕ, zero, suc, Bool, true, false, true≢false, cond, not, List, [], ◌∷◌, Option, Some, None, length, filter, ap, sym, refl, subst, arith}
+use Rattle.std.specs.Prelude.{nat_lt, Any, Contains}
+use Rattle.std.specs.List.{filter_map, list_any, slice_index_or}
+use Rattle.std.specs.Option.{option_map}
+use Rattle.std.specs.Str.{bytes_eq}
+use Rattle.std.specs.Cmp.Lexicographic.{bytes_decides, pointwise_decides}
+use Rattle.std.proofs.lemmas.Bool.{and_parts}
+use Rattle.std.proofs.lemmas.Bool.Decides.{nat_tests}
+use Rattle.std.proofs.lemmas.List.Folds.{Any-from_list_any, list_any_at}
+use Rattle.std.proofs.lemmas.Slice.Eq.{bytes_eq-Decides}
+use Rattle.subjects.specs.Subject.{Token}
+use Rattle.subjects.specs.Equal.{same_subject}
+use Rattle.mapping.specs.Pairs.{forward}
+use Rattle.imports.specs.Views.{crossed, crossing, crossings_in, first_of_each, is_at, is_route, is_same, is_stream, is_stream_of, views_in}
+use Rattle.imports.specs.Laws.{IsSeenBy, RowsGiveViews, ViewsComeByRows}
+use Rattle.imports.specs.declared.rows.ImportRow.{ImportRow}
+use Rattle.imports.specs.declared.view.ViewItem.{ViewItem}
+use Rattle.imports.specs.declared.view.ViewItem.TheVariants.{At, TooLong}
+use Rattle.imports.specs.declared.view.Way.{Way}
+use Rattle.imports.specs.declared.view.Way.TheVariants.{Own, Stream}
+use Rattle.imports.proofs.Crossed.{given_by, gives, stream_is}
+
+-- ---- each view comes by a row
+
+kept_was : (test : ViewItem → Bool) (vs : List ViewItem) (v : ViewItem) → Contains (filter test vs) v → Contains vs v
+kept_was test [] v has = has
+kept_was test (x ∷ vs) v has = by (test x) has (λ h. kept_was test vs v h)
+  where
+    behind : Contains vs v → Contains (x ∷ vs) v
+    behind h = (suc h.0, omega (arith, h.1), h.2)
+
+    first : (k : ℕ) → k < length (x ∷ filter test vs) → slice_index_or (x ∷ filter test vs) k v ≡ v → (Contains (filter test vs) v → Contains vs v) → Contains (x ∷ vs) v
+    first zero below is later = (zero, omega arith, is)
+    first (suc k) below is later = behind (later (k, omega (arith, below), is))
+
+    by : (b : Bool) → Contains (cond b (x ∷ filter test vs) (filter test vs)) v → (Contains (filter test vs) v → Contains vs v) → Contains (x ∷ vs) v
+    by true h later = first h.0 h.1 h.2 later
+    by false h later = behind (later h)
+
+first_was : (vs : List ViewItem) (v : ViewItem) → Contains (first_of_each vs) v → Contains vs v
+first_was [] v has = has
+first_was (x ∷ vs) v has = by has.0 has.1 has.2 (λ h. first_was vs v (kept_was (λ u. not (is_same x u)) (first_of_each vs) v h))
+  where
+    by : (k : ℕ) → k < length (first_of_each (x ∷ vs)) → slice_index_or (first_of_each (x ∷ vs)) k v ≡ v → (Contains (filter (λ u. not (is_same x u)) (first_of_each vs)) v → Contains vs v) → Contains (x ∷ vs) v
+    by zero below is later = (zero, omega arith, is)
+    by (suc k) below is later = let h = later (k, omega (arith, below), is) in (suc h.0, omega (arith, h.1), h.2)
+
+seen_by : (r : ImportRow) (a b : List ℕ) (s t : List Token) (way : Way) → crossing a s r ≡ Some (At b t way) → (way ≡ Stream r.row) × IsSeenBy r a s b t
+seen_by r a b s t way given = by (is_stream_of a r) refl given
+  where
+    View : Type 0
+    View = (way ≡ Stream r.row) × IsSeenBy r a s b t
+
+    long : is_stream_of a r ≡ true → (u : List Token) → forward r.mapping s ≡ Some u → (c : Bool) → nat_lt 512 (length u) ≡ c → Some (cond c (TooLong r.row) (At r.row.importer u (Stream r.row))) ≡ Some (At b t way) → View
+    long e u f true far is = absurd (cc)
+    long e u f false near is =
+        let parts = and_parts (is_stream r.kind) (bytes_eq r.exporter a) e in
+        let same : u ≡ t = cc in
+        let by_row : Stream r.row ≡ way = cc in
+        let importer : r.row.importer ≡ b = cc in
+        let short : length u ≤ 512 = grind (arith, nat_tests, near) in (
+          sym by_row,
+          record {
+            stream = stream_is r.kind parts.0;
+            exporter = (bytes_eq-Decides r.exporter a).0 parts.1;
+            importer = importer;
+            local = f ∙ ap Some same;
+            short = subst (λ l. length l ≤ 512) same short;
+          },
+        )
+
+    mapped : is_stream_of a r ≡ true → (o : Option (List Token)) → forward r.mapping s ≡ o → option_map (crossed r.row) o ≡ Some (At b t way) → View
+    mapped e None f is = absurd (cc)
+    mapped e (Some u) f is = long e u f (nat_lt 512 (length u)) refl is
+
+    by : (c : Bool) → is_stream_of a r ≡ c → cond c (option_map (crossed r.row) (forward r.mapping s)) None ≡ Some (At b t way) → View
+    by false e is = absurd (cc)
+    by true e is = mapped e (forward r.mapping s) refl is
+
+pub come : ViewsComeByRows
+come rows a b s t way has = by it.0 it.1 it.2
+  where
+    it : Contains (At a s Own ∷ crossings_in rows a s) (At b t way)
+    it = first_was (At a s Own ∷ crossings_in rows a s) (At b t way) has
+
+    Seen : Type 0
+    Seen = Any (λ r. (way ≡ Stream r.row) × IsSeenBy r a s b t) rows
+
+    across : (c : Bool) → Contains (cond c [] (filter_map (crossing a s) rows)) (At b t way) → Seen
+    across true h = absurd (omega (arith, h.1))
+    across false h =
+        let any = given_by (crossing a s) rows (At b t way) h in
+        (any.0, any.1, any.2, any.3, seen_by any.1 a b s t way any.4)
+
+    by : (k : ℕ) → k < length (At a s Own ∷ crossings_in rows a s) → slice_index_or (At a s Own ∷ crossings_in rows a s) k (At b t way) ≡ At b t way → ((b ≡ a) × (t ≡ s) × (way ≡ Own)) ⊎ Seen
+    by zero below is =
+        let account : a ≡ b = cc in
+        let subject : s ≡ t = cc in
+        let own : Own ≡ way = cc in
+        inl (sym account, sym subject, sym own)
+    by (suc k) below is = inr (across (is_route s) (k, omega (arith, below), is))
+
+-- ---- each row gives a view
+
+abbrev has_at : List ℕ → List Token → List ViewItem → Bool
+has_at b t vs = list_any (is_at b t) vs
+
+-- views of one account and subject are at the same accounts and subjects
+both_at : (b : List ℕ) (t : List Token) (x u : ViewItem) → is_same x u ≡ true → is_at b t u ≡ is_at b t x
+both_at b t (At a s w) (At c r y) same =
+    let parts = and_parts (bytes_eq a c) (same_subject s r) same in
+    sym (ap (λ n. bytes_eq b n && same_subject t s) ((bytes_eq-Decides a c).0 parts.0) ∙ ap (λ n. bytes_eq b c && same_subject t n) ((pointwise_decides bytes_decides s r).0 parts.1))
+both_at b t (At a s w) (TooLong row) same = absurd (true≢false (sym same))
+both_at b t (TooLong row) u same = absurd (true≢false (sym same))
+
+left_at : (b : List ℕ) (t : List Token) (x : ViewItem) → is_at b t x ≡ false → (us : List ViewItem) → has_at b t (filter (λ u. not (is_same x u)) us) ≡ has_at b t us
+left_at b t x elsewhere [] = refl
+left_at b t x elsewhere (u ∷ us) = by (is_same x u) refl (left_at b t x elsewhere us)
+  where
+    rest : List ViewItem
+    rest = filter (λ u. not (is_same x u)) us
+
+    by : (c : Bool) → is_same x u ≡ c → has_at b t rest ≡ has_at b t us → has_at b t (cond (not c) (u ∷ rest) rest) ≡ has_at b t (u ∷ us)
+    by true e later = later ∙ sym (ap (λ d. d || has_at b t us) (both_at b t x u e ∙ elsewhere))
+    by false e later = ap (λ d. is_at b t u || d) later
+
+-- the first of each has all accounts and subjects
+firsts_at : (b : List ℕ) (t : List Token) (vs : List ViewItem) → has_at b t (first_of_each vs) ≡ has_at b t vs
+firsts_at b t [] = refl
+firsts_at b t (x ∷ vs) = by (is_at b t x) refl (firsts_at b t vs)
+  where
+    by : (c : Bool) → is_at b t x ≡ c → has_at b t (first_of_each vs) ≡ has_at b t vs → (c || has_at b t (filter (λ u. not (is_same x u)) (first_of_each vs))) ≡ (c || has_at b t vs)
+    by true e later = refl
+    by false e later = left_at b t x e (first_of_each vs) ∙ later
+
+seen_crosses : (r : ImportRow) (a b : List ℕ) (s t : List Token) → IsSeenBy r a s b t → crossing a s r ≡ Some (At b t (Stream r.row))
+seen_crosses r a b s t it =
+    let stream : is_stream r.kind ≡ true = ap is_stream it.stream in
+    let from : bytes_eq r.exporter a ≡ true = (bytes_eq-Decides r.exporter a).1 it.exporter in
+    let near : nat_lt 512 (length t) ≡ false = grind (arith, nat_tests, it.short) in
+    ap (λ c. cond (c && bytes_eq r.exporter a) (option_map (crossed r.row) (forward r.mapping s)) None) stream
+    ∙ ap (λ c. cond c (option_map (crossed r.row) (forward r.mapping s)) None) from
+    ∙ ap (λ o. option_map (crossed r.row) o) it.local
+    ∙ ap (λ c. Some (cond c (TooLong r.row) (At r.row.importer t (Stream r.row)))) near
+    ∙ ap (λ n. Some (At n t (Stream r.row))) it.importer
+
+itself : (b : List ℕ) (t : List Token) (way : Way) → is_at b t (At b t way) ≡ true
+itself b t way =
+    ap (λ c. c && same_subject t t) ((bytes_eq-Decides b b).1 refl) ∙ (pointwise_decides bytes_decides t t).1 refl
+
+pub give : RowsGiveViews
+give rows a b s t plain any =
+    let v : ViewItem = At b t (Stream any.1.row) in
+    let vs : List ViewItem = filter_map (crossing a s) rows in
+    let has = gives (crossing a s) rows v (any.0, any.1, any.2, any.3, seen_crosses any.1 a b s t any.4) in
+    let there : has_at b t vs ≡ true = list_any_at (is_at b t) vs has.0 v has.1 (ap (is_at b t) has.2 ∙ itself b t (Stream any.1.row)) in
+    let all : has_at b t (At a s Own ∷ vs) ≡ true = ap (λ d. is_at b t (At a s Own) || d) there ∙ or_true (is_at b t (At a s Own)) in
+    let views : has_at b t (views_in rows a s) ≡ true =
+    ap (λ c. has_at b t (first_of_each (At a s Own ∷ cond c [] vs))) plain ∙ firsts_at b t (At a s Own ∷ vs) ∙ all in
+    Any-from_list_any (is_at b t) (views_in rows a s) views
+  where
+    or_true : (c : Bool) → (c || true) ≡ true
+    or_true true = refl
+    or_true false = refl

@@ -1,0 +1,56 @@
+-- Laws of import rows, and of the views across them.
+use Rattle.std.specs.Prelude.{◌≡◌, ◌≤◌, ◌⊎◌, ◌↔◌, ℕ, false, IsTrue, List, Some, length, All, Any, Contains, IsSomeAnd, find}
+use Rattle.subjects.specs.Subject.{Token, IsConcreteSubject}
+use Rattle.mapping.specs.Pairs.{IsPair, forward}
+use Rattle.exports.specs.Exports.{admits}
+use Rattle.exports.specs.declared.document.ExportDoc.{ExportDoc}
+use Rattle.exports.specs.declared.document.Kind.TheVariants as kind
+use Rattle.exports.specs.declared.document.Row.{Row}
+use Rattle.policy_doc.specs.Accounts.{has_name}
+use Rattle.policy_doc.specs.Document.{IsValidPolicy}
+use Rattle.policy_doc.specs.declared.document.NamedAccount.{NamedAccount}
+use Rattle.policy_doc.specs.declared.document.PolicyDoc.{PolicyDoc}
+use Rattle.imports.specs.Views.{crossings_in, is_at, is_route, rows_of, views_in}
+use Rattle.imports.specs.Rows.{IsRow}
+use Rattle.imports.specs.declared.rows.ImportRow.{ImportRow}
+use Rattle.imports.specs.declared.view.ViewItem.TheVariants.{At}
+use Rattle.imports.specs.declared.view.Way.{Way}
+use Rattle.imports.specs.declared.view.Way.TheVariants.{Own, Stream}
+
+-- across a stream row from one account the message is seen in another, on a subject that the row's mapping pairs with its own
+pub record IsCrossedBy (r : ImportRow) (from : List ℕ) (s : List Token) (to : List ℕ) (t : List Token) : Type 0 where
+  pub stream : r.kind ≡ kind.Stream
+  pub exporter : r.exporter ≡ from
+  pub importer : r.row.importer ≡ to
+  pub pair : IsPair r.mapping s t
+  pub short : length t ≤ 512
+
+-- a message is seen across exactly the rows that cross it so
+abbrev pub CrossesByPairs : Type 0
+CrossesByPairs = (rows : List ImportRow) → All IsRow rows → (a b : List ℕ) (s t : List Token) (row : Row) → IsConcreteSubject s → is_route s ≡ false →
+    Contains (crossings_in rows a s) (At b t (Stream row)) ↔ Any (λ r. (r.row ≡ row) × IsCrossedBy r a s b t) rows
+
+-- the same of any rows, by the mapping's function
+pub record IsSeenBy (r : ImportRow) (from : List ℕ) (s : List Token) (to : List ℕ) (t : List Token) : Type 0 where
+  pub stream : r.kind ≡ kind.Stream
+  pub exporter : r.exporter ≡ from
+  pub importer : r.row.importer ≡ to
+  pub local : forward r.mapping s ≡ Some t
+  pub short : length t ≤ 512
+
+-- each view is the publisher's own, or comes by a row
+abbrev pub ViewsComeByRows : Type 0
+ViewsComeByRows = (rows : List ImportRow) (a b : List ℕ) (s t : List Token) (way : Way) → Contains (views_in rows a s) (At b t way) →
+    ((b ≡ a) × (t ≡ s) × (way ≡ Own)) ⊎ Any (λ r. (way ≡ Stream r.row) × IsSeenBy r a s b t) rows
+
+-- and each row by which a message is seen gives a view, or an earlier one is of the same account and subject
+abbrev pub RowsGiveViews : Type 0
+RowsGiveViews = (rows : List ImportRow) (a b : List ℕ) (s t : List Token) → is_route s ≡ false → Any (λ r. IsSeenBy r a s b t) rows →
+    Any (λ v. IsTrue (is_at b t v)) (views_in rows a s)
+
+-- each row of a valid policy has an export of the account that it imports from, which lets it in
+abbrev pub IsExported : List NamedAccount → ImportRow → Type 0
+IsExported accounts r = IsSomeAnd (find (has_name r.exporter) accounts) (λ exporter. Any (λ (e : ExportDoc). IsTrue (admits r.row.importer r.kind r.mapping.outer e)) exporter.account.exports)
+
+abbrev pub RowsAreExported : Type 0
+RowsAreExported = (doc : PolicyDoc) → IsValidPolicy doc → All (IsExported doc.accounts) (rows_of doc)

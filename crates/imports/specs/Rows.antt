@@ -1,0 +1,46 @@
+-- What is known of import rows, and how the views across them are gathered.
+use Rattle.std.specs.Prelude.{◌≡◌, ◌&&◌, ◌++◌, ◌∷◌, ℕ, Bool, false, List, [], Option, Some, None, map, if◌then◌else◌}
+use Rattle.std.specs.List.{list_any, slice_index_or}
+use Rattle.std.specs.Str.{bytes_eq}
+use Rattle.subjects.specs.Subject.{Token, in_set}
+use Rattle.subjects.specs.Mark.{number_from}
+use Rattle.mapping.specs.Pairs.{IsRowMap}
+use Rattle.pattern_groups.specs.Numbers.{front_from}
+use Rattle.exports.specs.declared.document.Kind.TheVariants as kind
+use Rattle.imports.specs.Views.{is_same, is_stream_of}
+use Rattle.imports.specs.declared.rows.ImportRow.{ImportRow}
+use Rattle.imports.specs.declared.view.ViewItem.{ViewItem}
+
+-- what each row of a valid policy is: it imports from another account, and by a mapping
+pub record IsRow (r : ImportRow) : Type 0 where
+  pub other : bytes_eq r.exporter r.row.importer ≡ false
+  pub mapping : IsRowMap r.mapping
+
+-- views with what one more row gives: nothing, or a view, which is left out where one of its account and subject stands
+abbrev pub with_crossing : List ViewItem → Option ViewItem → List ViewItem
+with_crossing views None = views
+with_crossing views (Some v) = if list_any (λ u. is_same u v) views then views else views ++ v ∷ []
+
+-- ---- which rows are asked
+
+-- whether messages of an account on a subject cross the row
+abbrev pub is_crossed : List ℕ → List Token → ImportRow → Bool
+is_crossed account s r = is_stream_of account r && in_set r.mapping.outer s
+
+-- the number by which a row is found: that of its exporter and of the literal tokens that its outer pattern begins with
+abbrev pub row_number : ImportRow → ℕ
+row_number r = front_from (number_from 7 r.exporter) r.mapping.outer
+
+abbrev pub numbers_of : List ImportRow → List ℕ
+numbers_of rows = map row_number rows
+
+-- what stands behind the rows
+abbrev pub no_row : ImportRow
+no_row = record { row = record { importer = []; index = 0 }; kind = kind.Stream; exporter = []; mapping = record { outer = []; local = []; references = [] } }
+
+abbrev pub row_by : List ImportRow → ℕ → ImportRow
+row_by rows i = slice_index_or rows i no_row
+
+-- the rows at these places
+abbrev pub rows_at : List ImportRow → List ℕ → List ImportRow
+rows_at rows places = map (row_by rows) places

@@ -1,0 +1,19 @@
+//! Laws of import rows, for whoever proves something of views.
+ghost use Rattle.imports.specs.Laws.{CrossesByPairs, RowsAreExported, RowsGiveViews, ViewsComeByRows};
+
+/// A message of an account is seen in another, on another subject, across exactly the stream rows of the other that are
+/// from the account and whose mapping pairs the two subjects, where the other has at most 512 tokens.
+pub fn crosses_by_pairs()
+    ensures { CrossesByPairs }
+{}
+
+/// Each view of a message is its publisher's own or comes by a row, and each row by which the message is seen gives a view.
+pub fn views_come_by_rows()
+    ensures come { ViewsComeByRows }
+    ensures give { RowsGiveViews }
+{}
+
+/// Each import row of a valid policy has an export that lets it in, of the account that it imports from.
+pub fn rows_are_exported()
+    ensures { RowsAreExported }
+{}

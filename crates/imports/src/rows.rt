@@ -1,0 +1,129 @@
+//! The import rows of a policy, and where a message is seen by them.
+use crate::crossing::{crossings, is_route};
+use crate::making::{groups_of, rows_of};
+use crate::view::{ViewItem, Way};
+use base::{Copying, NoMemory, Shared};
+use bytes::Bytes;
+use exports::{Kind, Row};
+use mapping::Mapping;
+use pattern_groups::Groups;
+use policy_doc::Policy;
+use std::alloc::Global;
+use std::fmt;
+use std::marker::Model;
+use subjects::{Subject, SubjectRef};
+
+/// An import row with its mapping made.
+#[derive(Drop)]
+pub struct ImportRow {
+    /// The importing account, and the row's index there.
+    pub row: Shared<Row>,
+    /// What it imports.
+    pub kind: Kind,
+    /// The name of the exporting account.
+    pub exporter: Bytes,
+    /// How the two accounts' subjects are paired.
+    pub mapping: Mapping,
+}
+
+/// The import rows of a policy, by the importer's name and then by index. A clause sees them in this order.
+#[derive(Drop)]
+pub struct Rows {
+    rows: Vec<ImportRow>,
+    /// Where the rows stand that may concern a message.
+    groups: Groups,
+}
+
+impl Model for Rows {
+    ghost use Rattle.std.specs.Prelude.{List, All};
+    ghost use Rattle.imports.specs.declared.rows.ImportRow.{ImportRow};
+    ghost use Rattle.std.specs.Prelude.{◌≡◌};
+    ghost use Rattle.imports.specs.Rows.{IsRow, numbers_of};
+
+    ghost Value = { List ImportRow };
+
+    ghost view = { λ r. r.rows.items };
+
+    ghost invariant = { λ r. All IsRow r.rows.items × (r.groups ≡ numbers_of r.rows.items) };
+}
+
+impl Rows {
+    ghost use Rattle.std.specs.Prelude.{◌≡◌, ◌==◌, ◌∷◌, ℕ, [], All, IfOk, List, length, true};
+    ghost use Rattle.subjects.specs.Subject.{Token};
+    ghost use Rattle.imports.specs.Views.{rows_of, views_in};
+    ghost use Rattle.imports.specs.Rows.{IsRow};
+    ghost use Rattle.imports.specs.declared.view.ViewItem.TheVariants as view;
+    ghost use Rattle.imports.specs.declared.view.Way.TheVariants as way;
+
+    /// Returns the import rows of a policy. `NoMemory` where memory could not be had.
+    pub fn of(alloc: Global, policy: &Policy) -> Result<Rows, NoMemory>
+        ensures { IfOk result (λ rows. rows ≡ rows_of policy.now) }
+    {
+        let rows = rows_of(alloc, policy.doc().accounts.as_slice())?;
+        let groups = groups_of(alloc, rows.as_slice())?;
+        Ok(Rows { rows, groups })
+    }
+
+    /// Returns whether there is no row: then each message is seen in its publisher's account alone.
+    #[inline(always)]
+    #[tactic(auto, using(crate::proofs::Firsts::views_without_rows))]
+    pub fn is_empty(&self) -> bool
+        ensures empty { result ≡ (length self.now == 0) }
+        ensures own { result ≡ true → (account : List ℕ) (s : List Token) → views_in self.now account s ≡ view.At account s way.Own ∷ [] }
+    {
+        self.rows.is_empty()
+    }
+
+    /// Tells what holds of the rows of every policy. It does nothing when it runs.
+    pub fn known(&self)
+        ensures { All IsRow self.now }
+    {
+        let _ = &self.rows;
+    }
+
+    /// Returns the views of a message that a user of an account publishes on a subject: that of the account itself, and
+    /// those across the rows, in order. `NoMemory` where memory could not be had.
+    pub fn views(
+        &self,
+        alloc: Global,
+        account: &Bytes,
+        subject: &Subject,
+    ) -> Result<Vec<ViewItem>, NoMemory>
+        ensures { IfOk result (λ views. views.items ≡ views_in self.now account.now subject.now) }
+    {
+        let mut views = self.others(alloc, account.as_slice(), &subject.lend())?;
+        views.insert(
+            0,
+            ViewItem::At {
+                account: account.clone()?,
+                subject: subject.copy(alloc)?,
+                way: Way::Own,
+            },
+        )?;
+        Ok(views)
+    }
+
+    /// Returns the views of such a message behind that of the account itself. `NoMemory` where memory could not be had.
+    /// It takes no memory where the message crosses no row.
+    #[tactic(auto, using(crate::proofs::Firsts::views_behind_own, crate::proofs::Firsts::views_of_route))]
+    pub fn others(
+        &self,
+        alloc: Global,
+        account: &[u8],
+        subject: &SubjectRef<'_>,
+    ) -> Result<Vec<ViewItem>, NoMemory>
+        ensures { IfOk result (λ others. view.At account.now subject.now way.Own ∷ others.items ≡ views_in self.now account.now subject.now) }
+    {
+        if is_route(subject) {
+            return Ok(Vec::new(alloc));
+        }
+        let others = crossings(alloc, self.rows.as_slice(), &self.groups, account, subject)?;
+        Ok(others)
+    }
+}
+
+impl fmt::Debug for Rows {
+    fn fmt<W: fmt::Write>(&self, f: &mut fmt::Formatter<W>) -> fmt::Result {
+        f.write_str("Rows")
+    }
+}
