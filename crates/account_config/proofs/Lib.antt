@@ -2,5 +2,9 @@ pub mod Order
 pub mod First
 pub mod Objects
 pub mod Each
+pub mod Values
+pub mod Rows
+pub mod ExportRows
+pub mod ImportRows
 pub mod Parts
 pub mod Law

@@ -1,5 +1,5 @@
 -- What is judged of an object before its keys are read.
-use Rattle.std.proofs.Common.{◌≡◌, ℕ, zero, suc, ◌<◌, ◌≤◌, List, [], ◌∷◌, length, Option, Some, None, Ordering, Less, Equal, Greater, Bool, true, false, ◌&&◌, ◌||◌, not, if◌then◌else◌, is_some, bytes_eq, refl, ap, sym, ◌∙◌, true≢false, arith}
+use Rattle.std.proofs.Common.{◌≡◌, ℕ, zero, suc, ◌<◌, ◌≤◌, List, [], ◌∷◌, length, Option, Some, None, Err, Ordering, Less, Equal, Greater, Bool, true, false, ◌&&◌, ◌||◌, not, if◌then◌else◌, is_some, bytes_eq, refl, ap, sym, ◌∙◌, true≢false, arith}
 use Rattle.std.specs.Prelude.{⊤}
 use Rattle.std.specs.Ordering.{match_ordering}
 use Rattle.serde_json.specs.Data.{Data, null, boolean, number, string, array, object, Members, no_members, member}
@@ -9,8 +9,8 @@ use Rattle.policy_walk.specs.declared.fault.ConfigFault.TheVariants.{UnknownKey,
 use Rattle.policy_walk.specs.Fault.{Read, ◌>>=◌}
 use Rattle.policy_walk.specs.Path.{Path, at_key}
 use Rattle.policy_walk.specs.Object.{Row, is_known, unknown_key, missing_key, refuse, judged}
-use Rattle.account_config.specs.Place.{Place, itself, unknown, missing, under, named, IsBefore, Faults, IsReading}
-use Rattle.account_config.specs.Standing.{Key, required, optional, spelled, unless_found, has_key, missing_at, under_at, of_key, object_faults}
+use Rattle.account_config.specs.Place.{Place, itself, unknown, missing, under, named, IsBefore, Faults, IsFirst, IsReading}
+use Rattle.account_config.specs.Standing.{Key, required, optional, spelled, unless_found, has_key, missing_at, under_at, of_key, object_faults, kindless_faults}
 use Rattle.account_config.proofs.Order.{IsAscending, IsOrdered, above_further, absent, compared, same_key, key_is}
 use Rattle.account_config.proofs.First.{IsClear, first_itself, whole}
 
@@ -96,20 +96,8 @@ abbrev IsUnknownSaid : Path → Faults → Option (List ℕ) → Type 0
 IsUnknownSaid path F None = (k : List ℕ) → F (unknown k) ≡ None
 IsUnknownSaid path F (Some u) = (F (unknown u) ≡ Some (UnknownKey (at_key path u))) × ((k : List ℕ) → compared k u ≡ Less → F (unknown k) ≡ None)
 
-then_judged : {X : Type 0} (path : Path) (F : Faults) (y : X) (more : ⊤ → Read X) → F itself ≡ None → (u m : Option (List ℕ)) →
-    IsUnknownSaid path F u → IsFirstMissing path (λ i. F (missing i)) m → (IsClear F 0 → IsReading F y (more tt)) →
-    IsReading F y ((refuse UnknownKey path u >>= λ known. refuse WrongType path m) >>= more)
-then_judged path F y more kind None None no_unknown no_missing rest =
-    rest (record { at_itself = kind; at_unknown = no_unknown; at_missing = no_missing; at_under = λ i p lt. absurd (omega arith) })
-then_judged path F y more kind None (Some k) no_unknown is rest = (missing is.0, is.1, before)
-  where
-    before : (q : Place) → IsBefore q (missing is.0) → F q ≡ None
-    before itself h = kind
-    before (unknown k) h = no_unknown k
-    before (missing j) h = is.2 j h
-    before (under i q) h = absurd h
-    before (named k q) h = absurd h
-then_judged path F y more kind (Some u) m is missings rest = (unknown u, is.0, before)
+first_unknown_is : (path : Path) (F : Faults) (u : List ℕ) → F itself ≡ None → IsUnknownSaid path F (Some u) → IsFirst F (UnknownKey (at_key path u))
+first_unknown_is path F u kind is = (unknown u, is.0, before)
   where
     before : (q : Place) → IsBefore q (unknown u) → F q ≡ None
     before itself h = kind
@@ -118,17 +106,37 @@ then_judged path F y more kind (Some u) m is missings rest = (unknown u, is.0, b
     before (under i q) h = absurd h
     before (named k q) h = absurd h
 
-unknown_said : (path : Path) (keys : List Key) (ms : Members) (u : Option (List ℕ)) → IsLeastUnknown (is_known (rows_of keys)) ms u → IsUnknownSaid path (object_faults keys path (object ms)) u
-unknown_said path keys ms None is = λ k. by k (is_some (get_member k ms)) refl
+first_missing_is : (F : Faults) (fault : ConfigFault) (i : ℕ) → F itself ≡ None → ((k : List ℕ) → F (unknown k) ≡ None) → F (missing i) ≡ Some fault →
+    ((j : ℕ) → j < i → F (missing j) ≡ None) → IsFirst F fault
+first_missing_is F fault i kind no_unknown is earlier = (missing i, is, before)
+  where
+    before : (q : Place) → IsBefore q (missing i) → F q ≡ None
+    before itself h = kind
+    before (unknown k) h = no_unknown k
+    before (missing j) h = earlier j h
+    before (under j q) h = absurd h
+    before (named k q) h = absurd h
+
+then_judged : {X : Type 0} (path : Path) (F : Faults) (y : X) (more : ⊤ → Read X) → F itself ≡ None → (u m : Option (List ℕ)) →
+    IsUnknownSaid path F u → IsFirstMissing path (λ i. F (missing i)) m → (IsClear F 0 → IsReading F y (more tt)) →
+    IsReading F y ((refuse UnknownKey path u >>= λ known. refuse WrongType path m) >>= more)
+then_judged path F y more kind None None no_unknown no_missing rest =
+    rest (record { at_itself = kind; at_unknown = no_unknown; at_missing = no_missing; at_under = λ i p lt. absurd (omega arith) })
+then_judged path F y more kind None (Some k) no_unknown is rest = first_missing_is F (WrongType (at_key path k)) is.0 kind no_unknown is.1 is.2
+then_judged path F y more kind (Some u) m is missings rest = first_unknown_is path F u kind is
+
+unknown_said : (path : Path) (rows : List Row) (keys : List Key) → ((key : List ℕ) → is_known rows key ≡ has_key keys key) →
+    (ms : Members) (u : Option (List ℕ)) → IsLeastUnknown (is_known rows) ms u → IsUnknownSaid path (object_faults keys path (object ms)) u
+unknown_said path rows keys same ms None is = λ k. by k (is_some (get_member k ms)) refl
   where
     by : (k : List ℕ) (b : Bool) → is_some (get_member k ms) ≡ b → (if b && not (has_key keys k) then Some (UnknownKey (at_key path k)) else None) ≡ None
     by k false e = refl
-    by k true e = rw (sym (same_keys keys k), is k e) refl
-unknown_said path keys ms (Some u) is = (rw (is.0, sym (same_keys keys u), is.1) refl, λ k lt. by k lt (is_some (get_member k ms)) refl)
+    by k true e = rw (sym (same k), is k e) refl
+unknown_said path rows keys same ms (Some u) is = (rw (is.0, sym (same u), is.1) refl, λ k lt. by k lt (is_some (get_member k ms)) refl)
   where
     by : (k : List ℕ) → compared k u ≡ Less → (b : Bool) → is_some (get_member k ms) ≡ b → (if b && not (has_key keys k) then Some (UnknownKey (at_key path k)) else None) ≡ None
     by k lt false e = refl
-    by k lt true e = rw (sym (same_keys keys k), is.2 k lt e) refl
+    by k lt true e = rw (sym (same k), is.2 k lt e) refl
 
 -- an object is judged, and then read
 pub then_object : {X : Type 0} (keys : List Key) (path : Path) (d : Data) (y : X) (more : ⊤ → Read X) → IsOrdered d →
@@ -142,7 +150,33 @@ then_object keys path (string s) y more up rest = first_itself _ _ refl
 then_object keys path (array ds) y more up rest = first_itself _ _ refl
 then_object keys path (object ms) y more up rest =
     then_judged path (object_faults keys path (object ms)) y more refl (unknown_key (rows_of keys) ms) (missing_key (rows_of keys) (object ms))
-    (unknown_said path keys ms _ (least_unknown (rows_of keys) ms up)) (first_missing path (object ms) keys) rest
+    (unknown_said path (rows_of keys) keys (same_keys keys) ms _ (least_unknown (rows_of keys) ms up)) (first_missing path (object ms) keys) rest
+
+-- ---- a row that is of no kind
+
+refused : {X : Type 0} (path : Path) (F : Faults) (y : X) → F itself ≡ None → F (missing 0) ≡ Some (WrongType path) → (u m : Option (List ℕ)) →
+    IsUnknownSaid path F u → m ≡ None → IsReading F y ((refuse UnknownKey path u >>= λ known. refuse WrongType path m) >>= λ known. Err (WrongType path))
+refused path F y kind first None None no_unknown e = first_missing_is F (WrongType path) 0 kind no_unknown first (λ j lt. absurd (omega (arith, lt)))
+refused path F y kind first None (Some k) no_unknown e = absurd (true≢false (ap is_some e))
+refused path F y kind first (Some u) m is e = first_unknown_is path F u kind is
+
+-- it is judged by the keys of rows, and then refused
+pub kindless_read : {X : Type 0} (rows : List Row) (keys : List Key) (path : Path) (d : Data) (y : X) → IsOrdered d →
+    ((key : List ℕ) → is_known rows key ≡ has_key keys key) → missing_key rows d ≡ None →
+    IsReading (kindless_faults keys path d) y (judged rows path d >>= λ known. Err (WrongType path))
+unfolding judged
+kindless_read rows keys path null y up same none = first_itself _ _ refl
+kindless_read rows keys path (boolean b) y up same none = first_itself _ _ refl
+kindless_read rows keys path (number n) y up same none = first_itself _ _ refl
+kindless_read rows keys path (string s) y up same none = first_itself _ _ refl
+kindless_read rows keys path (array ds) y up same none = first_itself _ _ refl
+kindless_read rows keys path (object ms) y up same none =
+    refused path (kindless_faults keys path (object ms)) y refl refl (unknown_key rows ms) (missing_key rows (object ms))
+    (said (unknown_key rows ms) (unknown_said path rows keys same ms _ (least_unknown rows ms up))) none
+  where
+    said : (u : Option (List ℕ)) → IsUnknownSaid path (object_faults keys path (object ms)) u → IsUnknownSaid path (kindless_faults keys path (object ms)) u
+    said None is = is
+    said (Some u) is = is
 
 beyond : (fault : Key → Option ConfigFault) (keys : List Key) (i : ℕ) → length keys ≤ i → of_key fault keys i ≡ None
 beyond fault [] i le = refl

@@ -1,78 +1,31 @@
 -- Each part of a policy is read as its faults and what is written say.
-use Rattle.std.proofs.Common.{◌≡◌, ℕ, negsuc, zero, suc, ◌+◌, ◌≤◌, List, [], ◌∷◌, codes, Option, Some, None, option_map, option_and_then, Ok, Err, Bool, true, false, not, if◌then◌else◌, is_some, refl, ap, sym, ◌∙◌, true≢false, zero-add, arith}
+use Rattle.std.proofs.Common.{◌≡◌, ℕ, negsuc, zero, suc, ◌≤◌, List, [], ◌∷◌, codes, Option, Some, None, option_map, option_and_then, Ok, Err, Bool, true, false, not, if◌then◌else◌, is_some, refl, ap, sym, ◌∙◌, true≢false, arith}
 use Rattle.std.specs.Prelude.{⊤}
 use Rattle.std.specs.Ordering.{int_eq}
 use Rattle.std.specs.Option.{ok_or, option_or, unwrap_or}
 use Rattle.serde_json.specs.Data.{Data, null, boolean, number, string, array, object, Members, no_members, unsigned, negative, float}
-use Rattle.serde_json.specs.Find.{get, get_item, as_object}
+use Rattle.serde_json.specs.Find.{get, as_object}
 use Rattle.policy_doc.specs.declared.document.NamedAccount.{NamedAccount}
 use Rattle.policy_walk.specs.declared.fault.ConfigFault.{ConfigFault}
-use Rattle.policy_walk.specs.declared.fault.ConfigFault.TheVariants.{WrongType, BadSubject, BadDuration, BadMax, BadName, HashedPassword}
+use Rattle.policy_walk.specs.declared.fault.ConfigFault.TheVariants.{WrongType, BadSubject, BadMax, BadName, HashedPassword}
 use Rattle.policy_permissions.specs.declared.entry.Side.{Side}
 use Rattle.policy_permissions.specs.declared.entry.Side.TheVariants.{Publish, Subscribe}
-use Rattle.policy_walk.specs.Durations.{duration_of}
 use Rattle.policy_permissions.specs.Entry.{is_entry_text, entry_written}
-use Rattle.policy_walk.specs.Fault.{Read, ◌>>=◌}
-use Rattle.policy_walk.specs.Texts.{text_at, items_at, required_text_at}
-use Rattle.policy_walk.specs.Path.{Path, at_key, at_index}
-use Rattle.account_config.specs.Policy.{each, entry_from, entry_at, entries_at, entries_under, or_empty, lists_at, allow_at, direction_at, spelled_from, is_bound, max_at, max_under, duration_from, duration_at, expires_under, terms_at, responses_at, responses_under, allow_responses_at, permissions_at, permissions_under, has_name_length, is_hashed, user_name_at, password_at, user_permissions_at, user_at, users_at, users_under, account_at, is_account_name, named_account_at, accounts_at, is_version, version_under, document_at}
+use Rattle.policy_walk.specs.Fault.{◌>>=◌}
+use Rattle.policy_walk.specs.Texts.{required_text_at}
+use Rattle.policy_walk.specs.Path.{Path, at_key}
+use Rattle.account_config.specs.Policy.{entry_from, entry_at, entries_at, entries_under, or_empty, lists_at, allow_at, direction_at, spelled_from, is_bound, max_at, max_under, duration_at, expires_under, terms_at, responses_at, responses_under, allow_responses_at, permissions_at, permissions_under, has_name_length, is_hashed, user_name_at, password_at, user_permissions_at, user_at, users_at, users_under, exports_under, imports_under, services_known, account_at, is_account_name, named_account_at, accounts_at, is_version, version_under, document_at}
 use Rattle.account_config.specs.Place.{Place, itself, unknown, missing, under, named, Faults, IsReading}
-use Rattle.account_config.specs.Standing.{unless_found, in_value, in_spelled, object_faults, text_faults, list_faults, entry_faults, entries_faults, direction_keys, direction_faults, max_faults, duration_faults, terms_keys, responses_faults, permission_keys, user_keys, account_keys, account_faults, accounts_faults, version_faults, top_keys}
-use Rattle.account_config.specs.Written.{text_in, list_in, entry_in, entries_in, lists_in, direction_in, bound_in, max_in, duration_in, terms_in, responses_in, permissions_in, user_in, account_in, accounts_in, document_in}
+use Rattle.account_config.specs.Standing.{unless_found, in_value, in_spelled, object_faults, list_faults, entry_faults, entries_faults, direction_keys, direction_faults, max_faults, duration_faults, terms_keys, responses_faults, permission_keys, user_keys, account_keys, account_faults, accounts_faults, version_faults, top_keys}
+use Rattle.account_config.specs.Written.{text_in, list_in, entry_in, entries_in, lists_in, direction_in, bound_in, max_in, duration_in, terms_in, responses_in, permissions_in, user_in, export_in, import_in, account_in, accounts_in, document_in}
 use Rattle.account_config.proofs.Order.{IsOrdered, Meets, under-ordered}
 use Rattle.policy_permissions.proofs.Entries.{entry_is}
 use Rattle.account_config.proofs.First.{IsClear, go_on, whole, first_itself, same_faults, mapped}
 use Rattle.account_config.proofs.Objects.{then_object, none_left}
-use Rattle.account_config.proofs.Each.{Reads, each_from, in_accounts, accounts_read}
-
--- ---- texts and lists
-
--- a text that may not be any is read, or it is the fault
-text_read : {X : Type 0} (is_allowed : List ℕ → Bool) (fault : Path → ConfigFault) (written : List ℕ → X) (path : Path) (from : List ℕ → Read X) →
-    ((text : List ℕ) → from text ≡ (if is_allowed text then Ok (written text) else Err (fault path))) →
-    (d : Data) → IsReading (text_faults is_allowed fault path d) (written (text_in d)) (text_at path d >>= from)
-text_read is_allowed fault written path from is null = first_itself _ _ refl
-text_read is_allowed fault written path from is (boolean b) = first_itself _ _ refl
-text_read is_allowed fault written path from is (number n) = first_itself _ _ refl
-text_read is_allowed fault written path from is (array ds) = first_itself _ _ refl
-text_read is_allowed fault written path from is (object ms) = first_itself _ _ refl
-text_read {X = X} is_allowed fault written path from is (string s) = rw (is s) (by (is_allowed s) refl)
-  where
-    F : Faults
-    F = text_faults is_allowed fault path (string s)
-
-    none : is_allowed s ≡ true → (p : Place) → F p ≡ None
-    none e itself = rw e refl
-    none e (unknown k) = refl
-    none e (missing i) = refl
-    none e (under i p) = refl
-    none e (named k p) = refl
-
-    by : (b : Bool) → is_allowed s ≡ b → IsReading F (written s) (if b then Ok (written s) else Err (fault path))
-    by true e = (none e, refl)
-    by false e = first_itself F (fault path) (rw e refl)
-
-turned : {X : Type 0} (b : Bool) (x y : X) → (if b then x else y) ≡ (if not b then y else x)
-turned true x y = refl
-turned false x y = refl
-
--- a list of values, each of which is read
-list_read : {X : Type 0} (faults : Path → Data → Faults) (written : Data → X) (reader : Path → Data → Read X) → Reads faults written reader →
-    (path : Path) (d : Data) → IsOrdered d → IsReading (list_faults faults path d) (list_in written d) (items_at path d >>= λ items. each reader path 0 items)
-list_read faults written reader reads path null up = first_itself _ _ refl
-list_read faults written reader reads path (boolean b) up = first_itself _ _ refl
-list_read faults written reader reads path (number n) up = first_itself _ _ refl
-list_read faults written reader reads path (string s) up = first_itself _ _ refl
-list_read faults written reader reads path (object ms) up = first_itself _ _ refl
-list_read faults written reader reads path (array ds) up =
-    each_from faults written reader reads path (list_faults faults path (array ds)) (λ k p. refl) 0 ds up
-    (λ n p. ap (λ m. in_value faults (at_index path (0 + n)) (get_item m ds) p) (zero-add n))
-    (record { at_itself = refl; at_unknown = λ k. refl; at_missing = λ i. refl; at_under = λ i p lt. absurd (omega arith) })
-
--- a value that may be there
-optional_read : {X : Type 0} (faults : Path → Data → Faults) (written : Data → X) (reader : Path → Data → Read X) → Reads faults written reader →
-    (path : Path) (d : Data) → IsOrdered d → IsReading (faults path d) (Some (written d)) (reader path d >>= λ x. Ok (Some x))
-optional_read faults written reader reads path d up = mapped (faults path d) (λ x. Some x) (written d) (reader path d) (reads path d up)
+use Rattle.account_config.proofs.Each.{Reads, in_accounts, accounts_read}
+use Rattle.account_config.proofs.Values.{text_read, turned, list_read, optional_read, duration_read, required_read}
+use Rattle.account_config.proofs.ExportRows.{exports_under_read}
+use Rattle.account_config.proofs.ImportRows.{imports_under_read}
 
 -- ---- permissions
 
@@ -154,14 +107,6 @@ max_under_read : (path : Path) (found : Option Data) → Meets IsOrdered found �
 max_under_read path None up = (λ p. refl, refl)
 max_under_read path (Some d) up = max_read path d up
 
-duration_is : (path : Path) (o : Option ℕ) → ok_or o (BadDuration path) ≡ (if is_some o then Ok (unwrap_or o 0) else Err (BadDuration path))
-duration_is path None = refl
-duration_is path (Some n) = refl
-
-duration_read : Reads duration_faults duration_in duration_at
-unfolding duration_at
-duration_read path d up = text_read (λ text. is_some (duration_of text)) BadDuration (λ text. unwrap_or (duration_of text) 0) path (duration_from path) (λ text. duration_is path (duration_of text)) d
-
 expires_under_read : (path : Path) (found : Option Data) → Meets IsOrdered found → IsReading (in_value duration_faults path found) (option_map duration_in found) (expires_under path found)
 expires_under_read path None up = (λ p. refl, refl)
 expires_under_read path (Some d) up = optional_read duration_faults duration_in duration_at duration_read path d up
@@ -209,22 +154,14 @@ permissions_under_read : (path : Path) (found : Option Data) → Meets IsOrdered
 permissions_under_read path None up = (λ p. refl, refl)
 permissions_under_read path (Some d) up = optional_read (object_faults permission_keys) permissions_in permissions_at permissions_read path d up
 
--- a text under a key that has to be there
-required_read : (is_allowed : List ℕ → Bool) (fault : Path → ConfigFault) (path : Path) (from : List ℕ → Read (List ℕ)) →
-    ((text : List ℕ) → from text ≡ (if is_allowed text then Ok text else Err (fault path))) →
-    (found : Option Data) → unless_found found (WrongType path) ≡ None →
-    IsReading (in_value (text_faults is_allowed fault) path found) (text_in (unwrap_or found null)) ((ok_or found (WrongType path) >>= λ value. text_at path value) >>= from)
-required_read is_allowed fault path from is None there = absurd (true≢false (ap is_some there))
-required_read is_allowed fault path from is (Some d) there = text_read is_allowed fault (λ text. text) path from is d
-
 user_read : Reads (object_faults user_keys) user_in user_at
 unfolding user_at user_name_at password_at user_permissions_at required_text_at
 user_read path d up =
     then_object user_keys path d (user_in d) _ up λ clear.
     go_on _ 0 (text_in (unwrap_or (get (codes "user") d) null)) (user_in d) (user_name_at path d) _ clear
-    (required_read has_name_length BadName (at_key path (codes "user")) _ (λ text. refl) _ (clear.at_missing 0)) λ clear.
+    (required_read has_name_length BadName (λ text. text) (at_key path (codes "user")) _ (λ text. refl) _ (clear.at_missing 0)) λ clear.
     go_on _ 1 (text_in (unwrap_or (get (codes "password") d) null)) (user_in d) (password_at path d) _ clear
-    (required_read (λ password. not (is_hashed password)) HashedPassword (at_key path (codes "password")) _ (λ text. turned (is_hashed text) _ _) _ (clear.at_missing 1)) λ clear.
+    (required_read (λ password. not (is_hashed password)) HashedPassword (λ text. text) (at_key path (codes "password")) _ (λ text. turned (is_hashed text) _ _) _ (clear.at_missing 1)) λ clear.
     go_on _ 2 (option_map permissions_in (get (codes "permissions") d)) (user_in d) (user_permissions_at path d) _ clear
     (permissions_under_read _ _ (under-ordered (codes "permissions") d up)) λ clear.
     (none_left user_keys path d clear, refl)
@@ -245,6 +182,12 @@ account_read path d up =
     then_object account_keys path d (account_in d) _ up λ clear.
     go_on _ 0 (or_empty (option_map (list_in user_in) (get (codes "users") d))) (account_in d) (users_under (at_key path (codes "users")) (get (codes "users") d)) _ clear
     (users_under_read _ _ (under-ordered (codes "users") d up)) λ clear.
+    go_on _ 1 (or_empty (option_map (list_in (export_in services_known)) (get (codes "exports") d))) (account_in d)
+    (exports_under services_known (at_key path (codes "exports")) (get (codes "exports") d)) _ clear
+    (exports_under_read services_known _ _ (under-ordered (codes "exports") d up)) λ clear.
+    go_on _ 2 (or_empty (option_map (list_in (import_in services_known)) (get (codes "imports") d))) (account_in d)
+    (imports_under services_known (at_key path (codes "imports")) (get (codes "imports") d)) _ clear
+    (imports_under_read services_known _ _ (under-ordered (codes "imports") d up)) λ clear.
     (none_left account_keys path d clear, refl)
 
 named_read : (path : Path) (name : List ℕ) (d : Data) → IsOrdered d →

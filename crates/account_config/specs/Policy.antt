@@ -1,7 +1,6 @@
 -- The policy that a text writes, or its first fault (docs/POLICY.md).
 -- A null counts as a value of another kind, and not as absent.
-use Rattle.std.specs.Prelude.{⊤, ◌==◌, ◌&&◌, ◌∷◌, ℕ, Bool, true, false, not, List, [], codes, length, take, if◌then◌else◌, Option, Some, None, Ok, Err, nat_lt, nat_le, option_and_then}
-use Rattle.std.specs.List.{list_all}
+use Rattle.std.specs.Prelude.{⊤, ◌==◌, ◌∷◌, ℕ, Bool, true, false, List, [], codes, length, take, if◌then◌else◌, Option, Some, None, Ok, Err, nat_lt, option_and_then}
 use Rattle.std.specs.Option.{ok_or}
 use Rattle.std.specs.Str.{bytes_eq}
 use Rattle.serde_json.specs.Data.{Data, Members, no_members, member}
@@ -20,6 +19,9 @@ use Rattle.policy_walk.specs.Object.{Row, judged, members_at, required_at}
 use Rattle.policy_walk.specs.Texts.{items_at, required_text_at}
 pub use Rattle.policy_permissions.specs.Permissions.{direction_at, direction_rows, duration_from, each, entries_under, entry_from, expires_under, is_bound, max_at, max_from, max_under, one_answer, or_empty, parts_from, pattern_from, permission_rows, permissions_under, queue_from, responses_at, responses_from, responses_under, spelled_at, spelled_from, terms_rows}
 unfoldable pub use Rattle.policy_permissions.specs.Permissions.{allow_at, allow_responses_at, duration_at, entries_at, entry_at, lists_at, permissions_at, terms_at}
+pub use Rattle.policy_rows.specs.Names.{account_name_from, has_name_length, is_account_name}
+pub use Rattle.policy_rows.specs.Exports.{exports_under}
+pub use Rattle.policy_rows.specs.Imports.{imports_under}
 
 -- ---- the tables: a key of each object, and whether it must be there
 
@@ -27,15 +29,12 @@ abbrev pub top_rows : List Row
 top_rows = (codes "accounts", true) ∷ (codes "version", false) ∷ []
 
 abbrev pub account_rows : List Row
-account_rows = (codes "users", false) ∷ []
+account_rows = (codes "users", false) ∷ (codes "exports", false) ∷ (codes "imports", false) ∷ []
 
 abbrev pub user_rows : List Row
 user_rows = (codes "user", true) ∷ (codes "password", true) ∷ (codes "permissions", false) ∷ []
 
 -- ---- users
-
-abbrev pub has_name_length : List ℕ → Bool
-has_name_length name = not (length name == 0) && nat_le (length name) 256
 
 abbrev pub user_name_from : Path → List ℕ → Read (List ℕ)
 user_name_from path name = if has_name_length name then Ok name else Err (BadName path)
@@ -80,21 +79,17 @@ abbrev pub users_under : Path → Option Data → Read (List UserDoc)
 users_under path None = Ok []
 users_under path (Some d) = users_at path d
 
+-- whether exports and imports of services are known; until they are, their keys are unknown ones
+abbrev pub services_known : Bool
+services_known = false
+
 unfoldable pub account_at : Path → Data → Read AccountDoc
 account_at path d = do
   known ← judged account_rows path d
   users ← users_under (at_key path (codes "users")) (get (codes "users") d)
-  Ok (record { users = users; exports = []; imports = [] })
-
--- no control byte, no space, no DEL
-abbrev pub is_account_byte : ℕ → Bool
-is_account_byte b = not (nat_lt b 33) && not (b == 127)
-
-abbrev pub is_account_name : List ℕ → Bool
-is_account_name name = has_name_length name && list_all is_account_byte name
-
-abbrev pub account_name_from : Path → List ℕ → Read (List ℕ)
-account_name_from path name = if is_account_name name then Ok name else Err (BadName path)
+  exports ← exports_under services_known (at_key path (codes "exports")) (get (codes "exports") d)
+  imports ← imports_under services_known (at_key path (codes "imports")) (get (codes "imports") d)
+  Ok (record { users = users; exports = exports; imports = imports })
 
 -- an account's name is judged before what the account has
 unfoldable pub named_account_at : Path → List ℕ → Data → Read NamedAccount

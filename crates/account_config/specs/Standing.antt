@@ -1,5 +1,5 @@
 -- Which faults a policy's text has, and where (docs/POLICY.md, "Objects" and "Faults"). Nothing here says which comes first.
-use Rattle.std.specs.Prelude.{◌&&◌, ◌||◌, ◌∷◌, ℕ, negsuc, zero, suc, Bool, false, not, List, [], codes, if◌then◌else◌, Option, Some, None, is_some}
+use Rattle.std.specs.Prelude.{◌&&◌, ◌||◌, ◌∷◌, ◌++◌, ℕ, negsuc, zero, suc, Bool, true, false, not, List, [], codes, if◌then◌else◌, Option, Some, None, is_some}
 use Rattle.std.specs.Ordering.{int_eq}
 use Rattle.std.specs.Str.{bytes_eq}
 use Rattle.serde_json.specs.Data.{Data, Num, unsigned, negative, float}
@@ -9,10 +9,14 @@ use Rattle.policy_permissions.specs.declared.entry.Side.TheVariants.{Publish, Su
 use Rattle.policy_walk.specs.declared.fault.ConfigFault.{ConfigFault}
 use Rattle.policy_walk.specs.declared.fault.ConfigFault.TheVariants.{UnknownKey, WrongType, BadSubject, BadDuration, BadMax, BadName, HashedPassword}
 use Rattle.policy_walk.specs.Durations.{duration_of}
-use Rattle.policy_permissions.specs.Entry.{is_entry_text}
+use Rattle.subjects.specs.Fault.{subject_fault}
+use Rattle.exports.specs.declared.document.Kind.{Kind}
+use Rattle.exports.specs.declared.document.Kind.TheVariants.{Stream, Service}
+use Rattle.policy_permissions.specs.Entry.{is_entry_text, is_pattern_text}
+use Rattle.policy_rows.specs.Names.{kind_of}
 use Rattle.policy_walk.specs.Path.{Path, at_key, at_index}
 use Rattle.account_config.specs.Place.{itself, unknown, missing, under, named, Faults}
-use Rattle.account_config.specs.Policy.{is_bound, has_name_length, is_account_name, is_hashed, is_version}
+use Rattle.account_config.specs.Policy.{is_bound, has_name_length, is_account_name, is_hashed, is_version, services_known}
 
 -- a key of an object with the faults of what stands under it: it has to be there, or it may be, or it has two spellings
 pub data Key : Type 0 where
@@ -138,8 +142,81 @@ user_keys =
     ∷ required (codes "password") (text_faults (λ password. not (is_hashed password)) HashedPassword)
     ∷ optional (codes "permissions") (object_faults permission_keys) ∷ []
 
+-- ---- exports and imports
+
+abbrev pub name_faults : Path → Data → Faults
+name_faults = text_faults is_account_name BadName
+
+abbrev pub pattern_faults : Path → Data → Faults
+pattern_faults = text_faults is_pattern_text BadSubject
+
+abbrev pub any_text_faults : Path → Data → Faults
+any_text_faults = text_faults (λ text. true) WrongType
+
+-- a subject without wildcards
+abbrev pub is_subject_text : List ℕ → Bool
+is_subject_text text = not (is_some (subject_fault text))
+
+-- one response, or a stream of them
+abbrev pub is_response_type : List ℕ → Bool
+is_response_type text = bytes_eq text (codes "single") || bytes_eq text (codes "stream")
+
+-- A row has just one of the keys `stream` and `service`, and the table of that kind. A row that is of no kind has no known
+-- key that isn't there, so what it is at fault for stands in that place: it is itself of the wrong kind. Its unknown keys
+-- are those that no kind of row has.
+abbrev pub kindless_faults : List Key → Path → Data → Faults
+kindless_faults keys path d itself = object_faults keys path d itself
+kindless_faults keys path d (unknown key) = object_faults keys path d (unknown key)
+kindless_faults keys path d (missing zero) = Some (WrongType path)
+kindless_faults keys path d (missing (suc i)) = None
+kindless_faults keys path d (under i p) = None
+kindless_faults keys path d (named key p) = None
+
+-- the keys that a row of some kind has; those of services only where they are known
+abbrev pub keys_of_rows : Bool → List Key → List Key → List Key
+keys_of_rows services stream_keys service_keys = if services then stream_keys ++ service_keys else stream_keys
+
+abbrev pub row_faults : Bool → List Key → List Key → Option Kind → Path → Data → Faults
+row_faults services stream_keys service_keys (Some Stream) path d = object_faults stream_keys path d
+row_faults services stream_keys service_keys (Some Service) path d = object_faults service_keys path d
+row_faults services stream_keys service_keys None path d = kindless_faults (keys_of_rows services stream_keys service_keys) path d
+
+abbrev pub stream_export_keys : List Key
+stream_export_keys = required (codes "stream") pattern_faults ∷ optional (codes "accounts") (list_faults name_faults) ∷ []
+
+abbrev pub service_export_keys : List Key
+service_export_keys =
+    required (codes "service") pattern_faults
+    ∷ optional (codes "accounts") (list_faults name_faults)
+    ∷ optional (codes "response_type") (text_faults is_response_type WrongType)
+    ∷ optional (codes "response_ttl") duration_faults ∷ []
+
+abbrev pub export_faults : Bool → Path → Data → Faults
+export_faults services path d = row_faults services stream_export_keys service_export_keys (kind_of services d) path d
+
+-- an account, and a pattern of its subjects
+abbrev pub source_keys : List Key
+source_keys = required (codes "account") name_faults ∷ required (codes "subject") pattern_faults ∷ []
+
+abbrev pub stream_import_keys : List Key
+stream_import_keys =
+    required (codes "stream") (object_faults source_keys)
+    ∷ optional (codes "to") any_text_faults
+    ∷ optional (codes "prefix") (text_faults is_subject_text BadSubject) ∷ []
+
+abbrev pub service_import_keys : List Key
+service_import_keys = required (codes "service") (object_faults source_keys) ∷ optional (codes "to") any_text_faults ∷ []
+
+abbrev pub import_faults : Bool → Path → Data → Faults
+import_faults services path d = row_faults services stream_import_keys service_import_keys (kind_of services d) path d
+
+-- ---- accounts
+
 abbrev pub account_keys : List Key
-account_keys = optional (codes "users") (list_faults (object_faults user_keys)) ∷ []
+account_keys =
+    optional (codes "users") (list_faults (object_faults user_keys))
+    ∷ optional (codes "exports") (list_faults (export_faults services_known))
+    ∷ optional (codes "imports") (list_faults (import_faults services_known)) ∷ []
 
 -- an account's name, and then the account
 abbrev pub account_faults : List ℕ → Path → Data → Faults

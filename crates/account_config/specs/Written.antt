@@ -1,12 +1,21 @@
 -- The document that a JSON value without a fault writes (docs/POLICY.md, "Objects").
 use Rattle.std.specs.Prelude.{◌≡◌, ◌≢◌, ◌∷◌, ℕ, Bool, true, false, List, [], codes, length, if◌then◌else◌, nat_lt, Option, Some, None, Ok, Err, is_some, option_and_then}
 use Rattle.std.specs.Option.{option_map, option_or, unwrap_or}
+use Rattle.std.specs.Str.{bytes_eq}
 use Rattle.serde_json.specs.Data.{Data, null, Items, no_items, item, Members, no_members, member}
 use Rattle.serde_json.specs.Find.{get, as_bool, as_number, as_u64, as_str, as_array, as_object}
+use Rattle.subjects.specs.Subject.{Token, tokens_of}
+use Rattle.exports.specs.declared.document.Kind.{Kind}
+use Rattle.exports.specs.declared.document.Kind.TheVariants.{Stream, Service}
+use Rattle.exports.specs.declared.document.ExportDoc.{ExportDoc}
+use Rattle.exports.specs.declared.document.ResponseTerms.{ResponseTerms}
+use Rattle.policy_rows.specs.Names.{kind_of}
+use Rattle.policy_rows.specs.Exports.{usual_response}
 use Rattle.policy_doc.specs.Accounts.{with_account}
 use Rattle.policy_doc.specs.declared.document.PolicyDoc.{PolicyDoc}
 use Rattle.policy_doc.specs.declared.document.NamedAccount.{NamedAccount}
 use Rattle.policy_doc.specs.declared.document.AccountDoc.{AccountDoc}
+use Rattle.policy_doc.specs.declared.document.ImportDoc.{ImportDoc}
 use Rattle.policy_doc.specs.declared.document.UserDoc.{UserDoc}
 use Rattle.policy_doc.specs.declared.document.PermDoc.{PermDoc}
 use Rattle.policy_doc.specs.declared.document.Direction.{Direction}
@@ -20,7 +29,7 @@ use Rattle.policy_permissions.specs.Entry.{entry_written}
 use Rattle.policy_walk.specs.Fault.{Read}
 use Rattle.account_config.specs.Place.{IsReading}
 use Rattle.account_config.specs.Standing.{policy_faults}
-use Rattle.account_config.specs.Policy.{or_empty}
+use Rattle.account_config.specs.Policy.{or_empty, services_known}
 use Rattle.json_text.specs.Json.{json_of}
 
 abbrev pub text_in : Data → List ℕ
@@ -92,11 +101,68 @@ user_in d = record {
   permissions = option_map permissions_in (get (codes "permissions") d);
 }
 
+-- the pattern of a text under a key that has to be there
+abbrev pub pattern_under : List ℕ → Data → List Token
+pattern_under key d = tokens_of (text_in (value_under key d))
+
+-- without a list an export is public
+abbrev pub accounts_list_in : Data → Option (List (List ℕ))
+accounts_list_in d = option_map (list_in text_in) (get (codes "accounts") d)
+
+-- there is one response, unless a stream of them is written
+abbrev pub single_in : Option Data → Bool
+single_in None = true
+single_in (Some d) = bytes_eq (text_in d) (codes "single")
+
+-- two minutes, where no other time is written
+abbrev pub ttl_in : Option Data → ℕ
+ttl_in None = 120000
+ttl_in (Some d) = duration_in d
+
+abbrev pub response_in : Data → ResponseTerms
+response_in d = record { ttl = ttl_in (get (codes "response_ttl") d); single = single_in (get (codes "response_type") d) }
+
+abbrev pub stream_export_in : Data → ExportDoc
+stream_export_in d = record { kind = Stream; subject = pattern_under (codes "stream") d; accounts = accounts_list_in d; response = usual_response }
+
+abbrev pub service_export_in : Data → ExportDoc
+service_export_in d = record { kind = Service; subject = pattern_under (codes "service") d; accounts = accounts_list_in d; response = response_in d }
+
+-- a row by its kind; a row that is of no kind has a fault
+abbrev pub row_in : {X : Type 0} → (Data → X) → (Data → X) → Option Kind → Data → X
+row_in stream service (Some Stream) d = stream d
+row_in stream service (Some Service) d = service d
+row_in stream service None d = stream d
+
+abbrev pub export_in : Bool → Data → ExportDoc
+export_in services d = row_in stream_export_in service_export_in (kind_of services d) d
+
+abbrev pub stream_import_in : Data → ImportDoc
+stream_import_in d = record {
+  kind = Stream;
+  account = text_in (value_under (codes "account") (value_under (codes "stream") d));
+  subject = pattern_under (codes "subject") (value_under (codes "stream") d);
+  to = option_map text_in (get (codes "to") d);
+  prefix = option_map (λ p. tokens_of (text_in p)) (get (codes "prefix") d);
+}
+
+abbrev pub service_import_in : Data → ImportDoc
+service_import_in d = record {
+  kind = Service;
+  account = text_in (value_under (codes "account") (value_under (codes "service") d));
+  subject = pattern_under (codes "subject") (value_under (codes "service") d);
+  to = option_map text_in (get (codes "to") d);
+  prefix = None;
+}
+
+abbrev pub import_in : Bool → Data → ImportDoc
+import_in services d = row_in stream_import_in service_import_in (kind_of services d) d
+
 abbrev pub account_in : Data → AccountDoc
 account_in d = record {
   users = or_empty (option_map (list_in user_in) (get (codes "users") d));
-  exports = [];
-  imports = [];
+  exports = or_empty (option_map (list_in (export_in services_known)) (get (codes "exports") d));
+  imports = or_empty (option_map (list_in (import_in services_known)) (get (codes "imports") d));
 }
 
 -- accounts, each put under its name

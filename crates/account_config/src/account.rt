@@ -1,17 +1,19 @@
 //! The accounts of a policy.
 ghost use Rattle.std.specs.Prelude.{◌≡◌, [], option_map};
-ghost use Rattle.std.specs.List.{list_all};
 ghost use Rattle.serde_json.specs.View.{view, items_view, members_view};
 ghost use Rattle.policy_walk.specs.Fault.{Gives};
-ghost use Rattle.account_config.specs.Policy.{account_at, account_name_from, accounts_at, accounts_from, each, is_account_byte, named_account_at, user_at, users_at, users_under};
+ghost use Rattle.account_config.specs.Policy.{account_at, account_name_from, accounts_at, accounts_from, each, exports_under, imports_under, named_account_at, services_known, user_at, users_at, users_under};
 
-use crate::user::{has_name_length, user_of};
+use crate::user::user_of;
 use base::Items;
-use bytes::Bytes;
 use policy_doc::{AccountDoc, Accounts, NamedAccount, UserDoc};
+use policy_rows::{account_name_from, exports_under, imports_under};
 use policy_walk::{ConfigFault, Path, items_of, judge, members_of};
 use serde_json::{Map, Value};
 use std::alloc::Global;
+
+/// Whether exports and imports of services are known. Their keys are unknown ones until they are.
+const SERVICES: bool = false;
 
 /// The accounts of an object, name by name.
 #[tactic(auto, unfolding(crate::specs::Policy::accounts_at))]
@@ -58,36 +60,23 @@ fn named_account_of(
     Ok(NamedAccount { name, account })
 }
 
-/// An account's name. `BadName` where it hasn't 1 to 256 bytes, or has a control byte, a space or DEL.
-fn account_name_from(alloc: Global, path: &Path, name: &[u8]) -> Result<Bytes, ConfigFault>
-    ensures { Gives (λ x. x) result (account_name_from path.now name.now) }
-{
-    if has_name_length(name) && has_account_bytes(name) {
-        Ok(Bytes::copy_from_slice(alloc, name)?)
-    } else {
-        Err(ConfigFault::BadName(path.copy(alloc)?))
-    }
-}
-
-/// Whether each byte may stand in an account's name.
-fn has_account_bytes(name: &[u8]) -> bool
-    ensures { result ≡ list_all is_account_byte name.now }
-{
-    name.iter().all(|b| !(*b < 0x21) && !(*b == 0x7f))
-}
-
-/// What an account has: its users, if any are there.
+/// What an account has: its users, its exports and its imports, each if they are there.
 #[tactic(auto, unfolding(crate::specs::Policy::account_at))]
 fn account_of(alloc: Global, path: &Path, value: &Value) -> Result<AccountDoc, ConfigFault>
     ensures { Gives (λ x. x) result (account_at path.now (view value.now)) }
 {
-    judge(alloc, &[("users", false)], path, value)?;
+    let rows = [("users", false), ("exports", false), ("imports", false)];
+    judge(alloc, &rows, path, value)?;
     let below = path.key(alloc, "users")?;
     let users = users_under(alloc, &below, value.get("users"))?;
+    let below = path.key(alloc, "exports")?;
+    let exports = exports_under(alloc, SERVICES, &below, value.get("exports"))?;
+    let below = path.key(alloc, "imports")?;
+    let imports = imports_under(alloc, SERVICES, &below, value.get("imports"))?;
     Ok(AccountDoc {
         users,
-        exports: Items::new(alloc),
-        imports: Items::new(alloc),
+        exports,
+        imports,
     })
 }
 

@@ -7,6 +7,7 @@ ghost use Rattle.account_config.specs.Policy.{has_name_length, is_hashed, passwo
 use bytes::Bytes;
 use policy_doc::{PermDoc, UserDoc};
 use policy_permissions::permissions_under;
+use policy_rows::has_name_length;
 use policy_walk::{ConfigFault, Path, judge, required_text_of};
 use serde_json::Value;
 use std::alloc::Global;
@@ -81,13 +82,6 @@ fn password_from(alloc: Global, path: &Path, password: &[u8]) -> Result<Bytes, C
     } else {
         Ok(Bytes::copy_from_slice(alloc, password)?)
     }
-}
-
-/// Whether a name has 1 to 256 bytes.
-pub(crate) fn has_name_length(name: &[u8]) -> bool
-    ensures { result ≡ has_name_length name.now }
-{
-    !name.is_empty() && name.len() <= 256
 }
 
 /// Whether a password is a hashed one: these begin with `$2`.

@@ -1,13 +1,15 @@
 -- Putting an account among accounts in the order of their names.
-use Rattle.std.proofs.Common.{◌≡◌, ◌<◌, ◌≤◌, ℕ, true, false, List, [], ◌∷◌, length, map, filter, refl, sym, ◌∙◌, ap, arith, Less, Equal, Greater, Ordering, cond, zero, suc, slice_set, ◌||◌, Some}
+use Rattle.std.proofs.Common.{◌≡◌, ◌+◌, ◌<◌, ◌≤◌, ℕ, Bool, true, false, List, [], ◌∷◌, length, map, filter, refl, sym, ◌∙◌, ap, subst, arith, Less, Equal, Greater, Ordering, cond, zero, suc, slice_set, ◌||◌, Option, Some, None, Result, Ok, Err}
+use Rattle.std.specs.Prelude.{MatchResult}
 use Rattle.std.specs.Ordering.{nat_cmp, is_lt, is_eq, ordering_reverse}
 use Rattle.std.specs.Cmp.Lexicographic.{slice_cmp}
-use Rattle.std.specs.List.{AllByRecursion, find, list_any, insert, prefix_len, slice_index_or}
-use Rattle.std.specs.List.Sorted.{IsStrictlySortedBy}
+use Rattle.std.specs.List.{AllByRecursion, AllWithin, find, list_any, insert, prefix_len, slice_index_or}
+use Rattle.std.specs.List.Sorted.{IsBinarySearchResult, IsSearchInRange, IsSortedBy, IsStrictlySortedBy}
 use Rattle.std.proofs.lemmas.Cmp.{nat_list_cmp_total}
+use Rattle.std.proofs.lemmas.List.Sorted.{searchable_from_sorted}
 use Rattle.std.proofs.lemmas.Map.Keys.{sorted_head, sorted_tail}
 use Rattle.std.proofs.lemmas.List.Sums.{prefix_len-le-length}
-use Rattle.policy_doc.specs.Accounts.{Name, IsByName, account_name, has_name, is_before, is_after, with_account}
+use Rattle.policy_doc.specs.Accounts.{Name, IsByName, IsGapFor, IsPlaceOf, account_name, has_name, is_before, is_after, with_account}
 use Rattle.policy_doc.specs.declared.document.AccountDoc.{AccountDoc}
 use Rattle.policy_doc.specs.declared.document.NamedAccount.{NamedAccount}
 
@@ -114,11 +116,6 @@ place-by n x xs o e = rw e (grind arith)
 any-by : (n : Name) (x : NamedAccount) (xs : List NamedAccount) (o : Ordering) → name_cmp x.name n ≡ o → list_any (has_name n) (x ∷ xs) ≡ is_eq o || list_any (has_name n) xs
 any-by n x xs o e = rw e refl
 
-place_below-by : (n : Name) (x : NamedAccount) (xs : List NamedAccount) (o : Ordering) → name_cmp x.name n ≡ o → IsByName (x ∷ xs) → (list_any (has_name n) xs ≡ true → place n xs < length xs) → list_any (has_name n) (x ∷ xs) ≡ true → place n (x ∷ xs) < length (x ∷ xs)
-place_below-by n x xs Less e sorted rest any = rw (place-by n x xs Less e) (omega (arith, rest (sym (any-by n x xs Less e) ∙ any)))
-place_below-by n x xs Equal e sorted rest any = rw (place-by n x xs Equal e) (omega arith)
-place_below-by n x xs Greater e sorted rest any = rw (place-by n x xs Greater e) (omega arith)
-
 set-put_by : (n : Name) (a : AccountDoc) (x : NamedAccount) (xs : List NamedAccount) (o : Ordering) → name_cmp x.name n ≡ o → IsByName (x ∷ xs) → (list_any (has_name n) xs ≡ true → slice_set xs (place n xs) (named n a) ≡ put (named n a) xs) → list_any (has_name n) (x ∷ xs) ≡ true → slice_set (x ∷ xs) (place n (x ∷ xs)) (named n a) ≡ put_by o (named n a) x xs (put (named n a) xs)
 set-put_by n a x xs Less e sorted rest any = rw (place-by n x xs Less e) (ap (λ l. x ∷ l) (rest (sym (any-by n x xs Less e) ∙ any)))
 set-put_by n a x xs Equal e sorted rest any = rw (place-by n x xs Equal e) refl
@@ -131,12 +128,6 @@ insert-put_by : (n : Name) (a : AccountDoc) (x : NamedAccount) (xs : List NamedA
 insert-put_by n a x xs Less e rest any = rw (place-by n x xs Less e) (ap (λ l. x ∷ l) (rest (sym (any-by n x xs Less e) ∙ any)))
 insert-put_by n a x xs Equal e rest any = let none : true ≡ false = sym (any-by n x xs Equal e) ∙ any in cc
 insert-put_by n a x xs Greater e rest any = rw (place-by n x xs Greater e) refl
-
--- an account of the name stands within
-pub place_below : (n : Name) (xs : List NamedAccount) → IsByName xs → list_any (has_name n) xs ≡ true → place n xs < length xs
-place_below n [] sorted any = cc
-place_below n (x ∷ xs) sorted any =
-    place_below-by n x xs (name_cmp x.name n) refl sorted (place_below n xs (sorted_tail name_cmp x.name (map account_name xs) sorted)) any
 
 set-put : (n : Name) (a : AccountDoc) (xs : List NamedAccount) → IsByName xs → list_any (has_name n) xs ≡ true → slice_set xs (place n xs) (named n a) ≡ put (named n a) xs
 set-put n a [] sorted any = cc
@@ -169,6 +160,98 @@ above-at n (x ∷ xs) (suc i) d above within = above-at n xs i d above.1 (omega 
 -- whoever has a name isn't above it
 not_above : (n m : Name) → name_cmp n m ≡ Less → is_eq (name_cmp m n) ≡ true → ⊥
 not_above n m less at = let other : name_cmp m n ≡ Greater = flipped n m Less less in cc
+
+-- ---- looking for a name by halves
+
+equal_if : (o : Ordering) → is_eq o ≡ true → o ≡ Equal
+equal_if Less e = cc
+equal_if Equal e = refl
+equal_if Greater e = cc
+
+-- a name below one that is the same as another is below that
+below_same : (m n k : Name) → name_cmp m k ≡ Less → name_cmp k n ≡ Equal → name_cmp m n ≡ Less
+below_same m n k less same =
+    let other : name_cmp n m ≡ name_cmp k m = nat_list_cmp_total.congr n k m (flipped k n Equal same) in
+    flipped n m Greater (other ∙ flipped m k Less less)
+
+first-by : (n : Name) (x : NamedAccount) (xs : List NamedAccount) (o : Ordering) → name_cmp x.name n ≡ o → is_eq o ≡ true → 0 ≡ place n (x ∷ xs)
+first-by n x xs Less e at = cc
+first-by n x xs Equal e at = rw (place-by n x xs Equal e) refl
+first-by n x xs Greater e at = cc
+
+-- the account of the name stands in the place of the name
+pub at-place : (n : Name) (xs : List NamedAccount) (i : ℕ) (d : NamedAccount) → IsByName xs → i < length xs → has_name n (slice_index_or xs i d) ≡ true → i ≡ place n xs
+at-place n [] i d sorted within at = absurd (omega (arith, within))
+at-place n (x ∷ xs) zero d sorted within at = first-by n x xs (name_cmp x.name n) refl at
+at-place n (x ∷ xs) (suc i) d sorted within at =
+    let inside : i < length xs = omega (arith, within) in
+    let above : AllAbove x.name xs = sorted_head name_cmp x.name (map account_name xs) sorted in
+    let less : name_cmp x.name n ≡ Less = below_same x.name n (slice_index_or xs i d).name (above-at x.name xs i d above inside) (equal_if _ at) in
+    rw (place-by n x xs Less less) (ap suc (at-place n xs i d (sorted_tail name_cmp x.name (map account_name xs) sorted) inside at))
+
+any-more : (b c : Bool) → c ≡ true → b || c ≡ true
+any-more true c e = refl
+any-more false c e = e
+
+-- where one has the name, one of all has it
+pub any-at : (n : Name) (xs : List NamedAccount) (i : ℕ) (d : NamedAccount) → i < length xs → has_name n (slice_index_or xs i d) ≡ true → list_any (has_name n) xs ≡ true
+any-at n [] i d within at = absurd (omega (arith, within))
+any-at n (x ∷ xs) zero d within at = rw at refl
+any-at n (x ∷ xs) (suc i) d within at = any-more (has_name n x) (list_any (has_name n) xs) (any-at n xs i d (omega (arith, within)) at)
+
+none_of : (b : Bool) (x : NamedAccount) (any : Bool) (found : Option NamedAccount) → b || any ≡ false → (any ≡ false → found ≡ None) → cond b (Some x) found ≡ None
+none_of true x any found none later = cc
+none_of false x any found none later = later none
+
+-- where none has the name, none is found
+pub none-found : (n : Name) (xs : List NamedAccount) → list_any (has_name n) xs ≡ false → find (has_name n) xs ≡ None
+none-found n [] none = refl
+none-found n (x ∷ xs) none = none_of (has_name n x) x (list_any (has_name n) xs) (find (has_name n) xs) none (none-found n xs)
+
+-- those below a place are before the name, those from it on after it
+gap : (n : Name) (xs : List NamedAccount) (i : ℕ) → i ≤ length xs → AllWithin (λ (a : NamedAccount). name_cmp a.name n ≡ Less) xs 0 i →
+    AllWithin (λ (a : NamedAccount). name_cmp a.name n ≡ Greater) xs i (length xs) → (list_any (has_name n) xs ≡ false) × (i ≡ place n xs)
+gap n [] i le before after = (refl, omega (arith, le))
+gap n (x ∷ xs) zero le before after =
+    let e : name_cmp x.name n ≡ Greater = after 0 x (omega arith) (omega arith) in
+    let rest = gap n xs zero (omega arith) (λ k d low high. absurd (omega (arith, high))) (λ k d low high. after (suc k) d (omega arith) (omega (arith, high))) in
+    (any-by n x xs Greater e ∙ rest.0, rw (place-by n x xs Greater e) refl)
+gap n (x ∷ xs) (suc i) le before after =
+    let e : name_cmp x.name n ≡ Less = before 0 x (omega arith) (omega arith) in
+    let rest = gap n xs i (omega (arith, le)) (λ k d low high. before (suc k) d (omega arith) (omega (arith, high))) (λ k d low high. after (suc k) d (omega (arith, low)) (omega (arith, high))) in
+    (any-by n x xs Less e ∙ rest.0, rw (place-by n x xs Less e) (ap suc rest.1))
+
+-- no name is below the one before it
+falls_nowhere : (xs : List NamedAccount) → IsByName xs → IsSortedBy (λ (a b : NamedAccount). is_lt (name_cmp a.name b.name)) xs
+falls_nowhere [] sorted k d low high = absurd (omega (arith, high))
+falls_nowhere (x ∷ xs) sorted zero d low high =
+    let above : AllAbove x.name xs = sorted_head name_cmp x.name (map account_name xs) sorted in
+    rw (flipped x.name (slice_index_or xs 0 d).name Less (above-at x.name xs 0 d above (omega (arith, high)))) refl
+falls_nowhere (x ∷ xs) sorted (suc k) d low high =
+    let e : suc (k + 1) ≡ suc k + 1 = omega arith in
+    let later = falls_nowhere xs (sorted_tail name_cmp x.name (map account_name xs) sorted) k d (omega arith) (omega (arith, high)) in
+    subst (λ i. is_lt (name_cmp (slice_index_or (x ∷ xs) i d).name (slice_index_or xs k d).name) ≡ false) e later
+
+-- a search by halves ends at the account of the name, or at the gap for it
+pub ends : (n : Name) (xs : List NamedAccount) → IsByName xs → (r : Result ℕ ℕ) → IsSearchInRange r (length xs) → IsBinarySearchResult (λ (a : NamedAccount). name_cmp a.name n) xs r →
+    MatchResult r (IsPlaceOf n xs) (IsGapFor n xs)
+ends n xs sorted (Ok i) within equal = record { within = within; named = λ d. ap is_eq (equal d) }
+ends n xs sorted (Err i) within parted =
+    let two = parted (searchable_from_sorted nat_list_cmp_total account_name xs n (falls_nowhere xs sorted)) in
+    let is = gap n xs i within two.0 two.1 in
+    record { none = is.0; before = is.1 }
+
+-- where it stands it is replaced
+pub replaced : (n : Name) (a : AccountDoc) (xs : List NamedAccount) → IsByName xs → (i : ℕ) → IsPlaceOf n xs i → slice_set xs i (named n a) ≡ with_account n a xs
+replaced n a xs sorted i is =
+    rw (at-place n xs i (named n a) sorted is.within (is.named (named n a))) (set-with_account n a xs sorted (any-at n xs i (named n a) is.within (is.named (named n a))))
+
+-- in the gap for it it is put in
+pub put_in : (n : Name) (a : AccountDoc) (xs : List NamedAccount) → IsByName xs → (i : ℕ) → IsGapFor n xs i → insert xs i (named n a) ≡ with_account n a xs
+put_in n a xs sorted i is = rw is.before (insert-with_account n a xs sorted is.none)
+
+pub gap_within : (n : Name) (xs : List NamedAccount) (i : ℕ) → IsGapFor n xs i → i ≤ length xs
+gap_within n xs i is = rw is.before (place-le n xs)
 
 -- the account at a place of the name is the first of it
 found-by : (n : Name) (x : NamedAccount) (xs : List NamedAccount) (i : ℕ) (d : NamedAccount) (o : Ordering) → name_cmp x.name n ≡ o → IsByName (x ∷ xs) → i < length xs → has_name n (slice_index_or xs i d) ≡ true →

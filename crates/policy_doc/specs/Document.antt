@@ -1,5 +1,5 @@
 -- When a document is valid, and the built-in one (docs/POLICY.md, "Users" and "The built-in policy").
-use Rattle.std.specs.Prelude.{◌∷◌, ◌++◌, ◌+◌, ℕ, Bool, List, [], map, take, Option, Some, None, codes, slice_get, if◌then◌else◌, IsSomeAnd, IsTrue}
+use Rattle.std.specs.Prelude.{◌∷◌, ◌++◌, ◌+◌, ℕ, Bool, List, [], map, take, Option, Some, None, codes, length, slice_get, if◌then◌else◌, IsSomeAnd, IsTrue}
 use Rattle.std.specs.List.{flat_map, list_any, IsDistinct}
 use Rattle.std.specs.Option.{option_map, option_map_or, option_or}
 use Rattle.std.specs.Str.{bytes_eq}
@@ -12,12 +12,25 @@ use Rattle.policy_doc.specs.declared.fault.PolicyFault.TheVariants.{DuplicateUse
 use Rattle.policy_doc.specs.declared.document.PolicyDoc.{PolicyDoc}
 use Rattle.policy_doc.specs.declared.document.NamedAccount.{NamedAccount}
 use Rattle.policy_doc.specs.declared.document.UserDoc.{UserDoc}
+use Rattle.policy_doc.specs.declared.document.ImportDoc.{ImportDoc}
+use Rattle.policy_doc.specs.declared.document.Counts.{Counts}
+use Rattle.exports.specs.declared.document.ExportDoc.{ExportDoc}
 use Rattle.policy_doc.specs.declared.document.Direction.{Direction}
 use Rattle.policy_doc.specs.declared.document.PermEntry.{PermEntry}
 
 -- the users of accounts, account by account
 abbrev pub users_of : List NamedAccount → List UserDoc
 users_of accounts = flat_map (λ (a : NamedAccount). a.account.users) accounts
+
+-- the exports of accounts, account by account, and their imports
+abbrev pub exports_of : List NamedAccount → List ExportDoc
+exports_of accounts = flat_map (λ (a : NamedAccount). a.account.exports) accounts
+
+abbrev pub imports_of : List NamedAccount → List ImportDoc
+imports_of accounts = flat_map (λ (a : NamedAccount). a.account.imports) accounts
+
+abbrev pub counts_of : List NamedAccount → Counts
+counts_of accounts = record { users = length (users_of accounts); exports = length (exports_of accounts); imports = length (imports_of accounts) }
 
 abbrev pub user_name : UserDoc → Name
 user_name u = u.user

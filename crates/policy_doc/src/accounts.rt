@@ -1,7 +1,6 @@
-ghost use Rattle.std.specs.Prelude.{◌≡◌, ◌<◌, find, length, IfSome};
-ghost use Rattle.std.specs.List.{list_any, prefix_len};
+ghost use Rattle.std.specs.Prelude.{◌≡◌, find, MatchResult};
 ghost use Rattle.std.specs.Option.{option_copied};
-ghost use Rattle.policy_doc.specs.Accounts.{IsByName, has_name, is_before};
+ghost use Rattle.policy_doc.specs.Accounts.{IsByName, IsGapFor, IsPlaceOf, has_name};
 
 use crate::{AccountDoc, NamedAccount};
 use base::{Copying, Items, NoMemory};
@@ -69,75 +68,32 @@ impl Accounts {
         ensures ok { OnOk result (self.new ≡ with_account name account self.old) }
         ensures err { OnErr result (self.new ≡ self.old) }
     {
-        let place = place_of(self.accounts.as_slice(), &name);
-        let stands = has_account(self.accounts.as_slice(), &name);
-        let named = NamedAccount { name, account };
-        if stands {
-            self.accounts[place] = named;
-        } else {
-            self.accounts.insert(place, named)?;
+        match searched(self.accounts.as_slice(), &name) {
+            Ok(place) => self.accounts[place] = NamedAccount { name, account },
+            Err(place) => self.accounts.insert(place, NamedAccount { name, account })?,
         }
         Ok(())
     }
 }
 
-/// The account of a name among accounts in the order of their names. It is looked for by halves and, where it isn't found
-/// so, by a walk, which shows the prover that it isn't there; a document that names it is refused.
+/// The account of a name among accounts in the order of their names.
 fn named_in<'a>(accounts: &'a [NamedAccount], name: &Bytes) -> Option<&'a NamedAccount>
     requires { IsByName accounts.now }
     ensures { option_copied result ≡ find (has_name name.now) accounts.now }
 {
-    match likely_place(accounts, name) {
-        None => walked_to(accounts, name),
-        Some(place) => {
-            let likely = &accounts[place];
-            if is_named(likely, name) {
-                Some(likely)
-            } else {
-                walked_to(accounts, name)
-            }
-        }
-    }
-}
-
-/// A place by halves, where the account of the name is if it is there.
-fn likely_place(accounts: &[NamedAccount], name: &Bytes) -> Option<usize>
-    ensures { IfSome result (λ place. place < length accounts.now) }
-{
-    match accounts.binary_search_by(|a| a.name.cmp(name)) {
-        Ok(place) => Some(place),
+    match searched(accounts, name) {
+        Ok(place) => Some(&accounts[place]),
         Err(_) => None,
     }
 }
 
-fn is_named(account: &NamedAccount, name: &Bytes) -> bool
-    ensures { result ≡ has_name name.now account.now }
+/// Where the account of a name stands among accounts in the order of their names, or else where it belongs. It is looked
+/// for by halves.
+fn searched(accounts: &[NamedAccount], name: &Bytes) -> Result<usize, usize>
+    requires { IsByName accounts.now }
+    ensures { MatchResult result (IsPlaceOf name.now accounts.now) (IsGapFor name.now accounts.now) }
 {
-    account.name.cmp(name).is_eq()
-}
-
-/// The first account of a name.
-fn walked_to<'a>(accounts: &'a [NamedAccount], name: &Bytes) -> Option<&'a NamedAccount>
-    ensures { option_copied result ≡ find (has_name name.now) accounts.now }
-{
-    accounts.iter().find(|a| a.name.cmp(name).is_eq())
-}
-
-/// Whether an account of the name stands.
-fn has_account(accounts: &[NamedAccount], name: &Bytes) -> bool
-    ensures { result ≡ list_any (has_name name.now) accounts.now }
-{
-    accounts.iter().any(|a| a.name.cmp(name).is_eq())
-}
-
-/// Where the account of the name stands, or where a new one belongs.
-fn place_of(accounts: &[NamedAccount], name: &Bytes) -> usize
-    ensures { result ≡ prefix_len (is_before name.now) accounts.now }
-{
-    accounts
-        .iter()
-        .take_while(|a| a.name.cmp(name).is_lt())
-        .count()
+    accounts.binary_search_by(|a| a.name.cmp(name))
 }
 
 impl Copying for Accounts {

@@ -19,28 +19,47 @@ impl Drop for PolicyDoc {
 }
 
 impl PolicyDoc {
-    ghost use Rattle.std.specs.Prelude.{◌≡◌, length};
-    ghost use Rattle.policy_doc.specs.Document.{users_of};
+    ghost use Rattle.std.specs.Prelude.{◌≡◌};
+    ghost use Rattle.policy_doc.specs.Document.{counts_of};
 
-    /// How many users the accounts have together. It has 128 bits, since no list of lists has more elements.
-    pub fn count_users(&self) -> u128
-        ensures { result ≡ length (users_of self.now.accounts) }
+    /// How many users, exports and imports the accounts have together.
+    pub fn counts(&self) -> Counts
+        ensures { result ≡ counts_of self.now.accounts }
     {
-        count_users(self.accounts.as_slice())
+        counts_of(self.accounts.as_slice())
     }
 }
 
-ghost use Rattle.std.specs.Prelude.{◌≡◌, length};
-ghost use Rattle.policy_doc.specs.Document.{users_of};
+/// How many users, exports and imports there are. A number has 128 bits, since no list of lists has more elements.
+#[derive(Clone, Copy, Debug, PartialEq, Eq)]
+pub struct Counts {
+    /// The users.
+    pub users: u128,
+    /// The exports.
+    pub exports: u128,
+    /// The imports.
+    pub imports: u128,
+}
 
-fn count_users(accounts: &[NamedAccount]) -> u128
-    ensures { result ≡ length (users_of accounts.now) }
+ghost use Rattle.std.specs.Prelude.{◌≡◌};
+ghost use Rattle.policy_doc.specs.Document.{counts_of};
+
+fn counts_of(accounts: &[NamedAccount]) -> Counts
+    ensures { result ≡ counts_of accounts.now }
 {
-    let mut count: u128 = 0;
+    let mut users: u128 = 0;
+    let mut exports: u128 = 0;
+    let mut imports: u128 = 0;
     for named in accounts {
-        count += named.account.users.len() as u128;
+        users += named.account.users.len() as u128;
+        exports += named.account.exports.len() as u128;
+        imports += named.account.imports.len() as u128;
     }
-    count
+    Counts {
+        users,
+        exports,
+        imports,
+    }
 }
 
 /// An account beside its name.

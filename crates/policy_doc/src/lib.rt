@@ -13,7 +13,8 @@ mod unique;
 
 pub use accounts::Accounts;
 pub use document::{
-    AccountDoc, Direction, ImportDoc, NamedAccount, PermDoc, PermEntry, PolicyDoc, Terms, UserDoc,
+    AccountDoc, Counts, Direction, ImportDoc, NamedAccount, PermDoc, PermEntry, PolicyDoc, Terms,
+    UserDoc,
 };
 pub use exports::{ExportDoc, Kind, ResponseTerms, Row};
 pub use fault::{Place, PolicyFault};

@@ -1,6 +1,6 @@
 -- The exports that a JSON value writes, or its first fault (docs/POLICY.md, "Exports and imports").
 -- A null counts as a value of another kind, and not as absent.
-use Rattle.std.specs.Prelude.{◌∷◌, ◌&&◌, ℕ, Bool, true, false, List, [], codes, if◌then◌else◌, Option, Some, None, Ok, Err, is_some}
+use Rattle.std.specs.Prelude.{◌∷◌, ℕ, Bool, true, false, List, [], codes, if◌then◌else◌, Option, Some, None, Ok, Err}
 use Rattle.std.specs.Str.{bytes_eq}
 use Rattle.serde_json.specs.Data.{Data}
 use Rattle.serde_json.specs.Find.{get}
@@ -15,7 +15,7 @@ use Rattle.policy_walk.specs.Path.{Path, at_key}
 use Rattle.policy_walk.specs.Object.{Row, judged}
 use Rattle.policy_walk.specs.Texts.{text_at, items_at, required_text_at}
 use Rattle.policy_permissions.specs.Permissions.{each, duration_at, pattern_from}
-use Rattle.policy_rows.specs.Names.{account_name_at, kind_by}
+use Rattle.policy_rows.specs.Names.{account_name_at, kind_of}
 
 -- ---- the tables: a key of each object, and whether it must be there
 
@@ -35,10 +35,6 @@ lone_rows = (codes "stream", false) ∷ (codes "accounts", false) ∷ []
 
 abbrev pub known_rows : Bool → List Row
 known_rows services = if services then either_rows else lone_rows
-
--- a stream or a service, where just one of the two keys is there
-abbrev pub kind_of : Bool → Data → Option Kind
-kind_of services d = kind_by (is_some (get (codes "stream") d)) (services && is_some (get (codes "service") d))
 
 -- the pattern whose subjects are offered
 unfoldable pub offered_at : List ℕ → Path → Data → Read (List Token)

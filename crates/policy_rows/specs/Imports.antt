@@ -1,6 +1,6 @@
 -- The imports that a JSON value writes, or its first fault (docs/POLICY.md, "Exports and imports").
 -- A null counts as a value of another kind, and not as absent.
-use Rattle.std.specs.Prelude.{◌∷◌, ◌&&◌, ℕ, Bool, true, false, List, [], codes, if◌then◌else◌, Option, Some, None, Ok, Err, is_some}
+use Rattle.std.specs.Prelude.{◌∷◌, ℕ, Bool, true, false, List, [], codes, if◌then◌else◌, Option, Some, None, Ok, Err, is_some}
 use Rattle.serde_json.specs.Data.{Data}
 use Rattle.serde_json.specs.Find.{get}
 use Rattle.subjects.specs.Subject.{Token, tokens_of}
@@ -14,7 +14,7 @@ use Rattle.policy_walk.specs.Path.{Path, at_key}
 use Rattle.policy_walk.specs.Object.{Row, judged, required_at}
 use Rattle.policy_walk.specs.Texts.{text_at, items_at, required_text_at}
 use Rattle.policy_permissions.specs.Permissions.{each, pattern_from}
-use Rattle.policy_rows.specs.Names.{account_name_from, kind_by}
+use Rattle.policy_rows.specs.Names.{account_name_from, kind_of}
 use Rattle.policy_rows.specs.declared.import_row.Source.{Source}
 
 -- ---- the tables: a key of each object, and whether it must be there
@@ -39,10 +39,6 @@ known_rows services = if services then either_rows else lone_rows
 abbrev pub source_rows : List Row
 source_rows = (codes "account", true) ∷ (codes "subject", true) ∷ []
 
--- a stream or a service, where just one of the two keys is there
-abbrev pub kind_of : Bool → Data → Option Kind
-kind_of services d = kind_by (is_some (get (codes "stream") d)) (services && is_some (get (codes "service") d))
-
 -- ---- what is imported, and under which names
 
 unfoldable pub account_at : Path → Data → Read (List ℕ)
@@ -55,12 +51,15 @@ subject_at path d = do
   text ← required_text_at (codes "subject") path d
   pattern_from (at_key path (codes "subject")) text
 
+abbrev pub source_of : List ℕ → List Token → Source
+source_of account subject = record { account = account; subject = subject }
+
 unfoldable pub source_at : Path → Data → Read Source
 source_at path d = do
   known ← judged source_rows path d
   account ← account_at path d
   subject ← subject_at path d
-  Ok (record { account = account; subject = subject })
+  Ok (source_of account subject)
 
 -- what stands under the key of a row's kind
 unfoldable pub source_in : List ℕ → Path → Data → Read Source

@@ -1,7 +1,8 @@
 -- Names that a policy has (docs/POLICY.md, "Objects").
-use Rattle.std.specs.Prelude.{◌==◌, ◌&&◌, ℕ, Bool, true, false, not, List, length, if◌then◌else◌, Option, Some, None, Ok, Err, nat_le, nat_lt}
+use Rattle.std.specs.Prelude.{◌==◌, ◌&&◌, ℕ, Bool, true, false, not, List, length, if◌then◌else◌, Option, Some, None, Ok, Err, codes, is_some, nat_le, nat_lt}
 use Rattle.std.specs.List.{list_all}
 use Rattle.serde_json.specs.Data.{Data}
+use Rattle.serde_json.specs.Find.{get}
 use Rattle.exports.specs.declared.document.Kind.{Kind}
 use Rattle.exports.specs.declared.document.Kind.TheVariants.{Stream, Service}
 use Rattle.policy_walk.specs.declared.fault.ConfigFault.TheVariants.{BadName}
@@ -33,3 +34,7 @@ kind_by true false = Some Stream
 kind_by false true = Some Service
 kind_by true true = None
 kind_by false false = None
+
+-- a stream or a service, where just one of the two keys is there
+abbrev pub kind_of : Bool → Data → Option Kind
+kind_of services d = kind_by (is_some (get (codes "stream") d)) (services && is_some (get (codes "service") d))

@@ -1,13 +1,13 @@
 //! The exports of an account.
-ghost use Rattle.std.specs.Prelude.{◌≡◌, ◌&&◌, is_some, option_map};
+ghost use Rattle.std.specs.Prelude.{◌≡◌, option_map};
 ghost use Rattle.serde_json.specs.View.{view, items_view};
 ghost use Rattle.policy_walk.specs.Fault.{Gives};
 ghost use Rattle.policy_walk.specs.Object.{judged};
 ghost use Rattle.policy_permissions.specs.Permissions.{each};
-ghost use Rattle.policy_rows.specs.Exports.{accounts_at, accounts_under, export_at, export_by, exports_at, exports_under, kind_of, known_rows, neither_at, offered_at, service_at, stream_at};
-ghost use Rattle.policy_rows.specs.Names.{account_name_at};
+ghost use Rattle.policy_rows.specs.Exports.{accounts_at, accounts_under, export_at, export_by, exports_at, exports_under, known_rows, neither_at, offered_at, service_at, stream_at};
+ghost use Rattle.policy_rows.specs.Names.{account_name_at, kind_of};
 
-use crate::names::{account_name_of, kind_by};
+use crate::names::{account_name_of, kind_of};
 use crate::terms::{response_of, usual_response};
 use base::Items;
 use bytes::Bytes;
@@ -80,16 +80,6 @@ fn export_of(
         Some(Kind::Service) => Ok(service_of(alloc, path, value)?),
         None => Ok(neither_of(alloc, services, path, value)?),
     }
-}
-
-/// The kind of an export, by the one of two keys that is there.
-fn kind_of(services: bool, value: &Value) -> Option<Kind>
-    ensures { result ≡ kind_of services (view value.now) }
-{
-    let has_stream = value.get("stream").is_some();
-    let has_service = services && value.get("service").is_some();
-    let kind = kind_by(has_stream, has_service);
-    kind
 }
 
 /// An export of a stream.

@@ -1,12 +1,13 @@
 //! The imports of an account.
-ghost use Rattle.std.specs.Prelude.{◌≡◌, ◌&&◌, is_some, option_map};
+ghost use Rattle.std.specs.Prelude.{◌≡◌, option_map};
 ghost use Rattle.serde_json.specs.View.{view, items_view};
 ghost use Rattle.policy_walk.specs.Fault.{Gives};
 ghost use Rattle.policy_walk.specs.Object.{judged};
 ghost use Rattle.policy_permissions.specs.Permissions.{each};
-ghost use Rattle.policy_rows.specs.Imports.{account_at, import_at, import_by, imports_at, imports_under, kind_of, known_rows, neither_at, prefix_under, service_at, source_at, source_in, stream_at, subject_at, subject_from, to_under};
+ghost use Rattle.policy_rows.specs.Imports.{account_at, import_at, import_by, imports_at, imports_under, known_rows, neither_at, prefix_under, service_at, source_at, source_in, stream_at, subject_at, subject_from, to_under};
+ghost use Rattle.policy_rows.specs.Names.{kind_of};
 
-use crate::names::{account_name_from, kind_by};
+use crate::names::{account_name_from, kind_of};
 use base::Items;
 use bytes::Bytes;
 use exports::Kind;
@@ -86,16 +87,6 @@ fn import_of(
         Some(Kind::Service) => Ok(service_of(alloc, path, value)?),
         None => Ok(neither_of(alloc, services, path, value)?),
     }
-}
-
-/// The kind of an import, by the one of two keys that is there.
-fn kind_of(services: bool, value: &Value) -> Option<Kind>
-    ensures { result ≡ kind_of services (view value.now) }
-{
-    let has_stream = value.get("stream").is_some();
-    let has_service = services && value.get("service").is_some();
-    let kind = kind_by(has_stream, has_service);
-    kind
 }
 
 /// An import of a stream.

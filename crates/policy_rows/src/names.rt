@@ -1,9 +1,9 @@
 //! Names, and the kind of a row.
-ghost use Rattle.std.specs.Prelude.{◌≡◌};
+ghost use Rattle.std.specs.Prelude.{◌≡◌, ◌&&◌, is_some};
 ghost use Rattle.std.specs.List.{list_all};
 ghost use Rattle.serde_json.specs.View.{view};
 ghost use Rattle.policy_walk.specs.Fault.{Gives};
-ghost use Rattle.policy_rows.specs.Names.{account_name_at, account_name_from, has_name_length, is_account_byte, is_account_name, kind_by};
+ghost use Rattle.policy_rows.specs.Names.{account_name_at, account_name_from, has_name_length, is_account_byte, is_account_name, kind_by, kind_of};
 
 use bytes::Bytes;
 use exports::Kind;
@@ -55,8 +55,18 @@ fn has_account_bytes(name: &[u8]) -> bool
     name.iter().all(|b| !(*b < 0x21) && !(*b == 0x7f))
 }
 
+/// The kind of a row, by the one of two keys that is there.
+pub(crate) fn kind_of(services: bool, value: &Value) -> Option<Kind>
+    ensures { result ≡ kind_of services (view value.now) }
+{
+    let has_stream = value.get("stream").is_some();
+    let has_service = services && value.get("service").is_some();
+    let kind = kind_by(has_stream, has_service);
+    kind
+}
+
 /// The kind of a row, by whether it has the key of streams and that of services.
-pub(crate) fn kind_by(has_stream: bool, has_service: bool) -> Option<Kind>
+fn kind_by(has_stream: bool, has_service: bool) -> Option<Kind>
     ensures { result ≡ kind_by has_stream has_service }
 {
     match (has_stream, has_service) {

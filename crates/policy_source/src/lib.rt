@@ -6,7 +6,7 @@ mod watched_file;
 
 pub use frames::Frames;
 use std::sync::Mutex;
-pub use watched_file::WatchedFile;
+pub use watched_file::{WatchedFile, Watcher};
 
 /// What comes of the policies next.
 #[derive(Drop)]

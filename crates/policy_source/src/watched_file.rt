@@ -1,5 +1,4 @@
 use crate::{Next, Policies};
-use devices::{Sink, write_all};
 use std::alloc::Global;
 use std::fs::{File, Files};
 use std::io::{ErrorKind, Read};
@@ -13,6 +12,15 @@ const PAUSE: u64 = 250;
 /// What is opened in place of the file, so that its descriptor stays with the reader.
 const SPARE: &str = "/dev/null";
 
+/// Who is told of a file that can't be read.
+pub trait Watcher {
+    /// It can't be read, for this reason.
+    fn tell_unreadable(&mut self, why: &[u8]);
+
+    /// It can be read again.
+    fn tell_readable(&mut self);
+}
+
 /// The policy of a file, which is read again when it changes. Between two readings a spare keeps the file's descriptor.
 #[derive(Drop)]
 pub struct WatchedFile<'a, R: Files, E> {
@@ -22,14 +30,14 @@ pub struct WatchedFile<'a, R: Files, E> {
     /// What was read last.
     last: Vec<u8>,
     spare: Option<R::File>,
-    /// Where it is told why the file can't be read, and what was told last.
-    errors: &'a mut E,
+    /// Who is told why the file can't be read, and what was told last.
+    watcher: &'a mut E,
     told: Option<ErrorKind>,
 }
 
-impl<'a, R: Files + Clock + Wait + AllocGlobal, E: Sink> WatchedFile<'a, R, E> {
-    /// Returns a file that has not been read. Why it can't be read is told on `errors`.
-    pub fn new(rt: &'a R, path: &'a str, errors: &'a mut E) -> WatchedFile<'a, R, E> {
+impl<'a, R: Files + Clock + Wait + AllocGlobal, E: Watcher> WatchedFile<'a, R, E> {
+    /// Returns a file that has not been read. The watcher is told why it can't be read.
+    pub fn new(rt: &'a R, path: &'a str, watcher: &'a mut E) -> WatchedFile<'a, R, E> {
         let alloc = rt.alloc();
         WatchedFile {
             rt,
@@ -37,7 +45,7 @@ impl<'a, R: Files + Clock + Wait + AllocGlobal, E: Sink> WatchedFile<'a, R, E> {
             path,
             last: Vec::new(alloc),
             spare: None,
-            errors,
+            watcher,
             told: None,
         }
     }
@@ -96,13 +104,13 @@ impl<'a, R: Files + Clock + Wait + AllocGlobal, E: Sink> WatchedFile<'a, R, E> {
             return;
         }
         self.told = Some(kind);
-        if let Ok(line) = format!(in self.alloc; "{}: {error}\n", self.path) {
-            drop(write_all(self.errors, line.as_str().as_bytes()));
+        if let Ok(why) = format!(in self.alloc; "{}: {error}", self.path) {
+            self.watcher.tell_unreadable(why.as_str().as_bytes());
         }
     }
 }
 
-impl<R: Files + Clock + Wait + AllocGlobal, E: Sink> Policies for WatchedFile<'_, R, E> {
+impl<R: Files + Clock + Wait + AllocGlobal, E: Watcher> Policies for WatchedFile<'_, R, E> {
     fn next(&mut self, descriptors: &Mutex<()>) -> Next {
         let text = match self.read(descriptors) {
             Ok(text) => text,
@@ -112,7 +120,9 @@ impl<R: Files + Clock + Wait + AllocGlobal, E: Sink> Policies for WatchedFile<'_
                 return Next::Later;
             }
         };
-        self.told = None;
+        if self.told.take().is_some() {
+            self.watcher.tell_readable();
+        }
         if text.as_slice() == self.last.as_slice() {
             self.pause();
             return Next::Later;

@@ -1,14 +1,13 @@
--- no account before it has the name
-use Rattle.std.proofs.Common.{◌≡◌, ◌∙◌, ap, sym, subst, Some, true}
-use Rattle.policy_doc.specs.Accounts.{has_name}
-use Rattle.policy_doc.specs.declared.document.NamedAccount.{NamedAccount}
-use Rattle.policy_doc.proofs.Names.{found-at}
+-- the account at the place of the name is the first of it, and where it has no place there is none
+use Rattle.std.proofs.Common.{◌∙◌, ap, sym, Some}
+use Rattle.policy_doc.proofs.Names.{found-at, none-found}
 use Rattle.policy_doc.proofs.accounts.named_in.Goals as goal
 
-pub returns-then-is_named : goal.returns-then-is_named
-returns-then-is_named c =
-    let likely = c.index-accounts-place.result in
-    let at : has_name c.args.name.now likely ≡ true = sym c.is_named.ensures ∙ c.if-is_named.true in
+pub returns-in-Ok : goal.returns-in-Ok
+returns-in-Ok c =
     ap Some c.index-accounts-place.is
-    ∙ found-at c.args.name.now c.args.accounts.now c.in-Some.place likely c.requires c.in-Some.ensures
-    (subst (λ (a : NamedAccount). has_name c.args.name.now a ≡ true) c.index-accounts-place.is at)
+    ∙ found-at c.args.name.now c.args.accounts.now c.in-Ok.place c.index-accounts-place.result c.requires c.in-Ok.ensures.within
+    (c.in-Ok.ensures.named c.index-accounts-place.result)
+
+pub returns-in-Err : goal.returns-in-Err
+returns-in-Err c = sym (none-found c.args.name.now c.args.accounts.now c.in-Err.ensures.none)

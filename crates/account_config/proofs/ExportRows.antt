@@ -1,0 +1,92 @@
+-- The exports of an account are read as their faults and what is written say.
+use Rattle.std.proofs.Common.{◌≡◌, Option, Some, None, option_map, Ok, Err, Bool, true, false, ◌||◌, codes, if◌then◌else◌, bytes_eq, refl}
+use Rattle.serde_json.specs.Data.{Data}
+use Rattle.serde_json.specs.Find.{get}
+use Rattle.policy_walk.specs.declared.fault.ConfigFault.{ConfigFault}
+use Rattle.policy_walk.specs.declared.fault.ConfigFault.TheVariants.{WrongType}
+use Rattle.policy_walk.specs.Path.{Path, at_key}
+use Rattle.policy_rows.specs.Names.{account_name_at, kind_of}
+use Rattle.policy_rows.specs.Exports.{accounts_at, accounts_under, either_rows, export_at, export_by, exports_at, exports_under, lone_rows, neither_at, offered_at, response_at, service_at, single_at, single_from, single_under, stream_at, ttl_under}
+use Rattle.account_config.specs.Policy.{or_empty}
+use Rattle.account_config.specs.Place.{IsReading}
+use Rattle.account_config.specs.Standing.{in_value, object_faults, text_faults, list_faults, duration_faults, name_faults, is_response_type, kindless_faults, keys_of_rows, stream_export_keys, service_export_keys, export_faults}
+use Rattle.account_config.specs.Written.{text_in, list_in, pattern_under, accounts_list_in, single_in, ttl_in, stream_export_in, service_export_in, export_in}
+use Rattle.account_config.proofs.Order.{IsOrdered, Meets, under-ordered}
+use Rattle.account_config.proofs.First.{go_on}
+use Rattle.account_config.proofs.Objects.{then_object, none_left, kindless_read}
+use Rattle.account_config.proofs.Each.{Reads}
+use Rattle.account_config.proofs.Values.{text_read, list_read, optional_read, duration_read}
+use Rattle.account_config.proofs.Rows.{go_into, name_read, pattern_read, row_read}
+
+accounts_read : Reads (list_faults name_faults) (list_in text_in) accounts_at
+unfolding accounts_at
+accounts_read path d up = list_read name_faults text_in account_name_at name_read path d up
+
+accounts_under_read : (path : Path) (found : Option Data) → Meets IsOrdered found → IsReading (in_value (list_faults name_faults) path found) (option_map (list_in text_in) found) (accounts_under path found)
+accounts_under_read path None up = (λ p. refl, refl)
+accounts_under_read path (Some d) up = optional_read (list_faults name_faults) (list_in text_in) accounts_at accounts_read path d up
+
+single_is : (single stream : Bool) (fault : ConfigFault) → (if single then Ok true else (if stream then Ok false else Err fault)) ≡ (if single || stream then Ok single else Err fault)
+single_is true stream fault = refl
+single_is false true fault = refl
+single_is false false fault = refl
+
+single_under_read : (path : Path) (found : Option Data) → IsReading (in_value (text_faults is_response_type WrongType) path found) (single_in found) (single_under path found)
+unfolding single_at
+single_under_read path None = (λ p. refl, refl)
+single_under_read path (Some d) =
+    text_read is_response_type WrongType (λ text. bytes_eq text (codes "single")) path (single_from path)
+    (λ text. single_is (bytes_eq text (codes "single")) (bytes_eq text (codes "stream")) (WrongType path)) d
+
+ttl_under_read : (path : Path) (found : Option Data) → Meets IsOrdered found → IsReading (in_value duration_faults path found) (ttl_in found) (ttl_under path found)
+ttl_under_read path None up = (λ p. refl, refl)
+ttl_under_read path (Some d) up = duration_read path d up
+
+stream_read : Reads (object_faults stream_export_keys) stream_export_in stream_at
+unfolding stream_at offered_at
+stream_read path d up =
+    then_object stream_export_keys path d (stream_export_in d) _ up λ clear.
+    go_on _ 0 (pattern_under (codes "stream") d) (stream_export_in d) (offered_at (codes "stream") path d) _ clear (pattern_read (codes "stream") path d (clear.at_missing 0)) λ clear.
+    go_on _ 1 (accounts_list_in d) (stream_export_in d) (accounts_under (at_key path (codes "accounts")) (get (codes "accounts") d)) _ clear
+    (accounts_under_read _ _ (under-ordered (codes "accounts") d up)) λ clear.
+    (none_left stream_export_keys path d clear, refl)
+
+service_read : Reads (object_faults service_export_keys) service_export_in service_at
+unfolding service_at offered_at response_at
+service_read path d up =
+    then_object service_export_keys path d (service_export_in d) _ up λ clear.
+    go_on _ 0 (pattern_under (codes "service") d) (service_export_in d) (offered_at (codes "service") path d) _ clear (pattern_read (codes "service") path d (clear.at_missing 0)) λ clear.
+    go_on _ 1 (accounts_list_in d) (service_export_in d) (accounts_under (at_key path (codes "accounts")) (get (codes "accounts") d)) _ clear
+    (accounts_under_read _ _ (under-ordered (codes "accounts") d up)) λ clear.
+    go_into _ 2 (single_in (get (codes "response_type") d)) (service_export_in d) (single_under (at_key path (codes "response_type")) (get (codes "response_type") d)) _ _ clear
+    (single_under_read _ _) λ clear.
+    go_into _ 3 (ttl_in (get (codes "response_ttl") d)) (service_export_in d) (ttl_under (at_key path (codes "response_ttl")) (get (codes "response_ttl") d)) _ _ clear
+    (ttl_under_read _ _ (under-ordered (codes "response_ttl") d up)) λ clear.
+    (none_left service_export_keys path d clear, refl)
+
+-- the keys of both kinds are those of one kind, and then those of the other
+both_kinds : (stream service accounts more : Bool) → (stream || (service || (accounts || more))) ≡ (stream || (accounts || (service || (accounts || more))))
+both_kinds true service accounts more = refl
+both_kinds false true true more = refl
+both_kinds false true false more = refl
+both_kinds false false true more = refl
+both_kinds false false false more = refl
+
+neither_read : (services : Bool) (path : Path) (d : Data) → IsOrdered d →
+    IsReading (kindless_faults (keys_of_rows services stream_export_keys service_export_keys) path d) (stream_export_in d) (neither_at services path d)
+unfolding neither_at
+neither_read true path d up =
+    kindless_read either_rows (keys_of_rows true stream_export_keys service_export_keys) path d (stream_export_in d) up
+    (λ key. both_kinds (bytes_eq (codes "stream") key) (bytes_eq (codes "service") key) (bytes_eq (codes "accounts") key) _) refl
+neither_read false path d up = kindless_read lone_rows (keys_of_rows false stream_export_keys service_export_keys) path d (stream_export_in d) up (λ key. refl) refl
+
+export_read : (services : Bool) → Reads (export_faults services) (export_in services) (export_at services)
+export_read services path d up =
+    row_read services stream_export_keys service_export_keys stream_export_in service_export_in path d (export_by services path d) (stream_read path d up) (service_read path d up)
+    (neither_read services path d up) (kind_of services d)
+
+pub exports_under_read : (services : Bool) (path : Path) (found : Option Data) → Meets IsOrdered found →
+    IsReading (in_value (list_faults (export_faults services)) path found) (or_empty (option_map (list_in (export_in services)) found)) (exports_under services path found)
+unfolding exports_at
+exports_under_read services path None up = (λ p. refl, refl)
+exports_under_read services path (Some d) up = list_read (export_faults services) (export_in services) (export_at services) (export_read services) path d up
