@@ -6,7 +6,7 @@ use Rattle.events.specs.declared.answer.Item.{Item}
 use Rattle.events.specs.declared.answer.Outcome.{Outcome}
 use Rattle.events.specs.declared.answer.Outcome.TheVariants.{Published}
 use Rattle.world_routing.specs.World.{World}
-use Rattle.world_routing.specs.Handing.{met, carried}
+use Rattle.world_routing.specs.Handing.{met, carried, of_deliveries}
 use Rattle.world_routing.specs.Publishing.{published_by}
 use Rattle.world_routing.specs.declared.carrying.Deliveries.{Deliveries}
 use Rattle.world.specs.Changes.{IsDecided}
@@ -23,7 +23,7 @@ module _ (before w : World) (same : before ≡ w) (conn : ℕ) (m : Message) (wo
 
   -- where deliveries are handed over
   pub deliver_is : (by : By) (items : List Item) (ds : Deliveries) →
-      (published_by before conn m word ≡ Ok (Published by items, carried before ds.answered ds.all items)) × (items ≡ met before ds.all) →
+      (published_by before conn m word ≡ Ok (Published by items, carried before ds.answered ds.all items)) × (of_deliveries items ≡ met before ds.all) →
       IsDecided w (published_by w conn m word) (Ok record { outcome = Published by items; change = Deliver ds })
   deliver_is by items ds h =
       let P : World → Type 0 = λ x. IsDecided x (published_by x conn m word) (Ok record { outcome = Published by items; change = Deliver ds }) in

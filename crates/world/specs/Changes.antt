@@ -12,7 +12,7 @@ use Rattle.world_subscriptions.specs.Subscriptions.{stands, subscription_of}
 use Rattle.world_subscriptions.specs.Limit.{unended, limited}
 use Rattle.world_rows.specs.declared.subscription.Subscription.{Subscription}
 use Rattle.world_routing.specs.World.{World}
-use Rattle.world_routing.specs.Handing.{met, carried}
+use Rattle.world_routing.specs.Handing.{met, carried, of_deliveries}
 use Rattle.policy_doc.specs.declared.document.PolicyDoc.{PolicyDoc}
 use Rattle.world.specs.Reload.{stands_on}
 use Rattle.world.specs.Transition.{IsRefusal}
@@ -52,7 +52,7 @@ IsFit w Nothing o = Unit {0}
 IsFit w (Open z) o = session_of w.sessions z.conn ≡ None
 IsFit w (Stand a) o = stands w.subscriptions a.conn a.sid ≡ false
 IsFit w (Limit conn sid most) o = Unit {0}
-IsFit w (Deliver ds) o = items_in o ≡ met w ds.all
+IsFit w (Deliver ds) o = of_deliveries (items_in o) ≡ met w ds.all
 IsFit w (Drain conn most) o = Unit {0}
 IsFit w (Leave conn) o = Unit {0}
 IsFit w (Install doc users lost) o =

@@ -202,6 +202,7 @@ impl World {
             &mut self.sessions,
             &mut self.subscriptions,
             &mut self.receivers,
+            self.ready.rows(),
             self.keys,
             publish,
         )? {

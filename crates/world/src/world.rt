@@ -32,6 +32,7 @@ pub struct World {
 
 impl Model for World {
     ghost use Rattle.std.specs.Prelude.{◌≤◌};
+    ghost use Rattle.imports.specs.Views.{rows_of};
     ghost use Rattle.world_receivers.specs.Cached.{IsCurrent};
     ghost use Rattle.world_routing.specs.World as worlds;
 
@@ -47,7 +48,7 @@ impl Model for World {
       number = w.number;
     } };
 
-    ghost invariant = { λ w. (1 ≤ w.capacity) × IsCurrent w.sessions w.subscriptions w.receivers.cache };
+    ghost invariant = { λ w. (1 ≤ w.capacity) × IsCurrent (rows_of w.ready) w.sessions w.subscriptions w.receivers.cache };
 }
 
 impl World {

@@ -8,3 +8,4 @@ mod groups;
 
 pub use address::{Routed, address_served, passing_of};
 pub use grouping::{Grouping, grouping_of};
+pub use groups::keep_chosen;

@@ -1,3 +1,4 @@
+pub mod Left
 pub mod Stays
 pub mod Tests
 pub mod Told

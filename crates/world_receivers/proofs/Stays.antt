@@ -1,16 +1,17 @@
 -- What is cached stays current while messages are delivered, counted and taken: who may be sent a message, and whom it is for,
 -- goes neither by what waits for a session nor by what a subscription has received.
-use Rattle.std.proofs.Common.{◌≡◌, ◌∙◌, ◌==◌, ◌&&◌, ◌||◌, ◌%◌, ◌^◌, ◌≤◌, ℕ, Bool, true, false, cond, not, List, [], ◌∷◌, length, nat_lt, Option, Some, None, map, filter, ap, sym, refl, subst, inl, inr, arith}
+use Rattle.std.proofs.Common.{◌≡◌, ◌∙◌, ◌==◌, ◌&&◌, ◌||◌, ◌≤◌, ℕ, Bool, true, false, cond, not, List, [], ◌∷◌, length, nat_lt, Option, Some, None, map, filter, ap, sym, refl, subst, inl, inr, arith}
 use Rattle.std.specs.Option.{option_map}
 use Rattle.std.proofs.lemmas.Bool.{cases_Bool}
 use Rattle.std.proofs.lemmas.List.{length-map}
 use Rattle.std.proofs.lemmas.Option.{none-some}
 use Rattle.subjects.specs.Subject.{Token, tokens_of, text_of}
+use Rattle.imports.specs.declared.rows.ImportRow.{ImportRow}
 use Rattle.policy_ready.specs.declared.ready.User.{User}
 use Rattle.permissions.specs.Verdicts.{delivery_verdict, is_allowed}
 use Rattle.events.specs.declared.answer.Addressed.{Addressed}
 use Rattle.queue_choice.specs.Choices.{chosen}
-use Rattle.world_groups.specs.Served.{is_named, is_member, members, is_the, is_served_by, is_served, served}
+use Rattle.world_groups.specs.Served.{is_member, members, is_the, is_served_by, is_served, served}
 use Rattle.world_groups.proofs.Chosen.{filter-map, same_tests, chosen-map}
 use Rattle.world_deliveries.specs.Sessions.{session_of, with_session}
 use Rattle.world_deliveries.specs.Delivered.{delivered, offered, after_offer, has_room}
@@ -22,8 +23,7 @@ use Rattle.world_subscriptions.specs.Limit.{unended, has_ended}
 use Rattle.world_rows.specs.declared.subscription.Subscription.{Subscription}
 use Rattle.world_receivers.specs.Open.{lets_through, may_hear, is_open, open_among}
 use Rattle.world_receivers.specs.Receivers.{receiver_of}
-use Rattle.world_receivers.specs.Cached.{picked, Says, IsWhom, IsWhomFor, IsCurrent}
-use Rattle.world_receivers.specs.declared.receiver.Receiver.{Receiver}
+use Rattle.world_receivers.specs.Cached.{IsWhom, IsWhomFor, IsAlone, IsAloneFor, IsCurrent}
 use Rattle.world_receivers.specs.declared.cache.ReceiverCache.{ReceiverCache}
 use Rattle.world_receivers.specs.declared.cache.Whom.{Whom}
 
@@ -100,7 +100,7 @@ module _ (f : Subscription → Subscription) (same : (s : Subscription) → made
       filter-map (is_member name) f xs
       ∙ ap (map f) (same_tests (λ x. is_member name (f x)) (is_member name) xs (λ x. ap (λ (m : Subscription). is_member name m) (same x)))
 
-  served-map : (word : ℕ) (xs : List Subscription) → served word (map f xs) ≡ map f (served word xs)
+  pub served-map : (word : ℕ) (xs : List Subscription) → served word (map f xs) ≡ map f (served word xs)
   served-map word xs =
       filter-map (is_served word (map f xs)) f xs
       ∙ ap (map f) (same_tests (λ x. is_served word (map f xs) (f x)) (is_served word xs) xs (λ x. ap (λ (m : Subscription). is_served_by word (map f xs) (f x) m.queue) (same x) ∙ by x x.queue))
@@ -146,17 +146,33 @@ module _ (f : Subscription → Subscription) (same : (s : Subscription) → made
             or_else None d = d
             or_else (Some q) d = q
 
+-- whether a message is seen in its publisher's account alone goes by the publisher's user alone
+alone-stays : (b : Bool) (rows : List ImportRow) (conn : ℕ) (text : List ℕ) (zs after : List Session) → AreSeated zs after → IsAloneFor b rows conn text zs → IsAloneFor b rows conn text after
+alone-stays false rows conn text zs after seated is = tt
+alone-stays true rows conn text zs after seated is = λ y there. was y (session_of zs conn) refl (sym (seated conn) ∙ ap (option_map seat) there)
+  where
+    was : (y : Session) (o : Option Session) → session_of zs conn ≡ o → option_map seat (session_of zs conn) ≡ Some (seat y) → IsAlone rows y.user.account (tokens_of text)
+    was y None e own = absurd (none-some (seat y) (sym (ap (option_map seat) e) ∙ own))
+    was y (Some z) e own =
+        subst (λ (q : Seat). IsAlone rows q.1.0.account (tokens_of text)) (ap (λ (q : Option Seat). or_else q (seat z)) (sym (ap (option_map seat) e) ∙ own)) (is z e)
+      where
+        or_else : Option Seat → Seat → Seat
+        or_else None d = d
+        or_else (Some q) d = q
+
 -- ---- what is cached
 
-pub current_taken : (cache : ReceiverCache) (zs after : List Session) (subs : List Subscription) → AreSeated zs after → IsCurrent zs subs cache → IsCurrent after subs cache
-current_taken cache zs after subs seated current =
-    subst (λ (ss : List Subscription). IsCurrent after ss cache) (map-same subs) (whom-stays (λ s. s) (λ s. refl) zs after seated subs cache.whom cache.conn cache.subject.items current)
+pub current_taken : (cache : ReceiverCache) (rows : List ImportRow) (zs after : List Session) (subs : List Subscription) → AreSeated zs after → IsCurrent rows zs subs cache → IsCurrent rows after subs cache
+current_taken cache rows zs after subs seated current = (
+  subst (λ (ss : List Subscription). IsWhomFor cache.whom cache.conn cache.subject.items after ss) (map-same subs) (whom-stays (λ s. s) (λ s. refl) zs after seated subs cache.whom cache.conn cache.subject.items current.0),
+  alone-stays cache.alone rows cache.conn cache.subject.items zs after seated current.1,
+)
   where
     map-same : (xs : List Subscription) → map (λ s. s) xs ≡ xs
     map-same [] = refl
     map-same (x ∷ xs) = ap (λ rest. x ∷ rest) (map-same xs)
 
-bumped-made : (id : ℕ) (s : Subscription) → made (only bumped id s) ≡ made s
+pub bumped-made : (id : ℕ) (s : Subscription) → made (only bumped id s) ≡ made s
 bumped-made id s = either (s.id == id) _ _ (either (nat_lt s.received 18446744073709551615) _ _ refl refl) refl
   where
     either : (b : Bool) (x y : Subscription) → made x ≡ made s → made y ≡ made s → made (cond b x y) ≡ made s
@@ -189,13 +205,13 @@ fewer_turns [] subs = omega arith
 fewer_turns (id ∷ ids) subs = let h = fewer_turns ids (once id subs) in let k = fewer_once id subs in omega (arith, h, k)
 
 -- where none of those that have counted a message in turn has ended
-pub current_in_turn : (cache : ReceiverCache) (zs after : List Session) (ids : List ℕ) (subs : List Subscription) →
-    AreSeated zs after → length subs ≤ length (in_turn ids subs) → IsCurrent zs subs cache → IsCurrent after (in_turn ids subs) cache
-current_in_turn cache zs after [] subs seated as_many current = current_taken cache zs after subs seated current
-current_in_turn cache zs after (id ∷ ids) subs seated as_many current =
+pub current_in_turn : (cache : ReceiverCache) (rows : List ImportRow) (zs after : List Session) (ids : List ℕ) (subs : List Subscription) →
+    AreSeated zs after → length subs ≤ length (in_turn ids subs) → IsCurrent rows zs subs cache → IsCurrent rows after (in_turn ids subs) cache
+current_in_turn cache rows zs after [] subs seated as_many current = current_taken cache rows zs after subs seated current
+current_in_turn cache rows zs after (id ∷ ids) subs seated as_many current =
     let more = fewer_turns ids (once id subs) in
     let fewer = fewer_once id subs in
     let all : once id subs ≡ map (only bumped id) subs = all_stay (λ (s : Subscription). not (has_ended s)) (map (only bumped id) subs) (omega (arith, as_many, more, length-map subs (only bumped id))) in
-    current_in_turn cache zs after ids (once id subs) seated (omega (arith, as_many, fewer))
-    (subst (λ (ss : List Subscription). IsCurrent zs ss cache) (sym all)
-    (whom-stays (only bumped id) (bumped-made id) zs zs (λ conn. refl) subs cache.whom cache.conn cache.subject.items current))
+    current_in_turn cache rows zs after ids (once id subs) seated (omega (arith, as_many, fewer))
+    (subst (λ (ss : List Subscription). IsCurrent rows zs ss cache) (sym all)
+    (whom-stays (only bumped id) (bumped-made id) zs zs (λ conn. refl) subs cache.whom cache.conn cache.subject.items current.0, current.1))

@@ -1,6 +1,7 @@
 -- What is cached tells whom a message is for.
-use Rattle.std.proofs.Common.{◌≡◌, ◌∙◌, ◌⊎◌, ℕ, List, [], ◌∷◌, Option, Some, None, map, ap, sym, refl, subst, inl, inr}
+use Rattle.std.proofs.Common.{◌≡◌, ◌∙◌, ◌⊎◌, ℕ, Bool, true, false, List, [], ◌∷◌, Option, Some, None, map, ap, sym, refl, subst, inl, inr}
 use Rattle.subjects.specs.Subject.{Token, tokens_of}
+use Rattle.imports.specs.declared.rows.ImportRow.{ImportRow}
 use Rattle.events.specs.Messages.{Message}
 use Rattle.events.specs.declared.answer.Addressed.{Addressed}
 use Rattle.world_groups.specs.Served.{served}
@@ -10,8 +11,7 @@ use Rattle.world_subscriptions.specs.Addressing.{addressed_to}
 use Rattle.world_rows.specs.declared.subscription.Subscription.{Subscription}
 use Rattle.world_receivers.specs.Open.{open_among}
 use Rattle.world_receivers.specs.Receivers.{receiver_of, addressed_at, addressed_among}
-use Rattle.world_receivers.specs.Cached.{picked, IsWhom, IsWhomFor, IsCurrent, Tells}
-use Rattle.world_receivers.specs.declared.receiver.Receiver.{Receiver}
+use Rattle.world_receivers.specs.Cached.{picked, IsWhom, IsWhomFor, IsAlone, IsAloneFor, IsCurrent, IsEmpty, Tells}
 use Rattle.world_receivers.specs.declared.cache.ReceiverCache.{ReceiverCache}
 use Rattle.world_receivers.specs.declared.cache.Whom.{Whom}
 
@@ -21,26 +21,41 @@ addressed_each m [] = refl
 addressed_each m (s ∷ subs) = ap (λ (rest : List Addressed). addressed_to m s ∷ rest) (addressed_each m subs)
 
 -- so the deliveries that it tells are those of the message
-pub told_are : (cache : ReceiverCache) (conn : ℕ) (text : List ℕ) (m : Message) (word : ℕ) (all : List Addressed) (zs : List Session) (subs : List Subscription) (z : Session) →
-    Tells cache conn text m word all → IsCurrent zs subs cache → session_of zs conn ≡ Some z → tokens_of text ≡ m.subject → all ≡ addressed_among zs subs z m word
-told_are cache conn text m word all zs subs z tells current there same =
-    let said : IsWhomFor (Some tells.whom) cache.conn cache.subject.items zs subs = subst (λ (o : Option Whom). IsWhomFor o cache.conn cache.subject.items zs subs) tells.whom_is current in
+pub told_are : (cache : ReceiverCache) (conn : ℕ) (text : List ℕ) (m : Message) (word : ℕ) (all : List Addressed) (rows : List ImportRow) (zs : List Session) (subs : List Subscription) (z : Session) →
+    Tells cache conn text m word all → IsCurrent rows zs subs cache → session_of zs conn ≡ Some z → tokens_of text ≡ m.subject → all ≡ addressed_among zs subs z m word
+told_are cache conn text m word all rows zs subs z tells current there same =
+    let said : IsWhomFor (Some tells.whom) cache.conn cache.subject.items zs subs = subst (λ (o : Option Whom). IsWhomFor o cache.conn cache.subject.items zs subs) tells.whom_is current.0 in
     let whom : IsWhom tells.whom (open_among zs subs z z.user.account (tokens_of cache.subject.items)) = said z (ap (session_of zs) tells.conn_is ∙ there) in
     tells.deliveries
     ∙ ap (map (addressed_at m)) (sym (whom tells.says word))
     ∙ addressed_each m (served word (open_among zs subs z z.user.account (tokens_of cache.subject.items)))
     ∙ ap (λ (s : List Token). map (addressed_to m) (served word (open_among zs subs z z.user.account s))) (ap tokens_of tells.text_is ∙ same)
 
--- a cache that stays as it is stays current, and an empty one is
-pub still_current : (old new : ReceiverCache) (zs : List Session) (subs : List Subscription) → IsCurrent zs subs old → (new ≡ old) ⊎ (new.whom ≡ None) → IsCurrent zs subs new
-still_current old new zs subs current (inl same) = subst (λ (k : ReceiverCache). IsCurrent zs subs k) (sym same) current
-still_current old new zs subs current (inr none) = subst (λ (o : Option Whom). IsWhomFor o new.conn new.subject.items zs subs) (sym none) tt
+-- a cache that says nothing is current
+pub empty_current : (cache : ReceiverCache) (rows : List ImportRow) (zs : List Session) (subs : List Subscription) → IsEmpty cache → IsCurrent rows zs subs cache
+empty_current cache rows zs subs empty = (
+  subst (λ (o : Option Whom). IsWhomFor o cache.conn cache.subject.items zs subs) (sym empty.0) tt,
+  subst (λ (b : Bool). IsAloneFor b rows cache.conn cache.subject.items zs) (sym empty.1) tt,
+)
 
--- and so is one that is filled with those that the publisher's message may be sent to
-pub filled_current : (new : ReceiverCache) (zs : List Session) (subs found : List Subscription) (z : Session) (s : List Token) →
-    ((whom : Whom) → new.whom ≡ Some whom → IsWhom whom found) → session_of zs new.conn ≡ Some z → found ≡ open_among zs subs z z.user.account s → tokens_of new.subject.items ≡ s →
-    IsCurrent zs subs new
-filled_current new zs subs found z s filled there are same = here new.whom refl
+-- one that stays as it is stays current
+pub still_current : (old new : ReceiverCache) (rows : List ImportRow) (zs : List Session) (subs : List Subscription) → IsCurrent rows zs subs old → (new ≡ old) ⊎ IsEmpty new → IsCurrent rows zs subs new
+still_current old new rows zs subs current (inl same) = subst (λ (k : ReceiverCache). IsCurrent rows zs subs k) (sym same) current
+still_current old new rows zs subs current (inr empty) = empty_current new rows zs subs empty
+
+-- and what it says of its publisher's messages on its subject
+pub alone_are : (cache : ReceiverCache) (rows : List ImportRow) (zs : List Session) (subs : List Subscription) (z : Session) (conn : ℕ) (text : List ℕ) (s : List Token) →
+    IsCurrent rows zs subs cache → cache.conn ≡ conn → cache.subject.items ≡ text → session_of zs conn ≡ Some z → tokens_of text ≡ s → cache.alone ≡ true → IsAlone rows z.user.account s
+alone_are cache rows zs subs z conn text s current of about there same alone =
+    let so : IsAloneFor true rows cache.conn cache.subject.items zs = subst (λ (b : Bool). IsAloneFor b rows cache.conn cache.subject.items zs) alone current.1 in
+    subst (λ (t : List Token). IsAlone rows z.user.account t) (ap tokens_of about ∙ same) (so z (ap (session_of zs) of ∙ there))
+
+-- one that is filled with those that the publisher's message may be sent to is current
+pub filled_current : (new : ReceiverCache) (rows : List ImportRow) (zs : List Session) (subs found : List Subscription) (z : Session) (s : List Token) →
+    ((whom : Whom) → new.whom ≡ Some whom → IsWhom whom found) → (new.alone ≡ true → IsAlone rows z.user.account s) →
+    session_of zs new.conn ≡ Some z → found ≡ open_among zs subs z z.user.account s → tokens_of new.subject.items ≡ s →
+    IsCurrent rows zs subs new
+filled_current new rows zs subs found z s filled alone there are same = (here new.whom refl, apart new.alone refl)
   where
     one : (y : Session) → session_of zs new.conn ≡ Some y → y ≡ z
     one y is = ap (λ (o : Option Session). or_else o y) (sym is ∙ there)
@@ -55,3 +70,9 @@ filled_current new zs subs found z s filled there are same = here new.whom refl
         subst (λ (x : Session). IsWhom whom (open_among zs subs x x.user.account (tokens_of new.subject.items))) (sym (one y is))
         (subst (λ (t : List Token). IsWhom whom (open_among zs subs z z.user.account t)) (sym same)
         (subst (IsWhom whom) are (filled whom e)))
+
+    apart : (b : Bool) → new.alone ≡ b → IsAloneFor b rows new.conn new.subject.items zs
+    apart false e = tt
+    apart true e = λ y is.
+        subst (λ (x : Session). IsAlone rows x.user.account (tokens_of new.subject.items)) (sym (one y is))
+        (subst (λ (t : List Token). IsAlone rows z.user.account t) (sym same) (alone e))

@@ -1,6 +1,10 @@
 -- The cache of whom the messages of a publisher on a subject are for.
-use Rattle.std.specs.Prelude.{◌≡◌, ℕ, List, [], Option, Some, None, map}
-use Rattle.subjects.specs.Subject.{tokens_of}
+use Rattle.std.specs.Prelude.{◌≡◌, ◌∷◌, ℕ, Bool, true, false, List, [], Option, Some, None, map}
+use Rattle.subjects.specs.Subject.{Token, tokens_of}
+use Rattle.imports.specs.Views.{views_in}
+use Rattle.imports.specs.declared.rows.ImportRow.{ImportRow}
+use Rattle.imports.specs.declared.view.ViewItem.TheVariants.{At}
+use Rattle.imports.specs.declared.view.Way.TheVariants.{Own}
 use Rattle.events.specs.Messages.{Message}
 use Rattle.events.specs.declared.answer.Addressed.{Addressed}
 use Rattle.queue_choice.specs.Choices.{chosen}
@@ -37,9 +41,22 @@ abbrev pub IsWhomFor : Option Whom → ℕ → List ℕ → List Session → Lis
 IsWhomFor None conn text zs subs = Unit {0}
 IsWhomFor (Some whom) conn text zs subs = (z : Session) → session_of zs conn ≡ Some z → IsWhom whom (open_among zs subs z z.user.account (tokens_of text))
 
+-- a message that an account publishes on a subject is seen in that account alone
+abbrev pub IsAlone : List ImportRow → List ℕ → List Token → Type 0
+IsAlone rows account s = views_in rows account s ≡ At account s Own ∷ []
+
+-- where it is said so of the messages of a connection on a subject, it is so
+abbrev pub IsAloneFor : Bool → List ImportRow → ℕ → List ℕ → List Session → Type 0
+IsAloneFor false rows conn text zs = Unit {0}
+IsAloneFor true rows conn text zs = (z : Session) → session_of zs conn ≡ Some z → IsAlone rows z.user.account (tokens_of text)
+
 -- what the cache says of its connection and subject is so
-abbrev pub IsCurrent : List Session → List Subscription → ReceiverCache → Type 0
-IsCurrent zs subs cache = IsWhomFor cache.whom cache.conn cache.subject.items zs subs
+abbrev pub IsCurrent : List ImportRow → List Session → List Subscription → ReceiverCache → Type 0
+IsCurrent rows zs subs cache = IsWhomFor cache.whom cache.conn cache.subject.items zs subs × IsAloneFor cache.alone rows cache.conn cache.subject.items zs
+
+-- it says nothing
+abbrev pub IsEmpty : ReceiverCache → Type 0
+IsEmpty cache = (cache.whom ≡ None) × (cache.alone ≡ false)
 
 -- whom a message of the connection on the subject is for is cached, and these are its deliveries
 pub record Tells (cache : ReceiverCache) (conn : ℕ) (text : List ℕ) (m : Message) (word : ℕ) (all : List Addressed) : Type 0 where

@@ -1,3 +1,4 @@
 pub mod Open
 pub mod Receivers
 pub mod Cached
+pub mod Standing

@@ -1,7 +1,6 @@
 -- The receivers of a message: of the subscriptions that may be sent it those that queue groups leave (docs/GUARANTEE.md,
 -- "Delivery").
-use Rattle.std.specs.Prelude.{ℕ, List, [], ◌∷◌, Option, Some, None, map}
-use Rattle.subjects.specs.Subject.{Token}
+use Rattle.std.specs.Prelude.{ℕ, List, None, map}
 use Rattle.events.specs.Messages.{Message}
 use Rattle.events.specs.declared.answer.Addressed.{Addressed}
 use Rattle.world_groups.specs.Served.{served}

@@ -70,6 +70,8 @@ pub(crate) struct ReceiverCache {
     conn: u64,
     subject: Vec<u8>,
     whom: Option<Whom>,
+    // Whether they are seen in the publisher's account alone. False also where that isn't known.
+    alone: bool,
 }
 
 impl Drop for ReceiverCache {
@@ -80,6 +82,7 @@ impl Drop for ReceiverCache {
             conn: _,
             subject: _,
             whom: _,
+            alone: _,
         } = self;
     }
 }
@@ -88,26 +91,36 @@ impl ReceiverCache {
     ghost use Rattle.std.specs.Prelude.{◌==◌, ◌&&◌, ◌⊎◌, IfOk, true, None, Some, nat_eq};
     ghost use Rattle.std.specs.Cmp.Lexicographic.{pointwise};
     ghost use Rattle.subjects.specs.Subject.{text_of};
-    ghost use Rattle.world_receivers.specs.Cached.{Tells};
+    ghost use Rattle.world_receivers.specs.Cached.{Tells, IsEmpty};
 
     /// Returns an empty cache. It takes no memory.
     pub fn new(alloc: Global) -> ReceiverCache
-        ensures { result.whom ≡ None }
+        ensures { IsEmpty result }
     {
         ReceiverCache {
             alloc,
             conn: 0,
             subject: Vec::new(alloc),
             whom: None,
+            alone: false,
         }
     }
 
     /// Empties the cache. The next message is the first of its publisher and subject again.
     pub fn clear(&mut self)
-        ensures { self.new.whom ≡ None }
+        ensures { IsEmpty self.new }
     {
         self.whom = None;
+        self.alone = false;
         self.subject.clear();
+    }
+
+    /// Returns whether the messages of its publisher on its subject are known to be seen in the publisher's account alone.
+    #[inline(always)]
+    pub fn is_alone(&self) -> bool
+        ensures { result ≡ self.now.alone }
+    {
+        self.alone
     }
 
     /// Returns whether it is of this publisher and the text of this subject.
@@ -128,7 +141,7 @@ impl ReceiverCache {
         word: u64,
         all: &mut Vec<Addressed>,
     ) -> Result<bool, NoMemory>
-        ensures { IfOk result (λ done. done ≡ true → Tells self.now conn text.now message.now word all.new.items) }
+        ensures tells { IfOk result (λ done. done ≡ true → Tells self.now conn text.now message.now word all.new.items) }
     {
         if !self.is_of(conn, text) {
             return Ok(false);
@@ -153,25 +166,30 @@ impl ReceiverCache {
     /// and their receivers are still to be found.
     pub fn select(&mut self, conn: u64, text: &[u8]) -> bool
         ensures selected { result ≡ true → (self.new.conn ≡ conn) × (self.new.subject.items ≡ text.now) }
-        ensures cached { (self.new ≡ self.old) ⊎ (self.new.whom ≡ None) }
+        ensures cached { (self.new ≡ self.old) ⊎ IsEmpty self.new }
+        ensures alone { self.new.alone ≡ true → (self.new.conn ≡ conn) × (self.new.subject.items ≡ text.now) }
     {
         if self.is_of(conn, text) {
             return self.whom.is_none();
         }
         self.whom = None;
+        self.alone = false;
         self.conn = conn;
         self.subject.clear();
         let _ = self.subject.extend_from_slice(text);
         false
     }
 
-    /// Caches that messages of the selected publisher on the selected subject may be sent to these.
-    pub fn fill(&mut self, found: &[&SharedSubscription])
+    /// Caches that messages of the selected publisher on the selected subject may be sent to these, and whether they are seen in
+    /// its account alone.
+    pub fn fill(&mut self, found: &[&SharedSubscription], alone: bool)
         requires { Rising (map (λ s. s.now) found.now) }
         ensures conn { self.new.conn ≡ self.old.conn }
         ensures subject { self.new.subject ≡ self.old.subject }
         ensures whom { (whom : Whom) → self.new.whom ≡ Some whom → IsWhom whom (map (λ s. s.now) found.now) }
+        ensures alone { self.new.alone ≡ alone }
     {
         self.whom = Some(whom_of(self.alloc, found));
+        self.alone = alone;
     }
 }

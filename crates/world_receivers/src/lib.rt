@@ -3,8 +3,10 @@
 #![tactic(auto)]
 
 mod cache;
+mod naming;
 mod open;
 mod receiver;
 mod receivers;
+mod standing;
 
-pub use receivers::Receivers;
+pub use receivers::{Receivers, Seen, Sending};

@@ -1,3 +1,4 @@
 pub mod Delivering
 pub mod Views
+pub mod Together
 pub mod Publishing

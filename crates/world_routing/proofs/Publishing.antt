@@ -13,6 +13,9 @@ use Rattle.events.specs.declared.answer.Addressed.{Addressed}
 use Rattle.events.specs.declared.answer.Item.{Item}
 use Rattle.events.specs.declared.answer.Outcome.{Outcome}
 use Rattle.events.specs.declared.answer.Outcome.TheVariants.{Published}
+use Rattle.imports.specs.Views.{rows_of, views_in, views}
+use Rattle.imports.specs.declared.rows.ImportRow.{ImportRow}
+use Rattle.imports.specs.declared.view.ViewItem.{ViewItem}
 use Rattle.world_deliveries.specs.Sessions.{session_of, with_session}
 use Rattle.world_deliveries.specs.Delivered.{delivered, room_in}
 use Rattle.world_deliveries.specs.Planned.{rooms_of, planned}
@@ -28,12 +31,16 @@ use Rattle.world_groups.specs.Served.{served}
 use Rattle.world_receivers.specs.Receivers.{addressed_among}
 use Rattle.world_routing.specs.World.{World}
 use Rattle.world_routing.specs.Granting.{verdict_on, counted_on, ended_on}
-use Rattle.world_routing.specs.Routing.{View, own_view, views, admitted, deliveries}
-use Rattle.world_routing.specs.Handing.{met, left_by, addressed_behind, answered_by, handed_over, carried}
+use Rattle.world_routing.specs.Routing.{in_views}
+use Rattle.world_routing.specs.Handing.{met, of_deliveries, addressed_behind, answered_by, handed_over, carried}
+use Rattle.world_routing.specs.Viewing.{addressed_after, reports_after, with_reports}
+use Rattle.world_routing.specs.declared.viewing.Report.{Report}
+use Rattle.world_routing.proofs.Together.{after_is, told_are, plain_is, entered_of}
+use Rattle.world_receivers.proofs.Left.{none_disagree}
 use Rattle.world_routing.specs.Publishing.{published, in_session, published_by, IsOf, IsPlanned}
 use Rattle.world_routing.specs.declared.answered.Answered.{Answered}
 use Rattle.world_routing.specs.declared.planning.Plan.TheVariants.{ToNobody, ToSome}
-use Rattle.world_routing.proofs.Views.{told, views_are}
+use Rattle.world_routing.proofs.Views.{sent, items_behind, views_are}
 
 -- ---- an answer that is counted
 
@@ -65,15 +72,6 @@ same_met Grant conn s now all zs =
     ∙ ap (planned all) (λ i other. same_rooms s conn other zs i)
     ∙ planned-delivered now all zs
 
--- and those of later views are for the same subscriptions
-same_behind : (by : By) (conn : ℕ) (s : List Token) (zs : List Session) (w : World) (publisher : Session) (word : ℕ) (before : List Addressed) (vs : List View) →
-    addressed_behind zs (record w { sessions = counted_on by conn s w.sessions }) publisher word before vs ≡ addressed_behind zs w publisher word before vs
-same_behind by conn s zs w publisher word before [] = refl
-same_behind by conn s zs w publisher word before (v ∷ vs) =
-    let counting : World = record w { sessions = counted_on by conn s w.sessions } in
-    ap (λ (items : List Item). addressed_behind zs counting publisher word (before ++ deliveries zs (record w { subscriptions = in_turn (entered_ids before items) w.subscriptions }) publisher v word) vs) (same_met by conn s w.moment before w.sessions)
-    ∙ same_behind by conn s zs w publisher word (before ++ deliveries zs (record w { subscriptions = left_by w before }) publisher v word) vs
-
 -- what is handed over of a message that is published
 same_handed : (by : By) (conn : ℕ) (m : Message) (now : ℕ) (all : List Addressed) (zs : List Session) →
     ended_on by conn m.subject (delivered now all (counted_on by conn m.subject zs)).0 ≡ handed_over now (answered_by by conn m) all zs
@@ -83,20 +81,39 @@ same_handed Grant conn m now all zs = refl
 
 -- ---- what a publish comes to
 
--- a message that is allowed comes to the deliveries of all its views in one list, handed over and counted once
-pub published_is : (w : World) (z : Session) (m : Message) (word : ℕ) (by : By) (all : List Addressed) → Apart w.subscriptions → unended w.subscriptions ≡ w.subscriptions →
-    all ≡ addressed_behind w.sessions w z word [] (views z.user.account m) →
-    published w z m word (Allowed by) ≡ (Published by (met w all), carried w (answered_by by z.conn m) all (met w all))
-published_is w z m word by all apart going addressed =
+-- a message that is allowed comes to the deliveries of all its views in one list, handed over and counted once, and to what they
+-- meet, with the rows that are reported between
+pub published_is : (w : World) (z : Session) (m : Message) (word : ℕ) (by : By) (vs : List ViewItem) (all : List Addressed) (reports : List Report) (items : List Item) →
+    Apart w.subscriptions → unended w.subscriptions ≡ w.subscriptions → views w.policy z.user.account m.subject ≡ vs →
+    all ≡ map (noted_for w.sessions) (addressed_after w.sessions w.subscriptions z m word [] vs) →
+    reports ≡ reports_after w.sessions w.subscriptions z m word [] vs → items ≡ with_reports 0 (met w all) reports →
+    (published w z m word (Allowed by) ≡ (Published by items, carried w (answered_by by z.conn m) all items)) × (of_deliveries items ≡ met w all)
+published_is w z m word by vs all reports items apart going seen addressed rows told =
     let zs : List Session = counted_on by z.conn m.subject w.sessions in
     let counting : World = record w { sessions = zs } in
+    let same : (all : List Addressed) → met counting all ≡ met w all = λ all. same_met by z.conn m.subject w.moment all w.sessions in
     let outcome : List Item × World → Outcome × World = λ after. (Published by after.0, record after.1 { sessions = ended_on by z.conn m.subject after.1.sessions }) in
-    let by_items : List Item → Outcome × World = λ items. (Published by items, record w { sessions = ended_on by z.conn m.subject (delivered w.moment all zs).0; subscriptions = in_turn (entered_ids all items) w.subscriptions }) in
-    let by_sessions : List Session → Outcome × World = λ ys. (Published by (met w all), record w { sessions = ys; subscriptions = left_by w all }) in
-    ap outcome (views_are w.sessions z word counting apart going (views z.user.account m))
-    ∙ ap (λ (ds : List Addressed). outcome (told counting ds)) (same_behind by z.conn m.subject w.sessions w z word [] (views z.user.account m) ∙ sym addressed)
-    ∙ ap by_items (same_met by z.conn m.subject w.moment all w.sessions)
-    ∙ ap by_sessions (same_handed by z.conn m w.moment all w.sessions)
+    let by_both : List Item → List Addressed → Outcome × World = λ is ds. outcome (is, sent counting ds) in
+    let by_ids : List ℕ → Outcome × World = λ ids. (Published by items, record w { sessions = ended_on by z.conn m.subject (delivered w.moment all zs).0; subscriptions = in_turn ids w.subscriptions }) in
+    let by_sessions : List Session → Outcome × World = λ ys. (Published by items, record w { sessions = ys; subscriptions = in_turn (entered_ids all items) w.subscriptions }) in
+    let all_is : addressed_behind w.sessions counting z m word [] vs ≡ all = after_is w.sessions counting z m word same apart going [] vs (none_disagree w.subscriptions) ∙ sym addressed in
+    let met_is : met counting (map (noted_for w.sessions) (addressed_after w.sessions w.subscriptions z m word [] vs)) ≡ met w all = ap (met counting) (sym addressed) ∙ same all in
+    let items_are : items_behind w.sessions z m word counting [] vs ≡ items =
+    told_are w.sessions counting z m word same apart going vs
+    ∙ ap (λ (is : List Item). with_reports 0 is (reports_after w.sessions w.subscriptions z m word [] vs)) met_is
+    ∙ ap (with_reports 0 (met w all)) (sym rows)
+    ∙ sym told in
+    let plain : of_deliveries items ≡ met w all =
+    ap of_deliveries (sym items_are) ∙ plain_is w.sessions counting z m word same apart going vs ∙ met_is in
+    let ids : entered_ids all (met counting all) ≡ entered_ids all items = ap (entered_ids all) (same all ∙ sym plain) ∙ entered_of all items in (
+      ap (λ (vs : List ViewItem). outcome (in_views w.sessions counting z m word vs)) seen
+          ∙ ap outcome (views_are w.sessions z m word counting apart going vs)
+          ∙ ap (λ (is : List Item). by_both is (addressed_behind w.sessions counting z m word [] vs)) items_are
+          ∙ ap (by_both items) all_is
+          ∙ ap by_ids ids
+          ∙ ap by_sessions (same_handed by z.conn m w.moment all w.sessions),
+      plain,
+    )
 
 -- a publish of a session with a verdict
 by_verdict : (w : World) (o : Option Session) (z : Session) (m : Message) (word : ℕ) (s : List Token) (v : Verdict) →
@@ -105,18 +122,6 @@ by_verdict : (w : World) (o : Option Session) (z : Session) (m : Message) (word 
 by_verdict w o z m word s v is same which =
     ap (λ (x : Option Session). in_session x (λ z. published w z m word (verdict_on w.moment z m.subject))) (sym is)
     ∙ ap (λ (x : Verdict). Ok (published w z m word x)) (sym (which ∙ ap (verdict_on w.moment z) same))
-
--- where a message has no reply, none of its deliveries has one
-pub unsaid : (m : Message) (subs : List Subscription) (all : List Addressed) → all ≡ map (addressed_to m) subs → m.reply ≡ None →
-    All (λ (a : Addressed). a.delivery.message.reply ≡ None) all
-unsaid m subs all addressed none =
-    subst (All (λ (a : Addressed). a.delivery.message.reply ≡ None)) (sym addressed)
-    (All-map (λ (a : Addressed). a.delivery.message.reply ≡ None) (addressed_to m) subs (λ k d h. none))
-
--- the deliveries of all views are those in the publisher's own account
-own_are : (w : World) (z : Session) (m : Message) (word : ℕ) →
-    addressed_behind w.sessions w z word [] (views z.user.account m) ≡ map (noted_for w.sessions) (addressed_among w.sessions w.subscriptions z m word)
-own_are w z m word = refl
 
 -- the verdict on a publish has its reason, by whatever name its subject goes
 pub publish_reason : (o : Option Session) (z : Session) (s t : List Token) (v : Verdict) → Some z ≡ o → s ≡ t → v ≡ publish_verdict z.user.rules s →
@@ -129,7 +134,7 @@ publish_reason o z s t v is same which h =
 
 -- ---- what is planned
 
-module _ (w : World) (conn : ℕ) (m : Message) (word now : ℕ) (zs : List Session) (subs : List Subscription) (of : IsOf w now zs subs)
+module _ (w : World) (conn : ℕ) (m : Message) (word now : ℕ) (rows : List ImportRow) (zs : List Session) (subs : List Subscription) (of : IsOf w rows now zs subs)
     (z : Session) (s : List Token) (is : Some z ≡ session_of zs conn) (same : s ≡ m.subject) where
   found : Some z ≡ session_of w.sessions conn
   found = is ∙ ap (λ (ys : List Session). session_of ys conn) (sym of.sessions)
@@ -138,30 +143,48 @@ module _ (w : World) (conn : ℕ) (m : Message) (word now : ℕ) (zs : List Sess
   pub comes_to : (v : Verdict) → v ≡ verdict_on now z s → published_by w conn m word ≡ Ok (published w z m word v)
   comes_to v which = by_verdict w (session_of w.sessions conn) z m word s v found same (which ∙ ap (λ n. verdict_on n z s) (sym of.moment))
 
-  module _ (by : By) (answered : Option Answered) (all : List Addressed) (allowed : Allowed by ≡ verdict_on now z s) (noted : answered ≡ answered_by by z.conn m)
-      (apart : Apart subs) (going : unended subs ≡ subs) (addressed : all ≡ map (noted_for zs) (addressed_among zs subs z m word)) where
-    allowed_is : published_by w conn m word ≡ Ok (Published by (met w all), carried w answered all (met w all))
-    allowed_is =
-        comes_to (Allowed by) allowed
-        ∙ ap (λ (r : Outcome × World). Ok r) (published_is w z m word by all
+  -- the message is allowed, and addressed in all its views
+  module _ (by : By) (answered : Option Answered) (vs : List ViewItem) (all : List Addressed) (reports : List Report) (allowed : Allowed by ≡ verdict_on now z s) (noted : answered ≡ answered_by by z.conn m)
+      (apart : Apart subs) (going : unended subs ≡ subs) (seen : views_in rows z.user.account m.subject ≡ vs)
+      (addressed : all ≡ map (noted_for zs) (addressed_after zs subs z m word [] vs)) (rows_are : reports ≡ reports_after zs subs z m word [] vs) where
+    allowed_is : (items : List Item) → items ≡ with_reports 0 (met w all) reports →
+        (published_by w conn m word ≡ Ok (Published by items, carried w answered all items)) × (of_deliveries items ≡ met w all)
+    allowed_is items told =
+        let here = published_is w z m word by vs all reports items
         (subst Apart (sym of.subscriptions) apart)
         (subst (λ (ss : List Subscription). unended ss ≡ ss) (sym of.subscriptions) going)
+        (ap (λ (rs : List ImportRow). views_in rs z.user.account m.subject) of.rows ∙ seen)
         (addressed
-        ∙ ap (λ (ys : List Session). map (noted_for ys) (addressed_among ys subs z m word)) (sym of.sessions)
-        ∙ ap (λ (ss : List Subscription). map (noted_for w.sessions) (addressed_among w.sessions ss z m word)) (sym of.subscriptions)
-        ∙ sym (own_are w z m word)))
-        ∙ ap (λ (a : Option Answered). Ok (Published by (met w all), carried w a all (met w all))) (sym noted)
+        ∙ ap (λ (ys : List Session). map (noted_for ys) (addressed_after ys subs z m word [] vs)) (sym of.sessions)
+        ∙ ap (λ (ss : List Subscription). map (noted_for w.sessions) (addressed_after w.sessions ss z m word [] vs)) (sym of.subscriptions))
+        (rows_are
+        ∙ ap (λ (ys : List Session). reports_after ys subs z m word [] vs) (sym of.sessions)
+        ∙ ap (λ (ss : List Subscription). reports_after w.sessions ss z m word [] vs) (sym of.subscriptions))
+        told in (
+          comes_to (Allowed by) allowed
+              ∙ ap (λ (r : Outcome × World). Ok r) here.0
+              ∙ ap (λ (a : Option Answered). Ok (Published by items, carried w a all items)) (sym noted),
+          here.1,
+        )
 
-    -- what deliveries meet is planned
-    pub planned_to_some : (items : List Item) → ((n : ℕ) → items ≡ (delivered n all zs).1) →
+    -- what deliveries meet is planned, and told with the rows that are reported
+    pub planned_to_some : (plain items : List Item) → ((n : ℕ) → plain ≡ (delivered n all zs).1) → items ≡ with_reports 0 plain reports →
         IsPlanned w (published_by w conn m word) (Ok (ToSome by items (record { all = all; answered = answered })))
-    planned_to_some items meets =
-        let is : items ≡ met w all = meets w.moment ∙ ap (λ (ys : List Session). (delivered w.moment all ys).1) (sym of.sessions) in
-        (allowed_is ∙ ap (λ (is : List Item). Ok (Published by is, carried w answered all is)) (sym is), is)
+    planned_to_some plain items meets told =
+        allowed_is items (told ∙ ap (λ (is : List Item). with_reports 0 is reports) (meets w.moment ∙ ap (λ (ys : List Session). (delivered w.moment all ys).1) (sym of.sessions)))
 
-    -- where nobody is there to be sent it, and nothing to be counted, nothing changes
-    pub planned_to_nobody : all ≡ [] → answered ≡ None → IsPlanned w (published_by w conn m word) (Ok (ToNobody by))
-    planned_to_nobody empty none =
-        allowed_is
-        ∙ ap (λ (ds : List Addressed). Ok (Published by (met w ds), carried w answered ds (met w ds))) empty
+    -- where nobody is there to be sent it, nothing to be counted and nothing to be told, nothing changes
+    pub planned_to_nobody : all ≡ [] → reports ≡ [] → answered ≡ None → IsPlanned w (published_by w conn m word) (Ok (ToNobody by))
+    planned_to_nobody empty quiet none =
+        let nothing : with_reports 0 (met w all) reports ≡ [] =
+        ap (λ (ds : List Addressed). with_reports 0 (met w ds) reports) empty ∙ ap (with_reports 0 []) quiet in
+        (allowed_is [] (sym nothing)).0
+        ∙ ap (λ (ds : List Addressed). Ok (Published by [], carried w answered ds [])) empty
         ∙ ap (λ (a : Option Answered). Ok (Published by [], carried w a [] [])) none
+
+-- where a message has no reply, none of its deliveries has one
+pub unsaid : (m : Message) (subs : List Subscription) (all : List Addressed) → all ≡ map (addressed_to m) subs → m.reply ≡ None →
+    All (λ (a : Addressed). a.delivery.message.reply ≡ None) all
+unsaid m subs all addressed none =
+    subst (All (λ (a : Addressed). a.delivery.message.reply ≡ None)) (sym addressed)
+    (All-map (λ (a : Addressed). a.delivery.message.reply ≡ None) (addressed_to m) subs (λ k d h. none))

@@ -1,8 +1,11 @@
 -- The views of a message, one after the other, are one list of deliveries, handed over and counted once.
-use Rattle.std.proofs.Common.{◌≡◌, ◌∙◌, ◌&&◌, ℕ, List, [], ◌∷◌, ◌++◌, map, ap, sym, subst}
-use Rattle.std.proofs.lemmas.List.{append-nil, append_assoc}
+use Rattle.std.proofs.Common.{◌≡◌, ◌∙◌, ◌&&◌, ℕ, List, [], ◌∷◌, ◌++◌, map, ap, sym, refl, subst}
+use Rattle.events.specs.Messages.{Message}
 use Rattle.events.specs.declared.answer.Addressed.{Addressed}
 use Rattle.events.specs.declared.answer.Item.{Item}
+use Rattle.events.specs.declared.answer.Item.TheVariants.{MapTooLong}
+use Rattle.imports.specs.declared.view.ViewItem.{ViewItem}
+use Rattle.imports.specs.declared.view.ViewItem.TheVariants.{At, TooLong}
 use Rattle.world_deliveries.specs.Delivered.{delivered}
 use Rattle.world_deliveries.specs.Replying.{noted_for}
 use Rattle.world_deliveries.specs.declared.session.Session.{Session}
@@ -14,7 +17,7 @@ use Rattle.world_rows.specs.declared.subscription.Subscription.{Subscription}
 use Rattle.world_receivers.proofs.Tests.{both}
 use Rattle.world_groups.specs.Served.{is_served}
 use Rattle.world_routing.specs.World.{World}
-use Rattle.world_routing.specs.Routing.{View, is_admitted, admitted, deliveries, routed, in_views}
+use Rattle.world_routing.specs.Routing.{View, view_of, is_admitted, admitted, deliveries, routed, in_views}
 use Rattle.world_routing.specs.Handing.{met, left_by, addressed_behind}
 use Rattle.world_routing.proofs.Delivering.{tell_each, delivered_append, entered_append, in_turn_append, apart_left, going_left, counted_left}
 
@@ -22,15 +25,19 @@ use Rattle.world_routing.proofs.Delivering.{tell_each, delivered_append, entered
 abbrev pub sent : World → List Addressed → World
 sent w all = record w { sessions = (delivered w.moment all w.sessions).0; subscriptions = left_by w all }
 
--- what is told of them besides
-abbrev pub told : World → List Addressed → List Item × World
-told w all = (met w all, sent w all)
+-- what deliveries meet behind others
+abbrev pub met_behind : World → List Addressed → List Addressed → List Item
+met_behind w before more = (delivered w.moment more (sent w before).sessions).1
 
--- what is told behind other items
-abbrev behind : List Item → List Item × World → List Item × World
-behind items r = (items ++ r.0, r.1)
+module _ (zs : List Session) (publisher : Session) (m : Message) (word : ℕ) where
+  -- what views tell behind deliveries
+  abbrev pub items_behind : World → List Addressed → List ViewItem → List Item
+  items_behind w before [] = []
+  items_behind w before (At account s way ∷ vs) =
+      let ds = deliveries zs (sent w before) publisher (view_of account s m) word in
+      met_behind w before ds ++ items_behind w (before ++ ds) vs
+  items_behind w before (TooLong row ∷ vs) = MapTooLong row ∷ items_behind w before vs
 
-module _ (zs : List Session) (publisher : Session) (word : ℕ) where
   -- each whom the deliveries of a view have entered for counts it
   view_counted : (v : View) (w : World) (items : List Item) → Apart w.subscriptions → unended w.subscriptions ≡ w.subscriptions →
       TellEach (deliveries zs w publisher v word) items →
@@ -43,16 +50,16 @@ module _ (zs : List Session) (publisher : Session) (word : ℕ) where
 
   module _ (w : World) (apart : Apart w.subscriptions) (going : unended w.subscriptions ≡ w.subscriptions) where
     -- the subscriptions that are left by deliveries behind others
-    left_append : (before more : List Addressed) → left_by w (before ++ more) ≡ in_turn (entered_ids more (delivered w.moment more (sent w before).sessions).1) (left_by w before)
+    left_append : (before more : List Addressed) → left_by w (before ++ more) ≡ in_turn (entered_ids more (met_behind w before more)) (left_by w before)
     left_append before more =
-        let later : List Item = (delivered w.moment more (sent w before).sessions).1 in
+        let later : List Item = met_behind w before more in
         ap (λ (after : List Session × List Item). in_turn (entered_ids (before ++ more) after.1) w.subscriptions) (delivered_append w.moment before more w.sessions)
         ∙ ap (λ ids. in_turn ids w.subscriptions) (entered_append before more (met w before) later (tell_each w.moment before w.sessions))
         ∙ in_turn_append (entered_ids before (met w before)) (entered_ids more later) w.subscriptions
 
     -- one view more is its deliveries behind those before
     view_behind : (before : List Addressed) (v : View) →
-        behind (met w before) (routed zs (sent w before) publisher v word) ≡ told w (before ++ deliveries zs (sent w before) publisher v word)
+        (routed zs (sent w before) publisher v word).1 ≡ sent w (before ++ deliveries zs (sent w before) publisher v word)
     view_behind before v =
         let ds : List Addressed = deliveries zs (sent w before) publisher v word in
         let zs2 : List Session = (sent w before).sessions in
@@ -61,25 +68,25 @@ module _ (zs : List Session) (publisher : Session) (word : ℕ) where
         let subs : unended (map (counted after.1) (left_by w before)) ≡ left_by w (before ++ ds) =
         sym (view_counted v (sent w before) after.1 (apart_left ids w.subscriptions apart) (going_left ids w.subscriptions going) (tell_each w.moment ds zs2))
         ∙ sym (left_append before ds) in
-        let by_subs : List Subscription → List Item × World = λ ss. (met w before ++ after.1, record w { sessions = after.0; subscriptions = ss }) in
-        let by_both : List Session × List Item → List Item × World = λ b. (b.1, record w { sessions = b.0; subscriptions = left_by w (before ++ ds) }) in
-        ap by_subs subs ∙ ap by_both (sym (delivered_append w.moment before ds w.sessions))
+        let by_subs : List Subscription → World = λ ss. record w { sessions = after.0; subscriptions = ss } in
+        let by_sessions : List Session × List Item → World = λ b. record w { sessions = b.0; subscriptions = left_by w (before ++ ds) } in
+        ap by_subs subs ∙ ap by_sessions (sym (delivered_append w.moment before ds w.sessions))
 
     -- What the views make of a world, one after the other, is what one list makes of it that has the deliveries of all of them,
     -- behind those that were handed over before.
-    pub views_behind : (before : List Addressed) (vs : List View) →
-        behind (met w before) (in_views zs (sent w before) publisher word vs) ≡ told w (addressed_behind zs w publisher word before vs)
-    views_behind before [] = let P : List Item → List Item × World = λ items. (items, sent w before) in ap P (append-nil (met w before))
-    views_behind before (v ∷ vs) =
-        let first : List Item × World = routed zs (sent w before) publisher v word in
-        let all : List Addressed = before ++ deliveries zs (sent w before) publisher v word in
-        let rest : World → List Item × World = λ x. in_views zs x publisher word vs in
-        let told_first : List Item → List Item × World = λ items. (items, (rest first.1).1) in
-        let then : List Item × World → List Item × World = λ to. behind to.0 (rest to.1) in
-        ap told_first (sym (append_assoc (met w before) first.0 (rest first.1).0))
-        ∙ ap then (view_behind before v)
-        ∙ views_behind all vs
+    pub views_behind : (before : List Addressed) (vs : List ViewItem) →
+        in_views zs (sent w before) publisher m word vs ≡ (items_behind w before vs, sent w (addressed_behind zs w publisher m word before vs))
+    views_behind before [] = refl
+    views_behind before (At account s way ∷ vs) =
+        let v : View = view_of account s m in
+        let ds : List Addressed = deliveries zs (sent w before) publisher v word in
+        let rest : World → List Item × World = λ x. in_views zs x publisher m word vs in
+        let behind : List Item × World → List Item × World = λ r. (met_behind w before ds ++ r.0, r.1) in
+        ap (λ x. behind (rest x)) (view_behind before v) ∙ ap behind (views_behind (before ++ ds) vs)
+    views_behind before (TooLong row ∷ vs) =
+        let reported : List Item × World → List Item × World = λ r. (MapTooLong row ∷ r.0, r.1) in
+        ap reported (views_behind before vs)
 
     -- So it is of all views of a message.
-    pub views_are : (vs : List View) → in_views zs w publisher word vs ≡ told w (addressed_behind zs w publisher word [] vs)
+    pub views_are : (vs : List ViewItem) → in_views zs w publisher m word vs ≡ (items_behind w [] vs, sent w (addressed_behind zs w publisher m word [] vs))
     views_are vs = views_behind [] vs

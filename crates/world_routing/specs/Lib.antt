@@ -3,3 +3,4 @@ pub mod Routing
 pub mod Granting
 pub mod Handing
 pub mod Publishing
+pub mod Viewing

@@ -12,8 +12,10 @@ use Rattle.world_deliveries.specs.declared.session.Session.{Session}
 use Rattle.world_rows.specs.declared.subscription.Subscription.{Subscription}
 use Rattle.world_routing.specs.World.{World}
 use Rattle.world_routing.specs.Granting.{verdict_on, counted_on, ended_on}
-use Rattle.world_routing.specs.Routing.{views, in_views}
-use Rattle.world_routing.specs.Handing.{met, carried}
+use Rattle.imports.specs.Views.{views, rows_of}
+use Rattle.imports.specs.declared.rows.ImportRow.{ImportRow}
+use Rattle.world_routing.specs.Routing.{in_views}
+use Rattle.world_routing.specs.Handing.{met, carried, of_deliveries}
 use Rattle.world_routing.specs.declared.planning.Plan.{Plan}
 use Rattle.world_routing.specs.declared.planning.Plan.TheVariants.{Refused, ToNobody, ToSome}
 
@@ -21,7 +23,7 @@ use Rattle.world_routing.specs.declared.planning.Plan.TheVariants.{Refused, ToNo
 -- counted on it
 abbrev pub published : World → Session → Message → ℕ → Verdict → Outcome × World
 published w z m word (Allowed by) =
-    let after = in_views w.sessions (record w { sessions = counted_on by z.conn m.subject w.sessions }) z word (views z.user.account m) in
+    let after = in_views w.sessions (record w { sessions = counted_on by z.conn m.subject w.sessions }) z m word (views w.policy z.user.account m.subject) in
     (Published by after.0, record after.1 { sessions = ended_on by z.conn m.subject after.1.sessions })
 published w z m word (DeniedBy i) = (Denied (DeniedBy i), w)
 published w z m word NoAllow = (Denied NoAllow, w)
@@ -44,8 +46,9 @@ IsRefusal (Err e) r = r ≡ e
 
 -- ---- the plan
 
--- a world with this moment, these sessions and these subscriptions
-pub record IsOf (w : World) (now : ℕ) (zs : List Session) (subs : List Subscription) : Type 0 where
+-- a world with these import rows, this moment, these sessions and these subscriptions
+pub record IsOf (w : World) (known : List ImportRow) (now : ℕ) (zs : List Session) (subs : List Subscription) : Type 0 where
+  pub rows : rows_of w.policy ≡ known
   pub moment : w.moment ≡ now
   pub sessions : w.sessions ≡ zs
   pub subscriptions : w.subscriptions ≡ subs
@@ -55,5 +58,5 @@ pub record IsOf (w : World) (now : ℕ) (zs : List Session) (subs : List Subscri
 abbrev pub IsPlanned : World → Result (Outcome × World) HubRefusal → Result Plan HubRefusal → Type 0
 IsPlanned w t (Ok (Refused v)) = t ≡ Ok (Denied v, w)
 IsPlanned w t (Ok (ToNobody by)) = t ≡ Ok (Published by [], w)
-IsPlanned w t (Ok (ToSome by items ds)) = (t ≡ Ok (Published by items, carried w ds.answered ds.all items)) × (items ≡ met w ds.all)
+IsPlanned w t (Ok (ToSome by items ds)) = (t ≡ Ok (Published by items, carried w ds.answered ds.all items)) × (of_deliveries items ≡ met w ds.all)
 IsPlanned w t (Err r) = IsRefusal t r

@@ -1,8 +1,12 @@
 -- Whom a message reaches (docs/GUARANTEE.md, "Delivery").
 use Rattle.std.specs.Prelude.{◌&&◌, ◌∷◌, ◌++◌, ℕ, List, [], Bool, filter, map}
+use Rattle.subjects.specs.Subject.{Token}
 use Rattle.events.specs.Messages.{Message}
 use Rattle.events.specs.declared.answer.Addressed.{Addressed}
 use Rattle.events.specs.declared.answer.Item.{Item}
+use Rattle.events.specs.declared.answer.Item.TheVariants.{MapTooLong}
+use Rattle.imports.specs.declared.view.ViewItem.{ViewItem}
+use Rattle.imports.specs.declared.view.ViewItem.TheVariants.{At, TooLong}
 use Rattle.world_deliveries.specs.Delivered.{delivered}
 use Rattle.world_deliveries.specs.Replying.{noted_for}
 use Rattle.world_deliveries.specs.declared.session.Session.{Session}
@@ -12,19 +16,16 @@ use Rattle.world_subscriptions.specs.Limit.{unended, counted}
 use Rattle.world_rows.specs.declared.subscription.Subscription.{Subscription}
 use Rattle.world_groups.specs.Served.{served}
 pub use Rattle.world_receivers.specs.Open.{lets_through, may_hear, is_open_to, is_open}
+pub use Rattle.world_receivers.specs.Standing.{under_subject}
 use Rattle.world_routing.specs.World.{World}
 
--- A message as an account sees it, under the subject and the reply that it has there.
+-- A message as an account sees it, under the subject that it has there.
 pub record View : Type 0 where
   pub account : List ℕ
   pub message : Message
 
-abbrev pub own_view : List ℕ → Message → View
-own_view account m = record { account = account; message = m }
-
--- The views of a message that a user of the account publishes: that of the account itself.
-abbrev pub views : List ℕ → Message → List View
-views account m = own_view account m ∷ []
+abbrev pub view_of : List ℕ → List Token → Message → View
+view_of account s m = record { account = account; message = under_subject s m }
 
 -- a subscription is admitted where it is of the account and has the subject, may hear the publisher, and its session's
 -- permissions let the message through
@@ -50,11 +51,16 @@ abbrev pub routed : List Session → World → Session → View → ℕ → List
 routed zs w publisher v word = let after = delivered w.moment (deliveries zs w publisher v word) w.sessions in
     (after.1, record w { sessions = after.0; subscriptions = unended (map (counted after.1) w.subscriptions) })
 
+-- What a view gives: the message to those that it is for there; or the row that it doesn't cross is reported.
+abbrev pub in_view : List Session → World → Session → Message → ℕ → ViewItem → List Item × World
+in_view zs w publisher m word (At account s way) = routed zs w publisher (view_of account s m) word
+in_view zs w publisher m word (TooLong row) = (MapTooLong row ∷ [], w)
+
 -- The views of a message one after the other: what ended in one stands no more in the next, and rooms are those that are
 -- left. Who may be sent it, and what is noted, goes by the sessions before the message.
-abbrev pub in_views : List Session → World → Session → ℕ → List View → List Item × World
-in_views zs w publisher word [] = ([], w)
-in_views zs w publisher word (v ∷ vs) =
-    let first = routed zs w publisher v word in
-    let rest = in_views zs first.1 publisher word vs in
+abbrev pub in_views : List Session → World → Session → Message → ℕ → List ViewItem → List Item × World
+in_views zs w publisher m word [] = ([], w)
+in_views zs w publisher m word (v ∷ vs) =
+    let first = in_view zs w publisher m word v in
+    let rest = in_views zs first.1 publisher m word vs in
     (first.0 ++ rest.0, rest.1)

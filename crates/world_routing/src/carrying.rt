@@ -1,6 +1,7 @@
 //! What was planned for a publish is done.
-ghost use Rattle.std.specs.Prelude.{◌≡◌, ◌≤◌, ◌⊎◌, None};
-ghost use Rattle.world_receivers.specs.Cached.{IsCurrent};
+ghost use Rattle.std.specs.Prelude.{◌≡◌, ◌≤◌, ◌⊎◌, List};
+ghost use Rattle.imports.specs.declared.rows.ImportRow.{ImportRow};
+ghost use Rattle.world_receivers.specs.Cached.{IsCurrent, IsEmpty};
 ghost use Rattle.world_subscriptions.specs.Counting.{entered_ids, in_turn};
 ghost use Rattle.world_routing.specs.Handing.{handed_over};
 
@@ -23,7 +24,7 @@ pub struct Deliveries {
 
 /// Clears the cache of receivers where fewer subscriptions are left than there were before.
 fn clear_if_fewer(receivers: &mut Receivers, before: usize, left: usize)
-    ensures { (receivers.new.cache.whom ≡ None) ⊎ ((receivers.new.cache ≡ receivers.old.cache) × (before ≤ left)) }
+    ensures { IsEmpty receivers.new.cache ⊎ ((receivers.new.cache ≡ receivers.old.cache) × (before ≤ left)) }
 {
     if left < before {
         receivers.clear_cache();
@@ -41,10 +42,9 @@ pub fn carry_publish(
     items: &[Item],
     now: u64,
 )
-    requires cached { IsCurrent sessions.old subscriptions.old receivers.old.cache }
     ensures sessions { sessions.new ≡ handed_over now deliveries.answered deliveries.all sessions.old }
     ensures subscriptions { subscriptions.new ≡ in_turn (entered_ids deliveries.all items.now) subscriptions.old }
-    ensures cached { IsCurrent sessions.new subscriptions.new receivers.new.cache }
+    ensures cached { (rows : List ImportRow) → IsCurrent rows sessions.old subscriptions.old receivers.old.cache → IsCurrent rows sessions.new subscriptions.new receivers.new.cache }
 {
     let Deliveries { all, answered } = deliveries;
     let mut all = all.into_vec();

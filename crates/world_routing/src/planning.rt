@@ -10,14 +10,16 @@ ghost use Rattle.world_receivers.specs.Cached.{IsCurrent};
 ghost use Rattle.world_routing.specs.World.{World};
 ghost use Rattle.world_routing.specs.Publishing.{IsOf, IsPlanned, published_by};
 
+use crate::across::plan_across;
 use crate::answered::{Answered, answered_by};
 use crate::carrying::Deliveries;
 use crate::verdict::on_publish;
 use base::{Items, NoMemory};
 use events::{Addressed, HubRefusal, Message, Met};
+use imports::Rows;
 use permissions::{By, Verdict};
 use std::hash::RandomState;
-use world_receivers::Receivers;
+use world_receivers::{Receivers, Sending};
 use world_sessions::{Session, Sessions};
 use world_subscriptions::Subscriptions;
 
@@ -46,7 +48,7 @@ pub enum Plan {
 }
 
 /// Returns whether a message has no delivery and is no answer.
-fn is_for_nobody(all: &[Addressed], answered: &Option<Answered>) -> bool
+pub(crate) fn is_for_nobody(all: &[Addressed], answered: &Option<Answered>) -> bool
     ensures { IsTrue result → (all.now ≡ []) × (answered.now ≡ None) }
 {
     match answered {
@@ -60,7 +62,7 @@ fn is_for_nobody(all: &[Addressed], answered: &Option<Answered>) -> bool
 
 /// Returns what the deliveries of a message will meet. Also sets each one's `noted`, what its session is to note.
 #[inline(always)]
-fn plan_all(
+pub(crate) fn plan_all(
     sessions: &mut Sessions,
     keys: RandomState,
     message: &Message,
@@ -78,26 +80,32 @@ fn plan_all(
 }
 
 /// Returns what a publish comes to: the verdict of the user's permissions and grants, and where they allow it, the deliveries
-/// to those that the message is for, with what each will meet. Nothing changes but what is cached, and all memory is taken
-/// that handing over needs. `NoSession` where the connection has no session, `NoMemory` where memory could not be had.
+/// to those that the message is for in each of its views across these rows, with what each will meet. Nothing changes but what
+/// is cached, and all memory is taken that handing over needs. `NoSession` where the connection has no session, `NoMemory`
+/// where memory could not be had.
 #[inline(always)]
 pub fn plan_publish(
     sessions: &mut Sessions,
     subscriptions: &mut Subscriptions,
     receivers: &mut Receivers,
+    rows: &Rows,
     keys: RandomState,
     publish: Publish<'_>,
 ) -> Result<Plan, HubRefusal>
-    requires cached { IsCurrent sessions.old subscriptions.old receivers.old.cache }
-    ensures planned { (w : World) → IsOf w publish.entry.now sessions.old subscriptions.old
+    requires cached { IsCurrent rows.now sessions.old subscriptions.old receivers.old.cache }
+    ensures planned { (w : World) → IsOf w rows.now publish.entry.now sessions.old subscriptions.old
         → IsPlanned w (published_by w publish.entry.conn publish.entry.message.now publish.entry.word) result }
     ensures reason { IfOk result (λ plan. IfSome (session_of sessions.old publish.entry.conn) (λ (z : SessionModel).
         IsJustifiedPublish publish.entry.message.now.subject z.user.rules.publish (publish_verdict z.user.rules publish.entry.message.now.subject))) }
     ensures sessions { sessions.new ≡ sessions.old }
     ensures subscriptions { subscriptions.new ≡ subscriptions.old }
-    ensures cached { IsCurrent sessions.new subscriptions.new receivers.new.cache }
+    ensures cached { IsCurrent rows.now sessions.new subscriptions.new receivers.new.cache }
 {
     subscriptions.known();
+    if !rows.is_empty() {
+        let plan = plan_across(sessions, subscriptions, receivers, rows, keys, publish)?;
+        return Ok(plan);
+    }
     let (by, answered, mut all) = match sessions.find(publish.conn) {
         None => return Err(HubRefusal::NoSession),
         Some(session) => match on_publish(session, &publish.message.subject(), publish.now) {
@@ -107,9 +115,12 @@ pub fn plan_publish(
                 receivers.address(
                     sessions,
                     subscriptions,
-                    session,
-                    publish.message,
-                    publish.word,
+                    rows,
+                    Sending {
+                        publisher: session,
+                        message: publish.message,
+                        word: publish.word,
+                    },
                 )?,
             ),
             Verdict::DeniedBy(index) => return Ok(Plan::Refused(Verdict::DeniedBy(index))),

@@ -8,6 +8,7 @@ use subjects::SubjectRef;
 use world_sessions::Session;
 
 /// Returns the verdict on a publish at a moment: the lists', and where they refuse, a live grant's.
+#[inline(always)]
 pub(crate) fn on_publish(session: &Session, subject: &SubjectRef<'_>, now: u64) -> Verdict
     ensures verdict { result ≡ verdict_on now session.now subject.now }
     ensures justified { IsJustifiedPublish subject.now session.now.user.rules.publish (publish_verdict session.now.user.rules subject.now) }

@@ -1,5 +1,5 @@
 -- What items count at once is counted by ids in turn.
-use Rattle.std.proofs.Common.{◌≡◌, ◌∙◌, ◌==◌, ◌+◌, ◌&&◌, ◌||◌, ℕ, Bool, true, false, cond, not, List, [], ◌∷◌, map, Option, Some, None, ap, sym, refl, arith, nat_lt, nat_le, ◌⊎◌, inl, inr}
+use Rattle.std.proofs.Common.{◌≡◌, ◌∙◌, ◌==◌, ◌+◌, ◌&&◌, ◌||◌, ℕ, Bool, true, false, cond, not, List, [], ◌∷◌, map, Option, Some, None, ap, sym, refl, arith, nat_lt, nat_le}
 use Rattle.std.specs.List.{list_any}
 use Rattle.std.proofs.lemmas.Bool.{eqb-true}
 use Rattle.std.proofs.lemmas.Bool.Decides.{nat_tests}
@@ -10,7 +10,7 @@ use Rattle.events.specs.Messages.{Message}
 use Rattle.events.specs.declared.answer.Addressed.{Addressed}
 use Rattle.world_subscriptions.specs.Addressing.{addressed_to}
 use Rattle.events.specs.declared.answer.Item.{Item}
-use Rattle.events.specs.declared.answer.Item.TheVariants.{Entered, Full}
+use Rattle.events.specs.declared.answer.Item.TheVariants.{Entered, Full, MapTooLong}
 use Rattle.world_subscriptions.specs.Changes.{only, bumped}
 use Rattle.world_subscriptions.specs.Counting.{in_turn, entered_ids, TellEach, is_one_of, counted_by}
 use Rattle.std.proofs.lemmas.List.{map-id}
@@ -25,7 +25,7 @@ reached-more (Some m) n h = more m n h
     more : (m n : ℕ) → nat_le m n ≡ true → nat_le m (n + 1) ≡ true
     more m n h = grind (arith, nat_tests)
 
-bumped-ended : (s : Subscription) → has_ended s ≡ true → has_ended (bumped s) ≡ true
+pub bumped-ended : (s : Subscription) → has_ended s ≡ true → has_ended (bumped s) ≡ true
 bumped-ended s h = here (nat_lt s.received 18446744073709551615)
   where
     here : (b : Bool) → has_ended (cond b (record s { received = s.received + 1 }) s) ≡ true
@@ -107,6 +107,7 @@ entered-is m s (r ∷ rs) (Entered conn sid ∷ items) tell names =
     ∙ ap (λ b. b || has_entered items s) names.0
     ∙ ap (λ b. (s.id == r.id) || b) (entered-is m s rs items tell.1 names.1)
 entered-is m s (r ∷ rs) (Full conn sid ∷ items) tell names = entered-is m s rs items tell.1 names.1
+entered-is m s (r ∷ rs) (MapTooLong row ∷ items) tell names = absurd tell.0
 
 counted-is : (items : List Item) (ids : List ℕ) (s : Subscription) → has_entered items s ≡ is_one_of ids s → counted items s ≡ counted_by ids s
 counted-is items ids s e = ap (λ b. cond (b && nat_lt s.received 18446744073709551615) (record s { received = s.received + 1 }) s) e ∙ here (is_one_of ids s)
@@ -132,8 +133,9 @@ counted_in_turn m rs items subs tell names apart kept =
     in_turn-is (entered_ids (map (addressed_to m) rs) items) subs apart kept ∙ ap unended (sym (map-counted m rs items subs tell names))
 
 -- where no delivery or no item is left, none has entered
-pub none_entered : (all : List Addressed) (items : List Item) → (all ≡ []) ⊎ (items ≡ []) → entered_ids all items ≡ []
-none_entered [] items none = refl
-none_entered (a ∷ all) [] none = refl
-none_entered (a ∷ all) (i ∷ items) (inl none) = cc
-none_entered (a ∷ all) (i ∷ items) (inr none) = cc
+pub none_left : (items : List Item) → entered_ids [] items ≡ []
+none_left items = refl
+
+pub none_told : (all : List Addressed) → entered_ids all [] ≡ []
+none_told [] = refl
+none_told (a ∷ all) = refl

@@ -52,7 +52,7 @@ impl Model for Subscriptions {
 // What changes which of them stand is never drawn into the world's step: there its large locals would be cleared for each
 // message.
 impl Subscriptions {
-    ghost use Rattle.std.specs.Prelude.{◌≡◌, ◌==◌, ◌<◌, ◌++◌, ◌∷◌, [], IfOk, OnOk, OnErr, All, AllPairs, false, length, map, filter, not, find};
+    ghost use Rattle.std.specs.Prelude.{◌≡◌, ◌==◌, ◌<◌, ◌≤◌, ◌++◌, ◌∷◌, List, [], IfOk, OnOk, OnErr, All, AllPairs, false, length, map, filter, not, find, drop};
     ghost use Rattle.std.specs.Option.{option_copied};
     ghost use Rattle.world_subscriptions.specs.Subscriptions.{has_same_sid, stands, has_all, subscription_of, having};
     ghost use Rattle.world_subscriptions.specs.Addressing.{addressed_to};
@@ -63,6 +63,7 @@ impl Subscriptions {
     ghost use Rattle.world_subscriptions.specs.Changes.{only, bumped, capped};
     ghost use Rattle.world_subscriptions.specs.Counting.{in_turn, entered_ids, is_one_of, TellEach};
     ghost use Rattle.world_subscriptions.specs.Index.{found_by};
+    ghost use Rattle.events.specs.declared.answer.Item.{Item as ItemModel};
 
     /// Returns the table without subscriptions. Clients choose the tokens of subjects, and sids, so what finds them is
     /// hashed under keys that they can't know.
@@ -224,18 +225,30 @@ impl Subscriptions {
         }
     }
 
-    /// Counts one message more where it has entered.
-    fn count_entered(&mut self, addressed: &Addressed, item: &Item)
-        ensures { self.new ≡ in_turn (entered_ids (addressed.now ∷ []) (item.now ∷ [])) self.old }
+    /// Counts one message more where an item tells that it has entered for the next delivery. Returns which delivery is the
+    /// next one then: an import row that is reported is of none.
+    #[inline(always)]
+    fn count_next(&mut self, all: &[Addressed], next: usize, item: &Item) -> usize
+        requires { next ≤ length all.now }
+        ensures within { result ≤ length all.now }
+        ensures turns { (more : List ItemModel) → in_turn (entered_ids (drop result all.now) more) self.new
+            ≡ in_turn (entered_ids (drop next all.now) (item.now ∷ more)) self.old }
     {
-        match item {
-            Item::Entered { .. } => self.count_one(addressed.id),
-            Item::Full { .. } => {}
+        match all.get(next) {
+            None => next,
+            Some(addressed) => match item {
+                Item::Entered { .. } => {
+                    self.count_one(addressed.id);
+                    next + 1
+                }
+                Item::Full { .. } => next + 1,
+                Item::MapTooLong(_) => next,
+            },
         }
     }
 
     /// Counts a message that was addressed to some of them, where it has entered: `items` are what each delivery met,
-    /// in turn. Those that have received all that they were to receive end. Only those that it entered for are
+    /// in turn, and the import rows that are reported between them. Those that have received all that they were to receive end. Only those that it entered for are
     /// touched.
     #[inline(always)]
     pub fn count(&mut self, all: &[Addressed], items: &[Item])
@@ -251,8 +264,9 @@ impl Subscriptions {
     fn count_each(&mut self, all: &[Addressed], items: &[Item])
         ensures { self.new ≡ in_turn (entered_ids all.now items.now) self.old }
     {
-        for (addressed, item) in all.iter().zip(items) {
-            self.count_entered(addressed, item);
+        let mut next = 0;
+        for item in items {
+            next = self.count_next(all, next, item);
         }
     }
 

@@ -1,18 +1,17 @@
 -- the cache stays current where none of those that have counted the message has ended
-use Rattle.std.proofs.Common.{◌≡◌, ℕ, List, Option, length, ap, sym, subst, inl, inr, arith}
+use Rattle.std.proofs.Common.{◌≡◌, ℕ, List, length, ap, sym, subst, inl, inr, arith}
 use Rattle.world_deliveries.specs.declared.session.Session.{Session}
 use Rattle.world_subscriptions.specs.Counting.{entered_ids, in_turn}
 use Rattle.world_rows.specs.declared.subscription.Subscription.{Subscription}
-use Rattle.world_receivers.specs.Cached.{IsWhomFor, IsCurrent}
+use Rattle.world_receivers.specs.Cached.{IsCurrent}
 use Rattle.world_receivers.specs.declared.cache.ReceiverCache.{ReceiverCache}
-use Rattle.world_receivers.specs.declared.cache.Whom.{Whom}
 use Rattle.world_receivers.proofs.Stays.{AreSeated, current_in_turn}
+use Rattle.world_receivers.proofs.Told.{empty_current}
 use Rattle.world_routing.proofs.Delivering.{seated_handed}
 use Rattle.world_routing.proofs.carrying.carry_publish.Goals as goal
 
 pub returns-clause-cached : goal.returns-clause-cached
-returns-clause-cached c =
-    let cache : ReceiverCache = c.clear_if_fewer.new.receivers.cache in
+returns-clause-cached c = λ rows before.
     let zs : List Session = c.args.sessions.now in
     let after : List Session = c.hand_over.new.sessions in
     let subs : List Subscription = c.args.subscriptions.now in
@@ -20,10 +19,10 @@ returns-clause-cached c =
     let ids : List ℕ = entered_ids c.as_slice.result.now c.args.items.now in
     let are : left ≡ in_turn ids subs = c.count.ensures.turns in
     let seated : AreSeated zs after = subst (AreSeated zs) (sym c.hand_over.ensures) (seated_handed c.args.now c.args.deliveries.answered c.into_vec-all.result.items zs) in
-    let current : IsCurrent after left cache = elim c.clear_if_fewer.ensures [
-      | inl none ↦ subst (λ (o : Option Whom). IsWhomFor o cache.conn cache.subject.items after left) (sym none) tt
-      | inr kept ↦ subst (λ (k : ReceiverCache). IsCurrent after left k) (sym kept.0)
-          (subst (λ (ss : List Subscription). IsCurrent after ss c.args.receivers.now.cache) (sym are)
-          (current_in_turn c.args.receivers.now.cache zs after ids subs seated (omega (arith, kept.1, c.len-before.ensures, c.len.ensures, ap length are)) c.requires.cached))
+    let current : IsCurrent rows after left c.clear_if_fewer.new.receivers.cache = elim c.clear_if_fewer.ensures [
+      | inl empty ↦ empty_current c.clear_if_fewer.new.receivers.cache rows after left empty
+      | inr kept ↦ subst (λ (k : ReceiverCache). IsCurrent rows after left k) (sym kept.0)
+          (subst (λ (ss : List Subscription). IsCurrent rows after ss c.args.receivers.now.cache) (sym are)
+          (current_in_turn c.args.receivers.now.cache rows zs after ids subs seated (omega (arith, kept.1, c.len-before.ensures, c.len.ensures, ap length are)) before))
     ] in
-    subst (λ (k : ReceiverCache). IsCurrent after left k) (sym c.keep_memory.ensures) current
+    subst (λ (k : ReceiverCache). IsCurrent rows after left k) (sym c.keep_memory.ensures) current

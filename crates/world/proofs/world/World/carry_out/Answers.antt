@@ -1,5 +1,6 @@
 -- a Take leaves the cache of receivers current
 use Rattle.std.proofs.Common.{◌∙◌, sym, subst, refl, ap}
+use Rattle.imports.specs.Views.{rows_of}
 use Rattle.world_deliveries.specs.Sessions.{drained}
 use Rattle.world_receivers.proofs.Stays.{AreSeated, seats_with, current_taken}
 use Rattle.world.specs.Changes.{done}
@@ -10,7 +11,7 @@ pub invariant_of-self-in-Drain : goal.invariant_of-self-in-Drain
 invariant_of-self-in-Drain c =
     let h = c.self-in-Drain.inside in (
       c.self-in-Drain.invariant.0,
-      current_taken h.receivers.cache h.sessions c.drain.new.self h.subscriptions
+      current_taken h.receivers.cache (rows_of h.ready) h.sessions c.drain.new.self h.subscriptions
           (subst (AreSeated h.sessions) (sym c.drain.ensures) (seats_with (drained c.in-Drain.most) c.in-Drain.conn (λ z. refl) h.sessions)) c.self-in-Drain.invariant.1,
     )
 

@@ -16,7 +16,7 @@ returns-clause-decided c =
     let h = c.self.inside in
     let world : World = c.args.self.now in
     let before : World = record { capacity = h.capacity; policy = h.ready; epoch = h.epoch; moment = h.moment; sessions = h.sessions; subscriptions = h.subscriptions; number = h.number } in
-    let of : IsOf before h.moment h.sessions h.subscriptions = record { moment = refl; sessions = refl; subscriptions = refl } in
+    let of : IsOf before c.rows.result.now h.moment h.sessions h.subscriptions = record { rows = sym c.rows.ensures; moment = refl; sessions = refl; subscriptions = refl } in
     let P : Result Decided HubRefusal → Type 0 = λ r. IsDecided world (published_by world c.args.conn c.args.message.now c.args.word) r in
     let Q : Plan → Type 0 = λ plan. IsPlanned before (published_by before c.args.conn c.args.message.now c.args.word) (Ok plan) in
     let planned : Q c.in_ok-verdict.field-0 = c.in_ok-verdict.ensures.planned before of in

@@ -1,0 +1,47 @@
+-- Which subscriptions still stand behind deliveries of the same message, before any of these is counted (docs/GUARANTEE.md,
+-- "Views").
+use Rattle.std.specs.Prelude.{◌&&◌, ◌==◌, ◌-◌, ℕ, List, [], ◌∷◌, Bool, not, filter, map, nat_lt, suc, zero, if◌then◌else◌}
+use Rattle.subjects.specs.Subject.{Token}
+use Rattle.events.specs.Messages.{Message}
+use Rattle.events.specs.declared.answer.Addressed.{Addressed}
+use Rattle.world_deliveries.specs.Sessions.{session_of}
+use Rattle.world_deliveries.specs.Delivered.{room_in}
+use Rattle.world_deliveries.specs.declared.session.Session.{Session}
+use Rattle.world_subscriptions.specs.Addressing.{addressed_to}
+use Rattle.world_subscriptions.specs.Changes.{bumped}
+use Rattle.world_subscriptions.specs.Limit.{has_ended}
+use Rattle.world_subscriptions.specs.Subscriptions.{has_subject}
+use Rattle.world_rows.specs.declared.subscription.Subscription.{Subscription}
+use Rattle.world_groups.specs.Served.{served}
+use Rattle.world_receivers.specs.Open.{is_open}
+
+-- how often a message enters for an id of a connection with so much room: of the deliveries for the connection the first ones
+-- enter, as many as there is room for
+abbrev pub times_entering : ℕ → ℕ → ℕ → List Addressed → ℕ
+times_entering conn id room [] = 0
+times_entering conn id room (a ∷ all) =
+    if (a.conn == conn) && nat_lt 0 room then (if a.id == id then suc (times_entering conn id (room - 1) all) else times_entering conn id (room - 1) all)
+    else times_entering conn id room all
+
+-- a subscription that has counted so many messages more
+abbrev pub counted_more : ℕ → Subscription → Subscription
+counted_more zero sub = sub
+counted_more (suc n) sub = counted_more n (bumped sub)
+
+-- whether a subscription still stands behind these deliveries
+abbrev pub stands_behind : List Session → List Addressed → Subscription → Bool
+stands_behind zs before sub = not (has_ended (counted_more (times_entering sub.conn sub.id (room_in (session_of zs sub.conn)) before) sub))
+
+-- the subscriptions of an account that have the subject, may be sent the message, and still stand, oldest first
+abbrev pub standing_among : List Session → List Subscription → List Addressed → Session → List ℕ → List Token → List Subscription
+standing_among zs subs before publisher account s =
+    filter (λ sub. has_subject account s sub && (is_open zs publisher s sub && stands_behind zs before sub)) subs
+
+-- the message under another subject; its reply, header block and payload stay
+abbrev pub under_subject : List Token → Message → Message
+under_subject s m = record m { subject = s }
+
+-- the deliveries of a message to those of an account that it is for under a subject, behind others of the same message
+abbrev pub addressed_behind_in : List Session → List Subscription → List Addressed → Session → Message → ℕ → List ℕ → List Token → List Addressed
+addressed_behind_in zs subs before publisher m word account s =
+    map (addressed_to (under_subject s m)) (served word (standing_among zs subs before publisher account s))

@@ -1,0 +1,78 @@
+//! A message addressed under the subject of a view.
+ghost use Rattle.std.specs.Prelude.{◌≡◌, ◌++◌, IfOk, OnOk, map};
+ghost use Rattle.events.specs.Messages.{Message as MessageModel};
+ghost use Rattle.events.specs.Sendings.{named};
+ghost use Rattle.world_subscriptions.specs.Addressing.{addressed_to};
+ghost use Rattle.world_receivers.specs.Standing.{under_subject};
+
+use base::{Copying, NoMemory, Shared};
+use events::{Addressed, Delivery, Message, Names, Said, Sent};
+use std::alloc::Global;
+use subjects::Subject;
+use world_subscriptions::SharedSubscription;
+
+/// Returns a message on its way to a subscription under names. Neither is copied: the delivery is one more owner of both.
+fn addressed_under(
+    message: &Message,
+    names: &Shared<Names>,
+    subscription: &SharedSubscription,
+) -> Result<Addressed, NoMemory>
+    ensures { IfOk result (λ addressed. addressed ≡ addressed_to (named names.now message.now) subscription.now) }
+{
+    Ok(Addressed {
+        id: subscription.id(),
+        conn: subscription.conn(),
+        delivery: Delivery {
+            message: Sent::under(message.again()?, names.again()?),
+            sid: subscription.sid().again()?,
+        },
+        noted: None,
+    })
+}
+
+/// Returns the names of a view: its subject, and the reply as it was published.
+pub(crate) fn names_of(alloc: Global, subject: &Subject) -> Result<Shared<Names>, NoMemory>
+    ensures { IfOk result (λ names. (m : MessageModel) → named names m ≡ under_subject subject.now m) }
+{
+    let subject = subject.copy(alloc)?;
+    let names = Names {
+        subject,
+        reply: Said::AsPublished,
+    };
+    let shared = Shared::new(alloc, names)?;
+    Ok(shared)
+}
+
+/// Addresses a message to subscriptions, in turn, under the subject of a view, and adds these deliveries, which share its
+/// names.
+pub(crate) fn address_under(
+    alloc: Global,
+    message: &Message,
+    subject: &Subject,
+    found: &[&SharedSubscription],
+    all: &mut Vec<Addressed>,
+) -> Result<(), NoMemory>
+    ensures { OnOk result (all.new.items ≡ all.old.items ++ map (addressed_to (under_subject subject.now message.now)) (map (λ s. s.now) found.now)) }
+{
+    if found.is_empty() {
+        return Ok(());
+    }
+    let names = names_of(alloc, subject)?;
+    address_named(message, &names, found, all)?;
+    Ok(())
+}
+
+/// Addresses a message to subscriptions, in turn, under names, and adds these deliveries.
+fn address_named(
+    message: &Message,
+    names: &Shared<Names>,
+    found: &[&SharedSubscription],
+    all: &mut Vec<Addressed>,
+) -> Result<(), NoMemory>
+    ensures { OnOk result (all.new.items ≡ all.old.items ++ map (addressed_to (named names.now message.now)) (map (λ s. s.now) found.now)) }
+{
+    for subscription in found {
+        all.push(addressed_under(message, names, subscription)?)?;
+    }
+    Ok(())
+}

@@ -1,0 +1,79 @@
+-- what is planned across rows is what the publish comes to, and the verdict on it has its reason
+use Rattle.std.proofs.Common.{◌≡◌, ◌∙◌, ◌==◌, ◌∷◌, List, [], All, None, map, ap, sym, refl, subst}
+use Rattle.std.proofs.lemmas.Bool.{eqb-true}
+use Rattle.std.proofs.lemmas.List.Elements.{All-nil}
+use Rattle.events.specs.declared.answer.Addressed.{Addressed}
+use Rattle.events.specs.declared.answer.Item.{Item}
+use Rattle.imports.specs.Views.{views_in}
+use Rattle.world_deliveries.specs.Sessions.{session_of}
+use Rattle.world_deliveries.specs.Delivered.{delivered}
+use Rattle.world_deliveries.specs.Replying.{noted_for}
+use Rattle.world_deliveries.specs.declared.session.Session.{Session}
+use Rattle.world_receivers.proofs.Tests.{find-passes}
+use Rattle.world_routing.specs.Viewing.{with_reports}
+use Rattle.world_routing.specs.declared.viewing.Report.{Report}
+use Rattle.world_routing.proofs.Together.{unsaid_after}
+use Rattle.world_routing.proofs.Publishing.{planned_to_some, planned_to_nobody, publish_reason}
+use Rattle.world_routing.proofs.across.plan_across.Goals as goal
+
+pub address_all-requires-clause-publisher : goal.address_all-requires-clause-publisher
+address_all-requires-clause-publisher c =
+    let zs = c.args.sessions.now in
+    let z = c.in-Some.session.now in
+    ap (session_of zs) (eqb-true z.conn c.args.publish.conn (find-passes (λ (y : Session). y.conn == c.args.publish.conn) zs z (sym c.in-Some.ensures))) ∙ sym c.in-Some.ensures
+
+pub plan_all-requires : goal.plan_all-requires
+plan_all-requires c = λ none.
+    let reply : Addressed → Type 0 = λ a. a.delivery.message.reply ≡ None in
+    let z = c.in-Some.session.now in
+    let m = c.args.publish.message.now in
+    subst (All reply) (sym c.in_ok-address_all-in-Allowed.ensures.all)
+    (unsaid_after c.args.sessions.now c.args.subscriptions.now z m c.args.publish.word [] (views_in c.args.rows.now z.user.account m.subject) none (All-nil reply))
+
+pub returns-then-is_silent-clause-planned : goal.returns-then-is_silent-clause-planned
+returns-then-is_silent-clause-planned c = λ w of.
+    let m = c.args.publish.message.now in
+    let zs = c.args.sessions.now in
+    let subs = c.args.subscriptions.now in
+    let z = c.in-Some.session.now in
+    let viewed = c.in_ok-address_all-in-Allowed.field-0 in
+    let noted : List Addressed → List Addressed = map (noted_for zs) in
+    let silent = c.is_silent.ensures c.if-is_silent.true in
+    planned_to_nobody w c.args.publish.conn m c.args.publish.word c.args.publish.now c.args.rows.now zs subs of z c.subject.result c.in-Some.ensures c.subject.ensures
+    c.in-Allowed.by c.in_ok-answered_by-in-Allowed.field-0 (views_in c.args.rows.now z.user.account m.subject) (noted viewed.all.items) viewed.reports.items
+    c.in-Allowed.ensures.verdict
+    c.in_ok-answered_by-in-Allowed.ensures
+    c.known.ensures.apart
+    c.known.ensures.going
+    refl
+    (ap noted c.in_ok-address_all-in-Allowed.ensures.all)
+    c.in_ok-address_all-in-Allowed.ensures.reports
+    (ap noted (sym c.as_slice.ensures.value ∙ silent.0))
+    (sym c.as_slice-2.ensures.value ∙ silent.1)
+    silent.2
+
+pub returns-then-is_silent-clause-reason : goal.returns-then-is_silent-clause-reason
+returns-then-is_silent-clause-reason c = publish_reason _ _ _ _ _ c.in-Some.ensures c.subject.ensures refl c.on_publish.ensures.justified
+
+pub returns-clause-planned : goal.returns-clause-planned
+returns-clause-planned c = λ w of.
+    let m = c.args.publish.message.now in
+    let zs = c.args.sessions.now in
+    let subs = c.args.subscriptions.now in
+    let z = c.in-Some.session.now in
+    let viewed = c.in_ok-address_all-in-Allowed.field-0 in
+    planned_to_some w c.args.publish.conn m c.args.publish.word c.args.publish.now c.args.rows.now zs subs of z c.subject.result c.in-Some.ensures c.subject.ensures
+    c.in-Allowed.by c.in_ok-answered_by-in-Allowed.field-0 (views_in c.args.rows.now z.user.account m.subject) c.from_vec.result viewed.reports.items
+    c.in-Allowed.ensures.verdict
+    c.in_ok-answered_by-in-Allowed.ensures
+    c.known.ensures.apart
+    c.known.ensures.going
+    refl
+    (c.from_vec.ensures ∙ c.in_ok-met.ensures.noted ∙ ap (map (noted_for zs)) c.in_ok-address_all-in-Allowed.ensures.all)
+    c.in_ok-address_all-in-Allowed.ensures.reports
+    c.in_ok-met.met c.in_ok-items.items
+    (λ n. c.in_ok-met.ensures.items n ∙ ap (λ (all : List Addressed). (delivered n all zs).1) (sym c.from_vec.ensures))
+    (c.in_ok-items.ensures ∙ ap (λ (rs : List Report). with_reports 0 c.in_ok-met.met rs) c.as_slice-3.ensures.value)
+
+pub returns-clause-reason : goal.returns-clause-reason
+returns-clause-reason c = publish_reason _ _ _ _ _ c.in-Some.ensures c.subject.ensures refl c.on_publish.ensures.justified
