@@ -20,7 +20,7 @@ use Rattle.events.specs.Messages.{Message}
 use Rattle.events.specs.declared.event.Command.{Command}
 use Rattle.events.specs.declared.event.Command.TheVariants.{Connect, Sub, Unsub, Pub, Take, Close, Reload}
 use Rattle.events.specs.declared.answer.Item.{Item}
-use Rattle.events.specs.declared.answer.Item.TheVariants.{Entered, Full}
+use Rattle.events.specs.declared.answer.Item.TheVariants.{Entered, Full, MapTooLong}
 use Rattle.events.specs.declared.answer.Entry.{Entry}
 use Rattle.events.specs.declared.answer.Outcome.{Outcome}
 use Rattle.events.specs.declared.answer.Outcome.TheVariants.{Connected, AuthViolation, Subscribed, SameSid, SubLimit, Denied, Published, Taken}
@@ -33,7 +33,7 @@ use Rattle.world_subscriptions.specs.Limit.{is_entry_for, limit_of, limited}
 use Rattle.world_rows.specs.declared.subscription.Subscription.{Subscription}
 use Rattle.world.specs.World.{World, opening_world, advanced}
 use Rattle.world.specs.Granting.{verdict_on, counted_on, ended_on}
-use Rattle.world.specs.Routing.{views, is_admitted}
+use Rattle.world.specs.Routing.{view_of, is_admitted}
 use Rattle.world.specs.Reload.{stands_on}
 use Rattle.world.specs.Changes.{items_in}
 use Rattle.world.specs.Transition.{connected, subscribed, unsubscribed, published, taken, closed, in_session, in_new_session, moved, numbered}
@@ -45,7 +45,7 @@ use Rattle.hub.proofs.Finds.{any-none, AllPairs-map}
 use Rattle.hub.proofs.Soundness.{KeepsSubscription, HasCount, IsStillToReceive, either, apart-again, unended-same}
 use Rattle.hub.proofs.Entering.{received-keeps}
 use Rattle.hub.proofs.Guaranteed.{limited-keeps}
-use Rattle.hub.proofs.Views.{Setting, standing, sessions_in, told_of, standing-first, published-is}
+use Rattle.hub.proofs.Views.{Setting, standing, sessions_in, views_of, told_of, standing-first, published-is}
 
 -- ---- one entry
 
@@ -92,6 +92,7 @@ counts-more es a s t counts is = record {
 same-item : (s : Subscription) (item : Item) → is_entered_for s.conn s.sid item ≡ is_entry_for s item
 same-item s (Entered conn sid) = refl
 same-item s (Full conn sid) = refl
+same-item s (MapTooLong row) = refl
 
 told-times : (a : Entry) (s : Subscription) → told s.conn s.sid a ≡ times_entered (items_told a) s
 told-times a s = ap (λ (l : List Item). length l) (filter_agree (is_entered_for s.conn s.sid) (is_entry_for s) (same-item s) (items_told a))
@@ -255,25 +256,25 @@ pub-told es w now conn m word = by_session (session_of w.sessions conn)
     c = Pub conn m word
 
     setting : Session → Setting
-    setting z = record { world = advanced w now; publisher = z; word = word; may = is_admitted w.sessions z }
+    setting z = record { world = advanced w now; publisher = z; message = m; word = word; may = λ account subject sub. is_admitted w.sessions z (view_of account subject m) sub }
 
     few : (s : Subscription) → IsCounted es s → HasCount s
     few s is = let e = is.received in let l = min-le_left 18446744073709551615 (entered_for s.conn s.sid is.since) in omega (arith, e, l)
 
     after : By → Session → World
     after by z = record (advanced w now) {
-      sessions = ended_on by z.conn m.subject (sessions_in (setting z) [] (counted_on by z.conn m.subject w.sessions) (views z.user.account m));
-      subscriptions = standing (setting z) (told_of (setting z) by m);
+      sessions = ended_on by z.conn m.subject (sessions_in (setting z) [] (counted_on by z.conn m.subject w.sessions) (views_of (setting z)));
+      subscriptions = standing (setting z) (told_of (setting z) by);
     }
 
-    sent-is : (by : By) (z : Session) → Told es w.subscriptions → published (advanced w now) z m word (Allowed by) ≡ (Published by (told_of (setting z) by m), after by z)
+    sent-is : (by : By) (z : Session) → Told es w.subscriptions → published (advanced w now) z m word (Allowed by) ≡ (Published by (told_of (setting z) by), after by z)
     sent-is by z t =
-        published-is (setting z) (record { admits = λ v k d h. refl; apart = t.1 }) (standing-first (setting z) (All-weaker (IsCounted es) HasCount few w.subscriptions t.0) t.2) by m
+        published-is (setting z) (record { admits = λ account subject k d h. refl; apart = t.1 }) (standing-first (setting z) (All-weaker (IsCounted es) HasCount few w.subscriptions t.0) t.2) by
 
     by_verdict : (v : Verdict) (z : Session) → Keeps es w c (numbered (w.number + 1) (Ok (published (advanced w now) z m word v)))
     by_verdict (Allowed by) z = λ a command outcome number t.
         subst (λ (r : Outcome × World). a.outcome ≡ r.0 → Told (es ++ a ∷ []) r.1.subscriptions) (sym (sent-is by z t))
-        (λ tells. changed es a (received_more (told_of (setting z) by m)) w.subscriptions (received-keeps (told_of (setting z) by m)) (λ s. counts-published a (told_of (setting z) by m) s (ap items_in tells)) t)
+        (λ tells. changed es a (received_more (told_of (setting z) by)) w.subscriptions (received-keeps (told_of (setting z) by)) (λ s. counts-published a (told_of (setting z) by) s (ap items_in tells)) t)
         outcome
     by_verdict (DeniedBy i) z = silent es w c (Denied (DeniedBy i)) refl
     by_verdict NoAllow z = silent es w c (Denied NoAllow) refl

@@ -26,7 +26,7 @@ use Rattle.world_subscriptions.specs.Addressing.{addressed_to}
 use Rattle.world_deliveries.proofs.Changes.{only, with_session-map, session_of-changed, session_of-other, offered-conn}
 use Rattle.world.specs.Granting.{counted_on, ended_on}
 use Rattle.hub.specs.Replies.{noted_at, noted_each}
-use Rattle.hub.specs.Guarantee.{Sending, sent_to, delivery_of, receiver, receives, room_in, items_of, items_with_room, item_names, names_of}
+use Rattle.hub.specs.Guarantee.{Sending, sent_to, delivery_of, receiver, receives, room_in, is_at, items_of, items_with_room, item_names, names_of}
 use Rattle.hub.proofs.Finds.{AllPairs-map, AllPairs-head, AllPairs-tail}
 use Rattle.hub.proofs.Soundness.{IsApart, either}
 
@@ -318,13 +318,13 @@ module _ (now conn : ℕ) (s : List Token) (ss : List Sending) (zs : List Sessio
 abbrev pub items_after : List Session → ℕ → List Sending → List Session → List Item
 items_after zs now ss ys = (delivered now (map (sent zs) ss) ys).1
 
-pub one_each : (zs : List Session) (now : ℕ) (ss : List Sending) (ys : List Session) → map item_names (items_after zs now ss ys) ≡ map (λ (s : Sending). names_of s.to) ss
+pub one_each : (zs : List Session) (now : ℕ) (ss : List Sending) (ys : List Session) → map item_names (items_after zs now ss ys) ≡ map (λ (s : Sending). Some (names_of s.to)) ss
 one_each zs now [] ys = refl
 one_each zs now (s ∷ ss) ys =
     ap (λ n. n ∷ map item_names (items_after zs now ss (after_offer now (sent zs s) ys))) (here (has_room (session_of ys s.to.conn)))
-    ∙ ap (λ rest. names_of s.to ∷ rest) (one_each zs now ss (after_offer now (sent zs s) ys))
+    ∙ ap (λ rest. Some (names_of s.to) ∷ rest) (one_each zs now ss (after_offer now (sent zs s) ys))
   where
-    here : (b : Bool) → item_names (cond b (Entered s.to.conn s.to.sid) (Full s.to.conn s.to.sid)) ≡ names_of s.to
+    here : (b : Bool) → item_names (cond b (Entered s.to.conn s.to.sid) (Full s.to.conn s.to.sid)) ≡ Some (names_of s.to)
     here true = refl
     here false = refl
 
@@ -348,10 +348,10 @@ with_room-more now what (Some z) d sub own = here (nat_lt (length z.outbox.waiti
         let none : z.outbox.capacity - length z.outbox.waiting ≡ 0 = omega arith in
         ap (λ n. Full sub.conn sub.sid ∷ items_with_room n own) none ∙ sym (ap (λ n. items_with_room n (sub ∷ own)) none)
 
-item-conn : (o : Option Session) (sub : Subscription) → (item_names (cond (has_room o) (Entered sub.conn sub.sid) (Full sub.conn sub.sid))).0 ≡ sub.conn
-item-conn o sub = here (has_room o)
+item-at : (o : Option Session) (sub : Subscription) (conn : ℕ) → is_at conn (item_names (cond (has_room o) (Entered sub.conn sub.sid) (Full sub.conn sub.sid))) ≡ (sub.conn == conn)
+item-at o sub conn = here (has_room o)
   where
-    here : (b : Bool) → (item_names (cond b (Entered sub.conn sub.sid) (Full sub.conn sub.sid))).0 ≡ sub.conn
+    here : (b : Bool) → is_at conn (item_names (cond b (Entered sub.conn sub.sid) (Full sub.conn sub.sid))) ≡ (sub.conn == conn)
     here true = refl
     here false = refl
 
@@ -385,13 +385,13 @@ with_room zs now (s ∷ ss) ys conn = here (cases_eq s.to.conn conn) (with_room 
     here (inl e) later =
         let changed : session_of (after_offer now (sent zs s) ys) conn ≡ option_map offer (session_of ys conn) =
         subst (λ n. session_of (with_session offer s.to.conn ys) n ≡ option_map offer (session_of ys n)) e (session_of-changed offer s.to.conn ys same) in
-        ap (λ b. cond b (item ∷ items_of conn rest) (items_of conn rest)) (eq-eqb _ conn (item-conn (session_of ys s.to.conn) s.to ∙ e))
+        ap (λ b. cond b (item ∷ items_of conn rest) (items_of conn rest)) (item-at (session_of ys s.to.conn) s.to conn ∙ eq-eqb s.to.conn conn e)
         ∙ ap (λ n. cond (has_room (session_of ys n)) (Entered s.to.conn s.to.sid) (Full s.to.conn s.to.sid) ∷ items_of conn rest) e
         ∙ ap (λ left. cond (has_room (session_of ys conn)) (Entered s.to.conn s.to.sid) (Full s.to.conn s.to.sid) ∷ left) (later ∙ ap (λ o. items_with_room (room_in o) own) changed)
         ∙ with_room-more now (note_in zs s) (session_of ys conn) (delivery_of s) s.to own
         ∙ sym (ap (λ b. items_with_room (room_in (session_of ys conn)) (map receiver (cond b (s ∷ sent_to conn ss) (sent_to conn ss)))) (eq-eqb s.to.conn conn e))
     here (inr ne) later =
-        ap (λ b. cond b (item ∷ items_of conn rest) (items_of conn rest)) (ne_eqb _ conn (λ is. ne (sym (item-conn (session_of ys s.to.conn) s.to) ∙ is)))
+        ap (λ b. cond b (item ∷ items_of conn rest) (items_of conn rest)) (item-at (session_of ys s.to.conn) s.to conn ∙ ne_eqb s.to.conn conn ne)
         ∙ later
         ∙ ap (λ o. items_with_room (room_in o) own) (session_of-other offer s.to.conn conn ys same ne)
         ∙ sym (ap (λ b. items_with_room (room_in (session_of ys conn)) (map receiver (cond b (s ∷ sent_to conn ss) (sent_to conn ss)))) (ne_eqb s.to.conn conn ne))

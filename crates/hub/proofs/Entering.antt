@@ -8,7 +8,7 @@ use Rattle.std.proofs.lemmas.List.{length-append}
 use Rattle.std.proofs.lemmas.List.Elements.{All-head, All-tail, filter-append}
 use Rattle.std.proofs.lemmas.Slice.Eq.{bytes_eq-Decides}
 use Rattle.events.specs.declared.answer.Item.{Item}
-use Rattle.events.specs.declared.answer.Item.TheVariants.{Entered, Full}
+use Rattle.events.specs.declared.answer.Item.TheVariants.{Entered, Full, MapTooLong}
 use Rattle.world_subscriptions.specs.Limit.{is_entry_for, has_entered, counted}
 use Rattle.world_rows.specs.declared.subscription.Subscription.{Subscription}
 use Rattle.hub.specs.Sound.{has_same_sid, is_below, is_to_receive}
@@ -44,51 +44,59 @@ count-one bound r n true is = here (nat_lt r bound) refl
 -- ---- whose an item is
 
 -- an item of another subscription isn't its own
-none-of : (s : Subscription) (conn : ℕ) (sid : List ℕ) (item : Item) (t : Subscription) → s.conn ≡ conn → s.sid ≡ sid → (item_names item ≡ names_of t) → ((conn == t.conn) && pointwise nat_eq sid t.sid) ≡ false → is_entry_for s item ≡ false
+none-of : (s : Subscription) (conn : ℕ) (sid : List ℕ) (item : Item) (t : Subscription) → s.conn ≡ conn → s.sid ≡ sid → (item_names item ≡ Some (names_of t)) → ((conn == t.conn) && pointwise nat_eq sid t.sid) ≡ false → is_entry_for s item ≡ false
 none-of s conn sid (Entered c b) t same_conn same_sid names apart =
+    let same : (c, b) ≡ names_of t = cc in
     ap (λ n. (n == c) && pointwise nat_eq s.sid b) same_conn
     ∙ ap (λ x. (conn == c) && pointwise nat_eq x b) same_sid
-    ∙ ap (λ (n : ℕ × List ℕ). (conn == n.0) && pointwise nat_eq sid n.1) names
+    ∙ ap (λ (n : ℕ × List ℕ). (conn == n.0) && pointwise nat_eq sid n.1) same
     ∙ apart
 none-of s conn sid (Full c b) t same_conn same_sid names apart = refl
+none-of s conn sid (MapTooLong row) t same_conn same_sid names apart = refl
 
 and-both : (a b : Bool) → (a && b) ≡ true → (a ≡ true) × (b ≡ true)
 and-both true b h = (refl, h)
 and-both false b h = absurd (cc)
 
 -- whose an item is
-is-of : (s : Subscription) (item : Item) (t : Subscription) → item_names item ≡ names_of t → is_entry_for s item ≡ true → (s.conn ≡ t.conn) × (s.sid ≡ t.sid)
+is-of : (s : Subscription) (item : Item) (t : Subscription) → item_names item ≡ Some (names_of t) → is_entry_for s item ≡ true → (s.conn ≡ t.conn) × (s.sid ≡ t.sid)
 is-of s (Entered c b) t names is =
+    let same : (c, b) ≡ names_of t = cc in
     let both = and-both (s.conn == c) (pointwise nat_eq s.sid b) is in (
-      eqb-true s.conn c both.0 ∙ ap (λ (n : ℕ × List ℕ). n.0) names,
-      (bytes_eq-Decides s.sid b).0 both.1 ∙ ap (λ (n : ℕ × List ℕ). n.1) names,
+      eqb-true s.conn c both.0 ∙ ap (λ (n : ℕ × List ℕ). n.0) same,
+      (bytes_eq-Decides s.sid b).0 both.1 ∙ ap (λ (n : ℕ × List ℕ). n.1) same,
     )
 is-of s (Full c b) t names is = absurd (cc)
+is-of s (MapTooLong row) t names is = absurd (cc)
+
+-- the subscriptions that items name
+abbrev pub named : Subscription → Option (ℕ × List ℕ)
+named sub = Some (names_of sub)
 
 -- where one is its own, the others aren't
-others : (s x : Subscription) (subs : List Subscription) (items : List Item) → map item_names items ≡ map names_of subs → s.conn ≡ x.conn → s.sid ≡ x.sid → All (λ t. has_same_sid x t ≡ false) subs → has_entered items s ≡ false
+others : (s x : Subscription) (subs : List Subscription) (items : List Item) → map item_names items ≡ map named subs → s.conn ≡ x.conn → s.sid ≡ x.sid → All (λ t. has_same_sid x t ≡ false) subs → has_entered items s ≡ false
 others s x subs [] names same_conn same_sid apart = refl
 others s x [] (i ∷ items) names same_conn same_sid apart = absurd (cc)
 others s x (t ∷ subs) (i ∷ items) names same_conn same_sid apart =
-    let first : item_names i ≡ names_of t = cc in
-    let rest : map item_names items ≡ map names_of subs = cc in
+    let first : item_names i ≡ named t = cc in
+    let rest : map item_names items ≡ map named subs = cc in
     ap (λ b. b || has_entered items s) (none-of s x.conn x.sid i t same_conn same_sid first (All-head (λ y. has_same_sid x y ≡ false) t subs apart))
     ∙ others s x subs items rest same_conn same_sid (All-tail (λ y. has_same_sid x y ≡ false) t subs apart)
 
 -- of the items of one view one at most is its own
-pub once : (s : Subscription) (subs : List Subscription) (items : List Item) → map item_names items ≡ map names_of subs → AllPairs (λ x t. has_same_sid x t ≡ false) subs →
+pub once : (s : Subscription) (subs : List Subscription) (items : List Item) → map item_names items ≡ map named subs → AllPairs (λ x t. has_same_sid x t ≡ false) subs →
     times_entered items s ≡ cond (has_entered items s) 1 0
 once s subs [] names apart = refl
 once s [] (i ∷ items) names apart = absurd (cc)
 once s (x ∷ subs) (i ∷ items) names apart =
-    let first : item_names i ≡ names_of x = cc in
-    let rest : map item_names items ≡ map names_of subs = cc in
+    let first : item_names i ≡ named x = cc in
+    let rest : map item_names items ≡ map named subs = cc in
     here (is_entry_for s i) first rest refl (once s subs items rest (AllPairs-tail (λ y t. has_same_sid y t ≡ false) x subs apart))
   where
     found : List Item
     found = filter (is_entry_for s) items
 
-    here : (b : Bool) → item_names i ≡ names_of x → map item_names items ≡ map names_of subs → is_entry_for s i ≡ b → length found ≡ cond (has_entered items s) 1 0 →
+    here : (b : Bool) → item_names i ≡ named x → map item_names items ≡ map named subs → is_entry_for s i ≡ b → length found ≡ cond (has_entered items s) 1 0 →
         length (cond b (i ∷ found) found) ≡ cond (b || has_entered items s) 1 0
     here false first rest is later = later
     here true first rest is later =
@@ -100,7 +108,7 @@ once s (x ∷ subs) (i ∷ items) names apart =
 -- ---- counting more
 
 -- items that were told before, and then these
-times-append : (told items : List Item) (s : Subscription) → times_entered (told ++ items) s ≡ times_entered told s + times_entered items s
+pub times-append : (told items : List Item) (s : Subscription) → times_entered (told ++ items) s ≡ times_entered told s + times_entered items s
 times-append told items s =
     ap (λ (l : List Item). length l) (filter-append (is_entry_for s) told items) ∙ length-append (filter (is_entry_for s) told) (filter (is_entry_for s) items)
 
@@ -115,6 +123,7 @@ received-none s few = ap (λ n. record s { received = n }) (min-eq_right (omega 
 entry-again : (told : List Item) (s : Subscription) (item : Item) → is_entry_for (received_more told s) item ≡ is_entry_for s item
 entry-again told s (Entered conn sid) = refl
 entry-again told s (Full conn sid) = refl
+entry-again told s (MapTooLong row) = refl
 
 entered-again : (told items : List Item) (s : Subscription) → has_entered items (received_more told s) ≡ has_entered items s
 entered-again told [] s = refl

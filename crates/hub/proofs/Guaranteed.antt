@@ -33,7 +33,7 @@ use Rattle.world_subscriptions.specs.Limit.{unended, limit_of, limited}
 use Rattle.world_rows.specs.declared.subscription.Subscription.{Subscription}
 use Rattle.world.specs.World.{World, advanced}
 use Rattle.world.specs.Granting.{or_granted, verdict_on, counted_on, ended_on}
-use Rattle.world.specs.Routing.{View, views}
+use Rattle.imports.specs.declared.view.ViewItem.{ViewItem}
 use Rattle.world_routing.proofs.Publishing.{same_met}
 use Rattle.world.specs.Transition.{IsReasoned, IsRefusal, connected, subscribed, unsubscribed, published, taken, closed, in_session, in_new_session, moved, numbered, transition}
 use Rattle.hub.specs.Sound.{IsSound, user_at, account_of, may_subscribe, HasAllowance}
@@ -52,7 +52,7 @@ use Rattle.hub.proofs.Sent.{receives-keeps, setting_of, is_setting, is_part}
 use Rattle.world_deliveries.proofs.Changes.{only, with_session-map}
 use Rattle.hub.proofs.Deliveries.{sent, receives_of, outboxes, with_room}
 use Rattle.hub.proofs.Entering.{received-keeps}
-use Rattle.hub.proofs.Views.{Setting, standing, parts_of, told_of, standing-first, published-is, sessions-are, items-are, parts-views, each-part, each-in}
+use Rattle.hub.proofs.Views.{Setting, standing, views_of, parts_of, told_of, standing-first, published-is, sessions-are, items-are, items-of, parts-views, each-part, each-in}
 
 -- where the tables turn a command away
 abbrev turns_away : World → Command → HubRefusal → Bool
@@ -242,13 +242,13 @@ pub-keeps w now conn m word sound = by_session (session_of w.sessions conn) refl
 
     -- the message on its way, whatever its views are
     setting : Session → Setting
-    setting z = setting_of w now conn z word
+    setting z = setting_of w now conn z m word
 
     ss : By → Session → List Sending
-    ss by z = sendings (parts_of (setting z) by m)
+    ss by z = sendings m (parts_of (setting z) by)
 
     items : By → Session → List Item
-    items by z = told_of (setting z) by m
+    items by z = told_of (setting z) by
 
     after : By → Session → World
     after by z = next w now (map (receives_of later by conn m.subject (ss by z)) w.sessions) (standing (setting z) (items by z))
@@ -260,8 +260,8 @@ pub-keeps w now conn m word sound = by_session (session_of w.sessions conn) refl
         let own : z.conn ≡ conn = eqb-true z.conn conn (find-passes (λ (y : Session). y.conn == conn) w.sessions z at) in
         let ys : List Session = counted_on by z.conn m.subject w.sessions in
         let all : List Addressed = map (sent w.sessions) (ss by z) in
-        ap (λ (r : Outcome × World). numbered (w.number + 1) (Ok r)) (published-is (setting z) (is_setting w now conn z word sound at) (standing-first (setting z) sound.counts sound.limits) by m)
-        ∙ ap (λ (zs : List Session). Ok (Published by (items by z), next w now (ended_on by z.conn m.subject zs) (standing (setting z) (items by z)))) (sym (sessions-are (setting z) [] ys (views z.user.account m)))
+        ap (λ (r : Outcome × World). numbered (w.number + 1) (Ok r)) (published-is (setting z) (is_setting w now conn z m word sound at) (standing-first (setting z) sound.counts sound.limits) by)
+        ∙ ap (λ (zs : List Session). Ok (Published by (items by z), next w now (ended_on by z.conn m.subject zs) (standing (setting z) (items by z)))) (sym (sessions-are (setting z) [] ys (views_of (setting z))))
         ∙ ap (λ (zs : List Session). Ok (Published by (items by z), next w now zs (standing (setting z) (items by z))))
         (ap (λ n. ended_on by n m.subject (delivered later all (counted_on by n m.subject w.sessions)).0) own
         ∙ outboxes later conn m.subject (ss by z) w.sessions by sound.connections)
@@ -270,15 +270,16 @@ pub-keeps w now conn m word sound = by_session (session_of w.sessions conn) refl
     is_sent : (by : By) (z : Session) → session_of w.sessions conn ≡ Some z → IsSent w later by conn m word z.user.account (items by z) (after by z).sessions
     is_sent by z at =
         let ys : List Session = counted_on by z.conn m.subject w.sessions in
-        let vs : List View = views z.user.account m in
+        let vs : List ViewItem = views_of (setting z) in
         record {
-          parts = parts_of (setting z) by m;
+          parts = parts_of (setting z) by;
           in_views = parts-views (setting z) [] ys vs;
-          each = each-part (λ told p. IsPart w conn word told p) [] (parts_of (setting z) by m) (each-in (λ told p. IsPart w conn word told p) (setting z) (is_part w now conn z word sound) [] ys vs);
+          each = each-part (λ told p. IsPart w conn word told p) [] (parts_of (setting z) by) (each-in (λ told p. IsPart w conn word told p) (setting z) (is_part w now conn z m word sound) [] ys vs);
           items_are = refl;
           delivered = record {
             with_room = λ c.
-                ap (items_of c) (sym (items-are (setting z) [] ys vs) ∙ same_met by z.conn m.subject later (map (sent w.sessions) (ss by z)) w.sessions)
+                items-of c (items by z)
+                ∙ ap (items_of c) (sym (items-are (setting z) [] ys vs) ∙ same_met by z.conn m.subject later (map (sent w.sessions) (ss by z)) w.sessions)
                 ∙ with_room w.sessions later (ss by z) w.sessions c;
             outboxes = refl;
           };

@@ -4,7 +4,7 @@ use Rattle.std.specs.List.{flat_map}
 use Rattle.std.specs.Cmp.Lexicographic.{pointwise}
 use Rattle.events.specs.declared.event.Command.TheVariants.{Sub}
 use Rattle.events.specs.declared.answer.Item.{Item}
-use Rattle.events.specs.declared.answer.Item.TheVariants.{Entered, Full}
+use Rattle.events.specs.declared.answer.Item.TheVariants.{Entered, Full, MapTooLong}
 use Rattle.events.specs.declared.answer.Entry.{Entry}
 use Rattle.events.specs.declared.answer.Outcome.TheVariants.{Subscribed}
 use Rattle.world_rows.specs.declared.subscription.Subscription.{Subscription}
@@ -14,6 +14,7 @@ use Rattle.world.specs.Changes.{items_in}
 abbrev pub is_entered_for : ℕ → List ℕ → Item → Bool
 is_entered_for conn sid (Entered c s) = (conn == c) && pointwise nat_eq sid s
 is_entered_for conn sid (Full c s) = false
+is_entered_for conn sid (MapTooLong row) = false
 
 -- the items that an entry tells
 abbrev pub items_told : Entry → List Item

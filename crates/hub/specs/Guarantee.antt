@@ -18,7 +18,7 @@ use Rattle.events.specs.declared.event.Command.{Command}
 use Rattle.events.specs.declared.event.Command.TheVariants.{Connect, Sub, Unsub, Pub, Take, Close, Reload}
 use Rattle.events.specs.declared.answer.Delivery.{Delivery}
 use Rattle.events.specs.declared.answer.Item.{Item}
-use Rattle.events.specs.declared.answer.Item.TheVariants.{Entered, Full}
+use Rattle.events.specs.declared.answer.Item.TheVariants.{Entered, Full, MapTooLong}
 use Rattle.events.specs.declared.answer.Outcome.{Outcome}
 use Rattle.events.specs.declared.answer.Outcome.TheVariants.{Connected, AuthViolation, Subscribed, SameSid, SubLimit, Denied, Unsubscribed, Published, Taken, Closed, Reloaded}
 use Rattle.events.specs.declared.answer.Entry.{Entry}
@@ -31,7 +31,10 @@ use Rattle.world_subscriptions.specs.Limit.{limited, is_entry_for}
 use Rattle.world_rows.specs.declared.subscription.Subscription.{Subscription}
 use Rattle.queue_choice.specs.Choices.{chosen}
 use Rattle.world.specs.World.{World}
-use Rattle.world.specs.Routing.{View, views}
+use Rattle.imports.specs.Views.{views}
+use Rattle.imports.specs.declared.view.ViewItem.{ViewItem}
+use Rattle.imports.specs.declared.view.ViewItem.TheVariants.{At, TooLong}
+use Rattle.world.specs.Routing.{under_subject}
 use Rattle.world_groups.specs.Served.{is_member, members}
 use Rattle.world_subscriptions.specs.Addressing.{delivery_to}
 use Rattle.hub.specs.Sound.{IsSound, user_at, may_subscribe, HasAllowance, is_to_receive}
@@ -139,10 +142,10 @@ times_entered items sub = length (filter (is_entry_for sub) items)
 abbrev pub received_more : List Item → Subscription → Subscription
 received_more items sub = record sub { received = min (2 ^ 64 - 1) (sub.received + times_entered items sub) }
 
--- the subscriptions that a message may be sent to in a view, oldest first: those that are still to receive, once what
--- earlier views of the same message have told is counted
-abbrev pub eligible : World → ℕ → List Item → View → List Subscription
-eligible w conn told v = filter (λ (sub : Subscription). is_for w conn v.account v.message.subject sub && is_to_receive (received_more told sub)) w.subscriptions
+-- the subscriptions that a message may be sent to in an account on a subject, oldest first: those that are still to receive,
+-- once what earlier views of the same message have told is counted
+abbrev pub eligible : World → ℕ → List Item → List ℕ → List Token → List Subscription
+eligible w conn told account s = filter (λ (sub : Subscription). is_for w conn account s sub && is_to_receive (received_more told sub)) w.subscriptions
 
 -- a subscription of no queue group
 abbrev pub is_plain : Subscription → Bool
@@ -191,44 +194,64 @@ found_full sub = Full sub.conn sub.sid
 abbrev pub items_with_room : ℕ → List Subscription → List Item
 items_with_room room subs = map entered (take room subs) ++ map found_full (drop room subs)
 
--- the connection and the id that an item names
-abbrev pub item_names : Item → ℕ × List ℕ
-item_names (Entered conn sid) = (conn, sid)
-item_names (Full conn sid) = (conn, sid)
+-- the connection and the id that an item names, if it is of a delivery
+abbrev pub item_names : Item → Option (ℕ × List ℕ)
+item_names (Entered conn sid) = Some (conn, sid)
+item_names (Full conn sid) = Some (conn, sid)
+item_names (MapTooLong row) = None
 
 abbrev pub names_of : Subscription → ℕ × List ℕ
 names_of sub = (sub.conn, sub.sid)
 
+abbrev pub is_at : ℕ → Option (ℕ × List ℕ) → Bool
+is_at conn None = false
+is_at conn (Some names) = names.0 == conn
+
 -- the items of one connection
 abbrev pub items_of : ℕ → List Item → List Item
-items_of conn items = filter (λ (item : Item). (item_names item).0 == conn) items
+items_of conn items = filter (λ (item : Item). is_at conn (item_names item)) items
 
--- What one view of a message gives: whom it is for there, and what is told of each.
+-- What one view of a message gives: to whom, and what is told of it.
 pub record Part : Type 0 where
-  pub view : View
+  pub view : ViewItem
   pub subs : List Subscription
   pub items : List Item
 
--- A view gives the message to those that it is for, and to nobody else; `told` is what earlier views of it have told.
-pub record IsPart (w : World) (conn word : ℕ) (told : List Item) (p : Part) : Type 0 where
+-- In an account, on a subject, the message goes to those that it is for, and to nobody else; `told` is what its earlier views
+-- have told.
+pub record IsGivenTo (w : World) (conn word : ℕ) (told : List Item) (account : List ℕ) (s : List Token) (subs : List Subscription) (items : List Item) : Type 0 where
   -- those that it is for, of those that it may be sent to: the plain ones and one of each queue group
-  pub served : AreServed word (eligible w conn told p.view) p.subs
+  pub served : AreServed word (eligible w conn told account s) subs
   -- which of the standing subscriptions may be sent it, is decided with reason
-  pub reasons : All (IsReasonedFor w p.view.message.subject) w.subscriptions
+  pub reasons : All (IsReasonedFor w s) w.subscriptions
   -- each of them has one item, oldest first, and nobody else has one
-  pub one_each : map item_names p.items ≡ map names_of p.subs
+  pub one_each : map item_names items ≡ map (λ (sub : Subscription). Some (names_of sub)) subs
 
--- A message under the names of a view, for a subscription.
+-- A view in an account gives the message to those that it is for there. An import row that the message doesn't cross is
+-- reported once, and gives it to nobody.
+abbrev pub IsGiven : World → ℕ → ℕ → List Item → ViewItem → List Subscription → List Item → Type 0
+IsGiven w conn word told (At account s way) subs items = IsGivenTo w conn word told account s subs items
+IsGiven w conn word told (TooLong row) subs items = (subs ≡ []) × (items ≡ MapTooLong row ∷ [])
+
+abbrev pub IsPart : World → ℕ → ℕ → List Item → Part → Type 0
+IsPart w conn word told p = IsGiven w conn word told p.view p.subs p.items
+
+-- A message, as it is seen in a view, for a subscription.
 pub record Sending : Type 0 where
   pub message : Message
   pub to : Subscription
 
-abbrev pub sendings_in : Part → List Sending
-sendings_in p = map (λ (sub : Subscription). record { message = p.view.message; to = sub }) p.subs
+-- the message as it is seen in a view: under the view's subject
+abbrev pub seen_in : ViewItem → Message → Message
+seen_in (At account s way) m = under_subject s m
+seen_in (TooLong row) m = m
 
--- what is sent in these parts, the first first, and in each the oldest subscription first
-abbrev pub sendings : List Part → List Sending
-sendings parts = flat_map sendings_in parts
+abbrev pub sendings_in : Message → Part → List Sending
+sendings_in m p = map (λ (sub : Subscription). record { message = seen_in p.view m; to = sub }) p.subs
+
+-- what is sent of a message in these parts, the first first, and in each the oldest subscription first
+abbrev pub sendings : Message → List Part → List Sending
+sendings m parts = flat_map (sendings_in m) parts
 
 -- what is sent to a connection
 abbrev pub sent_to : ℕ → List Sending → List Sending
@@ -247,16 +270,17 @@ pub record IsDelivered (w : World) (now : ℕ) (by : By) (publisher : ℕ) (subj
   -- and these deliveries are what came into the outboxes, and what was noted
   pub outboxes : after ≡ map (λ (z : Session). receives now by publisher subject (map delivery_of (sent_to z.conn ss)) z) w.sessions
 
--- A message that a user of the account has published: what each of its views gives, and what comes of all.
+-- A message that a user of the account has published: what each of its views gives, by the policy in force, and what comes of
+-- all.
 pub record IsSent (w : World) (now : ℕ) (by : By) (conn : ℕ) (m : Message) (word : ℕ) (account : List ℕ) (items : List Item) (after : List Session) : Type 0 where
   pub parts : List Part
   -- each view of the message, in order, and no other
-  pub in_views : map (λ (p : Part). p.view) parts ≡ views account m
-  -- each gives what it gives behind what those before it have told
+  pub in_views : map (λ (p : Part). p.view) parts ≡ views w.policy account m.subject
+  -- each is given behind what those before it have told
   pub each : (before : List Part) (p : Part) (later : List Part) → parts ≡ before ++ p ∷ later → IsPart w conn word (flat_map (λ (q : Part). q.items) before) p
   -- what is told is what they tell
   pub items_are : items ≡ flat_map (λ (p : Part). p.items) parts
-  pub delivered : IsDelivered w now by conn m.subject (sendings parts) items after
+  pub delivered : IsDelivered w now by conn m.subject (sendings m parts) items after
 
 -- ---- what a step does
 

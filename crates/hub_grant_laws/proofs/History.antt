@@ -24,7 +24,7 @@ use Rattle.events.specs.declared.event.Command.{Command}
 use Rattle.events.specs.declared.event.Command.TheVariants.{Connect, Sub, Unsub, Pub, Take, Close, Reload}
 use Rattle.events.specs.declared.answer.Entry.{Entry}
 use Rattle.events.specs.declared.answer.Item.{Item}
-use Rattle.events.specs.declared.answer.Item.TheVariants.{Entered, Full}
+use Rattle.events.specs.declared.answer.Item.TheVariants.{Entered, Full, MapTooLong}
 use Rattle.events.specs.declared.answer.Outcome.{Outcome}
 use Rattle.events.specs.declared.answer.Outcome.TheVariants.{Connected, AuthViolation, Subscribed, SameSid, SubLimit, Denied, Unsubscribed, Published, Taken, Closed, Reloaded}
 use Rattle.events.specs.declared.refusal.HubRefusal.{HubRefusal}
@@ -39,7 +39,10 @@ use Rattle.world_rows.specs.declared.subscription.Subscription.{Subscription}
 use Rattle.world.specs.World.{World, opening_world, advanced}
 use Rattle.world.specs.Changes.{items_in}
 use Rattle.world.specs.Granting.{verdict_on, counted_on, ended_on}
-use Rattle.world.specs.Routing.{own_view, views}
+use Rattle.imports.specs.Views.{views}
+use Rattle.imports.specs.declared.view.ViewItem.{ViewItem}
+use Rattle.imports.specs.declared.view.ViewItem.TheVariants.{At, TooLong}
+use Rattle.world_routing.specs.Handing.{of_deliveries}
 use Rattle.world.specs.Reload.{removal_after}
 use Rattle.world.specs.Transition.{connected, subscribed, unsubscribed, published, taken, closed, in_session, in_new_session, moved, numbered, entry_with}
 use Rattle.hub.specs.History.{IsEntry, IsLegalRun}
@@ -50,10 +53,11 @@ use Rattle.hub.specs.Replies.{is_by_grant, is_response as is_counted}
 use Rattle.hub.proofs.Finds.{find-passes, find-none, AllPairs-head, AllPairs-tail}
 use Rattle.hub.proofs.Grants.{not-false, kept_none, kept_later, kept_after, kept_judged}
 use Rattle.hub.proofs.Soundness.{IsApart, HasTable}
+use Rattle.hub.proofs.Views.{items-of}
 use Rattle.hub.proofs.Deliveries.{sent, found, receives_of, outboxes, items_after, with_room}
 use Rattle.hub_grant_laws.specs.Noted.{is_reply, asks_on, is_entered_at, responds_by, ends_for, latest, IsNoted, AreNoted}
 use Rattle.hub_grant_laws.proofs.Noted.{HasReply, latest-more, after-publish, after-other, after-judged}
-use Rattle.hub_grant_laws.proofs.Sends.{Start, IsOf, told_behind, sends}
+use Rattle.hub_grant_laws.proofs.Sends.{Start, IsOf, sends}
 
 -- ---- what an entry tells of deliveries
 
@@ -61,6 +65,7 @@ use Rattle.hub_grant_laws.proofs.Sends.{Start, IsOf, told_behind, sends}
 abbrev is_entering : Item → Bool
 is_entering (Entered c sid) = true
 is_entering (Full c sid) = false
+is_entering (MapTooLong row) = false
 
 any-own : (conn : ℕ) (items : List Item) → list_any (is_entered_at conn) items ≡ list_any is_entering (items_of conn items)
 any-own conn [] = refl
@@ -76,6 +81,7 @@ any-own conn (Full c sid ∷ items) = here (c == conn) (any-own conn items)
         list_any (is_entered_at conn) items ≡ list_any is_entering (cond b (Full c sid ∷ items_of conn items) (items_of conn items))
     here true rest = rest
     here false rest = rest
+any-own conn (MapTooLong row ∷ items) = any-own conn items
 
 none-full : (subs : List Subscription) → list_any is_entering (map found_full subs) ≡ false
 none-full [] = refl
@@ -92,8 +98,9 @@ abbrev AsksOn : Option (List Token) → Sending → Type 0
 AsksOn reply s = s.message.reply ≡ reply
 
 -- each view of a message has the reply that was published
-own_replies : (account : List ℕ) (m : Message) → All (IsOf (AsksOn m.reply)) (views account m)
-own_replies account m = All-cons (IsOf (AsksOn m.reply)) (own_view account m) [] (λ s. refl) (All-nil (IsOf (AsksOn m.reply)))
+own_replies : (m : Message) (v : ViewItem) → IsOf (AsksOn m.reply) m v
+own_replies m (At account subject way) s = refl
+own_replies m (TooLong row) s = refl
 
 -- ---- the connections that a reload reports gone
 
@@ -346,17 +353,18 @@ module _ (es : List Entry) (w : World) (now : ℕ) (t : Told es w.moment w.sessi
       denied : (v : Verdict) → Leaves c (Denied v) w.sessions
       denied v = same c (Denied v) (λ n. record { lasts = refl; request = λ s. and-false (asks_on s c); answer = λ s. refl })
 
-      entered-is : (ss : List Sending) (items : List Item) (z : Session) → items ≡ items_after w.sessions M ss w.sessions → session_of w.sessions z.conn ≡ Some z →
+      entered-is : (ss : List Sending) (items : List Item) (z : Session) → of_deliveries items ≡ items_after w.sessions M ss w.sessions → session_of w.sessions z.conn ≡ Some z →
           list_any (is_entered_at z.conn) items ≡ nat_lt 0 (length (take (room_in (Some z)) (map delivery_of (sent_to z.conn ss))))
       entered-is ss items z met_is at =
           any-own z.conn items
           ∙ ap (list_any is_entering) (
-          ap (items_of z.conn) met_is
+          items-of z.conn items
+          ∙ ap (items_of z.conn) met_is
           ∙ with_room w.sessions M ss w.sessions z.conn
           ∙ ap (λ o. items_with_room (room_in o) (map receiver (sent_to z.conn ss))) at)
           ∙ any-room (room_in (Some z)) (sent_to z.conn ss)
 
-      leaves-sent : (by : By) (sender : ℕ) (ss : List Sending) (items : List Item) → sender ≡ conn → items ≡ items_after w.sessions M ss w.sessions → All (AsksOn m.reply) ss →
+      leaves-sent : (by : By) (sender : ℕ) (ss : List Sending) (items : List Item) → sender ≡ conn → of_deliveries items ≡ items_after w.sessions M ss w.sessions → All (AsksOn m.reply) ss →
           Leaves c (Published by items) (map (receives_of M by sender m.subject ss) w.sessions)
       leaves-sent by sender ss items sender_is met_is asks number epoch =
           let a : Entry = told number epoch now c (Published by items) in
@@ -381,12 +389,12 @@ module _ (es : List Entry) (w : World) (now : ℕ) (t : Told es w.moment w.sessi
       by_verdict : (z : Session) (v : Verdict) → z.conn ≡ conn → Keeps c (numbered (w.number + 1) (Ok (published (advanced w now) z m word v)))
       by_verdict z (Allowed by) sender_is =
           let begin : Start = record { before = w.sessions; begun = counted_on by z.conn m.subject w.sessions; world = advanced w now } in
-          let of = sends (AsksOn m.reply) begin z word [] w.subscriptions (views z.user.account m) (own_replies z.user.account m) in
-          let items : List Item = told_behind begin [] of.ss in
+          let of = sends (AsksOn m.reply) begin z m word [] w.subscriptions (views w.policy z.user.account m.subject) (own_replies m) in
+          let items : List Item = of.items in
           let finished : List Item × World → Outcome × World = λ r. (Published by r.0, record r.1 { sessions = ended_on by z.conn m.subject r.1.sessions }) in
           subst (λ (r : Outcome × World). Keeps c (numbered (w.number + 1) (Ok r))) (sym (ap finished of.is))
           (subst (Leaves c (Published by items)) (sym (outboxes M z.conn m.subject of.ss w.sessions by t.apart))
-          (leaves-sent by z.conn of.ss items sender_is (same_met by z.conn m.subject M (map (sent w.sessions) of.ss) w.sessions) of.each))
+          (leaves-sent by z.conn of.ss items sender_is (of.met ∙ same_met by z.conn m.subject M (map (sent w.sessions) of.ss) w.sessions) of.each))
       by_verdict z (DeniedBy i) from = denied (DeniedBy i)
       by_verdict z NoAllow from = denied NoAllow
       by_verdict z (NoQueueAllow i) from = denied (NoQueueAllow i)

@@ -37,7 +37,8 @@ use Rattle.world_subscriptions.specs.Limit.{unended, limited}
 use Rattle.world_rows.specs.declared.subscription.Subscription.{Subscription}
 use Rattle.world.specs.World.{World, advanced}
 use Rattle.world.specs.Granting.{or_granted, verdict_on, counted_on, ended_on}
-use Rattle.world.specs.Routing.{views, may_hear, lets_through}
+use Rattle.imports.specs.Views.{views}
+use Rattle.world.specs.Routing.{may_hear, lets_through}
 use Rattle.world.specs.Reload.{user_after, verdict_for, may_stand, stands_on, removal, removal_after}
 use Rattle.world.specs.Transition.{connected, subscribed, published, in_session, in_new_session, moved, numbered, transition}
 use Rattle.hub.specs.Replies.{is_response}
@@ -47,7 +48,7 @@ use Rattle.hub.proofs.Finds.{find-map, AllPairs-map}
 use Rattle.hub.proofs.Soundness.{IsApart, HasTable, tables-next}
 use Rattle.hub.proofs.Deliveries.{receives_of, outboxes, map-twice, map_same_on}
 use Rattle.hub_grant_laws.specs.Dropping.{with_live, settled, dropping, AreAlike, MakesNoDifference}
-use Rattle.hub_grant_laws.proofs.Sends.{Start, AreAs, sessions_behind, told_behind, world_behind, from, sent-as, send-alike}
+use Rattle.hub_grant_laws.proofs.Sends.{Start, AreAs, sessions_behind, world_behind, from, sent-as, send-alike}
 use Rattle.hub_grant_laws.proofs.Tables.{live_in, live_later, filter-map, after_same, judged_same, granted_same}
 
 -- ---- what is live later
@@ -290,8 +291,8 @@ module _ (w : World) (moment : ℕ) where
           let begin : Start = record { before = zs; begun = counted_on by z.conn m.subject zs; world = whole } in
           let us : List Session = counted_on by z.conn m.subject ts in
           let same = as_before M by z.conn m.subject whole z in
-          let of = send-alike begin z ts us (with_live M z) same word [] w.subscriptions (views z.user.account m) in
-          let items : List Item = told_behind begin [] of.ss in
+          let of = send-alike begin z ts us (with_live M z) same m word [] w.subscriptions (views w.policy z.user.account m.subject) in
+          let items : List Item = of.items in
           let xs : List Session = ended_on by z.conn m.subject (sessions_behind begin of.ss) in
           let ys : List Session = ended_on by z.conn m.subject (sessions_behind (from begin us) of.ss) in
           let finished : List Item × World → Outcome × World = λ r. (Published by r.0, record r.1 { sessions = ended_on by z.conn m.subject r.1.sessions }) in

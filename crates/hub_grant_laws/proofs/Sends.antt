@@ -2,9 +2,14 @@
 use Rattle.std.proofs.Common.{◌≡◌, ◌∙◌, ℕ, List, [], ◌∷◌, ◌++◌, map, filter, ap, sym, refl}
 use Rattle.std.specs.Prelude.{All}
 use Rattle.std.proofs.lemmas.List.{append_assoc, append-nil, append_cancel_left, map-append}
-use Rattle.std.proofs.lemmas.List.Elements.{All-nil, All-append, All-map, All-head, All-tail, filter_agree}
+use Rattle.std.proofs.lemmas.List.Elements.{All-nil, All-append, All-map, filter_agree, filter-append}
 use Rattle.events.specs.declared.answer.Addressed.{Addressed}
+use Rattle.events.specs.Messages.{Message}
 use Rattle.events.specs.declared.answer.Item.{Item}
+use Rattle.events.specs.declared.answer.Item.TheVariants.{MapTooLong}
+use Rattle.exports.specs.declared.document.Row.{Row}
+use Rattle.imports.specs.declared.view.ViewItem.{ViewItem}
+use Rattle.imports.specs.declared.view.ViewItem.TheVariants.{At, TooLong}
 use Rattle.world_deliveries.specs.Delivered.{delivered}
 use Rattle.world_deliveries.specs.Replying.{noted_for}
 use Rattle.world_deliveries.specs.declared.session.Session.{Session}
@@ -13,10 +18,11 @@ use Rattle.world_subscriptions.specs.Limit.{unended, counted}
 use Rattle.world_rows.specs.declared.subscription.Subscription.{Subscription}
 use Rattle.world_groups.specs.Served.{served}
 use Rattle.world.specs.World.{World}
-use Rattle.world.specs.Routing.{View, is_admitted, routed, in_views}
-use Rattle.hub.specs.Guarantee.{Sending}
+use Rattle.world.specs.Routing.{View, under_subject, view_of, is_admitted, routed, in_view, in_views}
+use Rattle.world_routing.specs.Handing.{is_of_delivery, of_deliveries}
+use Rattle.hub.specs.Guarantee.{Sending, seen_in}
 use Rattle.hub.proofs.Deliveries.{sent, map-twice}
-use Rattle.hub.proofs.Views.{in_view, delivered_first, delivered_items}
+use Rattle.hub.proofs.Views.{to_each, of-deliveries, delivered_first, delivered_items}
 
 -- what stays the same over the views: the sessions before the message, those with which the first view begins, and the
 -- world
@@ -46,9 +52,9 @@ more-told b done ss rest =
     ∙ sym (ap (λ (all : List Addressed). (delivered b.world.moment all (sessions_behind b done)).1) (map-append (sent b.before) ss rest)
     ∙ delivered_items b.world.moment (map (sent b.before) ss) (map (sent b.before) rest) (sessions_behind b done))
 
--- whom a view is for among these, by the sessions before
+-- whom a message is for in a view of it among these, by the sessions before
 abbrev pub whom : List Session → Session → ℕ → List Subscription → View → List Sending
-whom zs publisher word subs v = in_view v (served word (filter (is_admitted zs publisher v) subs))
+whom zs publisher word subs v = to_each v.message (served word (filter (is_admitted zs publisher v) subs))
 
 addressed-are : (zs : List Session) (publisher : Session) (word : ℕ) (subs : List Subscription) (v : View) →
     map (noted_for zs) (map (addressed_to v.message) (served word (filter (is_admitted zs publisher v) subs))) ≡ map (sent zs) (whom zs publisher word subs v)
@@ -65,50 +71,82 @@ routed-is b zs publisher word done ss subs v are =
     ap (λ (all : List Addressed). ((delivered b.world.moment all (sessions_behind b done)).1, record b.world { sessions = (delivered b.world.moment all (sessions_behind b done)).0; subscriptions = unended (map (counted (delivered b.world.moment all (sessions_behind b done)).1) subs) })) are
     ∙ ap (λ (ys : List Session). (told_behind b done ss, record b.world { sessions = ys; subscriptions = unended (map (counted (told_behind b done ss)) subs) })) (more-sessions b done ss)
 
+-- a row that the message doesn't cross sends nothing
+row-is : (b : Start) (done : List Sending) (subs : List Subscription) (row : Row) →
+    ◌≡◌ {A = List Item × World} (MapTooLong row ∷ [], world_behind b done subs) (MapTooLong row ∷ [], world_behind b (done ++ []) subs)
+row-is b done subs row = ap (λ (l : List Sending). (MapTooLong row ∷ [], world_behind b l subs)) (sym (append-nil done))
+
 -- and then the others
-and-then : (zs : List Session) (publisher : Session) (word : ℕ) (v : View) (vs : List View) (w next : World) (items : List Item) (rest : List Item × World) →
-    routed zs w publisher v word ≡ (items, next) → in_views zs next publisher word vs ≡ rest → in_views zs w publisher word (v ∷ vs) ≡ (items ++ rest.0, rest.1)
-and-then zs publisher word v vs w next items rest first others =
-    ap (λ (r : List Item × World). (r.0 ++ (in_views zs r.1 publisher word vs).0, (in_views zs r.1 publisher word vs).1)) first
+and-then : (zs : List Session) (publisher : Session) (m : Message) (word : ℕ) (v : ViewItem) (vs : List ViewItem) (w next : World) (items : List Item) (rest : List Item × World) →
+    in_view zs w publisher m word v ≡ (items, next) → in_views zs next publisher m word vs ≡ rest → in_views zs w publisher m word (v ∷ vs) ≡ (items ++ rest.0, rest.1)
+and-then zs publisher m word v vs w next items rest first others =
+    ap (λ (r : List Item × World). (r.0 ++ (in_views zs r.1 publisher m word vs).0, (in_views zs r.1 publisher m word vs).1)) first
     ∙ ap (λ (r : List Item × World). (items ++ r.0, r.1)) others
 
-joined : (b c : Start) (done ss rest : List Sending) (left : List Subscription) →
-    ◌≡◌ {A = List Item × World} (told_behind b done ss ++ told_behind b (done ++ ss) rest, world_behind c ((done ++ ss) ++ rest) left) (told_behind b done (ss ++ rest), world_behind c (done ++ (ss ++ rest)) left)
-joined b c done ss rest left =
-    ap (λ (l : List Item). (l, world_behind c ((done ++ ss) ++ rest) left)) (more-told b done ss rest)
-    ∙ ap (λ (l : List Sending). (told_behind b done (ss ++ rest), world_behind c l left)) (append_assoc done ss rest)
+-- what is told of deliveries, of one view and then of the others
+met-both : (b : Start) (done ss rest : List Sending) (items later : List Item) → of_deliveries items ≡ told_behind b done ss → of_deliveries later ≡ told_behind b (done ++ ss) rest →
+    of_deliveries (items ++ later) ≡ told_behind b done (ss ++ rest)
+met-both b done ss rest items later first others =
+    filter-append is_of_delivery items later
+    ∙ ap (λ (l : List Item). l ++ of_deliveries later) first
+    ∙ ap (λ (l : List Item). told_behind b done ss ++ l) others
+    ∙ more-told b done ss rest
+
+-- the world behind both
+behind-both : (b : Start) (done ss rest : List Sending) (items : List Item) (left : List Subscription) →
+    ◌≡◌ {A = List Item × World} (items, world_behind b ((done ++ ss) ++ rest) left) (items, world_behind b (done ++ (ss ++ rest)) left)
+behind-both b done ss rest items left = ap (λ (l : List Sending). (items, world_behind b l left)) (append_assoc done ss rest)
 
 -- ---- one world
 
--- what views send, each of which is so
-pub record Sends (Q : Sending → Type 0) (b : Start) (publisher : Session) (word : ℕ) (done : List Sending) (subs : List Subscription) (vs : List View) : Type 0 where
+-- what views send, each of which is so, and what is told of it
+pub record Sends (Q : Sending → Type 0) (b : Start) (publisher : Session) (m : Message) (word : ℕ) (done : List Sending) (subs : List Subscription) (vs : List ViewItem) : Type 0 where
   pub ss : List Sending
   pub each : All Q ss
   pub left : List Subscription
-  pub is : in_views b.before (world_behind b done subs) publisher word vs ≡ (told_behind b done ss, world_behind b (done ++ ss) left)
+  pub items : List Item
+  pub met : of_deliveries items ≡ told_behind b done ss
+  pub is : in_views b.before (world_behind b done subs) publisher m word vs ≡ (items, world_behind b (done ++ ss) left)
 
--- of each view all is so that it can send
-abbrev pub IsOf : (Sending → Type 0) → View → Type 0
-IsOf Q v = (s : Subscription) → Q record { message = v.message; to = s }
+-- of a view all is so that it can send
+abbrev pub IsOf : (Sending → Type 0) → Message → ViewItem → Type 0
+IsOf Q m v = (s : Subscription) → Q record { message = seen_in v m; to = s }
 
-pub sends : (Q : Sending → Type 0) (b : Start) (publisher : Session) (word : ℕ) (done : List Sending) (subs : List Subscription) (vs : List View) → All (IsOf Q) vs → Sends Q b publisher word done subs vs
-sends Q b publisher word done subs [] of = record {
+-- a view that sends these, and then the others
+sends-then : (Q : Sending → Type 0) (b : Start) (publisher : Session) (m : Message) (word : ℕ) (done ss : List Sending) (subs left : List Subscription) (items : List Item) (v : ViewItem) (vs : List ViewItem) →
+    All Q ss → of_deliveries items ≡ told_behind b done ss → in_view b.before (world_behind b done subs) publisher m word v ≡ (items, world_behind b (done ++ ss) left) →
+    Sends Q b publisher m word (done ++ ss) left vs → Sends Q b publisher m word done subs (v ∷ vs)
+sends-then Q b publisher m word done ss subs left items v vs each met is rest = record {
+  ss = ss ++ rest.ss;
+  each = All-append Q ss rest.ss each rest.each;
+  left = rest.left;
+  items = items ++ rest.items;
+  met = met-both b done ss rest.ss items rest.items met rest.met;
+  is = and-then b.before publisher m word v vs _ _ _ _ is rest.is ∙ behind-both b done ss rest.ss (items ++ rest.items) rest.left;
+}
+
+pub sends : (Q : Sending → Type 0) (b : Start) (publisher : Session) (m : Message) (word : ℕ) (done : List Sending) (subs : List Subscription) (vs : List ViewItem) → ((v : ViewItem) → IsOf Q m v) →
+    Sends Q b publisher m word done subs vs
+sends Q b publisher m word done subs [] of = record {
   ss = [];
   each = All-nil Q;
   left = subs;
+  items = [];
+  met = refl;
   is = ap (λ (l : List Sending). ([], world_behind b l subs)) (sym (append-nil done));
 }
-sends Q b publisher word done subs (v ∷ vs) of =
+sends Q b publisher m word done subs (At account subject way ∷ vs) of =
+    let v : View = view_of account subject m in
     let first : List Sending = whom b.before publisher word subs v in
-    let rest = sends Q b publisher word (done ++ first) (unended (map (counted (told_behind b done first)) subs)) vs (All-tail (IsOf Q) v vs of) in
-    record {
-      ss = first ++ rest.ss;
-      each = All-append Q first rest.ss (All-map Q (λ (s : Subscription). record { message = v.message; to = s }) (served word (filter (is_admitted b.before publisher v) subs)) (λ k d h. All-head (IsOf Q) v vs of _)) rest.each;
-      left = rest.left;
-      is =
-          and-then b.before publisher word v vs _ _ _ _ (routed-is b b.before publisher word done first subs v (addressed-are b.before publisher word subs v)) rest.is
-          ∙ joined b b done first rest.ss rest.left;
-    }
+    let items : List Item = told_behind b done first in
+    let left : List Subscription = unended (map (counted items) subs) in
+    sends-then Q b publisher m word done first subs left items (At account subject way) vs
+    (All-map Q (λ (s : Subscription). record { message = under_subject subject m; to = s }) (served word (filter (is_admitted b.before publisher v) subs)) (λ k d h. of (At account subject way) _))
+    (of-deliveries b.before b.world.moment first (sessions_behind b done))
+    (routed-is b b.before publisher word done first subs v (addressed-are b.before publisher word subs v))
+    (sends Q b publisher m word (done ++ first) left vs of)
+sends Q b publisher m word done subs (TooLong row ∷ vs) of =
+    sends-then Q b publisher m word done [] subs subs (MapTooLong row ∷ []) (TooLong row) vs (All-nil Q) refl (row-is b done subs row) (sends Q b publisher m word (done ++ []) subs vs of)
 
 -- ---- two of them
 
@@ -129,7 +167,7 @@ whom-as : (b : Start) (publisher : Session) (ts us : List Session) (other : Sess
     map (noted_for ts) (map (addressed_to v.message) (served word (filter (is_admitted ts other v) subs))) ≡ map (sent b.before) (whom b.before publisher word subs v)
 whom-as b publisher ts us other same word subs v =
     addressed-are ts other word subs v
-    ∙ ap (λ (some : List Subscription). map (sent ts) (in_view v (served word some))) (filter_agree (is_admitted ts other v) (is_admitted b.before publisher v) (same.admits v) subs)
+    ∙ ap (λ (some : List Subscription). map (sent ts) (to_each v.message (served word some))) (filter_agree (is_admitted ts other v) (is_admitted b.before publisher v) (same.admits v) subs)
     ∙ sent-as b publisher ts us other same (whom b.before publisher word subs v)
 
 told-as : (b : Start) (publisher : Session) (ts us : List Session) (other : Session) → AreAs b publisher ts us other → (done ss : List Sending) → told_behind (from b us) done ss ≡ told_behind b done ss
@@ -141,33 +179,45 @@ told-as b publisher ts us other same done ss =
     (sym (delivered_items now front back us) ∙ same.meets (front ++ back) ∙ delivered_items now front back b.begun ∙ ap (λ (l : List Item). l ++ told_behind b done ss) (sym (same.meets front)))
 
 -- they send the same, tell the same of it, and leave the same subscriptions
-pub record SendAlike (b : Start) (publisher : Session) (ts us : List Session) (other : Session) (word : ℕ) (done : List Sending) (subs : List Subscription) (vs : List View) : Type 0 where
+pub record SendAlike (b : Start) (publisher : Session) (ts us : List Session) (other : Session) (m : Message) (word : ℕ) (done : List Sending) (subs : List Subscription) (vs : List ViewItem) : Type 0 where
   pub ss : List Sending
   pub left : List Subscription
-  pub is : in_views b.before (world_behind b done subs) publisher word vs ≡ (told_behind b done ss, world_behind b (done ++ ss) left)
-  pub also : in_views ts (world_behind (from b us) done subs) other word vs ≡ (told_behind b done ss, world_behind (from b us) (done ++ ss) left)
+  pub items : List Item
+  pub is : in_views b.before (world_behind b done subs) publisher m word vs ≡ (items, world_behind b (done ++ ss) left)
+  pub also : in_views ts (world_behind (from b us) done subs) other m word vs ≡ (items, world_behind (from b us) (done ++ ss) left)
 
-pub send-alike : (b : Start) (publisher : Session) (ts us : List Session) (other : Session) → AreAs b publisher ts us other → (word : ℕ) (done : List Sending) (subs : List Subscription) (vs : List View) →
-    SendAlike b publisher ts us other word done subs vs
-send-alike b publisher ts us other same word done subs [] = record {
+-- a view that sends these, and then the others
+alike-then : (b : Start) (publisher : Session) (ts us : List Session) (other : Session) (m : Message) (word : ℕ) (done ss : List Sending) (subs left : List Subscription) (items : List Item) (v : ViewItem) (vs : List ViewItem) →
+    in_view b.before (world_behind b done subs) publisher m word v ≡ (items, world_behind b (done ++ ss) left) →
+    in_view ts (world_behind (from b us) done subs) other m word v ≡ (items, world_behind (from b us) (done ++ ss) left) →
+    SendAlike b publisher ts us other m word (done ++ ss) left vs → SendAlike b publisher ts us other m word done subs (v ∷ vs)
+alike-then b publisher ts us other m word done ss subs left items v vs is also rest = record {
+  ss = ss ++ rest.ss;
+  left = rest.left;
+  items = items ++ rest.items;
+  is = and-then b.before publisher m word v vs _ _ _ _ is rest.is ∙ behind-both b done ss rest.ss (items ++ rest.items) rest.left;
+  also = and-then ts other m word v vs _ _ _ _ also rest.also ∙ behind-both (from b us) done ss rest.ss (items ++ rest.items) rest.left;
+}
+
+pub send-alike : (b : Start) (publisher : Session) (ts us : List Session) (other : Session) → AreAs b publisher ts us other → (m : Message) (word : ℕ) (done : List Sending) (subs : List Subscription) (vs : List ViewItem) →
+    SendAlike b publisher ts us other m word done subs vs
+send-alike b publisher ts us other same m word done subs [] = record {
   ss = [];
   left = subs;
+  items = [];
   is = ap (λ (l : List Sending). ([], world_behind b l subs)) (sym (append-nil done));
   also = ap (λ (l : List Sending). ([], world_behind (from b us) l subs)) (sym (append-nil done));
 }
-send-alike b publisher ts us other same word done subs (v ∷ vs) =
+send-alike b publisher ts us other same m word done subs (At account subject way ∷ vs) =
+    let v : View = view_of account subject m in
     let first : List Sending = whom b.before publisher word subs v in
-    let rest = send-alike b publisher ts us other same word (done ++ first) (unended (map (counted (told_behind b done first)) subs)) vs in
-    record {
-      ss = first ++ rest.ss;
-      left = rest.left;
-      is =
-          and-then b.before publisher word v vs _ _ _ _ (routed-is b b.before publisher word done first subs v (addressed-are b.before publisher word subs v)) rest.is
-          ∙ joined b b done first rest.ss rest.left;
-      also =
-          and-then ts other word v vs _ _ _ _
-          (routed-is (from b us) ts other word done first subs v (whom-as b publisher ts us other same word subs v)
-          ∙ ap (λ (l : List Item). (l, world_behind (from b us) (done ++ first) (unended (map (counted l) subs)))) (told-as b publisher ts us other same done first))
-          rest.also
-          ∙ joined b (from b us) done first rest.ss rest.left;
-    }
+    let items : List Item = told_behind b done first in
+    let left : List Subscription = unended (map (counted items) subs) in
+    alike-then b publisher ts us other m word done first subs left items (At account subject way) vs
+    (routed-is b b.before publisher word done first subs v (addressed-are b.before publisher word subs v))
+    (routed-is (from b us) ts other word done first subs v (whom-as b publisher ts us other same word subs v)
+    ∙ ap (λ (l : List Item). (l, world_behind (from b us) (done ++ first) (unended (map (counted l) subs)))) (told-as b publisher ts us other same done first))
+    (send-alike b publisher ts us other same m word (done ++ first) left vs)
+send-alike b publisher ts us other same m word done subs (TooLong row ∷ vs) =
+    alike-then b publisher ts us other m word done [] subs subs (MapTooLong row ∷ []) (TooLong row) vs (row-is b done subs row) (row-is (from b us) done subs row)
+    (send-alike b publisher ts us other same m word (done ++ []) subs vs)

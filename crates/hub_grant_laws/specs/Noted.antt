@@ -10,7 +10,7 @@ use Rattle.reply_grants.specs.Replies.{grants_of}
 use Rattle.events.specs.declared.event.Command.{Command}
 use Rattle.events.specs.declared.event.Command.TheVariants.{Pub, Close, Reload}
 use Rattle.events.specs.declared.answer.Item.{Item}
-use Rattle.events.specs.declared.answer.Item.TheVariants.{Entered, Full}
+use Rattle.events.specs.declared.answer.Item.TheVariants.{Entered, Full, MapTooLong}
 use Rattle.events.specs.declared.answer.Entry.{Entry}
 use Rattle.events.specs.declared.answer.Outcome.{Outcome}
 use Rattle.events.specs.declared.answer.Outcome.TheVariants.{Published, Closed, Reloaded}
@@ -38,6 +38,7 @@ asks_on s _ = false
 abbrev pub is_entered_at : ℕ → Item → Bool
 is_entered_at conn (Entered c sid) = c == conn
 is_entered_at conn (Full c sid) = false
+is_entered_at conn (MapTooLong row) = false
 
 -- a request: a message that asks for a response on the subject has entered for the connection
 abbrev pub is_request : ℕ → List Token → Entry → Bool

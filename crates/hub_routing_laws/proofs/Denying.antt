@@ -19,7 +19,6 @@ use Rattle.events.specs.declared.answer.Outcome.{Outcome}
 use Rattle.events.specs.declared.answer.Outcome.TheVariants.{Connected, AuthViolation, Subscribed, SameSid, SubLimit, Denied, Unsubscribed, Published, Taken, Closed, Reloaded}
 use Rattle.world_rows.specs.declared.subscription.Subscription.{Subscription}
 use Rattle.world.specs.World.{World}
-use Rattle.world.specs.Routing.{View}
 use Rattle.hub.specs.Sound.{user_at, may_subscribe}
 use Rattle.hub.specs.Guarantee.{IsEffect, HasReason, IsAllowance, accepts, allows, may_receive}
 use Rattle.hub_routing_laws.specs.Reach.{IsAdmitted, IsDeliveryToAdmitted}
@@ -118,21 +117,21 @@ none_denies test deny allowed = here (list_any test deny) refl
     here true some = let no : false ≡ true = sym (ap is_allowed (is_denied test deny (Allowed AllowsAll) some)) ∙ allowed in absurd (cc)
     here false some = refl
 
-undenied : (w : World) (conn : ℕ) (account : List ℕ) (m : Message) (v : View) (sub : Subscription) → IsAdmitted w conn account m v sub → IsUndenied w v.message.subject sub
-undenied w conn account m v sub admitted = here (user_at w sub.conn) (back _ _ admitted.may)
+undenied : (w : World) (conn : ℕ) (account : List ℕ) (m : Message) (into : List ℕ) (local : List Token) (sub : Subscription) → IsAdmitted w conn account m into local sub → IsUndenied w local sub
+undenied w conn account m into local sub admitted = here (user_at w sub.conn) (back _ _ admitted.may)
   where
-    here : (o : Option User) → may_receive v.account v.message.subject sub.queue o ≡ true →
-        IsSomeAnd o (λ (u : User). list_any (λ (d : ListEntry). is_entry_for sub.queue d && in_set d.subject v.message.subject) u.rules.subscribe.deny ≡ false)
+    here : (o : Option User) → may_receive into local sub.queue o ≡ true →
+        IsSomeAnd o (λ (u : User). list_any (λ (d : ListEntry). is_entry_for sub.queue d && in_set d.subject local) u.rules.subscribe.deny ≡ false)
     here None h = absurd (cc)
-    here (Some u) h = none_denies (λ (d : ListEntry). is_entry_for sub.queue d && in_set d.subject v.message.subject) u.rules.subscribe.deny
-        (back (pointwise nat_eq u.account v.account) (is_allowed (delivery_verdict u.rules v.message.subject sub.queue)) h)
+    here (Some u) h = none_denies (λ (d : ListEntry). is_entry_for sub.queue d && in_set d.subject local) u.rules.subscribe.deny
+        (back (pointwise nat_eq u.account into) (is_allowed (delivery_verdict u.rules local sub.queue)) h)
 
 delivery_undenied : (w : World) (conn : ℕ) (account : List ℕ) (m : Message) (to : ℕ) (d : Delivery) → IsDeliveryToAdmitted w conn account m to d → IsDeliveryToUndenied w to d
 delivery_undenied w conn account m to d is =
-    (is.1, is.2.stood, is.3, sym (ap (λ (x : Delivery). x.sid) is.4), subst (λ (x : Delivery). IsUndenied w x.message.subject is.1) (sym is.4) (undenied w conn account m is.0 is.1 is.2))
+    (is.2, is.3.stood, is.4, sym (ap (λ (x : Delivery). x.sid) is.5), subst (λ (x : Delivery). IsUndenied w x.message.subject is.2) (sym is.5) (undenied w conn account m is.0 is.1 is.2 is.3))
 
 pub deny_overrides_delivery : DenyOverridesDelivery
-deny_overrides_delivery = weaker _ _ (λ w after conn u m items reaches. new_weaker (IsDeliveryToAdmitted w conn u.account m) (IsDeliveryToUndenied w) w.sessions after.sessions (delivery_undenied w conn u.account m) reaches.sent) nothing_unadmitted
+deny_overrides_delivery = weaker _ _ (λ w after conn u m items valid reaches. new_weaker (IsDeliveryToAdmitted w conn u.account m) (IsDeliveryToUndenied w) w.sessions after.sessions (delivery_undenied w conn u.account m) reaches.sent) nothing_unadmitted
 
 -- ---- what is denied
 

@@ -1,4 +1,5 @@
 mod Lists
+mod Seen
 mod Reaching
 mod Denying
 mod Reloading

@@ -1,3 +1,4 @@
+pub mod Seen
 pub mod Reach
 pub mod Denied
 pub mod Standing

@@ -1,6 +1,7 @@
 //! What follows from the routing guarantee of each step.
 ghost use Rattle.hub_routing_laws.specs.Denied.{DenyOverridesPublish, DenyOverridesSubscribe, DenyOverridesDelivery, DeniedReachesNobody};
-ghost use Rattle.hub_routing_laws.specs.Reach.{NothingUnadmitted, ReachesItsViews, StaysInAccount, OneOfEachGroup};
+ghost use Rattle.hub_routing_laws.specs.Reach.{NothingUnadmitted, NobodyLeftOut, ReachesItsViews, AccountsApart, OneOfEachGroup};
+ghost use Rattle.hub_routing_laws.specs.Seen.{SeenByRows, ReportedByRows, RowsPair};
 ghost use Rattle.hub_routing_laws.specs.Standing.{RefusedChangesNothing, ReloadLeavesNoneRefused};
 
 /// Tells that of a user's lists a deny entry wins over every allow entry. A publish that one has the subject of is denied,
@@ -12,10 +13,16 @@ pub fn deny_overrides()
     ensures delivery { DenyOverridesDelivery }
 {}
 
-/// Tells that what isn't admitted reaches nobody. Each item, and each delivery that comes into an outbox, is for a
-/// subscription that stood before and may be sent the message in one of its views.
+/// Tells that what isn't admitted reaches nobody. Each item of a delivery, and each delivery that comes into an outbox, is
+/// for a subscription that stood before and may be sent the message in one of its views.
 pub fn nothing_unadmitted()
     ensures { NothingUnadmitted }
+{}
+
+/// Tells that nobody is left out. Who may be sent a message in one of its views, for a subscription of no queue group and
+/// without a limit, has an item.
+pub fn nobody_left_out()
+    ensures { NobodyLeftOut }
 {}
 
 /// Tells that of each queue group with a member that may be sent a message exactly one has an item, in each view.
@@ -33,11 +40,28 @@ pub fn reload_leaves_none_refused()
     ensures { ReloadLeavesNoneRefused }
 {}
 
-/// Tells that a message reaches sessions of those accounts alone for which it has a view, and that its only view is that
-/// of the publisher's account.
+/// Tells that a message reaches sessions of those accounts alone in which it has a view, and there under the view's subject.
+pub fn reaches_its_views()
+    ensures { ReachesItsViews }
+{}
+
+/// Tells that a message has a view exactly in its publisher's account, on the published subject, and where an import row
+/// takes it. The row stands in the policy in force, and an export of the publisher's account admits it. A row is reported
+/// exactly where the subject that it makes would be too long.
+pub fn seen_by_rows()
+    ensures seen { SeenByRows }
+    ensures reported { ReportedByRows }
+{}
+
+/// Tells that a concrete subject and the one that a row makes of it are a pair of the row's mapping, if that is a mapping.
+pub fn rows_pair()
+    ensures { RowsPair }
+{}
+
+/// Tells that a message of an account reaches sessions of that account, and a session of another one through an import row of
+/// that one alone, which an export of the first admits.
 pub fn accounts_apart()
-    ensures views { ReachesItsViews }
-    ensures own { StaysInAccount }
+    ensures { AccountsApart }
 {}
 
 /// Tells that a publish that is denied reaches nobody: no session, outbox or subscription changes.
