@@ -1,0 +1,4 @@
+pub mod Closed
+pub mod Smallest
+pub mod Places
+pub mod Printed
