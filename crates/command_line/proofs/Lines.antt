@@ -1,7 +1,7 @@
 -- What a line is read as, from what clap says of it.
 use Rattle.std.proofs.Common.{refl, sym, ap, subst, Bool, true, false, not, List, codes, [], ◌∷◌, ◌≡◌, ◌==◌, ◌∙◌, ◌⊎◌, ℕ, inl, inr, Option, Some, None, Ok, Err, Result, ◌&&◌, rules}
 use Rattle.std.specs.Prelude.{string_bytes, option_map, is_some, find, if◌then◌else◌}
-use Rattle.clap.specs.Words.{App, HasKind, IsAmong, Kinds, Row, Shape, Text, HasMatchesOf, built, fault_of, is_simple, is_simple_and_free, kind_of, subcommand_of, subcommand_rows_of}
+use Rattle.clap.specs.Words.{App, HasKind, IsAmong, Kinds, Row, Shape, Text, HasMatchesOf, built, fault_of, first_of, is_simple, is_simple_and_free, kind_of, subcommand_of, subcommand_rows_of}
 use Rattle.clap.specs.Simple.{entered, rows_at, label_of, argument_words, names_of}
 use Rattle.clap.specs.Walk.{Held, Names, answers_to, finished, nothing_held, settled, stop_after, walk, walk_from}
 use Rattle.clap.specs.Faults.{check_fault, defaults_fault, entered_fault, level_fault, settle_fault, walk_fault}
@@ -14,10 +14,13 @@ use Rattle.clap.specs.declared.error.kind.ErrorKind.{ErrorKind}
 use Rattle.clap.specs.declared.error.kind.ErrorKind.TheVariants.{DisplayHelp, DisplayVersion, InvalidSubcommand, MissingSubcommand, OutOfMemory, UnknownArgument}
 use Rattle.clap.specs.declared.parser.matches.ArgMatches.{ArgMatches}
 use Rattle.clap.proofs.OnLiterals.{clap_on_literals}
+use Rattle.command_line.specs.declared.options.LogChoice.{LogChoice}
 use Rattle.command_line.specs.declared.options.ServeOptions.{ServeOptions}
 use Rattle.command_line.specs.declared.words.Invocation.{Invocation}
+use Rattle.command_line.specs.declared.options.LogChoice.TheVariants.{Denials}
 use Rattle.command_line.specs.declared.words.Invocation.TheVariants as invocation
-use Rattle.command_line.specs.declared.words.Task.TheVariants.{Play, Check, Explain, BadKind, Help, Version}
+use Rattle.command_line.specs.declared.words.Task.{Task}
+use Rattle.command_line.specs.declared.words.Task.TheVariants.{Play, Check, Sets, Explain, BadKind, BadLog, Help, Version}
 use Rattle.command_line.specs.declared.words.WordsFault.{WordsFault}
 use Rattle.command_line.specs.declared.words.WordsFault.TheVariants.{WrongLine, NoMemory}
 use Rattle.std.specs.Str.{bytes_eq}
@@ -25,10 +28,10 @@ use Rattle.std.specs.Str.Parse.{digits_value, without_leading_plus}
 use Rattle.clap.specs.Lexer.{strip_byte}
 use Rattle.clap.specs.Words.{IsUnsignedIn}
 use Rattle.clap.specs.declared.builder.value_parser.Reading.TheVariants.{AsWritten}
-use Rattle.clap.specs.declared.parser.matches.ValueSource.TheVariants.{DefaultValue}
+use Rattle.clap.specs.declared.parser.matches.ValueSource.TheVariants.{CommandLine, DefaultValue}
 use Rattle.command_line.specs.Options.{AreDefaults, IsOptions, IsNumberIn, default_listen, most_connections, most_history}
 use Rattle.command_line.specs.Question.{Word}
-use Rattle.command_line.specs.Words.{natsd_app, kinds_of, found_in, is_mistake, names_task, on_policy, IsFound, IsInvokedBy, IsReading, IsRefusal, IsServeOrMemory, IsServing, IsTaskOrMemory, IsUnknown, IsWrongOrMemory}
+use Rattle.command_line.specs.Words.{checking, natsd_app, kinds_of, found_in, is_mistake, names_task, on_policy, IsFound, IsInvokedBy, IsReading, IsRefusal, IsServeOrMemory, IsServing, IsTaskOrMemory, IsUnknown, IsWrongOrMemory}
 
 simple_and_free : is_simple_and_free natsd_app ≡ true
 unfolding clap_on_literals
@@ -110,16 +113,24 @@ plays : (name : Text) → (kinds_of (name ∷ codes "play" ∷ []) ≡ []) × (f
 unfolding clap_on_literals
 plays name = (refl, refl)
 
-checks : (name : Text) → (kinds_of (name ∷ codes "check" ∷ []) ≡ []) × (found_in (name ∷ codes "check" ∷ []) ≡ Some (codes "check", []))
-unfolding clap_on_literals
-checks name = (refl, refl)
-
 -- what the options are, where none is given
 abbrev default_row : Text → Text → Row
 default_row id value = record { id = id; values = value ∷ []; count = None; source = Some DefaultValue; reading = AsWritten }
 
+-- `check` has one that is not given, or is
+checks : (name : Text) → (kinds_of (name ∷ codes "check" ∷ []) ≡ []) × (found_in (name ∷ codes "check" ∷ []) ≡ Some (codes "check", default_row (codes "sets") (codes "false") ∷ []))
+unfolding clap_on_literals
+checks name = (refl, refl)
+
+abbrev given_row : Text → Text → Row
+given_row id value = record { id = id; values = value ∷ []; count = None; source = Some CommandLine; reading = AsWritten }
+
+asks_sets : (name : Text) → (kinds_of (name ∷ codes "check" ∷ codes "--sets" ∷ []) ≡ []) × (found_in (name ∷ codes "check" ∷ codes "--sets" ∷ []) ≡ Some (codes "check", given_row (codes "sets") (codes "true") ∷ []))
+unfolding clap_on_literals
+asks_sets name = (refl, refl)
+
 abbrev default_rows : List Row
-default_rows = default_row (codes "listen") default_listen ∷ default_row (codes "workers") (codes "2") ∷ default_row (codes "outbox") (codes "1024") ∷ default_row (codes "history") (codes "1000000") ∷ default_row (codes "history-bytes") (codes "268435456") ∷ default_row (codes "connections") (codes "8192") ∷ []
+default_rows = default_row (codes "listen") default_listen ∷ default_row (codes "workers") (codes "2") ∷ default_row (codes "outbox") (codes "1024") ∷ default_row (codes "history") (codes "1000000") ∷ default_row (codes "history-bytes") (codes "268435456") ∷ default_row (codes "connections") (codes "8192") ∷ default_row (codes "log") (codes "denials") ∷ []
 
 serves : (name : Text) → (kinds_of (name ∷ codes "serve" ∷ []) ≡ []) × (found_in (name ∷ codes "serve" ∷ []) ≡ Some (codes "serve", default_rows))
 unfolding clap_on_literals
@@ -181,8 +192,10 @@ by_kind k kinds found (Ok (invocation.Serve options)) h p = absurd p
 by_kind k kinds found (Ok (invocation.OnFile task file)) h p = absurd p
 by_kind k kinds found (Ok (invocation.Task Play)) h p = absurd p
 by_kind k kinds found (Ok (invocation.Task Check)) h p = absurd p
+by_kind k kinds found (Ok (invocation.Task Sets)) h p = absurd p
 by_kind k kinds found (Ok (invocation.Task (Explain question))) h p = absurd p
 by_kind k kinds found (Ok (invocation.Task BadKind)) h p = absurd p
+by_kind k kinds found (Ok (invocation.Task BadLog)) h p = absurd p
 by_kind k kinds found (Ok (invocation.Task (Help text))) h p = inr (among k DisplayHelp kinds (λ e. absurd (cc)) h p)
 by_kind k kinds found (Ok (invocation.Task (Version text))) h p = inr (among k DisplayVersion kinds (λ e. absurd (cc)) h p)
 by_kind k kinds found (Err (WrongLine text)) h p = (p.0, among k p.0 kinds (no_mistake p.0 p.2) h p.1, p.2)
@@ -202,8 +215,10 @@ refused_by kinds (invocation.Serve options) help version h = absurd h
 refused_by kinds (invocation.OnFile task file) help version h = absurd h
 refused_by kinds (invocation.Task Play) help version h = absurd h
 refused_by kinds (invocation.Task Check) help version h = absurd h
+refused_by kinds (invocation.Task Sets) help version h = absurd h
 refused_by kinds (invocation.Task (Explain question)) help version h = absurd h
 refused_by kinds (invocation.Task BadKind) help version h = absurd h
+refused_by kinds (invocation.Task BadLog) help version h = absurd h
 refused_by kinds (invocation.Task (Help text)) help version h = help h
 refused_by kinds (invocation.Task (Version text)) help version h = version h
 
@@ -216,19 +231,22 @@ play_if rows (Ok a) (inr h) = absurd (none_refused a h)
 play_if rows (Err (WrongLine text)) h = absurd h.1
 play_if rows (Err NoMemory) h = tt
 
-no_file : (a : Invocation) (file : Option Word) → a ≡ on_policy Check file → option_map string_bytes file ≡ None → a ≡ invocation.Task Check
-no_file a None e h = e
-no_file a (Some file) e h = absurd (cc)
+no_file : (task : Task) (a : Invocation) (file : Option Word) → a ≡ on_policy task file → option_map string_bytes file ≡ None → a ≡ invocation.Task task
+no_file task a None e h = e
+no_file task a (Some file) e h = absurd (cc)
 
-check_if : (r : Result Invocation WordsFault) → IsReading [] (Some (codes "check", [])) r → IsTaskOrMemory Check r
-check_if (Ok a) (inl h) = no_file a h.1.1.0 h.1.1.1 h.1.1.2
-check_if (Ok a) (inr h) = absurd (none_refused a h)
-check_if (Err (WrongLine text)) h = absurd h.1
-check_if (Err NoMemory) h = tt
+check_if : (task : Task) (rows : List Row) (r : Result Invocation WordsFault) → checking rows ≡ task → first_of (codes "policy") rows ≡ None → IsReading [] (Some (codes "check", rows)) r → IsTaskOrMemory task r
+check_if task rows (Ok a) asked free (inl h) = no_file task a h.1.1.0 (h.1.1.1 ∙ ap (λ (t : Task). on_policy t h.1.1.0) asked) (h.1.1.2 ∙ free)
+check_if task rows (Ok a) asked free (inr h) = absurd (none_refused a h)
+check_if task rows (Err (WrongLine text)) asked free h = absurd h.1
+check_if task rows (Err NoMemory) asked free h = tt
 
 -- each number is the one of its default's text
 number_is : (least most n m : ℕ) (t : Text) → IsNumberIn least most (Some t) n → IsUnsignedIn least most t → digits_value 10 (without_leading_plus t) ≡ m → n ≡ m
 number_is least most n m t h within e = h.read t refl within ∙ e
+
+some_same_choice : (x y : LogChoice) → Some x ≡ Some y → y ≡ x
+some_same_choice x y e = cc
 
 defaults : (o : ServeOptions) → IsOptions default_rows o → AreDefaults o
 defaults o h = record {
@@ -239,11 +257,12 @@ defaults o h = record {
   history = number_is 2 most_history o.history 1000000 (codes "1000000") h.history million refl;
   history_bytes = number_is 1048576 most_history o.history_bytes 268435456 (codes "268435456") h.history_bytes megabytes refl;
   connections = number_is 1 most_connections o.connections 8192 (codes "8192") h.connections eight_thousand refl;
+  log = some_same_choice _ _ h.log;
 }
 
 is_serving : (a : Invocation) → IsServing default_rows a → IsServeOrMemory AreDefaults (Ok a)
 is_serving (invocation.Serve options) h = defaults options h
-is_serving (invocation.Task task) h = h
+is_serving (invocation.Task task) h = let named : Some Denials ≡ None = h.1 in absurd (cc)
 is_serving (invocation.OnFile task file) h = h
 
 serve_if : (r : Result Invocation WordsFault) → IsReading [] (Some (codes "serve", default_rows)) r → IsServeOrMemory AreDefaults r
@@ -268,7 +287,11 @@ play_is_right words name r e p = play_if [] r (read_as words _ _ _ r e (plays na
 
 -- the words of `natsd check`
 pub check_is_right : (words : List Text) (name : Text) (r : Result Invocation WordsFault) → words ≡ name ∷ codes "check" ∷ [] → IsReading (kinds_of words) (found_in words) r → IsTaskOrMemory Check r
-check_is_right words name r e p = check_if r (read_as words _ _ _ r e (checks name).0 (checks name).1 p)
+check_is_right words name r e p = check_if Check (default_row (codes "sets") (codes "false") ∷ []) r refl refl (read_as words _ _ _ r e (checks name).0 (checks name).1 p)
+
+-- the words of `natsd check --sets`
+pub sets_is_right : (words : List Text) (name : Text) (r : Result Invocation WordsFault) → words ≡ name ∷ codes "check" ∷ codes "--sets" ∷ [] → IsReading (kinds_of words) (found_in words) r → IsTaskOrMemory Sets r
+sets_is_right words name r e p = check_if Sets (given_row (codes "sets") (codes "true") ∷ []) r refl refl (read_as words _ _ _ r e (asks_sets name).0 (asks_sets name).1 p)
 
 -- the words of `natsd serve`
 pub serve_is_right : (words : List Text) (name : Text) (r : Result Invocation WordsFault) → words ≡ name ∷ codes "serve" ∷ [] → IsReading (kinds_of words) (found_in words) r → IsServeOrMemory AreDefaults r

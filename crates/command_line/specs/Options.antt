@@ -1,10 +1,14 @@
 -- The options of `natsd serve` (docs/OPERATING.md, "Options"), in the words of clap's contracts.
-use Rattle.std.specs.Prelude.{◌≡◌, ◌≤◌, ℕ, false, List, [], ◌∷◌, Option, Some, None, codes, option_map, unwrap_or, string_bytes}
+use Rattle.std.specs.Prelude.{◌≡◌, ◌≤◌, ℕ, Bool, false, List, [], ◌∷◌, Option, Some, None, codes, if◌then◌else◌, option_map, unwrap_or, string_bytes}
+use Rattle.std.specs.Str.{bytes_eq}
 use Rattle.std.specs.Str.Parse.{digits_value, without_leading_plus}
 use Rattle.clap.specs.Words.{App, IsUnsignedIn, app_of, Row, Rule, Text, first_of, new_app, new_rule, one_of, with_rule}
+use Rattle.clap.specs.declared.builder.action.ArgAction.TheVariants.{SetTrue}
 use Rattle.clap.specs.declared.builder.command.Command.{Command}
 use Rattle.clap.specs.declared.builder.command.Command.TheViews.{out-Command}
 use Rattle.clap.specs.declared.builder.value_parser.ValueParser.TheVariants.{Unsigned}
+use Rattle.command_line.specs.declared.options.LogChoice.{LogChoice}
+use Rattle.command_line.specs.declared.options.LogChoice.TheVariants as log_choice
 use Rattle.command_line.specs.declared.options.ServeOptions.{ServeOptions}
 
 -- ---- what it takes
@@ -27,9 +31,13 @@ most_connections = 18446744073709551615
 abbrev pub policy_rule : Rule
 policy_rule = text_rule (codes "policy")
 
+-- an option that is given or not
+abbrev pub flag_rule : Text → Rule
+flag_rule id = record (new_rule id) { long = Some id; action = Some SetTrue }
+
 -- what `check` takes
 abbrev pub check_app : App
-check_app = with_rule (new_app (codes "check")) policy_rule
+check_app = with_rule (with_rule (new_app (codes "check")) policy_rule) (flag_rule (codes "sets"))
 
 abbrev pub listen_rule : Rule
 listen_rule = record (text_rule (codes "listen")) { defaults = default_listen ∷ [] }
@@ -49,14 +57,33 @@ history_bytes_rule = number_rule (codes "history-bytes") 1048576 most_history (c
 abbrev pub connections_rule : Rule
 connections_rule = number_rule (codes "connections") 1 most_connections (codes "8192")
 
+abbrev pub log_rule : Rule
+log_rule = record (text_rule (codes "log")) { defaults = codes "denials" ∷ [] }
+
 abbrev pub serve_app : App
-serve_app = with_rule (with_rule (with_rule (with_rule (with_rule (with_rule (with_rule (new_app (codes "serve")) policy_rule) listen_rule) workers_rule) outbox_rule) history_rule) history_bytes_rule) connections_rule
+serve_app = with_rule (with_rule (with_rule (with_rule (with_rule (with_rule (with_rule (with_rule (new_app (codes "serve")) policy_rule) listen_rule) workers_rule) outbox_rule) history_rule) history_bytes_rule) connections_rule) log_rule
 
 -- a command that is so, and has no option that those below it have too
 abbrev pub IsLocalApp : App → Command → Type 0
 IsLocalApp app command = (app_of command ≡ app) × ((out-Command command).has_globals ≡ false)
 
 -- ---- what its options say
+
+-- the word that was given for an option or for a place, or its default, or none
+abbrev pub word_at : Text → List Row → Text
+word_at id rows = unwrap_or (first_of id rows) []
+
+-- whether an option without a value was given
+abbrev pub is_set : Text → List Row → Bool
+is_set id rows = bytes_eq (word_at id rows) (codes "true")
+
+-- one of three words
+abbrev pub log_named : Text → Option LogChoice
+log_named word =
+    if bytes_eq word (codes "none") then Some log_choice.None
+    else if bytes_eq word (codes "denials") then Some log_choice.Denials
+    else if bytes_eq word (codes "all") then Some log_choice.All
+    else None
 
 -- a number within the bounds: the one of the text, where that is one
 pub record IsNumberIn (least most : ℕ) (text : Option Text) (n : ℕ) : Type 0 where
@@ -72,6 +99,12 @@ pub record IsOptions (rows : List Row) (o : ServeOptions) : Type 0 where
   pub history : IsNumberIn 2 most_history (one_of (codes "history") rows) o.history
   pub history_bytes : IsNumberIn 1048576 most_history (one_of (codes "history-bytes") rows) o.history_bytes
   pub connections : IsNumberIn 1 most_connections (one_of (codes "connections") rows) o.connections
+  pub log : log_named (word_at (codes "log") rows) ≡ Some o.log
+
+-- the options, or none where the word of `log` isn't known
+abbrev pub IsOptionsIf : List Row → Option ServeOptions → Type 0
+IsOptionsIf rows None = log_named (word_at (codes "log") rows) ≡ None
+IsOptionsIf rows (Some o) = IsOptions rows o
 
 -- a server can be opened with these
 pub record AreServable (o : ServeOptions) : Type 0 where
@@ -92,3 +125,4 @@ pub record AreDefaults (o : ServeOptions) : Type 0 where
   pub history : o.history ≡ 1000000
   pub history_bytes : o.history_bytes ≡ 268435456
   pub connections : o.connections ≡ 8192
+  pub log : o.log ≡ log_choice.Denials

@@ -4,6 +4,7 @@ use Rattle.std.specs.Prelude.{◌≡◌, List, String, [], codes, if◌then◌el
 use Rattle.std.specs.Str.{bytes_eq}
 use Rattle.clap.specs.Words.{App, Row, Rule, Text, first_of, new_app, new_rule, with_rule}
 use Rattle.command_line.specs.Options.{policy_rule}
+pub use Rattle.command_line.specs.Options.{word_at}
 use Rattle.command_line.specs.declared.question.Question.{Question}
 use Rattle.command_line.specs.declared.question.QuestionKind.{QuestionKind}
 use Rattle.command_line.specs.declared.question.QuestionKind.TheVariants.{Publish, Subscribe, Delivery, Path}
@@ -34,10 +35,6 @@ kind_named word =
     else if bytes_eq word (codes "delivery") then Some Delivery
     else if bytes_eq word (codes "path") then Some Path
     else None
-
--- the word that was given for a place, or none
-abbrev pub word_at : Text → List Row → Text
-word_at id rows = unwrap_or (first_of id rows) []
 
 -- a question of this kind, by the words
 pub record IsQuestion (rows : List Row) (named : QuestionKind) (q : Question) : Type 0 where

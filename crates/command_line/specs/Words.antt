@@ -1,11 +1,11 @@
 -- The command line of `natsd` (docs/SCRIPT.md, "Statuses"), in the words of clap's contracts.
-use Rattle.std.specs.Prelude.{◌≡◌, ◌⊎◌, ◌||◌, ⊤, ℕ, IsTrue, List, [], Bool, true, false, codes, Option, Some, None, option_map, Result, Ok, Err, string_bytes}
+use Rattle.std.specs.Prelude.{◌≡◌, ◌⊎◌, ◌||◌, ⊤, ℕ, IsTrue, List, [], Bool, true, false, codes, if◌then◌else◌, Option, Some, None, option_map, Result, Ok, Err, string_bytes}
 use Rattle.std.specs.Str.{bytes_eq}
 use Rattle.clap.specs.Lexer.{strip_byte}
 use Rattle.clap.specs.Words.{App, IsAmong, Kinds, Row, Text, fault_of, first_of, new_app, subcommand_of, with_subcommand}
 use Rattle.clap.specs.declared.error.kind.ErrorKind.{ErrorKind}
 use Rattle.clap.specs.declared.error.kind.ErrorKind.TheVariants.{DisplayHelp, DisplayVersion, OutOfMemory}
-use Rattle.command_line.specs.Options.{check_app, serve_app, IsOptions}
+use Rattle.command_line.specs.Options.{check_app, is_set, log_named, serve_app, IsOptions}
 use Rattle.command_line.specs.Question.{Word, explain_app, kind_named, word_at, IsQuestion}
 use Rattle.command_line.specs.declared.question.Question.{Question}
 use Rattle.command_line.specs.declared.question.QuestionKind.{QuestionKind}
@@ -13,7 +13,7 @@ use Rattle.command_line.specs.declared.options.ServeOptions.{ServeOptions}
 use Rattle.command_line.specs.declared.words.Invocation.{Invocation}
 use Rattle.command_line.specs.declared.words.Invocation.TheVariants as invocation
 use Rattle.command_line.specs.declared.words.Task.{Task}
-use Rattle.command_line.specs.declared.words.Task.TheVariants.{Play, Check, Explain, BadKind, Help, Version}
+use Rattle.command_line.specs.declared.words.Task.TheVariants.{Play, Check, Sets, Explain, BadKind, BadLog, Help, Version}
 use Rattle.command_line.specs.declared.words.WordsFault.{WordsFault}
 use Rattle.command_line.specs.declared.words.WordsFault.TheVariants.{WrongLine, NoMemory}
 
@@ -55,9 +55,13 @@ on_policy task (Some file) = invocation.OnFile task file
 abbrev pub IsPolicyFile : List Row → Option Word → Type 0
 IsPolicyFile rows file = option_map string_bytes file ≡ first_of (codes "policy") rows
 
+-- what is asked of a policy: its sets, where the option is given, or else how much it has
+abbrev pub checking : List Row → Task
+checking rows = if is_set (codes "sets") rows then Sets else Check
+
 -- a policy is to be checked
 abbrev pub IsCheck : List Row → Invocation → Type 0
-IsCheck rows a = (file : Option Word) × (a ≡ on_policy Check file) × IsPolicyFile rows file
+IsCheck rows a = (file : Option Word) × (a ≡ on_policy (checking rows) file) × IsPolicyFile rows file
 
 -- a question is to be answered, or its kind isn't known
 abbrev pub IsAskedIf : List Row → Option QuestionKind → Invocation → Type 0
@@ -68,10 +72,11 @@ IsAskedIf rows (Some kind) a =
 abbrev pub IsAskedBy : List Row → Invocation → Type 0
 IsAskedBy rows a = IsAskedIf rows (kind_named (word_at (codes "kind") rows)) a
 
--- clients are to be served, by the options
+-- clients are to be served, by the options, or what is to be told isn't known
 abbrev pub IsServing : List Row → Invocation → Type 0
 IsServing rows (invocation.Serve options) = IsOptions rows options
-IsServing rows _ = ⊥
+IsServing rows (invocation.Task task) = (task ≡ BadLog) × (log_named (word_at (codes "log") rows) ≡ None)
+IsServing rows (invocation.OnFile task file) = ⊥
 
 -- what a subcommand asks for
 abbrev pub IsInvokedIf : Bool → Bool → Bool → List Row → Invocation → Type 0

@@ -1,10 +1,10 @@
 // The options of `natsd serve` (docs/OPERATING.md, "Options"), and the policy's file of other commands.
 ghost use Rattle.std.specs.Prelude.{◌≡◌, ◌≤◌, false, IfOk, codes, option_map, string_bytes};
 ghost use Rattle.clap.specs.Words.{first_of, found_of, new_app, one_of, rows_of, rule_of};
-ghost use Rattle.command_line.specs.Options.{check_app, connections_rule, history_bytes_rule, history_rule, listen_rule, number_rule, outbox_rule, policy_rule, serve_app, text_rule, workers_rule, IsLocalApp, IsNumberIn, IsOptions};
+ghost use Rattle.command_line.specs.Options.{check_app, connections_rule, flag_rule, history_bytes_rule, history_rule, is_set, listen_rule, log_named, log_rule, number_rule, outbox_rule, policy_rule, serve_app, text_rule, workers_rule, word_at, IsLocalApp, IsNumberIn, IsOptionsIf};
 
 use clap::builder::ValueParser;
-use clap::{Arg, ArgMatches, Command};
+use clap::{Arg, ArgAction, ArgMatches, Command};
 use std::alloc::{AllocError, Global};
 
 /// What `natsd serve` is started with.
@@ -25,6 +25,19 @@ pub struct ServeOptions {
     pub history_bytes: u64,
     /// How many connections may be open, at least 1.
     pub connections: u64,
+    /// What is told on standard error of clients and policies.
+    pub log: LogChoice,
+}
+
+/// What is told on standard error.
+#[derive(Clone, Copy, Debug, PartialEq, Eq)]
+pub enum LogChoice {
+    /// Nothing.
+    None,
+    /// What was refused, who was closed for being slow, and what policies do.
+    Denials,
+    /// Connects and closings as well.
+    All,
 }
 
 const LISTEN: &str = "127.0.0.1:4222";
@@ -166,6 +179,20 @@ fn connections_option<'a>(alloc: Global) -> Arg<'a>
     )
 }
 
+/// What is told on standard error.
+fn log_option<'a>(alloc: Global) -> Arg<'a>
+    ensures rule { rule_of result ≡ log_rule }
+    ensures local { result.global ≡ false }
+{
+    text_option(
+        alloc,
+        "log",
+        "WHAT",
+        "What is told on standard error of clients and policies: none, denials or all",
+    )
+    .default_value("denials")
+}
+
 /// The file of the policy that `check` and `explain` take.
 pub(crate) fn policy_file_option<'a>(alloc: Global) -> Arg<'a>
     ensures rule { rule_of result ≡ policy_rule }
@@ -179,6 +206,17 @@ pub(crate) fn policy_file_option<'a>(alloc: Global) -> Arg<'a>
     )
 }
 
+/// An option that is given or not, without a value.
+fn flag<'a>(alloc: Global, id: &'a str, help: &'a str) -> Arg<'a>
+    ensures rule { rule_of result ≡ flag_rule id.entry.now }
+    ensures local { result.global ≡ false }
+{
+    Arg::new(alloc, id)
+        .long(id)
+        .action(ArgAction::SetTrue)
+        .help(help)
+}
+
 /// A command without options.
 pub(crate) fn local_command<'a>(alloc: Global, name: &'a str, about: &'a str) -> Command<'a>
     ensures { IsLocalApp (new_app name.entry.now) result }
@@ -186,7 +224,7 @@ pub(crate) fn local_command<'a>(alloc: Global, name: &'a str, about: &'a str) ->
     Command::new(alloc, name).about(about)
 }
 
-/// Returns the command `natsd check`, with the option that it takes.
+/// Returns the command `natsd check`, with the options that it takes.
 pub fn check_command<'a>(alloc: Global) -> Result<Command<'a>, AllocError>
     ensures { IfOk result (IsLocalApp check_app) }
 {
@@ -195,7 +233,12 @@ pub fn check_command<'a>(alloc: Global) -> Result<Command<'a>, AllocError>
         "check",
         "Checks a policy: prints how much it has or its first fault",
     )
-    .arg(policy_file_option(alloc))
+    .arg(policy_file_option(alloc))?
+    .arg(flag(
+        alloc,
+        "sets",
+        "Prints in place of that which accounts exchange messages, each set of them on a line",
+    ))
 }
 
 /// Returns the command `natsd serve`, with the options that it takes.
@@ -214,7 +257,8 @@ pub fn serve_command<'a>(alloc: Global) -> Result<Command<'a>, AllocError>
     .arg(outbox_option(alloc))?
     .arg(history_option(alloc))?
     .arg(history_bytes_option(alloc))?
-    .arg(connections_option(alloc))
+    .arg(connections_option(alloc))?
+    .arg(log_option(alloc))
 }
 
 /// The text that was given for an option, or its default.
@@ -232,6 +276,14 @@ pub(crate) fn text_in(
     }
 }
 
+/// Whether an option without a value was given.
+#[tactic(auto, using(crate::proofs::Rows::first_by_rows))]
+pub(crate) fn is_set(matches: &ArgMatches<'_>, id: &str) -> bool
+    ensures { result ≡ is_set id.now (rows_of (found_of matches.now)) }
+{
+    matches.get_str(id).unwrap_or("") == "true"
+}
+
 /// The number that was given for an option, or its default. Clap lets no other through than one within the bounds.
 #[tactic(auto, using(crate::proofs::Rows::one_by_rows))]
 fn number_in(matches: &ArgMatches<'_>, id: &str, least: u64, most: u64) -> u64
@@ -244,16 +296,42 @@ fn number_in(matches: &ArgMatches<'_>, id: &str, least: u64, most: u64) -> u64
         .clamp(least, most)
 }
 
-/// What the options of `natsd serve` say.
-pub fn options_of(alloc: Global, matches: &ArgMatches<'_>) -> Result<ServeOptions, AllocError>
-    ensures { IfOk result (IsOptions (rows_of (found_of matches.now))) }
+/// What is to be told, by the option `log` or its default, if its word is one that is known.
+#[tactic(auto, using(crate::proofs::Rows::first_by_rows))]
+fn log_in(matches: &ArgMatches<'_>) -> Option<LogChoice>
+    ensures { result ≡ log_named (word_at (codes "log") (rows_of (found_of matches.now))) }
 {
+    log_named(matches.get_str("log").unwrap_or(""))
+}
+
+/// What a word of the option `log` names, if it names something.
+fn log_named(word: &str) -> Option<LogChoice>
+    ensures { result ≡ log_named word.now }
+{
+    match word {
+        "none" => Some(LogChoice::None),
+        "denials" => Some(LogChoice::Denials),
+        "all" => Some(LogChoice::All),
+        _ => None,
+    }
+}
+
+/// What the options of `natsd serve` say, or nothing where the word of `log` isn't known.
+pub fn options_of(
+    alloc: Global,
+    matches: &ArgMatches<'_>,
+) -> Result<Option<ServeOptions>, AllocError>
+    ensures { IfOk result (IsOptionsIf (rows_of (found_of matches.now))) }
+{
+    let Some(log) = log_in(matches) else {
+        return Ok(None);
+    };
     let policy = text_in(alloc, matches, "policy")?;
     let listen = match text_in(alloc, matches, "listen")? {
         Some(listen) => listen,
         None => String::from_str(alloc, LISTEN)?,
     };
-    Ok(ServeOptions {
+    Ok(Some(ServeOptions {
         policy,
         listen,
         workers: number_in(matches, "workers", 1, MOST_WORKERS),
@@ -261,5 +339,6 @@ pub fn options_of(alloc: Global, matches: &ArgMatches<'_>) -> Result<ServeOption
         history: number_in(matches, "history", LEAST_HISTORY, u64::MAX),
         history_bytes: number_in(matches, "history-bytes", LEAST_BYTES, u64::MAX),
         connections: number_in(matches, "connections", LEAST_CONNECTIONS, u64::MAX),
-    })
+        log,
+    }))
 }

@@ -3,7 +3,7 @@ ghost use Rattle.std.specs.Prelude.{◌≡◌, ◌∷◌, [], ℕ, List, IfOk, c
 ghost use Rattle.clap.specs.Words.{app_of, kind_of};
 ghost use Rattle.clap.specs.declared.error.kind.ErrorKind.TheVariants.{OutOfMemory};
 
-use crate::options::{ServeOptions, check_command, options_of, serve_command, text_in};
+use crate::options::{ServeOptions, check_command, is_set, options_of, serve_command, text_in};
 use crate::question::{Question, explain_command, question_of};
 use clap::error::ErrorKind;
 use clap::{ArgMatches, Command, Error};
@@ -28,10 +28,14 @@ pub enum Task {
     Play,
     /// To check a policy.
     Check,
+    /// To say which accounts of a policy exchange messages.
+    Sets,
     /// To explain what a policy says to a question.
     Explain(Question),
     /// To say that a question is of no known kind.
     BadKind,
+    /// To say that the word of the option `log` isn't known.
+    BadLog,
     /// To show this help.
     Help(String),
     /// To show this version.
@@ -78,8 +82,10 @@ fn natsd_command<'a>(alloc: Global) -> Result<Command<'a>, AllocError>
 }
 
 ghost use Rattle.clap.specs.Words.{found_of, rows_of, subcommand_rows_of};
+ghost use Rattle.std.specs.Prelude.{if◌then◌else◌};
+ghost use Rattle.command_line.specs.declared.words.Task.TheVariants.{Sets, Check};
 ghost use Rattle.command_line.specs.Options.{AreDefaults};
-ghost use Rattle.command_line.specs.Words.{found_in, kinds_of, on_policy, IsAskedBy, IsInvokedAs, IsInvokedBy, IsReading, IsRefusal, IsServeOrMemory, IsTaskOrMemory, IsUnknown, IsWrongOrMemory};
+ghost use Rattle.command_line.specs.Words.{found_in, kinds_of, on_policy, IsAskedBy, IsCheck, IsInvokedAs, IsInvokedBy, IsReading, IsRefusal, IsServeOrMemory, IsServing, IsTaskOrMemory, IsUnknown, IsWrongOrMemory};
 
 /// What is made of a line for which clap gives no matches.
 fn read_refusal(alloc: Global, error: &Error) -> Result<Invocation, WordsFault>
@@ -100,17 +106,43 @@ fn invoked_as(alloc: Global, name: &str, options: &ArgMatches<'_>) -> Result<Inv
     ensures { IfOk result (IsInvokedAs name.now (rows_of (found_of options.now))) }
 {
     if name == "serve" {
-        return Ok(Invocation::Serve(options_of(alloc, options)?));
+        let served = served_by(alloc, options)?;
+        return Ok(served);
     }
     if name == "explain" {
         let asked = asked_by(alloc, options)?;
         return Ok(asked);
     }
     if name == "check" {
-        let policy = text_in(alloc, options, "policy")?;
-        return Ok(on_policy(Task::Check, policy));
+        let checked = checked_by(alloc, options)?;
+        return Ok(checked);
     }
     Ok(Invocation::Task(Task::Play))
+}
+
+/// What `serve` asks for, by its options.
+fn served_by(alloc: Global, options: &ArgMatches<'_>) -> Result<Invocation, AllocError>
+    ensures { IfOk result (IsServing (rows_of (found_of options.now))) }
+{
+    match options_of(alloc, options)? {
+        None => Ok(Invocation::Task(Task::BadLog)),
+        Some(options) => Ok(Invocation::Serve(options)),
+    }
+}
+
+/// What `check` asks for, by its options.
+fn checked_by(alloc: Global, options: &ArgMatches<'_>) -> Result<Invocation, AllocError>
+    ensures { IfOk result (IsCheck (rows_of (found_of options.now))) }
+{
+    let policy = text_in(alloc, options, "policy")?;
+    Ok(on_policy(checking(is_set(options, "sets")), policy))
+}
+
+/// What is asked of a policy, by whether its sets are.
+fn checking(sets: bool) -> Task
+    ensures { result ≡ (if sets then Sets else Check) }
+{
+    if sets { Task::Sets } else { Task::Check }
 }
 
 /// What `explain` asks for, by its arguments.
@@ -151,8 +183,9 @@ fn invoked_by(alloc: Global, matches: &ArgMatches<'_>) -> Result<Invocation, All
 /// The words are judged by clap: `play` asks for a script to be played, `check` for a policy to be checked, `explain` for
 /// what a policy says to a question, `serve` for clients to be served by its options, `--help`, `-h` and `play --help` for
 /// help, `--version` for the version. `check` and `explain` read the policy on standard input, or in the file that their
-/// option `--policy` names. Where they have the right number, the words of `explain` are a question; one of another kind
-/// than `publish`, `subscribe`, `delivery` and `path` asks for that to be said.
+/// option `--policy` names; `check` with the option `--sets` asks which accounts exchange messages. Where they have the right number, the words of `explain` are a question; one of another kind
+/// than `publish`, `subscribe`, `delivery` and `path` asks for that to be said, and so does another word of `serve`'s option
+/// `--log` than `none`, `denials` and `all`.
 /// `WrongLine` comes with clap's text where the line is another, such as one with no word behind the name, with one
 /// that is none of these or with a number out of its bounds; `NoMemory` where memory could not be had. No clause says
 /// what the texts are.
@@ -160,6 +193,7 @@ pub fn read_words<S: AsStr>(alloc: Global, words: &[S]) -> Result<Invocation, Wo
     ensures reading { IsReading (kinds_of (map S.text words.now)) (found_in (map S.text words.now)) result }
     ensures play { (name : List ℕ) → map S.text words.now ≡ name ∷ codes "play" ∷ [] → IsTaskOrMemory Task.Play result }
     ensures check { (name : List ℕ) → map S.text words.now ≡ name ∷ codes "check" ∷ [] → IsTaskOrMemory Task.Check result }
+    ensures sets { (name : List ℕ) → map S.text words.now ≡ name ∷ codes "check" ∷ codes "--sets" ∷ [] → IsTaskOrMemory Task.Sets result }
     ensures serve { (name : List ℕ) → map S.text words.now ≡ name ∷ codes "serve" ∷ [] → IsServeOrMemory AreDefaults result }
     ensures unknown { (name word : List ℕ) → map S.text words.now ≡ name ∷ word ∷ [] → IsUnknown word → IsWrongOrMemory result }
     ensures none { (name : List ℕ) → map S.text words.now ≡ name ∷ [] → IsWrongOrMemory result }

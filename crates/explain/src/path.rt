@@ -1,13 +1,16 @@
 //! The accounts that a published message is seen in.
-ghost use Rattle.std.specs.Prelude.{◌≡◌, ◌∷◌, ◌++◌, [], flat_map, IfOk, OnOk};
+ghost use Rattle.std.specs.Prelude.{◌≡◌, ◌++◌, flat_map, map, IfOk, OnOk};
 ghost use Rattle.std.specs.Option.{option_copied};
 ghost use Rattle.explain.specs.Fault.{Answers};
 ghost use Rattle.explain.specs.Lines.{kind_words, view_line};
-ghost use Rattle.explain.specs.Path.{account_named, own_view, path_of};
+ghost use Rattle.imports.specs.Views.{views};
+ghost use Rattle.explain.specs.Path.{account_named, kind_of, path_of, view_of};
 ghost use Rattle.explain.specs.declared.fault.ExplainFault.TheVariants as fault;
 
 use crate::ExplainFault;
 use base::{Items, NoMemory};
+use bytes::Bytes;
+use imports::{Rows, ViewItem, Way};
 use itoa::Buffer;
 use policy_doc::{NamedAccount, Policy};
 use std::alloc::Global;
@@ -46,7 +49,7 @@ pub enum ViewKind {
 }
 
 /// Returns the views of a message that is published in an account: where it is seen, under which subject, and by which
-/// import. There are no imports yet, so it is seen in its own account alone.
+/// import row; and the rows that don't take it, since its subject would be too long there.
 ///
 /// `NoSuchAccount` where no account has the name, else `NoMemory` where memory could not be had.
 pub fn explain_path(
@@ -60,23 +63,67 @@ pub fn explain_path(
     match account_named(policy.doc().accounts.as_slice(), account) {
         None => Err(ExplainFault::NoSuchAccount),
         Some(named) => {
-            let views = views_from(alloc, named, subject)?;
+            let views = views_from(alloc, policy, &named.name, subject)?;
             Ok(views)
         }
     }
 }
 
-/// Returns the views of a message that is published in an account.
+/// Returns the views of a message that is published in the account of a name.
 fn views_from(
     alloc: Global,
-    named: &NamedAccount,
+    policy: &Policy,
+    account: &Bytes,
     subject: &Subject,
 ) -> Result<Items<View>, NoMemory>
-    ensures { IfOk result (λ views. views ≡ own_view named.now subject.now ∷ []) }
+    ensures { IfOk result (λ found. found ≡ map view_of (views policy.now account.now subject.now)) }
 {
-    let mut views = Vec::new(alloc);
-    views.push(own_view(alloc, named, subject)?)?;
-    Ok(Items::from_vec(views))
+    let rows = Rows::of(alloc, policy)?;
+    let items = rows.views(alloc, account, subject)?;
+    let found = views_of(alloc, items.as_slice())?;
+    Ok(found)
+}
+
+/// Returns these views, as they are told.
+fn views_of(alloc: Global, items: &[ViewItem]) -> Result<Items<View>, NoMemory>
+    ensures { IfOk result (λ found. found ≡ map view_of items.now) }
+{
+    let mut found = Vec::with_capacity(alloc, items.len())?;
+    for item in items {
+        found.push(view_of(alloc, item)?)?;
+    }
+    Ok(Items::from_vec(found))
+}
+
+/// Returns a view, as it is told.
+fn view_of(alloc: Global, item: &ViewItem) -> Result<View, NoMemory>
+    ensures { IfOk result (λ view. view ≡ view_of item.now) }
+{
+    match item {
+        ViewItem::At {
+            account,
+            subject,
+            way,
+        } => Ok(View::At {
+            account: Items::from_vec(Vec::from_slice(alloc, account.as_slice())?),
+            subject: Items::from_vec(Vec::from_slice(alloc, subject.bytes())?),
+            kind: kind_of(way),
+        }),
+        ViewItem::TooLong(row) => Ok(View::TooLong {
+            importer: Items::from_vec(Vec::from_slice(alloc, row.get().importer.as_slice())?),
+            row: row.get().index,
+        }),
+    }
+}
+
+/// Returns how a view comes about, as it is told.
+fn kind_of(way: &Way) -> ViewKind
+    ensures { result ≡ kind_of way.now }
+{
+    match way {
+        Way::Own => ViewKind::Own,
+        Way::Stream(row) => ViewKind::Stream(row.get().index),
+    }
 }
 
 /// Returns the account of a name, if there is one.
@@ -84,17 +131,6 @@ fn account_named<'a>(accounts: &'a [NamedAccount], name: &[u8]) -> Option<&'a Na
     ensures { option_copied result ≡ account_named accounts.now name.now }
 {
     accounts.iter().find(|named| named.name.as_slice() == name)
-}
-
-/// Returns the view of a message in the account that it is published in.
-fn own_view(alloc: Global, named: &NamedAccount, subject: &Subject) -> Result<View, NoMemory>
-    ensures { IfOk result (λ view. view ≡ own_view named.now subject.now) }
-{
-    Ok(View::At {
-        account: Items::from_vec(Vec::from_slice(alloc, named.name.as_slice())?),
-        subject: Items::from_vec(Vec::from_slice(alloc, subject.bytes())?),
-        kind: ViewKind::Own,
-    })
 }
 
 /// Returns the lines of views, one each. `NoMemory` where memory could not be had.

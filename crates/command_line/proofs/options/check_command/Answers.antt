@@ -1,7 +1,9 @@
--- one option
+-- one option after the other
 use Rattle.std.proofs.lemmas.Result.{IfOk-weaker}
 use Rattle.command_line.proofs.Commands.{with_option}
 use Rattle.command_line.proofs.options.check_command.Goals as goal
 
 pub returns : goal.returns
-returns c = IfOk-weaker c.arg.result _ _ (λ command more. with_option _ _ _ _ _ c.local_command.ensures more c.policy_file_option.ensures.rule c.policy_file_option.ensures.local) c.arg.ensures
+returns c =
+    let first = with_option _ _ _ _ _ c.local_command.ensures c.in_ok-arg.ensures c.policy_file_option.ensures.rule c.policy_file_option.ensures.local in
+    IfOk-weaker c.arg-2.result _ _ (λ command more. with_option _ _ _ _ _ first more c.flag.ensures.rule c.flag.ensures.local) c.arg-2.ensures

@@ -11,4 +11,5 @@ returns c =
     let fourth = with_option _ _ _ _ _ third c.in_ok-arg-4.ensures c.outbox_option.ensures.rule c.outbox_option.ensures.local in
     let fifth = with_option _ _ _ _ _ fourth c.in_ok-arg-5.ensures c.history_option.ensures.rule c.history_option.ensures.local in
     let sixth = with_option _ _ _ _ _ fifth c.in_ok-arg-6.ensures c.history_bytes_option.ensures.rule c.history_bytes_option.ensures.local in
-    IfOk-weaker c.arg-7.result _ _ (λ command more. with_option _ _ _ _ _ sixth more c.connections_option.ensures.rule c.connections_option.ensures.local) c.arg-7.ensures
+    let seventh = with_option _ _ _ _ _ sixth c.in_ok-arg-7.ensures c.connections_option.ensures.rule c.connections_option.ensures.local in
+    IfOk-weaker c.arg-8.result _ _ (λ command more. with_option _ _ _ _ _ seventh more c.log_option.ensures.rule c.log_option.ensures.local) c.arg-8.ensures
