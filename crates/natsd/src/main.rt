@@ -5,11 +5,14 @@ ghost use Rattle.command_line.specs.Options.{AreServable};
 
 mod on_file;
 mod serve;
+mod telling;
 
 use devices::{ReadSource, WriteSink};
 use on_file::run_on_file;
 use policy_source::{Frames, WatchedFile};
 use serve::serve_clients;
+use server::Outputs;
+use server_log::ServerLog;
 use server_prints::{Prints, print_all};
 use std::hash::RandomState;
 use std::process::ExitCode;
@@ -17,6 +20,10 @@ use std::random::RandomSource;
 use std::rt::Env;
 use std::{env, thread};
 use tasks::{Ran, Start, StartFault, run};
+use telling::{FileWatcher, level_of};
+
+/// How many bytes may wait for standard error.
+const ROOM: usize = 1024 * 1024;
 
 fn main(rt: HostRuntime) -> ExitCode {
     let start = start(&rt);
@@ -38,24 +45,39 @@ fn main(rt: HostRuntime) -> ExitCode {
             Err(_) => ExitCode::from(1),
         },
         Ran::Serve(options) => {
-            let prints = Prints::new(rt.alloc());
-            let mut stdout = rt.stdout();
-            let (rt, options, lines, writer) = (&rt, &options, &prints, &mut stdout);
-            // (a thread of its own prints, so nothing else waits until the lines are taken)
-            let ((), status) = thread::join(
+            let (prints, errors) = (Prints::new(rt.alloc()), Prints::with_room(rt.alloc(), ROOM));
+            let (mut stdout, mut stderr) = (rt.stdout(), rt.stderr());
+            let (rt, options, lines, told) = (&rt, &options, &prints, &errors);
+            let (writer, other) = (&mut stdout, &mut stderr);
+            // (threads of their own print, so nothing else waits until the lines are taken)
+            let (_, status) = thread::join(
                 rt,
-                || print_all(rt, rt.alloc(), lines, writer),
+                || thread::join(
+                    rt,
+                    || print_all(rt, rt.alloc(), lines, writer),
+                    || print_all(rt, rt.alloc(), told, other),
+                ),
                 || -> u8
                     requires { AreServable options.now }
                 {
+                    let log = ServerLog::new(rt.alloc(), level_of(options.log), told);
+                    let outputs = Outputs {
+                        prints: lines,
+                        log: &log,
+                    };
                     match &options.policy {
                         Some(path) => {
-                            let mut policies = WatchedFile::new(rt, path.as_str(), &mut errors);
-                            serve_clients(rt, options, &mut policies, lines)
+                            let mut watcher = FileWatcher {
+                                rt,
+                                log: &log,
+                                errors: told,
+                            };
+                            let mut policies = WatchedFile::new(rt, path.as_str(), &mut watcher);
+                            serve_clients(rt, options, &mut policies, outputs)
                         }
                         None => {
                             let mut policies = Frames::new(rt.alloc(), source);
-                            serve_clients(rt, options, &mut policies, lines)
+                            serve_clients(rt, options, &mut policies, outputs)
                         }
                     }
                 },

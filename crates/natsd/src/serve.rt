@@ -4,9 +4,8 @@ ghost use Rattle.command_line.specs.Options.{AreServable};
 
 use command_line::ServeOptions;
 use policy_source::Policies;
-use server::{GateSource, Settings};
+use server::{GateSource, Outputs, Settings};
 use server_gates::Open;
-use server_prints::Prints;
 use std::alloc::AllocGlobal;
 use std::net::Net;
 use std::random::RandomSource;
@@ -32,7 +31,7 @@ impl GateSource<Open> for AllOpen {
 pub fn serve_clients<
     R: Threads + Wait + Net + Clock + RandomSource + Sync + AllocGlobal,
     P: Policies + Send,
->(rt: &R, options: &ServeOptions, policies: &mut P, prints: &Prints) -> u8
+>(rt: &R, options: &ServeOptions, policies: &mut P, outputs: Outputs<'_>) -> u8
     requires { AreServable options.now }
     ensures { result ≤ 1 }
 {
@@ -44,5 +43,5 @@ pub fn serve_clients<
         history_bytes: options.history_bytes,
         connections: options.connections,
     };
-    server::serve_clients(rt, settings, &AllOpen, policies, prints)
+    server::serve_clients(rt, settings, &AllOpen, policies, outputs)
 }

@@ -7,5 +7,5 @@ mod server;
 mod settings;
 mod threads;
 
-pub use server::{GateSource, serve_clients};
+pub use server::{GateSource, Outputs, serve_clients};
 pub use settings::Settings;

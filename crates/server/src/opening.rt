@@ -8,6 +8,7 @@ use mio::net::TcpListener;
 use policy_ready::Ready;
 use policy_source::Policies;
 use server_fault::Fault;
+use server_log::ServerLog;
 use server_mail::Limits;
 use server_prints::Prints;
 use server_reloads::{NextPolicy, next_policy};
@@ -16,11 +17,12 @@ use std::hash::RandomState;
 use std::net::{Net, SocketAddr};
 use std::sync::{Mutex, Wait};
 
-/// What is opened for a server beside its hub: where it listens, and the limits that it keeps to.
+/// What is opened for a server beside its hub: where it listens, the limits that it keeps to, and its log.
 #[derive(Drop)]
-pub(crate) struct Opened {
+pub(crate) struct Opened<'x> {
     pub(crate) listener: TcpListener,
     pub(crate) limits: Limits,
+    pub(crate) log: &'x ServerLog<'x>,
 }
 
 /// Reads the first policy, or returns `None` where the input ends before it.

@@ -12,6 +12,7 @@ use rand::rngs::SmallRng;
 use rand_core::Rng;
 use server_fault::Fault;
 use server_gates::Gate;
+use server_log::ServerLog;
 use server_loop::Access;
 use server_prints::Prints;
 use session_conn::Words;
@@ -48,6 +49,13 @@ struct Lent<'x, F, P> {
     prints: &'x Prints,
 }
 
+/// Where a server's lines go: those of standard output, and those for its operator.
+#[derive(Clone, Copy)]
+pub struct Outputs<'x> {
+    pub prints: &'x Prints,
+    pub log: &'x ServerLog<'x>,
+}
+
 impl Words for Drawn {
     ghost draws = { λ old word new. ⊤ };
 
@@ -64,11 +72,12 @@ pub fn serve_clients<
     G: Gate + Send + Drop,
     F: GateSource<G>,
     P: Policies + Send,
->(rt: &R, settings: Settings<'_>, gates: &F, policies: &mut P, prints: &Prints) -> u8
+>(rt: &R, settings: Settings<'_>, gates: &F, policies: &mut P, outputs: Outputs<'_>) -> u8
     requires { AreServable settings.workers settings.outbox settings.history settings.history_bytes settings.connections }
     ensures { result ≤ 1 }
 {
-    let status = match serve_policies(rt, settings, gates, policies, prints) {
+    let prints = outputs.prints;
+    let status = match serve_policies(rt, settings, gates, policies, outputs) {
         Ok(()) => {
             let _ = prints.add(rt, b"stopped\n");
             0
@@ -79,6 +88,7 @@ pub fn serve_clients<
         }
     };
     prints.end(rt);
+    outputs.log.end(rt);
     status
 }
 
@@ -88,19 +98,31 @@ fn serve_policies<
     G: Gate + Send + Drop,
     F: GateSource<G>,
     P: Policies + Send,
->(rt: &R, settings: Settings<'_>, gates: &F, policies: &mut P, prints: &Prints) -> Result<(), Fault>
+>(
+    rt: &R,
+    settings: Settings<'_>,
+    gates: &F,
+    policies: &mut P,
+    outputs: Outputs<'_>,
+) -> Result<(), Fault>
     requires { AreServable settings.workers settings.outbox settings.history settings.history_bytes settings.connections }
 {
     let Some(ready) = first_policy(rt.alloc(), policies)? else {
         return Ok(());
     };
+    let Outputs { prints, log } = outputs;
+    log.note_policy(rt, 1, &ready);
     let listener = listen(rt, settings.listen)?;
     let Ok(keys) = RandomState::new(rt) else {
         return Err(Fault::NoKeys);
     };
     let (hub, limits) = open_hub(rt.alloc(), settings, ready, keys)?;
     let seats = settings.workers + 1;
-    let opened = Opened { listener, limits };
+    let opened = Opened {
+        listener,
+        limits,
+        log,
+    };
     let lent = Lent {
         gates,
         policies,
@@ -121,7 +143,7 @@ fn serve_run<
     blank: Blank,
     hub: Hub,
     seats: u64,
-    opened: Opened,
+    opened: Opened<'_>,
     lent: Lent<'_, F, P>,
 ) -> Result<(), Fault>
     requires name { blank.name ≡ L.name }
@@ -146,7 +168,7 @@ fn serve_seats<
     rt: &R,
     shared: &SharedHub<L>,
     seats: Vec<Seat<L>>,
-    opened: Opened,
+    opened: Opened<'_>,
     lent: Lent<'_, F, P>,
 ) -> Result<(), Fault> {
     let alloc = rt.alloc();

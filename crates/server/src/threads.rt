@@ -127,15 +127,19 @@ pub(crate) fn serve<
     rt: &'x R,
     alloc: Global,
     shared: &'x SharedHub<L>,
-    opened: Opened,
+    opened: Opened<'x>,
     starts: ThreadStarts<'_, L, G, W, P>,
     prints: &'x Prints,
 ) -> Result<(), ServeFault> {
-    let Opened { listener, limits } = opened;
+    let Opened {
+        listener,
+        limits,
+        log,
+    } = opened;
     let ThreadStarts { accesses, reload } = starts;
     let (mailboxes, starts) = open_all(rt, alloc, listener, accesses)?;
     let flags = Flags::new(limits);
-    let state = ServerState::new(mailboxes.as_slice(), limits, millis(rt), &flags);
+    let state = ServerState::new(mailboxes.as_slice(), limits, millis(rt), &flags, log);
     let common = common_of(rt, alloc, shared, &state, prints);
     match run_all(rt, &common, reload, starts) {
         Some(fault) => Err(fault),

@@ -1,9 +1,11 @@
 use mio::net::{TcpListener, TcpStream};
 use mio::{Interest, Registry, Token};
+use server_log::What;
 use server_mail::{Arrival, ServerState, owner_of};
 use std::io;
 use std::io::ErrorKind;
 use std::sync::Wait;
+use std::time::Clock;
 
 /// The token of the socket that listens. Connections have those of their keys.
 pub const LISTENER: Token = Token(usize::MAX - 1);
@@ -18,6 +20,9 @@ const WAY: u64 = 10;
 const EMFILE: i32 = 24;
 
 const ENFILE: i32 = 23;
+
+/// What is told where as many sockets are open as may be.
+const OPEN: &[u8] = b"connections";
 
 /// What came of an attempt to accept a connection.
 #[derive(Drop)]
@@ -36,10 +41,17 @@ enum Said {
     Socket(TcpStream),
     /// Nobody waits to be accepted.
     Nobody,
-    /// There is no room for one more.
-    Full,
+    /// There is no room for one more: the system has no descriptor left, or as many sockets are open as may be.
+    Full(Lack),
     /// It has refused it for another reason.
     Refused,
+}
+
+/// What there is no room for.
+#[derive(Clone, Copy)]
+enum Lack {
+    Descriptors,
+    Connections,
 }
 
 /// What a worker accepts connections with, if it does: it deals them out to all workers, round-robin.
@@ -52,6 +64,8 @@ pub struct Acceptor {
     accept_at: Option<u64>,
     /// Whether there was no room for one more, and the system is to tell whether somebody waits for it.
     is_full: bool,
+    /// Whether that was told since all were accepted.
+    has_told: bool,
 }
 
 impl Drop for Acceptor {
@@ -62,6 +76,7 @@ impl Drop for Acceptor {
             next_conn: _,
             accept_at: _,
             is_full: _,
+            has_told: _,
         } = self;
     }
 }
@@ -84,6 +99,7 @@ impl Acceptor {
             next_conn: 1,
             accept_at: Some(0),
             is_full: false,
+            has_told: false,
         }
     }
 
@@ -134,7 +150,7 @@ impl Acceptor {
 
     /// Accepts a connection, if there is room. One of another worker is left in its mailbox. Where none can be had, this also
     /// settles when it is tried again.
-    pub fn accept<R: Wait>(
+    pub fn accept<R: Wait + Clock>(
         &mut self,
         rt: &R,
         state: &ServerState<'_>,
@@ -143,9 +159,13 @@ impl Acceptor {
     ) -> Accepted {
         match self.accept_one(rt, state) {
             Said::Socket(socket) => self.hand_over(rt, state, socket),
-            Said::Nobody => Accepted::Nobody,
-            Said::Full => {
+            Said::Nobody => {
+                self.has_told = false;
+                Accepted::Nobody
+            }
+            Said::Full(lack) => {
                 self.make_way(state, registry, now);
+                self.tell_full(rt, state, lack);
                 Accepted::Nobody
             }
             Said::Refused => {
@@ -161,7 +181,7 @@ impl Acceptor {
             return Said::Nobody;
         };
         if state.is_full() {
-            return Said::Full;
+            return Said::Full(Lack::Connections);
         }
         let guard = state.descriptors().lock(rt);
         let accepted = listener.accept();
@@ -171,7 +191,7 @@ impl Acceptor {
                 self.is_full = false;
                 Said::Socket(socket)
             }
-            Err(error) if is_full(&error) => Said::Full,
+            Err(error) if is_full(&error) => Said::Full(Lack::Descriptors),
             Err(error) if error.kind() == ErrorKind::WouldBlock => Said::Nobody,
             Err(_) => Said::Refused,
         }
@@ -188,6 +208,21 @@ impl Acceptor {
         self.is_full = false;
         let wait = if state.ask_way() { WAY } else { RETRY };
         self.accept_at = Some(now.saturating_add(wait));
+    }
+
+    /// Tells that there is no room for one more who waits, once until all were accepted.
+    fn tell_full<R: Wait + Clock>(&mut self, rt: &R, state: &ServerState<'_>, lack: Lack) {
+        if self.is_full || self.has_told {
+            return;
+        }
+        self.has_told = true;
+        state.log.tell(
+            rt,
+            match lack {
+                Lack::Descriptors => What::NoDescriptors,
+                Lack::Connections => What::Limit(OPEN),
+            },
+        );
     }
 
     /// Asks the system to tell whether somebody waits to be accepted. Where it can't, that is tried later.

@@ -4,6 +4,7 @@ use crate::fresh::Fresh;
 use crate::lingering::Lingering;
 use mio::net::TcpStream;
 use mio::{Registry, Token};
+use server_log::Party;
 use server_pacing::many;
 use server_socket::{Connection, Queue};
 use server_turns::{Client, Turn};
@@ -92,7 +93,8 @@ impl Connections {
     /// Adds a connection with its number, registers its socket, and returns its key. Without memory, or where the system
     /// refuses to watch it, its socket is closed and the result is `None`.
     pub fn add(&mut self, conn: u64, socket: TcpStream, registry: &Registry) -> Option<usize> {
-        let connection = Connection::new(Client::new(self.alloc, conn), socket);
+        let party = Party::new(conn, socket.peer_addr().ok());
+        let connection = Connection::new(Client::new(self.alloc, conn), socket, party);
         let Ok(key) = self.slab.insert(connection) else {
             return None;
         };

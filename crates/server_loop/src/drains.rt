@@ -47,6 +47,7 @@ impl<'a, L: Run, R: Wait + Clock, G: Gate + Drop, W: Words + Drop> Worker<'a, L,
                 Drained::More => {}
                 Drained::Stops => return self.leave_freed(),
                 Drained::Ends(turn) => {
+                    self.tell_blocked(key, turn);
                     self.after(key, turn);
                     return self.leave_freed();
                 }
@@ -84,6 +85,7 @@ impl<'a, L: Run, R: Wait + Clock, G: Gate + Drop, W: Words + Drop> Worker<'a, L,
                 it.due.note_left(rest);
             }
         }
+        self.tell_turn(key);
         if turn == Turn::Done {
             Drained::More
         } else {

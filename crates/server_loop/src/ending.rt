@@ -2,6 +2,7 @@
 use crate::worker::Worker;
 use mio::Events;
 use server_gates::Gate;
+use server_log::What;
 use server_mail::millis;
 use server_pacing::Slice;
 use server_turns::Turn;
@@ -33,6 +34,7 @@ impl<'a, L: Run, R: Wait + Clock, G: Gate + Drop, W: Words + Drop> Worker<'a, L,
         };
         if !it.is_over {
             it.tell_last(self.alloc, ServerError::SlowConsumer);
+            self.tell_of(key, What::SlowConsumer);
             self.close(key, Turn::Closed);
         }
     }
@@ -47,6 +49,7 @@ impl<'a, L: Run, R: Wait + Clock, G: Gate + Drop, W: Words + Drop> Worker<'a, L,
         let is_to_linger = it.is_to_linger;
         it.is_over = true;
         let stall = it.client.end(&mut self.port, self.now);
+        self.tell_turn(key);
         if stall.is_some() {
             let _ = self.connections.stalled.add(key);
             return;
@@ -60,6 +63,7 @@ impl<'a, L: Run, R: Wait + Clock, G: Gate + Drop, W: Words + Drop> Worker<'a, L,
 
     /// Lets a connection go, and its socket.
     pub(crate) fn remove(&mut self, key: usize) {
+        self.forget_party(key);
         if self.connections.remove(key) {
             self.state.note_closed();
         }

@@ -6,6 +6,7 @@ mod ending;
 mod mail;
 mod opening;
 mod rounds;
+mod telling;
 mod turns;
 mod worker;
 

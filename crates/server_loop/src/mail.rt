@@ -21,11 +21,13 @@ impl<'a, L: Run, R: Wait + Clock, G: Gate + Drop, W: Words + Drop> Worker<'a, L,
             arrivals,
             mail,
             slow,
+            reloads,
             sleeps,
         } = mailbox.take_in(self.rt, is_idle, spare);
         self.sleeps = sleeps;
         self.connections.follow(&mail);
         self.spare = mail;
+        self.tell_reloads(reloads);
         for conn in slow {
             self.end_slow(conn);
         }

@@ -2,6 +2,7 @@
 use crate::worker::Worker;
 use server_connections::Reads;
 use server_gates::Gate;
+use server_log::What;
 use server_pacing::{Slice, batch};
 use server_port::Why;
 use server_socket::Served;
@@ -24,6 +25,9 @@ const LEAST: usize = 1024;
 
 /// After how long a message is offered again whose receiver is to be closed, in milliseconds, if that isn't told before.
 const CLOSING: u64 = 100;
+
+/// What a client is told of which too much is kept before it says who it is.
+const UNKNOWN: &[u8] = b"Authorization Violation";
 
 /// After how long a turn that could not be ended is tried again, in milliseconds.
 const RETRY: u64 = 10;
@@ -88,11 +92,21 @@ impl<'a, L: Run, R: Wait + Clock, G: Gate + Drop, W: Words + Drop> Worker<'a, L,
         }
         let has_passed = mem::replace(&mut it.has_passed, false);
         self.port.begin_turn(has_passed);
-        let served = it.serve(&mut self.port, &mut self.words, buf, self.now);
+        let served = it.serve(
+            &mut self.port,
+            &mut self.words,
+            buf,
+            &mut self.errors,
+            self.now,
+        );
         self.connections.follow_writes(key);
         self.keep(served);
         self.tell_pending();
+        self.tell_turn(key);
         let turn = self.connections.bounded(key, served.turn);
+        if turn != served.turn {
+            self.tell_of(key, What::Limit(UNKNOWN));
+        }
         match turn {
             Turn::Stalled(Stall::Held) => self.follow_held(key),
             _ => self.after(key, turn),

@@ -42,6 +42,8 @@ pub struct Worker<'a, L: Run, R: Wait, G: Gate + Drop, W: Words + Drop> {
     pub(crate) spare: Mail,
     pub(crate) own_spare: Mail,
     pub(crate) buf: Vec<u8>,
+    /// The errors that a client was told in its turn.
+    pub(crate) errors: Vec<u8>,
     pub(crate) now: u64,
     /// From when on turns that could not be ended are tried again.
     pub(crate) try_at: u64,
@@ -65,6 +67,7 @@ impl<'a, L: Run, R: Wait, G: Gate + Drop, W: Words + Drop> Drop for Worker<'a, L
             spare: _,
             own_spare: _,
             buf: _,
+            errors: _,
             now: _,
             try_at: _,
             sleeps: _,
@@ -124,6 +127,7 @@ impl<'a, L: Run, R: Wait, G: Gate + Drop, W: Words + Drop> Worker<'a, L, R, G, W
             spare: Mail::new(alloc),
             own_spare: Mail::new(alloc),
             buf,
+            errors: Vec::new(alloc),
             now: 0,
             try_at: 0,
             sleeps: false,

@@ -1,4 +1,5 @@
 use crate::ways::Ways;
+use events::Answer;
 use mio::net::TcpStream;
 use mio::{Registry, Token, Waker};
 use server_pacing::Pending;
@@ -31,6 +32,8 @@ pub struct Intake {
     pub mail: Mail,
     /// Slow consumers, which are to be closed.
     pub slow: Vec<u64>,
+    /// Reloads that have removed subscriptions.
+    pub reloads: Vec<Answer>,
     /// Whether the mailbox was empty and the worker is noted to sleep.
     pub sleeps: bool,
 }
@@ -89,13 +92,16 @@ impl Contents {
             arrivals,
             mail,
             slow,
+            reloads,
             sleeps: _,
         } = &self.intake;
-        let sleeps = is_idle && arrivals.is_empty() && mail.is_empty() && slow.is_empty();
+        let is_empty = arrivals.is_empty() && mail.is_empty() && slow.is_empty();
+        let sleeps = is_idle && is_empty && reloads.is_empty();
         let empty = Intake {
             arrivals: Vec::new(self.alloc),
             mail: spare,
             slow: Vec::new(self.alloc),
+            reloads: Vec::new(self.alloc),
             sleeps,
         };
         let mut taken = mem::replace(&mut self.intake, empty);
@@ -112,6 +118,7 @@ impl Mailbox {
             arrivals: Vec::new(alloc),
             mail: Mail::new(alloc),
             slow: Vec::new(alloc),
+            reloads: Vec::new(alloc),
             sleeps: false,
         };
         Ok(Mailbox {
@@ -159,6 +166,17 @@ impl Mailbox {
     pub fn leave_slow<R: Wait>(&self, rt: &R, conn: u64) {
         let mut contents = self.contents.lock(rt);
         drop(contents.intake.slow.push(conn));
+        let sleeps = mem::replace(&mut contents.intake.sleeps, false);
+        drop(contents);
+        if sleeps {
+            self.wake();
+        }
+    }
+
+    /// Leaves the answer of a reload that has removed subscriptions. Without memory it is lost.
+    pub fn leave_reload<R: Wait>(&self, rt: &R, answer: Answer) {
+        let mut contents = self.contents.lock(rt);
+        drop(contents.intake.reloads.push(answer));
         let sleeps = mem::replace(&mut contents.intake.sleeps, false);
         drop(contents);
         if sleeps {

@@ -106,6 +106,7 @@ impl OutgoingMail {
             match item {
                 Item::Entered { conn, .. } => self.add_pending(*conn, 1, bytes, false),
                 Item::Full { conn, .. } => self.add_pending(*conn, 0, 0, true),
+                Item::MapTooLong(_) => {}
             }
         }
     }

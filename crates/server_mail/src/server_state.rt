@@ -2,6 +2,7 @@ use crate::mailbox::Mailbox;
 use crate::ways::Way;
 use mio::{Poll, Token};
 use server_history::Kept;
+use server_log::ServerLog;
 use std::alloc::Global;
 use std::hash::RandomState;
 use std::net::Net;
@@ -44,6 +45,8 @@ pub struct Flags {
 pub struct ServerState<'a> {
     pub mailboxes: &'a [Mailbox],
     pub limits: Limits,
+    /// What the server tells its operator by.
+    pub log: &'a ServerLog<'a>,
     /// The moment of the start, in milliseconds.
     start: u64,
     flags: &'a Flags,
@@ -77,10 +80,12 @@ impl<'a> ServerState<'a> {
         limits: Limits,
         start: u64,
         flags: &'a Flags,
+        log: &'a ServerLog<'a>,
     ) -> ServerState<'a> {
         ServerState {
             mailboxes,
             limits,
+            log,
             start,
             flags,
         }

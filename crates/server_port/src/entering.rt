@@ -215,6 +215,7 @@ impl<L: Run, R: Wait, G: Gate + Drop> Port for ServerPort<'_, L, R, G> {
         self.course.has_passed = false;
         self.pass(Point::FrameRead);
         let result = self.enter(event);
+        self.noted.note(&result);
         self.pass(Point::Answered);
         result
     }
@@ -235,6 +236,7 @@ impl<L: Run, R: Wait, G: Gate + Drop> Port for ServerPort<'_, L, R, G> {
         self.course.has_passed = false;
         self.pass(Point::FrameRead);
         let result = self.enter_message(event);
+        self.noted.note_offer(&result);
         if self.course.why.is_none() {
             self.pass(Point::Answered);
         }

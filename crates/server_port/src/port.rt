@@ -3,6 +3,7 @@ ghost use Rattle.std.specs.Prelude.{◌≡◌};
 use crate::course::{Course, Why};
 use server_gates::{Gate, Point};
 use server_history::{Kept, Rotation};
+use server_log::Noted;
 use server_mail::{OutgoingMail, ServerState};
 use shared_hub::{Run, RunContext, Seat, SharedHub};
 use std::alloc::Global;
@@ -28,6 +29,8 @@ pub struct ServerPort<'a, L: Run, R: Wait, G: Gate + Drop> {
     /// What all ports have counted.
     pub(crate) kept: &'a Kept,
     pub(crate) outgoing: OutgoingMail,
+    /// What is to be told of the events of a turn.
+    pub(crate) noted: Noted,
     /// What goes with the messages of a run, and what the hub told beside the latest answer.
     pub(crate) context: RunContext,
     pub(crate) course: Course,
@@ -47,6 +50,7 @@ impl<L: Run, R: Wait, G: Gate + Drop> Drop for ServerPort<'_, L, R, G> {
             rotation: _,
             kept: _,
             outgoing: _,
+            noted: _,
             context: _,
             course: _,
             refused: _,
@@ -86,6 +90,7 @@ impl<'a, L: Run, R: Wait, G: Gate + Drop> ServerPort<'a, L, R, G> {
             rotation: Rotation::new(alloc, state.limits.history),
             kept: state.kept(),
             outgoing,
+            noted: Noted::new(alloc, state.log.level()),
             context: RunContext::new(alloc),
             course: Course {
                 share: 0,
@@ -107,6 +112,11 @@ impl<'a, L: Run, R: Wait, G: Gate + Drop> ServerPort<'a, L, R, G> {
     /// What is to be left in the workers' mailboxes.
     pub fn outgoing(&mut self) -> &mut OutgoingMail {
         &mut self.outgoing
+    }
+
+    /// What is to be told of the latest events.
+    pub fn noted(&mut self) -> &mut Noted {
+        &mut self.noted
     }
 
     /// A round begins, or goes on: at least so many deliveries may enter in it.

@@ -166,6 +166,7 @@ impl<L: Run, R: Wait, G: Gate + Drop> ServerPort<'_, L, R, G> {
     {
         match last {
             Ok(answer) => {
+                self.noted.note_answer(&answer);
                 self.follow_message(&answer);
                 RunEnd::Answered(answer)
             }
@@ -202,6 +203,7 @@ impl<L: Run, R: Wait, G: Gate + Drop> ServerPort<'_, L, R, G> {
     {
         match self.offer_again(event) {
             Ok(answer) => {
+                self.noted.note_answer(&answer);
                 self.pass(Point::Answered);
                 RunEnd::Answered(answer)
             }
@@ -217,6 +219,7 @@ impl<L: Run, R: Wait, G: Gate + Drop> ServerPort<'_, L, R, G> {
     {
         let word = word_of(&event.what);
         drop(event);
+        self.noted.note_stop(refusal);
         if self.course.why.is_none() {
             self.pass(Point::Answered);
         }

@@ -18,13 +18,20 @@ struct Queue {
 #[derive(Drop)]
 pub struct Prints {
     alloc: Global,
+    /// How many bytes may wait.
+    room: usize,
     queue: Mutex<Queue>,
     changed: Condvar,
 }
 
 impl Prints {
-    /// Returns a queue without texts.
+    /// Returns a queue without texts, in which 64 MiB may wait.
     pub fn new(alloc: Global) -> Prints {
+        Prints::with_room(alloc, ROOM)
+    }
+
+    /// Returns a queue without texts, in which so many bytes may wait.
+    pub fn with_room(alloc: Global, room: usize) -> Prints {
         let queue = Queue {
             texts: VecDeque::new(alloc),
             bytes: 0,
@@ -32,6 +39,7 @@ impl Prints {
         };
         Prints {
             alloc,
+            room,
             queue: Mutex::new(queue),
             changed: Condvar::new(),
         }
@@ -41,7 +49,7 @@ impl Prints {
     pub fn add<R: Wait>(&self, rt: &R, text: &[u8]) -> bool {
         let mut queue = self.queue.lock(rt);
         let bytes = queue.bytes.saturating_add(text.len());
-        if bytes > ROOM && queue.bytes > 0 {
+        if bytes > self.room && queue.bytes > 0 {
             return false;
         }
         if let Ok(copy) = Vec::from_slice(self.alloc, text) {

@@ -1,10 +1,11 @@
 use crate::reading::{NextPolicy, next_policy};
-use events::{Answer, Command, Event, HubRefusal};
+use events::{Answer, Command, Event, HubRefusal, Outcome};
 use policy_ready::Ready;
 use policy_source::Policies;
 use reload_lines::write_reload;
 use server_fault::ServeFault;
 use server_gates::{Gate, Point};
+use server_log::{LogLevel, What};
 use server_mail::{OutgoingMail, ServerState};
 use server_port::{Access, ServerPort};
 use server_prints::Prints;
@@ -23,6 +24,8 @@ pub struct Reloads<'a, L: Run, R: Wait, G: Gate + Drop> {
     state: &'a ServerState<'a>,
     port: ServerPort<'a, L, R, G>,
     prints: &'a Prints,
+    /// The epoch of the policy in force.
+    epoch: u128,
 }
 
 impl<L: Run, R: Wait, G: Gate + Drop> Drop for Reloads<'_, L, R, G> {
@@ -33,6 +36,7 @@ impl<L: Run, R: Wait, G: Gate + Drop> Drop for Reloads<'_, L, R, G> {
             state: _,
             port: _,
             prints: _,
+            epoch: _,
         } = self;
     }
 }
@@ -54,6 +58,7 @@ impl<'a, L: Run, R: Wait + Clock, G: Gate + Drop> Reloads<'a, L, R, G> {
             state,
             port: ServerPort::new(rt, alloc, shared, state, access, outgoing),
             prints,
+            epoch: 1,
         })
     }
 
@@ -68,7 +73,10 @@ impl<'a, L: Run, R: Wait + Clock, G: Gate + Drop> Reloads<'a, L, R, G> {
                 NextPolicy::End => return None,
                 NextPolicy::Bad => return Some(ServeFault::BadFrame),
                 NextPolicy::NoMemory => self.say(b"no memory\n"),
-                NextPolicy::Refused(line) => self.say(line.as_slice()),
+                NextPolicy::Refused(line) => {
+                    self.tell_refused(line.as_slice());
+                    self.say(line.as_slice());
+                }
                 NextPolicy::Ready(ready) => {
                     self.install(ready);
                     if self.port.is_spent() {
@@ -89,15 +97,59 @@ impl<'a, L: Run, R: Wait + Clock, G: Gate + Drop> Reloads<'a, L, R, G> {
 
     /// Enters a reload, and prints what came of it.
     fn submit(&mut self, ready: Ready) {
+        let next = self.epoch.saturating_add(1);
+        self.state.log.note_policy(self.rt, next, &ready);
         let now = self.state.now(self.rt);
         let event = Event {
             now,
             what: Command::Reload(ready),
         };
         match self.port.enter(event) {
-            Ok(answer) => self.tell(&answer),
-            Err((_, HubRefusal::HistoryFull)) => self.say(b"history full\n"),
-            Err((_, _)) => self.say(b"no memory\n"),
+            Ok(answer) => {
+                self.epoch = next;
+                self.tell(&answer);
+            }
+            Err((_, refusal)) => {
+                self.state.log.forget_policy(self.rt);
+                self.say(match refusal {
+                    HubRefusal::HistoryFull => b"history full\n".as_slice(),
+                    _ => b"no memory\n".as_slice(),
+                });
+            }
+        }
+    }
+
+    /// Tells the server's operator that a policy has a fault, as this line says.
+    fn tell_refused(&self, line: &[u8]) {
+        let fault = line.strip_suffix(b"\n").unwrap_or(line);
+        self.state.log.tell(self.rt, What::PolicyRefused(fault));
+    }
+
+    /// Tells the server's operator what a reload has done, and leaves it for the workers, which tell what it has removed.
+    fn tell_reload(&self, answer: &Answer) {
+        let entry = answer.get();
+        let Outcome::Reloaded { gone, removed } = &entry.outcome else {
+            return;
+        };
+        self.state.log.tell(
+            self.rt,
+            What::Reloaded {
+                epoch: u64::try_from(entry.epoch).unwrap_or(u64::MAX),
+                gone: gone.as_slice().len() as u64,
+                removed: removed.as_slice().len() as u64,
+            },
+        );
+        if !removed.as_slice().is_empty() && self.state.log.level() != LogLevel::None {
+            self.leave_reload(answer);
+        }
+    }
+
+    /// Leaves the answer of a reload in all mailboxes.
+    fn leave_reload(&self, answer: &Answer) {
+        for mailbox in self.state.mailboxes {
+            if let Ok(again) = answer.again() {
+                mailbox.leave_reload(self.rt, again);
+            }
         }
     }
 
@@ -106,6 +158,7 @@ impl<'a, L: Run, R: Wait + Clock, G: Gate + Drop> Reloads<'a, L, R, G> {
         self.port
             .outgoing()
             .leave_others(self.rt, self.state.mailboxes);
+        self.tell_reload(answer);
         let mut lines = Vec::new(self.alloc);
         match write_reload(&mut lines, answer.get()) {
             Ok(()) => self.say(lines.as_slice()),

@@ -3,6 +3,7 @@ ghost use Rattle.std.specs.Prelude.{◌≡◌, ◌≢◌};
 use crate::blocked::Blocked;
 use mio::net::TcpStream;
 use mio::{Interest, Registry, Token};
+use server_log::Party;
 use server_pacing::Due;
 use server_turns::Client;
 
@@ -25,6 +26,8 @@ pub struct Queued {
 pub struct Connection {
     pub client: Client,
     pub socket: TcpStream,
+    /// What the server's log knows of it.
+    pub party: Party,
     /// What is known to be due to it.
     pub due: Due,
     /// For how long its socket takes nothing.
@@ -49,6 +52,7 @@ impl Drop for Connection {
         let Self {
             client: _,
             socket: _,
+            party: _,
             due: _,
             blocked: _,
             readable: _,
@@ -87,12 +91,13 @@ impl Connection {
     ghost use Rattle.server_pacing.specs.Due.{nothing};
 
     /// Returns a connection to which nothing has happened. Its socket may have something to read.
-    pub fn new(client: Client, socket: TcpStream) -> Connection
-        ensures { result ≡ record { client = client; socket = socket; due = nothing; blocked = not_blocked; readable = true; held_until = None; is_let_on = false; queued = not_queued; has_passed = false; is_over = false; is_to_linger = false; lingers = false } }
+    pub fn new(client: Client, socket: TcpStream, party: Party) -> Connection
+        ensures { result ≡ record { client = client; socket = socket; party = party; due = nothing; blocked = not_blocked; readable = true; held_until = None; is_let_on = false; queued = not_queued; has_passed = false; is_over = false; is_to_linger = false; lingers = false } }
     {
         Connection {
             client,
             socket,
+            party,
             due: Due::nothing(),
             blocked: Blocked::new(),
             readable: true,

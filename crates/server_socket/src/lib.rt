@@ -6,6 +6,7 @@ mod blocked;
 mod closing;
 mod connection;
 mod counted;
+mod heard;
 mod queue;
 mod reading;
 mod unknown;

@@ -3,6 +3,7 @@ ghost use Rattle.std.specs.Prelude.{◌≡◌, ◌<◌, length};
 
 use crate::connection::Connection;
 use crate::counted::Counted;
+use crate::heard::Heard;
 use devices::NonBlocking;
 use events::Port;
 use server_turns::Turn;
@@ -20,12 +21,14 @@ pub struct Served {
 }
 
 impl Connection {
-    /// Serves its client for one turn: frames that wait go on, or a piece is read into the buffer.
+    /// Serves its client for one turn: frames that wait go on, or a piece is read into the buffer. The errors that its client is
+    /// told are added to `errors`.
     pub fn serve<P: Port, W: Words>(
         &mut self,
         port: &mut P,
         words: &mut W,
         buf: &mut [u8],
+        errors: &mut Vec<u8>,
         now: u64,
     ) -> Served
         requires { 0 < length buf.old }
@@ -33,7 +36,8 @@ impl Connection {
     {
         let buffered = self.client.conn().holds();
         let mut reader = Counted::new(NonBlocking::new(&self.socket));
-        let mut writer = NonBlocking::new(&self.socket);
+        let writes = NonBlocking::new(&self.socket);
+        let mut writer = Heard::new(writes, self.client.waits(), errors);
         let turn = self
             .client
             .serve(port, words, &mut reader, &mut writer, buf, now);

@@ -1,0 +1,201 @@
+//! The line of a notice.
+ghost use Rattle.std.specs.Prelude.{◌≡◌, ◌++◌, IfOk, OnOk, codes};
+ghost use Rattle.std.specs.Option.{option_copied};
+ghost use Rattle.server_log.specs.Lines.{count, count_if, denial, details, index_of, left_out, line_of, members_of, name_of, party, text, text_if, verdict_name, IsWritten};
+
+use crate::notice::{Denial, Notice, What};
+use base::NoMemory;
+use json::Writer;
+use permissions::Verdict;
+use std::alloc::Global;
+
+/// Returns the line that tells a notice: one JSON object, and LF. `NoMemory` where memory could not be had.
+pub fn line_of(alloc: Global, notice: &Notice<'_>) -> Result<Vec<u8>, NoMemory>
+    ensures { IfOk result (λ line. line.items ≡ line_of notice.now) }
+{
+    let mut out = Writer::new(Vec::new(alloc));
+    out.begin_object()?;
+    put_members(alloc, &mut out, notice)?;
+    out.end_object()?;
+    let mut line = out.into_inner();
+    line.push(b'\n')?;
+    Ok(line)
+}
+
+/// Writes the members of a notice.
+fn put_members(alloc: Global, out: &mut Writer, notice: &Notice<'_>) -> Result<(), NoMemory>
+    ensures { OnOk result (IsWritten out.old out.new (members_of notice.now)) }
+{
+    put_count(out, "at", notice.at)?;
+    put_text(alloc, out, "event", name_of(&notice.what).as_bytes())?;
+    put_party(alloc, out, notice)?;
+    put_details(alloc, out, &notice.what)?;
+    put_left_out(out, notice.left_out)?;
+    Ok(())
+}
+
+/// Writes whose it is, as far as that is known.
+fn put_party(alloc: Global, out: &mut Writer, notice: &Notice<'_>) -> Result<(), NoMemory>
+    ensures { OnOk result (IsWritten out.old out.new (party notice.now)) }
+{
+    put_count_if(out, "conn", notice.conn)?;
+    put_text_if(alloc, out, "peer", notice.peer)?;
+    put_text_if(alloc, out, "user", notice.user)?;
+    put_text_if(alloc, out, "account", notice.account)?;
+    Ok(())
+}
+
+/// Returns the name of what has happened.
+fn name_of(what: &What<'_>) -> &'static str
+    ensures { result.now ≡ name_of what.now }
+{
+    match what {
+        What::Connected => "connected",
+        What::Closed => "closed",
+        What::AuthFailed => "auth_failed",
+        What::Denied(_) => "denied",
+        What::SlowConsumer => "slow_consumer",
+        What::ProtocolError(_) => "protocol_error",
+        What::Limit(_) => "limit",
+        What::NoDescriptors => "no_descriptors",
+        What::Reloaded { .. } => "reloaded",
+        What::Gone => "gone",
+        What::Removed(_) => "removed",
+        What::PolicyRefused(_) => "policy_refused",
+        What::PolicyUnreadable(_) => "policy_unreadable",
+        What::PolicyReadable => "policy_readable_again",
+    }
+}
+
+/// Writes what it has beside its name.
+fn put_details(alloc: Global, out: &mut Writer, what: &What<'_>) -> Result<(), NoMemory>
+    ensures { OnOk result (IsWritten out.old out.new (details what.now)) }
+{
+    match what {
+        What::Denied(denial) => put_denial(alloc, out, denial),
+        What::Removed(denial) => put_denial(alloc, out, denial),
+        What::ProtocolError(text) => put_text(alloc, out, "text", text),
+        What::Limit(text) => put_text(alloc, out, "text", text),
+        What::PolicyRefused(text) => put_text(alloc, out, "text", text),
+        What::PolicyUnreadable(text) => put_text(alloc, out, "text", text),
+        What::Reloaded {
+            epoch,
+            gone,
+            removed,
+        } => put_reload(out, *epoch, *gone, *removed),
+        What::Connected => Ok(()),
+        What::Closed => Ok(()),
+        What::AuthFailed => Ok(()),
+        What::SlowConsumer => Ok(()),
+        What::NoDescriptors => Ok(()),
+        What::Gone => Ok(()),
+        What::PolicyReadable => Ok(()),
+    }
+}
+
+/// Writes what a reload has done.
+fn put_reload(out: &mut Writer, epoch: u64, gone: u64, removed: u64) -> Result<(), NoMemory>
+    ensures { OnOk result (IsWritten out.old out.new (count (codes "epoch") epoch ++ count (codes "gone") gone ++ count (codes "removed") removed)) }
+{
+    put_count(out, "epoch", epoch)?;
+    put_count(out, "gone", gone)?;
+    put_count(out, "removed", removed)?;
+    Ok(())
+}
+
+/// Writes what was refused, and why.
+fn put_denial(alloc: Global, out: &mut Writer, refused: &Denial<'_>) -> Result<(), NoMemory>
+    ensures { OnOk result (IsWritten out.old out.new (denial refused.now)) }
+{
+    put_text(alloc, out, "command", refused.command.as_bytes())?;
+    put_text_if(alloc, out, "subject", refused.subject)?;
+    put_text_if(alloc, out, "queue", refused.queue)?;
+    put_text_if(alloc, out, "sid", refused.sid)?;
+    put_text(
+        alloc,
+        out,
+        "verdict",
+        verdict_name(refused.verdict).as_bytes(),
+    )?;
+    put_count_if(out, "index", index_of(refused.verdict))?;
+    put_text_if(alloc, out, "entry", refused.entry)?;
+    Ok(())
+}
+
+/// Returns a verdict's name.
+fn verdict_name(verdict: Verdict) -> &'static str
+    ensures { result.now ≡ verdict_name verdict }
+{
+    match verdict {
+        Verdict::Allowed(_) => "allowed",
+        Verdict::DeniedBy(_) => "denied",
+        Verdict::NoAllow => "no allow",
+        Verdict::NoQueueAllow(_) => "no queue allow",
+    }
+}
+
+/// Returns the index of the entry that a verdict names, if it names one.
+fn index_of(verdict: Verdict) -> Option<u64>
+    ensures { result ≡ index_of verdict }
+{
+    match verdict {
+        Verdict::Allowed(_) => None,
+        Verdict::DeniedBy(index) => Some(index as u64),
+        Verdict::NoAllow => None,
+        Verdict::NoQueueAllow(index) => Some(index as u64),
+    }
+}
+
+/// Writes how many lines were left out, where some were.
+fn put_left_out(out: &mut Writer, count: u64) -> Result<(), NoMemory>
+    ensures { OnOk result (IsWritten out.old out.new (left_out count)) }
+{
+    if count == 0 {
+        return Ok(());
+    }
+    put_count(out, "left_out", count)
+}
+
+/// Writes a name and a text. What isn't UTF-8 is replaced by U+FFFD.
+fn put_text(alloc: Global, out: &mut Writer, name: &str, bytes: &[u8]) -> Result<(), NoMemory>
+    ensures { OnOk result (IsWritten out.old out.new (text name.now bytes.now)) }
+{
+    let shown = String::from_utf8_lossy(alloc, bytes)?;
+    out.key(name)?;
+    out.string(shown.as_str())?;
+    Ok(())
+}
+
+/// Writes a name and a text, where there is one.
+fn put_text_if(
+    alloc: Global,
+    out: &mut Writer,
+    name: &str,
+    bytes: Option<&[u8]>,
+) -> Result<(), NoMemory>
+    ensures { OnOk result (IsWritten out.old out.new (text_if name.now (option_copied bytes.entry))) }
+{
+    match bytes {
+        None => Ok(()),
+        Some(bytes) => put_text(alloc, out, name, bytes),
+    }
+}
+
+/// Writes a name and a number.
+fn put_count(out: &mut Writer, name: &str, number: u64) -> Result<(), NoMemory>
+    ensures { OnOk result (IsWritten out.old out.new (count name.now number)) }
+{
+    out.key(name)?;
+    out.u64(number)?;
+    Ok(())
+}
+
+/// Writes a name and a number, where there is one.
+fn put_count_if(out: &mut Writer, name: &str, number: Option<u64>) -> Result<(), NoMemory>
+    ensures { OnOk result (IsWritten out.old out.new (count_if name.now number)) }
+{
+    match number {
+        None => Ok(()),
+        Some(number) => put_count(out, name, number),
+    }
+}

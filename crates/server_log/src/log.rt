@@ -1,0 +1,472 @@
+use crate::line::line_of;
+use crate::noted::Noted;
+use crate::notice::{Denial, LogLevel, Notice, What, what_of};
+use crate::rate::Rate;
+use base::{Copying, SharedText};
+use bytes::Bytes;
+use events::{Command, Entry, Outcome, Removed};
+use permissions::Verdict;
+use policy_doc::PermEntry;
+use policy_ready::{Ready, User};
+use server_prints::Prints;
+use std::alloc::Global;
+use std::net::SocketAddr;
+use std::sync::{Mutex, Wait};
+use std::time::Clock;
+
+/// How many lines a second a connection may have.
+const MOST_OF_ONE: u64 = 10;
+
+/// How many all may have.
+const MOST_OF_ALL: u64 = 1000;
+
+/// How many policies are kept, so that the entry of an answer is found that another policy follows.
+const KEPT: usize = 4;
+
+/// What the log knows of a connection.
+#[derive(Drop)]
+pub struct Party {
+    conn: u64,
+    peer: Option<SocketAddr>,
+    /// Who its client is, once its CONNECT was accepted: the user, and the user's account.
+    user: Option<SharedText>,
+    account: Option<Bytes>,
+    rate: Rate,
+}
+
+/// A policy, and the epoch that has it.
+#[derive(Drop)]
+struct InForce {
+    epoch: u128,
+    ready: Ready,
+}
+
+/// When a line is told, and how many were left out before it.
+#[derive(Clone, Copy)]
+struct Passed {
+    at: u64,
+    left_out: u64,
+}
+
+/// What a server tells its operator, by any of its threads. The lines wait for a thread that writes them; where too much
+/// waits they are left out.
+#[derive(Drop)]
+pub struct ServerLog<'a> {
+    alloc: Global,
+    level: LogLevel,
+    prints: &'a Prints,
+    total: Mutex<Rate>,
+    policies: Mutex<Vec<InForce>>,
+}
+
+impl Party {
+    /// Returns what is known of a connection whose client has said nothing.
+    pub fn new(conn: u64, peer: Option<SocketAddr>) -> Party {
+        Party {
+            conn,
+            peer,
+            user: None,
+            account: None,
+            rate: Rate::new(),
+        }
+    }
+}
+
+/// Returns the user of this name, if the policy has one.
+fn user_named<'x>(policy: &'x Option<Ready>, name: Option<&[u8]>) -> Option<&'x User> {
+    let (Some(policy), Some(name)) = (policy, name) else {
+        return None;
+    };
+    policy
+        .users()
+        .iter()
+        .find(|user| user.user.as_slice() == name)
+}
+
+/// Returns the entry of a user's lists that a verdict names, if it names one.
+fn entry_of<'x>(
+    user: Option<&'x User>,
+    publishes: bool,
+    verdict: Verdict,
+) -> Option<&'x PermEntry> {
+    let permissions = user?.rules.permissions()?;
+    let rules = if publishes {
+        &permissions.publish
+    } else {
+        &permissions.subscribe
+    };
+    match verdict {
+        Verdict::DeniedBy(index) => rules.deny.as_slice().get(index),
+        Verdict::NoQueueAllow(index) => match &rules.allow {
+            None => None,
+            Some(entries) => entries.as_slice().get(index),
+        },
+        Verdict::Allowed(_) => None,
+        Verdict::NoAllow => None,
+    }
+}
+
+/// Returns an entry's text. Without memory there is none.
+fn text_of(alloc: Global, entry: Option<&PermEntry>) -> Option<Vec<u8>> {
+    let mut text = Vec::new(alloc);
+    entry?.write_to(&mut text).ok()?;
+    Some(text)
+}
+
+/// Returns the bytes of a text, if there is one.
+fn bytes_of(text: &Option<Vec<u8>>) -> Option<&[u8]> {
+    match text {
+        None => None,
+        Some(text) => Some(text.as_slice()),
+    }
+}
+
+/// Returns the account of a user, if there is one.
+fn account_of(user: Option<&User>) -> Option<Bytes> {
+    user?.account.clone().ok()
+}
+
+/// Returns the bytes of a name, if there is one.
+fn name_in(name: &Option<SharedText>) -> Option<&[u8]> {
+    match name {
+        None => None,
+        Some(name) => Some(name.as_slice()),
+    }
+}
+
+impl<'a> ServerLog<'a> {
+    /// Returns the log of a server that tells so much, by these lines.
+    pub fn new(alloc: Global, level: LogLevel, prints: &'a Prints) -> ServerLog<'a> {
+        ServerLog {
+            alloc,
+            level,
+            prints,
+            total: Mutex::new(Rate::new()),
+            policies: Mutex::new(Vec::new(alloc)),
+        }
+    }
+
+    /// Returns how much is told.
+    pub fn level(&self) -> LogLevel {
+        self.level
+    }
+
+    /// Notes the policy that has an epoch, or is to have it. Without memory it isn't known.
+    pub fn note_policy<R: Wait>(&self, rt: &R, epoch: u128, ready: &Ready) {
+        let Ok(ready) = ready.copy(self.alloc) else {
+            return;
+        };
+        let mut policies = self.policies.lock(rt);
+        if policies.len() >= KEPT {
+            drop(policies.remove(0));
+        }
+        drop(policies.push(InForce { epoch, ready }));
+    }
+
+    /// Forgets the last policy that was noted, since it didn't come into force.
+    pub fn forget_policy<R: Wait>(&self, rt: &R) {
+        let mut policies = self.policies.lock(rt);
+        drop(policies.pop());
+    }
+
+    /// Returns the policy of an epoch, if it is known.
+    fn policy_of<R: Wait>(&self, rt: &R, epoch: u128) -> Option<Ready> {
+        let policies = self.policies.lock(rt);
+        let found = policies.as_slice().iter().find(|it| it.epoch == epoch)?;
+        found.ready.copy(self.alloc).ok()
+    }
+
+    /// Returns the moment, in milliseconds since 1970, or 0 where the system has no such clock.
+    fn moment<R: Clock>(&self, rt: &R) -> u64 {
+        match rt.since_1970() {
+            Ok(time) => u64::try_from(time.as_millis()).unwrap_or(u64::MAX),
+            Err(_) => 0,
+        }
+    }
+
+    /// Lets a line of a connection through, if it and all have had few enough in this second.
+    fn pass<R: Wait + Clock>(&self, rt: &R, rate: &mut Rate) -> Option<Passed> {
+        let at = self.moment(rt);
+        let before = rate.pass(at / 1000, MOST_OF_ONE)?;
+        self.pass_all(rt, at, before)
+    }
+
+    /// Lets a line through, if all have had few enough in this second. `before` are those of its connection that were left
+    /// out.
+    fn pass_all<R: Wait>(&self, rt: &R, at: u64, before: u64) -> Option<Passed> {
+        let mut total = self.total.lock(rt);
+        match total.pass(at / 1000, MOST_OF_ALL) {
+            None => {
+                total.add_left_out(before);
+                None
+            }
+            Some(others) => Some(Passed {
+                at,
+                left_out: before.saturating_add(others),
+            }),
+        }
+    }
+
+    /// Counts lines that were left out.
+    fn leave_out<R: Wait>(&self, rt: &R, count: u64) {
+        let mut total = self.total.lock(rt);
+        total.add_left_out(count);
+    }
+
+    /// Hands a notice's line to the thread that writes it. Where too much waits, or memory lacks, it is left out.
+    fn put<R: Wait>(&self, rt: &R, notice: &Notice<'_>) {
+        let is_put = match line_of(self.alloc, notice) {
+            Err(_) => false,
+            Ok(line) => self.prints.add(rt, line.as_slice()),
+        };
+        if !is_put {
+            self.leave_out(rt, notice.left_out.saturating_add(1));
+        }
+    }
+
+    /// Tells something that is no connection's.
+    pub fn tell<R: Wait + Clock>(&self, rt: &R, what: What<'_>) {
+        if self.level == LogLevel::None {
+            return;
+        }
+        let at = self.moment(rt);
+        let Some(passed) = self.pass_all(rt, at, 0) else {
+            return;
+        };
+        self.put(
+            rt,
+            &Notice {
+                at: passed.at,
+                conn: None,
+                peer: None,
+                user: None,
+                account: None,
+                what,
+                left_out: passed.left_out,
+            },
+        );
+    }
+
+    /// Tells something of a connection, with what is known of its client.
+    pub fn tell_of<R: Wait + Clock>(&self, rt: &R, party: &mut Party, what: What<'_>) {
+        if self.level == LogLevel::None {
+            return;
+        }
+        let Some(passed) = self.pass(rt, &mut party.rate) else {
+            return;
+        };
+        self.put_of(rt, party, passed, what);
+    }
+
+    /// Hands over the line of a connection, with what is known of its client.
+    fn put_of<R: Wait>(&self, rt: &R, party: &Party, passed: Passed, what: What<'_>) {
+        let account = match &party.account {
+            None => None,
+            Some(account) => Some(account.as_slice()),
+        };
+        self.put_named(rt, party, passed, (name_in(&party.user), account), what);
+    }
+
+    /// Hands over the line of a connection, with the names of its user and account, as far as they are known.
+    fn put_named<R: Wait>(
+        &self,
+        rt: &R,
+        party: &Party,
+        passed: Passed,
+        names: (Option<&[u8]>, Option<&[u8]>),
+        what: What<'_>,
+    ) {
+        let peer = match party.peer {
+            None => None,
+            Some(peer) => format!(in self.alloc; "{peer}").ok(),
+        };
+        let notice = Notice {
+            at: passed.at,
+            conn: Some(party.conn),
+            peer: match &peer {
+                None => None,
+                Some(peer) => Some(peer.as_str().as_bytes()),
+            },
+            user: names.0,
+            account: names.1,
+            what,
+            left_out: passed.left_out,
+        };
+        self.put(rt, &notice);
+    }
+
+    /// Tells what a connection's turn has noted. Returns whether its client was told of an authorization that failed.
+    pub fn tell_noted<R: Wait + Clock>(&self, rt: &R, party: &mut Party, noted: Noted) -> bool {
+        let mut has_failed = noted.is_gone;
+        if noted.is_gone {
+            self.tell_of(rt, party, What::Gone);
+        }
+        for answer in noted.answers.as_slice() {
+            let entry = answer.get();
+            has_failed = has_failed || matches!(&entry.outcome, Outcome::AuthViolation);
+            self.tell_entry(rt, party, entry);
+        }
+        if noted.left_out > 0 {
+            party.rate.add_left_out(noted.left_out);
+        }
+        has_failed
+    }
+
+    /// Tells an entry of a connection.
+    fn tell_entry<R: Wait + Clock>(&self, rt: &R, party: &mut Party, entry: &Entry) {
+        match &entry.outcome {
+            Outcome::Connected => self.tell_connect(rt, party, entry),
+            Outcome::AuthViolation => self.tell_failure(rt, party, entry),
+            Outcome::Denied(verdict) => self.tell_denial(rt, party, entry, *verdict),
+            Outcome::Taken(_, _) => self.tell_of(rt, party, What::SlowConsumer),
+            Outcome::Closed => self.tell_of(rt, party, What::Closed),
+            _ => {}
+        }
+    }
+
+    /// Notes who a connection's client is, and tells that it has connected, where that is told.
+    fn tell_connect<R: Wait + Clock>(&self, rt: &R, party: &mut Party, entry: &Entry) {
+        if let Command::Connect {
+            user: Some(name),
+            ..
+        } = &entry.event.what
+        {
+            let policy = self.policy_of(rt, entry.epoch);
+            party.account = account_of(user_named(&policy, Some(name.as_slice())));
+            party.user = name.again().ok();
+        }
+        if self.level == LogLevel::All {
+            self.tell_of(rt, party, What::Connected);
+        }
+    }
+
+    /// Tells that no user has the name and password of a CONNECT.
+    fn tell_failure<R: Wait + Clock>(&self, rt: &R, party: &mut Party, entry: &Entry) {
+        let Some(passed) = self.pass(rt, &mut party.rate) else {
+            return;
+        };
+        let name = match &entry.event.what {
+            Command::Connect { user, .. } => name_in(user),
+            _ => None,
+        };
+        self.put_named(rt, party, passed, (name, None), What::AuthFailed);
+    }
+
+    /// Tells what a user's permissions have refused, by the entry of the policy in force at it.
+    fn tell_denial<R: Wait + Clock>(
+        &self,
+        rt: &R,
+        party: &mut Party,
+        entry: &Entry,
+        verdict: Verdict,
+    ) {
+        let Some(passed) = self.pass(rt, &mut party.rate) else {
+            return;
+        };
+        let policy = self.policy_of(rt, entry.epoch);
+        let user = user_named(&policy, name_in(&party.user));
+        match &entry.event.what {
+            Command::Pub { message, .. } => {
+                let rule = text_of(self.alloc, entry_of(user, true, verdict));
+                let denial = Denial {
+                    command: "PUB",
+                    subject: Some(message.subject().bytes()),
+                    queue: None,
+                    sid: None,
+                    verdict,
+                    entry: bytes_of(&rule),
+                };
+                self.put_of(rt, party, passed, What::Denied(denial));
+            }
+            Command::Sub { subject, queue, .. } => {
+                let rule = text_of(self.alloc, entry_of(user, false, verdict));
+                let denial = Denial {
+                    command: "SUB",
+                    subject: Some(subject.get().bytes()),
+                    queue: match queue {
+                        None => None,
+                        Some(queue) => Some(queue.bytes()),
+                    },
+                    sid: None,
+                    verdict,
+                    entry: bytes_of(&rule),
+                };
+                self.put_of(rt, party, passed, What::Denied(denial));
+            }
+            _ => {}
+        }
+    }
+
+    /// Tells of a subscription that a reload has removed, by the entry of the new policy.
+    pub fn tell_removed<R: Wait + Clock>(
+        &self,
+        rt: &R,
+        party: &mut Party,
+        epoch: u128,
+        removed: &Removed,
+    ) {
+        if self.level == LogLevel::None {
+            return;
+        }
+        let Some(passed) = self.pass(rt, &mut party.rate) else {
+            return;
+        };
+        let policy = self.policy_of(rt, epoch);
+        let user = user_named(&policy, name_in(&party.user));
+        let rule = text_of(self.alloc, entry_of(user, false, removed.verdict));
+        let denial = Denial {
+            command: "SUB",
+            subject: None,
+            queue: None,
+            sid: Some(removed.sid.as_slice()),
+            verdict: removed.verdict,
+            entry: bytes_of(&rule),
+        };
+        self.put_of(rt, party, passed, What::Removed(denial));
+    }
+
+    /// Tells the errors among the texts that a client was sent, but for those that are told of its answers.
+    pub fn tell_errors<R: Wait + Clock>(
+        &self,
+        rt: &R,
+        party: &mut Party,
+        texts: &[u8],
+        has_failed: bool,
+    ) {
+        if self.level == LogLevel::None {
+            return;
+        }
+        for line in texts.split(|byte| *byte == b'\n') {
+            if let Some(error) = error_in(line) {
+                if !is_told_elsewhere(error, has_failed) {
+                    self.tell_of(rt, party, what_of(error));
+                }
+            }
+        }
+    }
+
+    /// Keeps the count of lines of a connection that ends, which were left out.
+    pub fn forget<R: Wait>(&self, rt: &R, party: &Party) {
+        if party.rate.left_out > 0 {
+            self.leave_out(rt, party.rate.left_out);
+        }
+    }
+
+    /// Notes that nothing will be told any more.
+    pub fn end<R: Wait>(&self, rt: &R) {
+        self.prints.end(rt);
+    }
+}
+
+/// Returns the text of an error, where a line is one: it stands between `'`.
+fn error_in(line: &[u8]) -> Option<&[u8]> {
+    let line = line.strip_suffix(b"\r").unwrap_or(line);
+    let text = line.strip_prefix(b"-ERR '")?;
+    text.strip_suffix(b"'")
+}
+
+/// Returns whether an error is told of an answer.
+fn is_told_elsewhere(error: &[u8], has_failed: bool) -> bool {
+    error.starts_with(b"Permissions Violation ")
+        || has_failed && error == b"Authorization Violation".as_slice()
+}

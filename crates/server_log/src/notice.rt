@@ -1,0 +1,89 @@
+ghost use Rattle.std.specs.Prelude.{◌≡◌};
+ghost use Rattle.server_log.specs.Lines.{what_of};
+
+use permissions::Verdict;
+
+/// What is told.
+#[derive(Clone, Copy, Debug, PartialEq, Eq)]
+pub enum LogLevel {
+    /// Nothing.
+    None,
+    /// What was refused, who was closed for being slow, and what policies do.
+    Denials,
+    /// Connects and closings as well.
+    All,
+}
+
+/// One thing that is told.
+#[derive(Clone, Copy)]
+pub struct Notice<'a> {
+    /// When it happened, in milliseconds since 1970.
+    pub at: u64,
+    /// Whose it is: the connection's number, the address of its peer, its user and the user's account, as far as they are
+    /// known.
+    pub conn: Option<u64>,
+    pub peer: Option<&'a [u8]>,
+    pub user: Option<&'a [u8]>,
+    pub account: Option<&'a [u8]>,
+    pub what: What<'a>,
+    /// How many lines were left out before it.
+    pub left_out: u64,
+}
+
+/// What has happened.
+#[derive(Clone, Copy)]
+pub enum What<'a> {
+    /// A CONNECT was accepted.
+    Connected,
+    /// A session was closed.
+    Closed,
+    /// No user has that name and password.
+    AuthFailed,
+    /// The user's permissions refuse a command.
+    Denied(Denial<'a>),
+    /// A client was too slow, and is closed.
+    SlowConsumer,
+    /// A client was sent this error.
+    ProtocolError(&'a [u8]),
+    /// A client has met a limit, and was sent this error.
+    Limit(&'a [u8]),
+    /// No more sockets can be had.
+    NoDescriptors,
+    /// A policy is in force. So many sessions are gone, and so many subscriptions were removed.
+    Reloaded { epoch: u64, gone: u64, removed: u64 },
+    /// A reload has ended this session.
+    Gone,
+    /// A reload has removed this subscription.
+    Removed(Denial<'a>),
+    /// A policy has this fault.
+    PolicyRefused(&'a [u8]),
+    /// The policy's file can't be read, for this reason.
+    PolicyUnreadable(&'a [u8]),
+    /// It can be read again.
+    PolicyReadable,
+}
+
+/// What was refused, and why.
+#[derive(Clone, Copy)]
+pub struct Denial<'a> {
+    /// The operation: `PUB` or `SUB`.
+    pub command: &'a str,
+    /// Its subject and queue, or its client's id for it, as far as they are known.
+    pub subject: Option<&'a [u8]>,
+    pub queue: Option<&'a [u8]>,
+    pub sid: Option<&'a [u8]>,
+    /// The verdict, and the text of the entry that it names, if it names one that is known.
+    pub verdict: Verdict,
+    pub entry: Option<&'a [u8]>,
+}
+
+/// Returns what it is that a client was sent an error: the limits are those whose texts begin with `Maximum `.
+pub fn what_of(error: &[u8]) -> What<'_>
+    ensures { result ≡ what_of error.entry }
+{
+    if error.starts_with(b"Maximum ") {
+        What::Limit(error)
+    } else {
+        What::ProtocolError(error)
+    }
+}
