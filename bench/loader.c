@@ -1,10 +1,11 @@
 /* Loads a NATS server and prints what it measured, for bench/serve: loader PORT TASK SIZE RECEIVERS COUNT WINDOW
  *
- * TASK is `all` (every receiver gets each of COUNT messages), `queue` (the receivers are one queue group), `pairs` (each
- * receiver has a publisher and a subject of its own, and gets COUNT messages) or `ask` (one asks COUNT times in turn, one
- * answers). A message has SIZE bytes. A publisher writes up to 64 KiB at once, and is no more than WINDOW messages before
- * the slowest of its receivers, or before the group. It prints for `all`, `queue` and `pairs` the deliveries a second, and
- * for `ask` the median and the 99th percentile of the microseconds from a request to its answer.
+ * TASK is `all` (every receiver gets each of COUNT messages), `stream` (the same, with receivers in another account, that of
+ * the user `importer`, which has the publisher's subjects under the prefix `from`), `queue` (the receivers are one queue
+ * group), `pairs` (each receiver has a publisher and a subject of its own, and gets COUNT messages) or `ask` (one asks COUNT
+ * times in turn, one answers). A message has SIZE bytes. A publisher writes up to 64 KiB at once, and is no more than WINDOW messages before
+ * the slowest of its receivers, or before the group. It prints for `ask` the median and the 99th percentile of the
+ * microseconds from a request to its answer, and else the deliveries a second.
  * Each connection has a thread of its own, with blocking reads and writes. */
 #include <arpa/inet.h>
 #include <netinet/tcp.h>
@@ -29,6 +30,7 @@ static Receiver receivers[MOST];
 static int port, size, count_of_receivers;
 static long count, window;
 static _Atomic int all_received;
+static const char *receiver = "demo", *wish = "SUB load 1\r\n";
 static int is_queue;
 
 static void die(const char *why)
@@ -76,16 +78,17 @@ static void read_pong(int socket)
     } while (strncmp(line, "PONG", 4));
 }
 
-static int connected(void)
+static int connected(const char *user)
 {
     int it = socket(AF_INET, SOCK_STREAM, 0), on = 1;
     struct sockaddr_in to = {.sin_family = AF_INET, .sin_port = htons(port), .sin_addr.s_addr = htonl(INADDR_LOOPBACK)};
-    static const char hello[] =
-        "CONNECT {\"user\":\"demo\",\"pass\":\"demo\",\"verbose\":false,\"pedantic\":false}\r\nPING\r\n";
+    char hello[256];
+    int length = snprintf(hello, sizeof hello,
+        "CONNECT {\"user\":\"%s\",\"pass\":\"%s\",\"verbose\":false,\"pedantic\":false}\r\nPING\r\n", user, user);
     if (it < 0 || connect(it, (struct sockaddr *)&to, sizeof to))
         die("no connection");
     setsockopt(it, IPPROTO_TCP, TCP_NODELAY, &on, sizeof on);
-    send_all(it, hello, sizeof hello - 1);
+    send_all(it, hello, length);
     read_pong(it);
     return it;
 }
@@ -211,11 +214,11 @@ static double flood(void)
     int each, length;
     char *piece = publishes("load", &each, &length);
     for (int i = 0; i < count_of_receivers; i++) {
-        receivers[i].socket = connected();
-        subscribe(receivers[i].socket, is_queue ? "SUB load group 1\r\n" : "SUB load 1\r\n");
+        receivers[i].socket = connected(receiver);
+        subscribe(receivers[i].socket, wish);
         pthread_create(&threads[i], NULL, receive, &receivers[i]);
     }
-    int publisher = connected();
+    int publisher = connected("demo");
     double begin = now();
     for (long sent = 0; sent < count;) {
         long part = count - sent < each ? count - sent : each;
@@ -242,7 +245,7 @@ static void *publish_to(void *closure)
 {
     Receiver *to = closure;
     char subject[32];
-    int each, length, publisher = connected();
+    int each, length, publisher = connected("demo");
     snprintf(subject, sizeof subject, "load.%d", (int)(to - receivers));
     char *piece = publishes(subject, &each, &length);
     double last = now();
@@ -268,7 +271,7 @@ static double pairs(void)
     for (int i = 0; i < count_of_receivers; i++) {
         char line[64];
         snprintf(line, sizeof line, "SUB load.%d 1\r\n", i);
-        receivers[i].socket = connected();
+        receivers[i].socket = connected("demo");
         subscribe(receivers[i].socket, line);
         pthread_create(&readers[i], NULL, receive, &receivers[i]);
     }
@@ -309,7 +312,7 @@ static void ask(void)
 {
     pthread_t thread;
     Parser parser = {.held = 0, .skip = 0};
-    int asks = connected(), answers = connected();
+    int asks = connected("demo"), answers = connected("demo");
     char piece[PIECE], out[8192];
     double *took = malloc(count * sizeof *took);
     int head = snprintf(out, sizeof out, "PUB ask reply %d\r\n", size), length = head + size + 2;
@@ -346,6 +349,12 @@ int main(int argc, char **argv)
     count = atol(argv[5]);
     window = atol(argv[6]);
     is_queue = !strcmp(argv[2], "queue");
+    if (is_queue)
+        wish = "SUB load group 1\r\n";
+    if (!strcmp(argv[2], "stream")) {
+        receiver = "importer";
+        wish = "SUB from.load 1\r\n";
+    }
     if (size < 0 || size > 4096 || count_of_receivers < 1 || count_of_receivers > MOST || count < 1 || window < 1)
         die("a number is out of range");
     if (!strcmp(argv[2], "ask"))

@@ -9,6 +9,8 @@ mod failures;
 #[cfg(test)]
 mod grants;
 #[cfg(test)]
+mod import_rows;
+#[cfg(test)]
 mod missing_subjects;
 #[cfg(test)]
 mod outboxes;

@@ -6,8 +6,15 @@ use policy_ready::Ready;
 use reload::prepare;
 use std::alloc::Global;
 
-/// The built-in policy, or one whose user may publish what so many entries allow, of which the last is `foo`.
+/// The built-in policy; or one whose user may publish what so many entries allow, of which the last is `foo`; or one with
+/// imports.
 pub fn policy_of(alloc: Global, scenario: Scenario) -> Result<Ready, CostFault> {
+    if scenario.stream || scenario.imports > 0 {
+        let text = importing(alloc, scenario.imports)?;
+        return prepare(alloc, text.as_str().as_bytes())
+            .ok()
+            .ok_or(CostFault::NoMemory);
+    }
     if scenario.allows > 0 {
         let text = listing(
             alloc,
@@ -38,6 +45,36 @@ fn listing(alloc: Global, allows: u64, separator: &str) -> Result<String, CostFa
     for entry in 1..allows {
         let entry = format!(in alloc; "\"other{separator}{entry}\",")?;
         text.push_str(entry.as_str())?;
+    }
+    text.push_str(tail)?;
+    Ok(text)
+}
+
+/// The texts before and behind the imports of a policy's second account, and an import of `foo` under the prefix `a`. It has no
+/// clause, so that the prover knows nothing of the texts.
+fn texts_of_imports() -> (&'static str, &'static str, &'static str) {
+    (
+        "{\"accounts\":{\"A\":{\"users\":[{\"user\":\"demo\",\"password\":\"demo\"}],\"exports\":[{\"stream\":\">\"}]},\"B\":{\"users\":[{\"user\":\"reader\",\"password\":\"demo\"}],\"imports\":[",
+        "]}}}",
+        "{\"stream\":{\"account\":\"A\",\"subject\":\"foo\"},\"prefix\":\"a\"}",
+    )
+}
+
+/// The text of a policy whose second account imports so many subjects from the first, each with its number behind `other`; or
+/// `foo` under the prefix `a`, where there are none.
+fn importing(alloc: Global, imports: u64) -> Result<String, CostFault> {
+    let (head, tail, row) = texts_of_imports();
+    let mut text = String::new(alloc);
+    text.push_str(head)?;
+    if imports == 0 {
+        text.push_str(row)?;
+    }
+    for import in 0..imports {
+        let comma = if import == 0 { "" } else { "," };
+        let row = format!(in alloc;
+            "{comma}{{\"stream\":{{\"account\":\"A\",\"subject\":\"other.{import}\"}}}}"
+        )?;
+        text.push_str(row.as_str())?;
     }
     text.push_str(tail)?;
     Ok(text)

@@ -21,12 +21,24 @@ const ROUND: u64 = 125;
 const MOST: u64 = 4_000;
 
 /// The SUB of a receiver.
-fn sub(grouped: bool) -> &'static [u8] {
-    if grouped {
+fn sub(scenario: Scenario) -> &'static [u8] {
+    if scenario.stream {
+        b"SUB a.foo 1\r\n"
+    } else if scenario.grouped {
         b"SUB foo workers 1\r\n"
     } else {
         b"SUB foo 1\r\n"
     }
+}
+
+/// Opens the connection of a receiver.
+fn open_receiver(server: &mut Server, scenario: Scenario) -> Result<Conn, CostFault> {
+    if scenario.stream {
+        let client = server.open_reader()?;
+        return Ok(client);
+    }
+    let client = server.open()?;
+    Ok(client)
 }
 
 /// Opens the connections that subscribe to the subject of the messages.
@@ -37,8 +49,8 @@ fn open_receivers(
 ) -> Result<Vec<Conn>, CostFault> {
     let mut receivers = Vec::new(alloc);
     for _ in 0..scenario.receivers {
-        let mut client = server.open()?;
-        server.feed(&mut client, sub(scenario.grouped))?;
+        let mut client = open_receiver(server, scenario)?;
+        server.feed(&mut client, sub(scenario))?;
         receivers.push(client)?;
     }
     Ok(receivers)

@@ -15,6 +15,10 @@ pub struct Scenario {
     pub apart: bool,
     /// Whether the messages have the subjects `other.1` to `other.1000` in turn, and not all `foo`.
     pub turns: bool,
+    /// Whether the receivers are in another account, which imports the messages under a prefix.
+    pub stream: bool,
+    /// Import rows of another account that the messages don't cross.
+    pub imports: u64,
 }
 
 /// One receiver, and nothing else.
@@ -26,6 +30,8 @@ const TO_ONE: Scenario = Scenario {
     allows: 0,
     apart: false,
     turns: false,
+    stream: false,
+    imports: 0,
 };
 
 /// 1,000 subjects in turn, and no receiver.
@@ -75,6 +81,14 @@ impl Scenario {
                 ..TO_ONE
             }),
             "turns" => Some(TURNS),
+            "stream" => Some(Scenario {
+                stream: true,
+                ..TO_ONE
+            }),
+            "imports" => Some(Scenario {
+                imports: 1_000,
+                ..TO_ONE
+            }),
             "allows-turns" => Some(Scenario {
                 allows: 1_001,
                 ..TURNS

@@ -11,6 +11,10 @@ const TAKE: usize = 256;
 
 const CONNECT: &[u8] = b"CONNECT {\"user\":\"demo\",\"pass\":\"demo\",\"verbose\":false}\r\n";
 
+/// The same of the user of another account.
+const CONNECT_READER: &[u8] =
+    b"CONNECT {\"user\":\"reader\",\"pass\":\"demo\",\"verbose\":false}\r\n";
+
 /// Words that rise by one, so that each member of a queue group has its turn.
 #[derive(Drop)]
 struct Rising {
@@ -83,9 +87,21 @@ impl Server {
 
     /// Opens a connection whose CONNECT was accepted.
     pub fn open(&mut self) -> Result<Conn, CostFault> {
+        let client = self.open_by(CONNECT)?;
+        Ok(client)
+    }
+
+    /// Opens a connection of the other account's user.
+    pub fn open_reader(&mut self) -> Result<Conn, CostFault> {
+        let client = self.open_by(CONNECT_READER)?;
+        Ok(client)
+    }
+
+    /// Opens a connection by a CONNECT.
+    fn open_by(&mut self, connect: &[u8]) -> Result<Conn, CostFault> {
         self.last = self.last.saturating_add(1);
         let mut client = Conn::new(self.alloc, self.last);
-        self.feed(&mut client, CONNECT)?;
+        self.feed(&mut client, connect)?;
         Ok(client)
     }
 

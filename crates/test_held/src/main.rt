@@ -11,7 +11,8 @@ use devices::ReadSource;
 use fault::HeldFault;
 use holding::{Answers, Holding};
 use policy_source::Frames;
-use server::{Settings, serve_clients};
+use server::{Outputs, Settings, serve_clients};
+use server_log::{LogLevel, ServerLog};
 use server_prints::{Prints, print_all};
 use std::process::ExitCode;
 use std::rt::Env;
@@ -32,11 +33,17 @@ fn main(rt: HostRuntime) -> ExitCode {
     let mut policies = Frames::new(rt.alloc(), ReadSource::new(rt.reader()));
     let prints = Prints::new(rt.alloc());
     let mut stdout = rt.stdout();
+    let errors = Prints::new(rt.alloc());
+    let log = ServerLog::new(rt.alloc(), LogLevel::None, &errors);
     let (rt, lines, writer) = (&rt, &prints, &mut stdout);
+    let outputs = Outputs {
+        prints: lines,
+        log: &log,
+    };
     let ((), status) = thread::join(
         rt,
         || print_all(rt, rt.alloc(), lines, writer),
-        || serve_clients(rt, settings(), &gates, &mut policies, lines),
+        || serve_clients(rt, settings(), &gates, &mut policies, outputs),
     );
     ExitCode::from(status)
 }
