@@ -8,6 +8,8 @@ from storming import Hearing, Sending, deaf, fill_sockets, is_closed_within, num
 
 # How long a receiver that doesn't read is waited for at once, in seconds, and what a busy machine may add.
 PATIENCE, MORE = 2, 4
+# How long a client may read nothing while what it sends waits.
+DEADLINE = 10
 # For how many seconds those are sent messages who read as fast as they can.
 FLOOD = 45
 SIZE = 512
@@ -200,18 +202,18 @@ def reads_a_little(program, divide, workers):
 def deaf_pair(program, divide, workers):
     """Two clients that publish to each other and don't read are both ended, or one and the other goes on"""
     with Server(program, "--workers", workers) as server:
-        before = server.descriptors()
         clients = [client_on(server, it % workers, workers, receive=4096) for it in range(2)]
+        before = server.descriptors() - 2
         for place, it in enumerate(clients):
             it.subscribe(b"to.%d" % place)
         begin = time.monotonic()
         writing = [Sending(it, numbered(b"to.%d" % (1 - place), range(100), SIZE), times=10_000)
                    for place, it in enumerate(clients)]
-        wait_for(lambda: server.descriptors() < before + 2, "nobody is closed", PATIENCE + 2 * MORE)
+        wait_for(lambda: server.descriptors() < before + 2, "nobody is closed", DEADLINE + MORE)
         took = time.monotonic() - begin
         # (who is left publishes to nobody)
         wait_for(lambda: server.descriptors() <= before or all(it.is_over() or it.sent > 0 for it in writing),
-                 "the other one waits", PATIENCE + 2 * MORE)
+                 "the other one waits", DEADLINE + MORE)
         for it in writing:
             it.stop = True
         is_alive(server)

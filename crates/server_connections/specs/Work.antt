@@ -1,7 +1,7 @@
 -- Which connections have work, and which kind.
 use Rattle.std.specs.Option.{unwrap_or}
 use Rattle.std.specs.Prelude.{◌≡◌, ◌&&◌, ◌||◌, ℕ, List, length, Bool, true, false, not, Option, None, Some, is_some, min, nat_eq}
-use Rattle.server_socket.specs.Connections.{may_read}
+use Rattle.server_socket.specs.Connections.{is_stuck, may_read}
 use Rattle.server_socket.specs.Queues.{IsPut}
 use Rattle.server_socket.specs.Unknown.{is_unknown}
 use Rattle.server_socket.specs.declared.connection.Connection.{Connection}
@@ -56,6 +56,11 @@ is_pressing many (Some it) = not (may_wait it.due many)
 abbrev pub waits : Option Connection → Bool
 waits None = false
 waits (Some it) = is_some it.held_until
+
+-- the worker has it, and it is stuck at a moment
+abbrev pub is_stuck_of : ℕ → Option Connection → Bool
+is_stuck_of now None = false
+is_stuck_of now (Some it) = is_stuck now it
 
 -- ---- rounds and turns
 

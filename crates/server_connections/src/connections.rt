@@ -37,6 +37,8 @@ pub struct Connections {
     pub(crate) many: usize,
     /// How many more rounds work is looked for before the worker sleeps.
     pub(crate) looks: u32,
+    /// When all are looked over for those that are stuck.
+    pub(crate) sweep_at: u64,
 }
 
 impl Drop for Connections {
@@ -56,6 +58,7 @@ impl Drop for Connections {
             fresh: _,
             many: _,
             looks: _,
+            sweep_at: _,
         } = self;
     }
 }
@@ -82,6 +85,7 @@ impl Connections {
             fresh: VecDeque::new(alloc),
             many: many(outbox),
             looks: 0,
+            sweep_at: 0,
         }
     }
 

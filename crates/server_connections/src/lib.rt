@@ -8,6 +8,7 @@ mod fresh;
 mod holding;
 mod lingering;
 mod pending;
+mod stuck;
 mod turns;
 mod work;
 

@@ -39,6 +39,14 @@ impl<'a, L: Run, R: Wait + Clock, G: Gate + Drop, W: Words + Drop> Worker<'a, L,
         }
     }
 
+    /// Ends a connection whose client reads nothing, and waits to be read, for ten seconds, if there is one.
+    pub(crate) fn end_stuck(&mut self) {
+        if let Some(key) = self.connections.next_stuck(self.now) {
+            self.tell_of(key, What::SlowConsumer);
+            self.close(key, Turn::Failed);
+        }
+    }
+
     /// Ends a connection: its session is closed, and then its socket. Where the session can't be closed yet, it is tried
     /// again.
     pub(crate) fn end(&mut self, key: usize) {

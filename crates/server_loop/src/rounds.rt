@@ -8,6 +8,7 @@ use server_gates::Gate;
 use server_pacing::Slice;
 use session_conn::Words;
 use shared_hub::Run;
+use std::io;
 use std::sync::Wait;
 use std::time::{Clock, Duration};
 
@@ -23,15 +24,15 @@ impl<'a, L: Run, R: Wait + Clock, G: Gate + Drop, W: Words + Drop> Worker<'a, L,
         let Ok(mut events) = Events::with_capacity(self.alloc, EVENTS) else {
             return Some(ServeFault::NoMemory);
         };
-        if !self.acceptor.listen(self.poll.registry()) {
-            return Some(ServeFault::PollFailed);
+        if let Err(error) = self.acceptor.listen(self.poll.registry()) {
+            return Some(self.poll_failed(&error));
         }
         for _ in self.rt.forever() {
             if self.state.stops() {
                 break;
             }
-            if !self.round(&mut events) {
-                return Some(ServeFault::PollFailed);
+            if let Err(error) = self.round(&mut events) {
+                return Some(self.poll_failed(&error));
             }
             if self.port.is_spent() {
                 return Some(ServeFault::GateClosed);
@@ -41,23 +42,28 @@ impl<'a, L: Run, R: Wait + Clock, G: Gate + Drop, W: Words + Drop> Worker<'a, L,
         None
     }
 
+    /// Tells why the system gives no way to wait for sockets, and returns the fault.
+    fn poll_failed(&self, error: &io::Error) -> ServeFault {
+        self.state.log.tell_failed(self.rt, "poll", error);
+        ServeFault::PollFailed
+    }
+
     /// Works for one round: what was left in the mailbox, a slice of what is to be written, what the sockets tell, and some
-    /// turns. Returns whether the system could tell of sockets.
-    fn round(&mut self, events: &mut Events) -> bool {
+    /// turns. The error is the system's, which can't tell of sockets.
+    fn round(&mut self, events: &mut Events) -> io::Result<()> {
         self.connections.begin_round();
         self.take_in();
         self.give_way();
         self.slice = Slice::whole();
         self.drain_queued();
-        if !self.wait(events) {
-            return false;
-        }
+        self.wait(events)?;
         self.end_lingering();
+        self.end_stuck();
         self.connections.look_after_held(self.now);
         self.try_again();
         self.accept();
         self.take_turns();
-        true
+        Ok(())
     }
 
     /// Returns how long to wait for sockets: not at all where there is work.
@@ -80,13 +86,13 @@ impl<'a, L: Run, R: Wait + Clock, G: Gate + Drop, W: Words + Drop> Worker<'a, L,
         held.min(accepts).min(self.connections.lingers_until())
     }
 
-    /// Waits for sockets, and notes what they tell. Returns whether the system could tell.
-    fn wait(&mut self, events: &mut Events) -> bool {
+    /// Waits for sockets, and notes what they tell. The error is the system's, which can't tell.
+    fn wait(&mut self, events: &mut Events) -> io::Result<()> {
         let mut patience = self.patience();
         if patience > Duration::ZERO && self.port.shed(SHED) {
             patience = Duration::ZERO;
         }
-        let told = self.poll.poll(events, Some(patience)).is_ok();
+        let told = self.poll.poll(events, Some(patience));
         self.now = self.state.now(self.rt);
         self.note_events(events);
         told

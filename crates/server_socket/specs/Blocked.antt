@@ -27,3 +27,8 @@ end_of (Some at) now = at
 abbrev pub is_out : Option ℕ → ℕ → Bool
 is_out None now = false
 is_out (Some at) now = nat_le at now
+
+-- whether a socket that takes less than it is given since some moment has done so for ten seconds
+abbrev pub is_past : Option ℕ → ℕ → Bool
+is_past None now = false
+is_past (Some at) now = nat_le (u64_saturate (at + 10000)) now

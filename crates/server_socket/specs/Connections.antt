@@ -4,7 +4,7 @@ use Rattle.server_turns.specs.declared.turn.Turn.TheVariants.{Done, Failed}
 use Rattle.server_pacing.specs.Due as due
 use Rattle.server_pacing.specs.Due.{is_nothing, passed}
 use Rattle.session_plan.specs.Replies.{is_closed, is_connected}
-use Rattle.server_socket.specs.Blocked.{end_of}
+use Rattle.server_socket.specs.Blocked.{end_of, is_past}
 use Rattle.server_socket.specs.declared.connection.Connection.{Connection}
 use Rattle.server_socket.specs.declared.connection.Queued.{Queued}
 use Rattle.server_socket.specs.declared.writing.Written.{Written}
@@ -25,6 +25,10 @@ may_read c = c.readable && (c.lingers || not (is_set_aside c) && not c.is_over)
 -- it is ended where its socket takes nothing
 abbrev pub may_not_last : Connection → Bool
 may_not_last c = (c.due.drain || c.is_let_on) || is_closed c.client.conn.stage
+
+-- what its client sends waits, and its socket hasn't taken for ten seconds what comes before
+abbrev pub is_stuck : ℕ → Connection → Bool
+is_stuck now c = (c.readable && not c.is_over) && is_past c.blocked.since now
 
 -- a Take is due to it
 abbrev pub is_due : Connection → Bool

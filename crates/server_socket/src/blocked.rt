@@ -4,6 +4,10 @@ ghost use Rattle.std.specs.Prelude.{◌≡◌};
 /// How long a connection that is to be closed may take nothing, in milliseconds.
 const PATIENCE: u64 = 2000;
 
+/// For how long a socket may take less than it is given while what its client sends waits behind that, in milliseconds:
+/// nats-server's deadline for a write.
+const DEADLINE: u64 = 10_000;
+
 /// For how long a connection's socket takes nothing. All is in milliseconds.
 #[derive(Clone, Copy, Debug)]
 pub struct Blocked {
@@ -17,7 +21,7 @@ pub struct Blocked {
 
 impl Blocked {
     ghost use Rattle.std.specs.Prelude.{Some, None};
-    ghost use Rattle.server_socket.specs.Blocked.{end_of, is_out, not_blocked, written};
+    ghost use Rattle.server_socket.specs.Blocked.{end_of, is_out, is_past, not_blocked, written};
 
     /// Returns what is known of a socket that takes what it is given.
     pub(crate) fn new() -> Blocked
@@ -65,5 +69,12 @@ impl Blocked {
             }
             Some(at) => at <= now,
         }
+    }
+
+    /// Returns whether the socket hasn't taken all that it was given for ten seconds.
+    pub(crate) fn is_past(self, now: u64) -> bool
+        ensures { result ≡ is_past self.since now }
+    {
+        matches!(self.since, Some(at) if at.saturating_add(DEADLINE) <= now)
     }
 }

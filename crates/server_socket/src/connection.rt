@@ -87,7 +87,7 @@ impl Queued {
 impl Connection {
     ghost use Rattle.std.specs.Prelude.{[], None, is_some, false, true};
     ghost use Rattle.server_socket.specs.Blocked.{not_blocked, written};
-    ghost use Rattle.server_socket.specs.Connections.{is_due, is_set_aside, let_on, may_not_last, may_read, not_queued};
+    ghost use Rattle.server_socket.specs.Connections.{is_due, is_set_aside, is_stuck, let_on, may_not_last, may_read, not_queued};
     ghost use Rattle.server_pacing.specs.Due.{nothing};
 
     /// Returns a connection to which nothing has happened. Its socket may have something to read.
@@ -152,6 +152,14 @@ impl Connection {
         ensures { result ≡ may_not_last self.now }
     {
         self.due.must_drain() || self.is_let_on || self.client.conn().stage().is_closed()
+    }
+
+    /// Returns whether its client holds itself up: it reads nothing, and what it sends isn't read before it does. Two that publish
+    /// to each other hold each other up so.
+    pub fn is_stuck(&self, now: u64) -> bool
+        ensures { result ≡ is_stuck now self.now }
+    {
+        self.readable && !self.is_over && self.blocked.is_past(now)
     }
 
     /// Returns whether a Take is due.
