@@ -22,11 +22,11 @@ fresh history = record { half = history / 2; due = 0; spent = []; at_hand = 0; u
 abbrev pub but_last : ℕ → List Entry → List Entry
 but_last most entries = take (length entries - most) entries
 
--- an event comes: the last seven are dropped, once new entries have the blocks of the seven before
+-- an event comes: the last 32 are dropped, once 32 events have come since the 32 before
 abbrev pub dropped : Rotating → Rotating
 dropped r =
     let has = nat_lt 0 r.at_hand in
-    record r { spent = cond has r.spent (but_last 7 r.spent); at_hand = cond has (r.at_hand - 1) 6 }
+    record r { spent = cond has r.spent (but_last 32 r.spent); at_hand = cond has (r.at_hand - 1) 31 }
 
 -- a port takes over what was handed out, and tried once more
 abbrev pub taken_over : List Entry → ℕ → Rotating → Rotating

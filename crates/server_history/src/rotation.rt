@@ -6,8 +6,8 @@ use events::{Answer, Outcome};
 use std::alloc::Global;
 use std::marker::Model;
 
-/// How many old entries are dropped together: as many blocks of a size as malloc keeps at hand for a thread.
-const TOGETHER: usize = 7;
+/// How many old entries are dropped together: so many that their memory is fetched side by side.
+const TOGETHER: usize = 32;
 
 /// How many bytes a port counts until others are told of them.
 const TOLD: u64 = 64 * 1024;
@@ -173,7 +173,7 @@ impl Rotation {
         if past == 0 { Some(kept.look()) } else { None }
     }
 
-    /// Drops the last seven of what was handed out, once new entries have had the blocks of the seven before.
+    /// Drops the last 32 of what was handed out, once 32 events have come since the 32 before.
     #[inline(always)]
     pub fn drop_some(&mut self)
         ensures { self.new ≡ dropped self.old }

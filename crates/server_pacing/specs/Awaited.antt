@@ -31,7 +31,7 @@ fewer a most = record { count = a.count - min a.count most; bytes = a.bytes - u6
 abbrev pub had : Awaited → Awaited → Awaited
 had before after = record { count = before.count - after.count; bytes = before.bytes - after.bytes }
 
--- A message takes 11 bytes at least. So with fewer than these, and those of another piece, half an outbox is free.
+-- A message takes 11 bytes at least. So with fewer than these, and those of another 4 KiB, half an outbox is free.
 abbrev pub many : ℕ → ℕ
 many outbox = outbox / 2 - 4096 / 11
 

@@ -9,7 +9,10 @@ const MOST: usize = 256;
 const ROOM: usize = 65_536;
 
 /// How many bytes are read at a time at most: some hundred events.
-pub const PIECE: usize = 4096;
+pub const PIECE: usize = 16_384;
+
+/// For how many bytes of messages there is to be room in an outbox besides, before another piece is read.
+const ROOM_LEFT: usize = 4096;
 
 /// How many bytes the shortest message takes, a PUB with a subject of one byte and no payload.
 const LEAST_MESSAGE: usize = 11;
@@ -69,11 +72,11 @@ impl Awaited {
 }
 
 /// Returns how many deliveries wait for a connection at least that is drained before another piece is read: with fewer, those of
-/// another piece leave half an outbox free.
+/// another 4 KiB leave half an outbox free.
 pub fn many(outbox: usize) -> usize
     ensures { result ≡ many outbox }
 {
-    (outbox / 2).saturating_sub(PIECE / LEAST_MESSAGE)
+    (outbox / 2).saturating_sub(ROOM_LEFT / LEAST_MESSAGE)
 }
 
 /// Returns how many deliveries may have entered for a connection of another worker before that is told, while their publisher is

@@ -12,12 +12,8 @@ use std::collections::VecDeque;
 use std::mem;
 use std::sync::Wait;
 
-/// How many messages are offered in one hold of the lock, at most: as many as old entries are dropped together, so that each
-/// has the block of one of them, which malloc has at hand.
-const MOST_MESSAGES: usize = 7;
-
-/// The same where the lock was found taken: whoever waits for it enters more at once.
-const MOST_WAITING: usize = 64;
+/// How many messages are offered in one hold of the lock, at most.
+const MOST_MESSAGES: usize = 64;
 
 /// How many messages and deliveries enter in one hold, but for the last message of it.
 const MOST_WORK: usize = 256;
@@ -63,10 +59,10 @@ impl<L: Run, R: Wait, G: Gate + Drop> ServerPort<'_, L, R, G> {
             return self.hold_back(messages, words);
         }
         self.course.has_passed = false;
-        let longest = messages.len().min(MOST_WAITING);
-        self.pass_read(longest);
+        let most = messages.len().min(MOST_MESSAGES);
+        self.pass_read(most);
         let room = self.course.share.min(MOST_WORK);
-        self.context.hold.begin(room, MOST_MESSAGES, longest);
+        self.context.hold.begin(room, most);
         let end = self.enter_run(posts, messages, words);
         self.follow_all();
         match end {

@@ -7,7 +7,6 @@ use crate::{Audit, Desk, Receipt, Run, RunContext, Seat, Told};
 use base::NoMemory;
 use events::Words;
 use hub::{Answer, Event, Hub, HubRefusal, Message, PublishRefusal, Segment};
-use shared_runs::Hold;
 use std::alloc::Global;
 use std::collections::VecDeque;
 use std::hint::spin_loop;
@@ -15,7 +14,7 @@ use std::sync::ledger::{Blank, Share};
 use std::sync::{Mutex, MutexGuard, Wait};
 
 /// How often a thread looks at a taken lock before it sleeps.
-const LOOKS: usize = 16;
+const LOOKS: usize = 64;
 
 /// Pauses for so many of the processor's shortest pauses.
 fn pause(times: usize) {
@@ -190,8 +189,7 @@ impl<L: Run> SharedHub<L> {
         self.desk.lock(rt).step_if(seat, event, told)
     }
 
-    /// Offers messages of one connection in one hold of the lock, as `Desk::step_run` does. Where the lock is found taken,
-    /// the hold is lengthened, so that more messages enter for one wait.
+    /// Offers messages of one connection in one hold of the lock, as `Desk::step_run` does.
     #[inline(always)]
     pub fn offer_run<R: Wait, W: Words>(
         &self,
@@ -205,20 +203,17 @@ impl<L: Run> SharedHub<L> {
         ensures freed { context.new.told.freed.items ≡ context.old.told.freed.items }
         ensures rest { context.new.told.rest ≡ context.old.told.rest }
     {
-        let mut desk = self.lock_for(rt, &mut context.hold);
+        let mut desk = self.take_lock(rt);
         let end = desk.step_run(seat, context, messages, words);
         end
     }
 
-    /// Takes the lock for a hold, which is lengthened where somebody else has the lock.
+    /// Takes the lock. The thread looks for it for a while before it sleeps.
     #[inline(always)]
-    fn lock_for<R: Wait>(&self, rt: &R, hold: &mut Hold) -> MutexGuard<'_, Desk<L>>
-        ensures { hold.new.answers.items ≡ hold.old.answers.items }
-    {
+    fn take_lock<R: Wait>(&self, rt: &R) -> MutexGuard<'_, Desk<L>> {
         if let Some(desk) = self.desk.try_lock() {
             return desk;
         }
-        hold.lengthen();
         self.wait_for(rt)
     }
 

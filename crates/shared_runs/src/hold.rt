@@ -13,8 +13,6 @@ pub struct Hold {
     room: usize,
     /// How many messages may enter, of those for whose answers there is memory. One may enter in any case.
     most: usize,
-    /// The same of a hold that is lengthened.
-    longest: usize,
 }
 
 impl Hold {
@@ -29,30 +27,21 @@ impl Hold {
             answers: Vec::new(alloc),
             room: 0,
             most: 1,
-            longest: 1,
         }
     }
 
     /// Begins another hold, in which so many messages and deliveries may enter, with no answer. At most `most` messages may
-    /// enter, or `longest` once it is lengthened: of those for whose answers memory can be had.
+    /// enter, of those for whose answers memory can be had.
     #[inline(always)]
-    pub fn begin(&mut self, room: usize, most: usize, longest: usize)
+    pub fn begin(&mut self, room: usize, most: usize)
         ensures { self.new.answers.items ≡ [] }
     {
         if !self.answers.is_empty() {
             self.answers.clear();
         }
-        let _ = self.answers.reserve(longest.saturating_sub(1));
+        let _ = self.answers.reserve(most.saturating_sub(1));
         self.room = room;
         self.most = most;
-        self.longest = longest;
-    }
-
-    /// Lets more messages enter.
-    pub fn lengthen(&mut self)
-        ensures { self.new.answers ≡ self.old.answers }
-    {
-        self.most = self.longest;
     }
 
     /// Keeps the answer of a message that was published, if another may enter behind it; else hands it back.

@@ -1,5 +1,4 @@
 -- what the desk tells of each offer, as far as the seat knows it
-use Rattle.std.proofs.Common.{◌∙◌, ◌++◌, ap}
 use Rattle.shared_runs.proofs.Runs.{run_along}
 use Rattle.shared_desk.specs.Publishing.{IsPublished}
 use Rattle.shared_hub.specs.Entering.{IsOfferedBy}
@@ -10,7 +9,7 @@ pub returns-clause-run : goal.returns-clause-run
 returns-clause-run g c =
     let run = c.step_run-end.ensures.run in (
       run.0,
-      run.1 ∙ ap (λ xs. xs ++ run.0) c.lock_for-desk.ensures,
+      run.1,
       run_along (λ x. x.seat) (IsPublished (λ s. s.count) g.L.Run.opening) (λ s e r after. IsOfferedBy g.L.Run.opening s.count e r after.count)
           g.W.Words.draws c.args.context.now.posts.conn c.args.context.now.posts.now (offered_by (λ s. s.count) g.L.Run.opening) c.args.messages.now.items _ c.args.words.now run.0 c.step_run-end.result
           c.step_run-end.new.messages.items _ c.step_run-end.new.words run.2,
