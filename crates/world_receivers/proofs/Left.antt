@@ -22,7 +22,7 @@ use Rattle.world_subscriptions.proofs.Ends.{bumped-id}
 use Rattle.world_rows.specs.declared.subscription.Subscription.{Subscription}
 use Rattle.world_groups.specs.Served.{served}
 use Rattle.world_receivers.specs.Standing.{times_entering, counted_more, stands_behind}
-use Rattle.world_receivers.proofs.Stays.{made, bumped-made, served-map}
+use Rattle.world_receivers.proofs.Stays.{made, bumped-made, bumped-most, served-map}
 
 -- ---- counted in turn
 
@@ -118,13 +118,6 @@ addressed_counted ids m word xs = ap (map (addressed_to m)) (served-map (bumps i
     same (y ∷ ys) = (λ i. addressed_to m (bumps-made ids y i) ∷ same ys i)
 
 -- ---- limits
-
-bumped-most : (s : Subscription) → (bumped s).most ≡ s.most
-bumped-most s = here (nat_lt s.received 18446744073709551615)
-  where
-    here : (b : Bool) → (cond b (record s { received = s.received + 1 }) s).most ≡ s.most
-    here true = refl
-    here false = refl
 
 -- without a limit a subscription never ends
 pub never_ends : (n : ℕ) (s : Subscription) → s.most ≡ None → has_ended (counted_more n s) ≡ false

@@ -1,3 +1,4 @@
+pub mod Behind
 pub mod Left
 pub mod Stays
 pub mod Tests

@@ -1,12 +1,17 @@
 -- What is cached stays current while messages are delivered, counted and taken: who may be sent a message, and whom it is for,
 -- goes neither by what waits for a session nor by what a subscription has received.
-use Rattle.std.proofs.Common.{◌≡◌, ◌∙◌, ◌==◌, ◌&&◌, ◌||◌, ◌≤◌, ℕ, Bool, true, false, cond, not, List, [], ◌∷◌, length, nat_lt, Option, Some, None, map, filter, ap, sym, refl, subst, inl, inr, arith}
+use Rattle.std.proofs.Common.{◌≡◌, ◌∙◌, ◌==◌, ◌&&◌, ◌||◌, ◌≤◌, ◌+◌, ℕ, Bool, true, false, cond, not, List, [], ◌∷◌, length, nat_lt, Option, Some, None, map, filter, ap, sym, refl, subst, inl, inr, arith}
+use Rattle.std.specs.Prelude.{is_some}
+use Rattle.std.specs.Global.{Vec}
+use Rattle.std.specs.List.{list_any}
 use Rattle.std.specs.Option.{option_map}
 use Rattle.std.proofs.lemmas.Bool.{cases_Bool}
 use Rattle.std.proofs.lemmas.List.{length-map}
 use Rattle.std.proofs.lemmas.Option.{none-some}
 use Rattle.subjects.specs.Subject.{Token, tokens_of, text_of}
 use Rattle.imports.specs.declared.rows.ImportRow.{ImportRow}
+use Rattle.imports.specs.declared.view.ViewItem.{ViewItem}
+use Rattle.imports.specs.declared.view.ViewItem.TheVariants.{At, TooLong}
 use Rattle.policy_ready.specs.declared.ready.User.{User}
 use Rattle.permissions.specs.Verdicts.{delivery_verdict, is_allowed}
 use Rattle.events.specs.declared.answer.Addressed.{Addressed}
@@ -23,9 +28,11 @@ use Rattle.world_subscriptions.specs.Limit.{unended, has_ended}
 use Rattle.world_rows.specs.declared.subscription.Subscription.{Subscription}
 use Rattle.world_receivers.specs.Open.{lets_through, may_hear, is_open, open_among}
 use Rattle.world_receivers.specs.Receivers.{receiver_of}
-use Rattle.world_receivers.specs.Cached.{IsWhom, IsWhomFor, IsAlone, IsAloneFor, IsCurrent}
+use Rattle.world_receivers.specs.Known.{IsWhom, IsSeen, AreSeen, has_limit, others_in}
+use Rattle.world_receivers.specs.Cached.{IsWhomFor, KnowsOthersFor, IsCurrent}
 use Rattle.world_receivers.specs.declared.cache.ReceiverCache.{ReceiverCache}
-use Rattle.world_receivers.specs.declared.cache.Whom.{Whom}
+use Rattle.world_receivers.specs.declared.known.KnownView.{KnownView}
+use Rattle.world_receivers.specs.declared.whom.Whom.{Whom}
 
 -- ---- sessions
 
@@ -124,53 +131,86 @@ module _ (f : Subscription → Subscription) (same : (s : Subscription) → made
   whom-map whom xs is = λ says word. ap (map receiver_of) (served-map word xs) ∙ receivers-map (served word xs) ∙ is says word
 
   module _ (zs after : List Session) (seated : AreSeated zs after) (subs : List Subscription) where
-    open-map : (z y : Session) → seat y ≡ seat z → (s : List Token) → open_among after (map f subs) y y.user.account s ≡ map f (open_among zs subs z z.user.account s)
-    open-map z y own s =
-        filter-map (λ sub. has_subject y.user.account s sub && is_open after y s sub) f subs
-        ∙ ap (map f) (same_tests (λ x. has_subject y.user.account s (f x) && is_open after y s (f x)) (λ sub. has_subject z.user.account s sub && is_open zs z s sub) subs
-        (λ x. ap (λ (m : Subscription). has_subject y.user.account s m && is_open after y s m) (same x)
-        ∙ ap (λ (q : Seat). has_subject q.1.0.account s x && is_open after y s x) own
-        ∙ ap (λ b. has_subject z.user.account s x && b) (open_same zs after seated z y own s x)))
+    open-map : (z y : Session) → seat y ≡ seat z → (account : List ℕ) (s : List Token) → open_among after (map f subs) y account s ≡ map f (open_among zs subs z account s)
+    open-map z y own account s =
+        filter-map (λ sub. has_subject account s sub && is_open after y s sub) f subs
+        ∙ ap (map f) (same_tests (λ x. has_subject account s (f x) && is_open after y s (f x)) (λ sub. has_subject account s sub && is_open zs z s sub) subs
+        (λ x. ap (λ (m : Subscription). has_subject account s m && is_open after y s m) (same x)
+        ∙ ap (λ b. has_subject account s x && b) (open_same zs after seated z y own s x)))
 
-    whom-stays : (o : Option Whom) (conn : ℕ) (text : List ℕ) → IsWhomFor o conn text zs subs → IsWhomFor o conn text after (map f subs)
-    whom-stays None conn text is = tt
-    whom-stays (Some whom) conn text is = λ y there. was y (session_of zs conn) refl (sym (seated conn) ∙ ap (option_map seat) there)
-      where
-        was : (y : Session) (o : Option Session) → session_of zs conn ≡ o → option_map seat (session_of zs conn) ≡ Some (seat y) → IsWhom whom (open_among after (map f subs) y y.user.account (tokens_of text))
-        was y None e own = absurd (none-some (seat y) (sym (ap (option_map seat) e) ∙ own))
-        was y (Some z) e own =
-            subst (IsWhom whom) (sym (open-map z y (ap (λ (q : Option Seat). or_else q (seat z)) (sym own ∙ ap (option_map seat) e)) (tokens_of text)))
-            (whom-map whom (open_among zs subs z z.user.account (tokens_of text)) (is z e))
-          where
-            or_else : Option Seat → Seat → Seat
-            or_else None d = d
-            or_else (Some q) d = q
-
--- whether a message is seen in its publisher's account alone goes by the publisher's user alone
-alone-stays : (b : Bool) (rows : List ImportRow) (conn : ℕ) (text : List ℕ) (zs after : List Session) → AreSeated zs after → IsAloneFor b rows conn text zs → IsAloneFor b rows conn text after
-alone-stays false rows conn text zs after seated is = tt
-alone-stays true rows conn text zs after seated is = λ y there. was y (session_of zs conn) refl (sym (seated conn) ∙ ap (option_map seat) there)
-  where
-    was : (y : Session) (o : Option Session) → session_of zs conn ≡ o → option_map seat (session_of zs conn) ≡ Some (seat y) → IsAlone rows y.user.account (tokens_of text)
-    was y None e own = absurd (none-some (seat y) (sym (ap (option_map seat) e) ∙ own))
-    was y (Some z) e own =
-        subst (λ (q : Seat). IsAlone rows q.1.0.account (tokens_of text)) (ap (λ (q : Option Seat). or_else q (seat z)) (sym (ap (option_map seat) e) ∙ own)) (is z e)
+    -- who has a session's seat now had it before
+    before_it : (conn : ℕ) (P : Session → Type 0) → ((z y : Session) → session_of zs conn ≡ Some z → seat y ≡ seat z → P y) → (y : Session) → session_of after conn ≡ Some y → P y
+    before_it conn P shown y there = was (session_of zs conn) refl (sym (seated conn) ∙ ap (option_map seat) there)
       where
         or_else : Option Seat → Seat → Seat
         or_else None d = d
         or_else (Some q) d = q
+
+        was : (o : Option Session) → session_of zs conn ≡ o → option_map seat (session_of zs conn) ≡ Some (seat y) → P y
+        was None e own = absurd (none-some (seat y) (sym (ap (option_map seat) e) ∙ own))
+        was (Some z) e own = shown z y e (ap (λ (q : Option Seat). or_else q (seat z)) (sym own ∙ ap (option_map seat) e))
+
+    whom-stays : (o : Option Whom) (conn : ℕ) (text : List ℕ) → IsWhomFor o conn text zs subs → IsWhomFor o conn text after (map f subs)
+    whom-stays None conn text is = tt
+    whom-stays (Some whom) conn text is = before_it conn (λ y. IsWhom whom (open_among after (map f subs) y y.user.account (tokens_of text)))
+        (λ z y there own. subst (IsWhom whom)
+        (sym (open-map z y own y.user.account (tokens_of text)
+        ∙ ap (λ (account : List ℕ). map f (open_among zs subs z account (tokens_of text))) (ap (λ (q : Seat). q.1.0.account) own)))
+        (whom-map whom (open_among zs subs z z.user.account (tokens_of text)) (is z there)))
+
+    module _ (most_same : (s : Subscription) → (f s).most ≡ s.most) where
+      unlimited-map : (xs : List Subscription) → list_any has_limit (map f xs) ≡ list_any has_limit xs
+      unlimited-map [] = refl
+      unlimited-map (x ∷ xs) = ap (λ (o : Option ℕ). is_some o || list_any has_limit (map f xs)) (most_same x) ∙ ap (λ b. has_limit x || b) (unlimited-map xs)
+
+      view-stays : (z y : Session) → seat y ≡ seat z → (known : KnownView) (account : List ℕ) (s : List Token) → IsSeen zs subs z known account s → IsSeen after (map f subs) y known account s
+      view-stays z y own known account s is = record {
+        names = is.names;
+        unlimited = ap (list_any has_limit) (open-map z y own account s) ∙ unlimited-map (open_among zs subs z account s) ∙ is.unlimited;
+        says = is.says;
+        whom = subst (IsWhom known.whom) (sym (open-map z y own account s)) (whom-map known.whom (open_among zs subs z account s) is.whom);
+      }
+
+      views-stay : (z y : Session) → seat y ≡ seat z → (known : List KnownView) (vs : List ViewItem) → AreSeen zs subs z known vs → AreSeen after (map f subs) y known vs
+      views-stay z y own [] [] is = tt
+      views-stay z y own [] (v ∷ vs) is = absurd is
+      views-stay z y own (k ∷ known) [] is = absurd is
+      views-stay z y own (k ∷ known) (TooLong row ∷ vs) is = absurd is
+      views-stay z y own (k ∷ known) (At account s way ∷ vs) is = (view-stays z y own k account s is.0, views-stay z y own known vs is.1)
+
+      others-stay : (o : Option (Vec KnownView)) (rows : List ImportRow) (conn : ℕ) (text : List ℕ) → KnowsOthersFor o rows conn text zs subs → KnowsOthersFor o rows conn text after (map f subs)
+      others-stay None rows conn text is = tt
+      others-stay (Some known) rows conn text is = before_it conn (λ y. AreSeen after (map f subs) y known.items (others_in rows y.user.account (tokens_of text)))
+          (λ z y there own. views-stay z y own known.items (others_in rows y.user.account (tokens_of text))
+          (subst (λ (q : Seat). AreSeen zs subs z known.items (others_in rows q.1.0.account (tokens_of text))) (sym own) (is z there)))
 
 -- ---- what is cached
 
 pub current_taken : (cache : ReceiverCache) (rows : List ImportRow) (zs after : List Session) (subs : List Subscription) → AreSeated zs after → IsCurrent rows zs subs cache → IsCurrent rows after subs cache
 current_taken cache rows zs after subs seated current = (
   subst (λ (ss : List Subscription). IsWhomFor cache.whom cache.conn cache.subject.items after ss) (map-same subs) (whom-stays (λ s. s) (λ s. refl) zs after seated subs cache.whom cache.conn cache.subject.items current.0),
-  alone-stays cache.alone rows cache.conn cache.subject.items zs after seated current.1,
+  subst (λ (ss : List Subscription). KnowsOthersFor cache.others rows cache.conn cache.subject.items after ss) (map-same subs)
+      (others-stay (λ s. s) (λ s. refl) zs after seated subs (λ s. refl) cache.others rows cache.conn cache.subject.items current.1),
 )
   where
     map-same : (xs : List Subscription) → map (λ s. s) xs ≡ xs
     map-same [] = refl
     map-same (x ∷ xs) = ap (λ rest. x ∷ rest) (map-same xs)
+
+-- and what was counted changes no limit
+pub bumped-most : (s : Subscription) → (bumped s).most ≡ s.most
+bumped-most s = here (nat_lt s.received 18446744073709551615)
+  where
+    here : (b : Bool) → (cond b (record s { received = s.received + 1 }) s).most ≡ s.most
+    here true = refl
+    here false = refl
+
+only-most : (id : ℕ) (s : Subscription) → (only bumped id s).most ≡ s.most
+only-most id s = here (s.id == id)
+  where
+    here : (b : Bool) → (cond b (bumped s) s).most ≡ s.most
+    here true = bumped-most s
+    here false = refl
 
 pub bumped-made : (id : ℕ) (s : Subscription) → made (only bumped id s) ≡ made s
 bumped-made id s = either (s.id == id) _ _ (either (nat_lt s.received 18446744073709551615) _ _ refl refl) refl
@@ -213,5 +253,7 @@ current_in_turn cache rows zs after (id ∷ ids) subs seated as_many current =
     let fewer = fewer_once id subs in
     let all : once id subs ≡ map (only bumped id) subs = all_stay (λ (s : Subscription). not (has_ended s)) (map (only bumped id) subs) (omega (arith, as_many, more, length-map subs (only bumped id))) in
     current_in_turn cache rows zs after ids (once id subs) seated (omega (arith, as_many, fewer))
-    (subst (λ (ss : List Subscription). IsCurrent rows zs ss cache) (sym all)
-    (whom-stays (only bumped id) (bumped-made id) zs zs (λ conn. refl) subs cache.whom cache.conn cache.subject.items current.0, current.1))
+    (subst (λ (ss : List Subscription). IsCurrent rows zs ss cache) (sym all) (
+      whom-stays (only bumped id) (bumped-made id) zs zs (λ conn. refl) subs cache.whom cache.conn cache.subject.items current.0,
+      others-stay (only bumped id) (bumped-made id) zs zs (λ conn. refl) subs (only-most id) cache.others rows cache.conn cache.subject.items current.1,
+    ))

@@ -1,5 +1,7 @@
 -- What is cached tells whom a message is for.
-use Rattle.std.proofs.Common.{◌≡◌, ◌∙◌, ◌⊎◌, ℕ, Bool, true, false, List, [], ◌∷◌, Option, Some, None, map, ap, sym, refl, subst, inl, inr}
+use Rattle.std.proofs.Common.{◌≡◌, ◌∙◌, ◌⊎◌, ℕ, List, [], ◌∷◌, Option, Some, None, map, ap, sym, refl, subst, inl, inr}
+use Rattle.std.specs.Prelude.{IfSome}
+use Rattle.std.specs.Global.{Vec}
 use Rattle.subjects.specs.Subject.{Token, tokens_of}
 use Rattle.imports.specs.declared.rows.ImportRow.{ImportRow}
 use Rattle.events.specs.Messages.{Message}
@@ -11,12 +13,14 @@ use Rattle.world_subscriptions.specs.Addressing.{addressed_to}
 use Rattle.world_rows.specs.declared.subscription.Subscription.{Subscription}
 use Rattle.world_receivers.specs.Open.{open_among}
 use Rattle.world_receivers.specs.Receivers.{receiver_of, addressed_at, addressed_among}
-use Rattle.world_receivers.specs.Cached.{picked, IsWhom, IsWhomFor, IsAlone, IsAloneFor, IsCurrent, IsEmpty, Tells}
+use Rattle.world_receivers.specs.Known.{picked, IsWhom}
+use Rattle.world_receivers.specs.Cached.{IsWhomFor, KnowsOthers, KnowsOthersFor, IsCurrent, IsEmpty, Tells}
 use Rattle.world_receivers.specs.declared.cache.ReceiverCache.{ReceiverCache}
-use Rattle.world_receivers.specs.declared.cache.Whom.{Whom}
+use Rattle.world_receivers.specs.declared.known.KnownView.{KnownView}
+use Rattle.world_receivers.specs.declared.whom.Whom.{Whom}
 
 -- a message on its way to the receiver of a subscription is on its way to that
-addressed_each : (m : Message) (subs : List Subscription) → map (addressed_at m) (map receiver_of subs) ≡ map (addressed_to m) subs
+pub addressed_each : (m : Message) (subs : List Subscription) → map (addressed_at m) (map receiver_of subs) ≡ map (addressed_to m) subs
 addressed_each m [] = refl
 addressed_each m (s ∷ subs) = ap (λ (rest : List Addressed). addressed_to m s ∷ rest) (addressed_each m subs)
 
@@ -35,7 +39,7 @@ told_are cache conn text m word all rows zs subs z tells current there same =
 pub empty_current : (cache : ReceiverCache) (rows : List ImportRow) (zs : List Session) (subs : List Subscription) → IsEmpty cache → IsCurrent rows zs subs cache
 empty_current cache rows zs subs empty = (
   subst (λ (o : Option Whom). IsWhomFor o cache.conn cache.subject.items zs subs) (sym empty.0) tt,
-  subst (λ (b : Bool). IsAloneFor b rows cache.conn cache.subject.items zs) (sym empty.1) tt,
+  subst (λ (o : Option (Vec KnownView)). KnowsOthersFor o rows cache.conn cache.subject.items zs subs) (sym empty.1) tt,
 )
 
 -- one that stays as it is stays current
@@ -43,19 +47,32 @@ pub still_current : (old new : ReceiverCache) (rows : List ImportRow) (zs : List
 still_current old new rows zs subs current (inl same) = subst (λ (k : ReceiverCache). IsCurrent rows zs subs k) (sym same) current
 still_current old new rows zs subs current (inr empty) = empty_current new rows zs subs empty
 
--- and what it says of its publisher's messages on its subject
-pub alone_are : (cache : ReceiverCache) (rows : List ImportRow) (zs : List Session) (subs : List Subscription) (z : Session) (conn : ℕ) (text : List ℕ) (s : List Token) →
-    IsCurrent rows zs subs cache → cache.conn ≡ conn → cache.subject.items ≡ text → session_of zs conn ≡ Some z → tokens_of text ≡ s → cache.alone ≡ true → IsAlone rows z.user.account s
-alone_are cache rows zs subs z conn text s current of about there same alone =
-    let so : IsAloneFor true rows cache.conn cache.subject.items zs = subst (λ (b : Bool). IsAloneFor b rows cache.conn cache.subject.items zs) alone current.1 in
-    subst (λ (t : List Token). IsAlone rows z.user.account t) (ap tokens_of about ∙ same) (so z (ap (session_of zs) of ∙ there))
+-- and what it says of the views of its publisher's messages on its subject is so
+pub others_selected : (cache : ReceiverCache) (rows : List ImportRow) (zs : List Session) (subs : List Subscription) (z : Session) (conn : ℕ) (text : List ℕ) (s : List Token) →
+    IsCurrent rows zs subs cache → IfSome cache.others (λ known. (cache.conn ≡ conn) × (cache.subject.items ≡ text)) → session_of zs conn ≡ Some z → tokens_of text ≡ s →
+    KnowsOthers cache.others rows zs subs z s
+others_selected cache rows zs subs z conn text s current about there same = here cache.others current.1 about
+  where
+    here : (o : Option (Vec KnownView)) → KnowsOthersFor o rows cache.conn cache.subject.items zs subs → IfSome o (λ known. (cache.conn ≡ conn) × (cache.subject.items ≡ text)) →
+        KnowsOthers o rows zs subs z s
+    here None is of = tt
+    here (Some known) is of =
+        subst (λ (t : List Token). KnowsOthers (Some known) rows zs subs z t) (ap tokens_of of.1 ∙ same) (is z (ap (session_of zs) of.0 ∙ there))
+
+pub others_are : (cache : ReceiverCache) (rows : List ImportRow) (zs : List Session) (subs : List Subscription) (z : Session) (conn : ℕ) (text : List ℕ) (s : List Token) →
+    IsCurrent rows zs subs cache → cache.conn ≡ conn → cache.subject.items ≡ text → session_of zs conn ≡ Some z → tokens_of text ≡ s → KnowsOthers cache.others rows zs subs z s
+others_are cache rows zs subs z conn text s current of about there same = others_selected cache rows zs subs z conn text s current (both cache.others) there same
+  where
+    both : (o : Option (Vec KnownView)) → IfSome o (λ known. (cache.conn ≡ conn) × (cache.subject.items ≡ text))
+    both None = tt
+    both (Some known) = (of, about)
 
 -- one that is filled with those that the publisher's message may be sent to is current
 pub filled_current : (new : ReceiverCache) (rows : List ImportRow) (zs : List Session) (subs found : List Subscription) (z : Session) (s : List Token) →
-    ((whom : Whom) → new.whom ≡ Some whom → IsWhom whom found) → (new.alone ≡ true → IsAlone rows z.user.account s) →
+    ((whom : Whom) → new.whom ≡ Some whom → IsWhom whom found) → KnowsOthers new.others rows zs subs z s →
     session_of zs new.conn ≡ Some z → found ≡ open_among zs subs z z.user.account s → tokens_of new.subject.items ≡ s →
     IsCurrent rows zs subs new
-filled_current new rows zs subs found z s filled alone there are same = (here new.whom refl, apart new.alone refl)
+filled_current new rows zs subs found z s filled known there are same = (here new.whom refl, apart new.others known)
   where
     one : (y : Session) → session_of zs new.conn ≡ Some y → y ≡ z
     one y is = ap (λ (o : Option Session). or_else o y) (sym is ∙ there)
@@ -71,8 +88,8 @@ filled_current new rows zs subs found z s filled alone there are same = (here ne
         (subst (λ (t : List Token). IsWhom whom (open_among zs subs z z.user.account t)) (sym same)
         (subst (IsWhom whom) are (filled whom e)))
 
-    apart : (b : Bool) → new.alone ≡ b → IsAloneFor b rows new.conn new.subject.items zs
-    apart false e = tt
-    apart true e = λ y is.
-        subst (λ (x : Session). IsAlone rows x.user.account (tokens_of new.subject.items)) (sym (one y is))
-        (subst (λ (t : List Token). IsAlone rows z.user.account t) (sym same) (alone e))
+    apart : (o : Option (Vec KnownView)) → KnowsOthers o rows zs subs z s → KnowsOthersFor o rows new.conn new.subject.items zs subs
+    apart None is = tt
+    apart (Some views) is = λ y seated.
+        subst (λ (x : Session). KnowsOthers (Some views) rows zs subs x (tokens_of new.subject.items)) (sym (one y seated))
+        (subst (λ (t : List Token). KnowsOthers (Some views) rows zs subs z t) (sym same) is)

@@ -1,4 +1,5 @@
 pub mod Open
 pub mod Receivers
-pub mod Cached
 pub mod Standing
+pub mod Known
+pub mod Cached

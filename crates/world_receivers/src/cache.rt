@@ -1,67 +1,15 @@
 //! A cache of whom the messages of a publisher on a subject are for.
-ghost use Rattle.std.specs.Prelude.{◌≡◌, ◌++◌, OnOk, map};
-ghost use Rattle.queue_choice.specs.Choices.{chosen};
+ghost use Rattle.std.specs.Prelude.{◌≡◌, map};
 ghost use Rattle.world_groups.specs.Chosen.{Rising};
-ghost use Rattle.world_groups.specs.Grouped.{if_any};
-ghost use Rattle.world_receivers.specs.Cached.{IsWhom};
-ghost use Rattle.world_receivers.specs.Receivers.{addressed_at};
+ghost use Rattle.world_receivers.specs.Known.{IsWhom};
 
-use crate::receiver::{Receiver, address_each, receivers_of};
+use crate::known::{KnownView, address_known};
+use crate::receiver::address_each;
+use crate::whom::{Whom, address_chosen, whom_of};
 use base::NoMemory;
 use events::{Addressed, Message};
-use queue_choice::chosen_number;
 use std::alloc::Global;
-use world_groups::{Grouping, grouping_of};
 use world_subscriptions::SharedSubscription;
-
-/// Whom a message is for, of the receivers that it may be sent to.
-#[derive(Drop)]
-enum Whom {
-    /// Each of them.
-    Each(Vec<Receiver>),
-    /// The one that the message's word chooses: they are the members of one queue group.
-    One(Vec<Receiver>),
-    /// Members of several queue groups, or others besides: it is found for each message.
-    Various,
-}
-
-/// Adds the delivery of a message to the receiver that its word chooses. `NoMemory` where memory could not be had.
-fn address_chosen(
-    message: &Message,
-    receivers: &[Receiver],
-    word: u64,
-    all: &mut Vec<Addressed>,
-) -> Result<(), NoMemory>
-    ensures { OnOk result (all.new.items ≡ all.old.items ++ map (addressed_at message.now) (if_any (chosen word receivers.now))) }
-{
-    let count = receivers.len();
-    if count == 0 {
-        return Ok(());
-    }
-    match receivers.get(chosen_number(word, count)) {
-        None => Ok(()),
-        Some(receiver) => {
-            all.push(receiver.address(message)?)?;
-            Ok(())
-        }
-    }
-}
-
-/// Returns whom of these subscriptions a message is for that may be sent to them. Without memory it is found for each
-/// message.
-fn whom_of(alloc: Global, found: &[&SharedSubscription]) -> Whom
-    requires { Rising (map (λ s. s.now) found.now) }
-    ensures { IsWhom result (map (λ s. s.now) found.now) }
-{
-    match receivers_of(alloc, found) {
-        Err(_) => Whom::Various,
-        Ok(receivers) => match grouping_of(found) {
-            Grouping::Plain => Whom::Each(receivers),
-            Grouping::OneGroup => Whom::One(receivers),
-            Grouping::Various => Whom::Various,
-        },
-    }
-}
 
 /// Caches whom the messages of one publisher on one subject are for. It is current as long as the sessions, the
 /// subscriptions and what permits them stay as they are.
@@ -70,8 +18,8 @@ pub(crate) struct ReceiverCache {
     conn: u64,
     subject: Vec<u8>,
     whom: Option<Whom>,
-    // Whether they are seen in the publisher's account alone. False also where that isn't known.
-    alone: bool,
+    // The views of these messages behind the publisher's own, where they are known.
+    others: Option<Vec<KnownView>>,
 }
 
 impl Drop for ReceiverCache {
@@ -82,16 +30,16 @@ impl Drop for ReceiverCache {
             conn: _,
             subject: _,
             whom: _,
-            alone: _,
+            others: _,
         } = self;
     }
 }
 
 impl ReceiverCache {
-    ghost use Rattle.std.specs.Prelude.{◌==◌, ◌&&◌, ◌⊎◌, IfOk, true, None, Some, nat_eq};
+    ghost use Rattle.std.specs.Prelude.{◌==◌, ◌&&◌, ◌⊎◌, IfOk, IfSome, true, false, None, Some, nat_eq};
     ghost use Rattle.std.specs.Cmp.Lexicographic.{pointwise};
     ghost use Rattle.subjects.specs.Subject.{text_of};
-    ghost use Rattle.world_receivers.specs.Cached.{Tells, IsEmpty};
+    ghost use Rattle.world_receivers.specs.Cached.{Tells, TellsOthers, IsEmpty};
 
     /// Returns an empty cache. It takes no memory.
     pub fn new(alloc: Global) -> ReceiverCache
@@ -102,7 +50,7 @@ impl ReceiverCache {
             conn: 0,
             subject: Vec::new(alloc),
             whom: None,
-            alone: false,
+            others: None,
         }
     }
 
@@ -111,16 +59,8 @@ impl ReceiverCache {
         ensures { IsEmpty self.new }
     {
         self.whom = None;
-        self.alone = false;
+        self.others = None;
         self.subject.clear();
-    }
-
-    /// Returns whether the messages of its publisher on its subject are known to be seen in the publisher's account alone.
-    #[inline(always)]
-    pub fn is_alone(&self) -> bool
-        ensures { result ≡ self.now.alone }
-    {
-        self.alone
     }
 
     /// Returns whether it is of this publisher and the text of this subject.
@@ -162,34 +102,55 @@ impl ReceiverCache {
         }
     }
 
+    /// Appends the deliveries of a message of its publisher on its subject in the views behind the publisher's own, if these are
+    /// known. Returns whether they are. `NoMemory` where memory could not be had: then some may be appended.
+    #[inline(always)]
+    pub fn address_others(
+        &self,
+        message: &Message,
+        word: u64,
+        all: &mut Vec<Addressed>,
+    ) -> Result<bool, NoMemory>
+        ensures tells { IfOk result (λ done. done ≡ true → TellsOthers self.now.others message.now word all.old.items all.new.items) }
+        ensures same { IfOk result (λ done. done ≡ false → all.new.items ≡ all.old.items) }
+    {
+        match &self.others {
+            None => Ok(false),
+            Some(views) => {
+                address_known(message, word, views.as_slice(), all)?;
+                Ok(true)
+            }
+        }
+    }
+
     /// Selects the publisher and the subject whose receivers are cached next. Returns whether they were selected already,
     /// and their receivers are still to be found.
     pub fn select(&mut self, conn: u64, text: &[u8]) -> bool
         ensures selected { result ≡ true → (self.new.conn ≡ conn) × (self.new.subject.items ≡ text.now) }
         ensures cached { (self.new ≡ self.old) ⊎ IsEmpty self.new }
-        ensures alone { self.new.alone ≡ true → (self.new.conn ≡ conn) × (self.new.subject.items ≡ text.now) }
+        ensures others { IfSome self.new.others (λ views. (self.new.conn ≡ conn) × (self.new.subject.items ≡ text.now)) }
     {
         if self.is_of(conn, text) {
             return self.whom.is_none();
         }
         self.whom = None;
-        self.alone = false;
+        self.others = None;
         self.conn = conn;
         self.subject.clear();
         let _ = self.subject.extend_from_slice(text);
         false
     }
 
-    /// Caches that messages of the selected publisher on the selected subject may be sent to these, and whether they are seen in
-    /// its account alone.
-    pub fn fill(&mut self, found: &[&SharedSubscription], alone: bool)
+    /// Caches that messages of the selected publisher on the selected subject may be sent to these, and what is known of their
+    /// views behind the publisher's own.
+    pub fn fill(&mut self, found: &[&SharedSubscription], others: Option<Vec<KnownView>>)
         requires { Rising (map (λ s. s.now) found.now) }
         ensures conn { self.new.conn ≡ self.old.conn }
         ensures subject { self.new.subject ≡ self.old.subject }
         ensures whom { (whom : Whom) → self.new.whom ≡ Some whom → IsWhom whom (map (λ s. s.now) found.now) }
-        ensures alone { self.new.alone ≡ alone }
+        ensures others { self.new.others ≡ others }
     {
         self.whom = Some(whom_of(self.alloc, found));
-        self.alone = alone;
+        self.others = others;
     }
 }

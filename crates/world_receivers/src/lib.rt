@@ -3,10 +3,12 @@
 #![tactic(auto)]
 
 mod cache;
+mod known;
 mod naming;
 mod open;
 mod receiver;
 mod receivers;
 mod standing;
+mod whom;
 
 pub use receivers::{Receivers, Seen, Sending};

@@ -5,30 +5,12 @@ ghost use Rattle.events.specs.Sendings.{named};
 ghost use Rattle.world_subscriptions.specs.Addressing.{addressed_to};
 ghost use Rattle.world_receivers.specs.Standing.{under_subject};
 
+use crate::receiver::Receiver;
 use base::{Copying, NoMemory, Shared};
-use events::{Addressed, Delivery, Message, Names, Said, Sent};
+use events::{Addressed, Message, Names, Said};
 use std::alloc::Global;
 use subjects::Subject;
 use world_subscriptions::SharedSubscription;
-
-/// Returns a message on its way to a subscription under names. Neither is copied: the delivery is one more owner of both.
-fn addressed_under(
-    message: &Message,
-    names: &Shared<Names>,
-    subscription: &SharedSubscription,
-) -> Result<Addressed, NoMemory>
-    ensures { IfOk result (λ addressed. addressed ≡ addressed_to (named names.now message.now) subscription.now) }
-{
-    Ok(Addressed {
-        id: subscription.id(),
-        conn: subscription.conn(),
-        delivery: Delivery {
-            message: Sent::under(message.again()?, names.again()?),
-            sid: subscription.sid().again()?,
-        },
-        noted: None,
-    })
-}
 
 /// Returns the names of a view: its subject, and the reply as it was published.
 pub(crate) fn names_of(alloc: Global, subject: &Subject) -> Result<Shared<Names>, NoMemory>
@@ -72,7 +54,8 @@ fn address_named(
     ensures { OnOk result (all.new.items ≡ all.old.items ++ map (addressed_to (named names.now message.now)) (map (λ s. s.now) found.now)) }
 {
     for subscription in found {
-        all.push(addressed_under(message, names, subscription)?)?;
+        let receiver = Receiver::of(subscription)?;
+        all.push(receiver.address_under(message, names)?)?;
     }
     Ok(())
 }

@@ -1,9 +1,10 @@
 //! A subscription as its deliveries name it.
 ghost use Rattle.std.specs.Prelude.{◌≡◌, ◌++◌, IfOk, OnOk, map};
+ghost use Rattle.events.specs.Sendings.{named};
 ghost use Rattle.world_receivers.specs.Receivers.{addressed_at, receiver_of};
 
-use base::NoMemory;
-use events::{Addressed, Delivery, Message, Sent, Sid};
+use base::{NoMemory, Shared};
+use events::{Addressed, Delivery, Message, Names, Sent, Sid};
 use std::alloc::Global;
 use world_subscriptions::SharedSubscription;
 
@@ -17,7 +18,7 @@ pub(crate) struct Receiver {
 
 impl Receiver {
     /// Returns the receiver of a subscription. `NoMemory` where its sid has too many owners to count.
-    fn of(subscription: &SharedSubscription) -> Result<Receiver, NoMemory>
+    pub fn of(subscription: &SharedSubscription) -> Result<Receiver, NoMemory>
         ensures { IfOk result (λ receiver. receiver ≡ receiver_of subscription.now) }
     {
         Ok(Receiver {
@@ -36,6 +37,25 @@ impl Receiver {
             conn: self.conn,
             delivery: Delivery {
                 message: Sent::own(message.again()?),
+                sid: self.sid.again()?,
+            },
+            noted: None,
+        })
+    }
+
+    /// Returns a message on its way to it under names. Neither is copied: the delivery is one more owner of both.
+    pub fn address_under(
+        &self,
+        message: &Message,
+        names: &Shared<Names>,
+    ) -> Result<Addressed, NoMemory>
+        ensures { IfOk result (λ addressed. addressed ≡ addressed_at (named names.now message.now) self.now) }
+    {
+        Ok(Addressed {
+            id: self.id,
+            conn: self.conn,
+            delivery: Delivery {
+                message: Sent::under(message.again()?, names.again()?),
                 sid: self.sid.again()?,
             },
             noted: None,
@@ -67,6 +87,21 @@ pub(crate) fn address_each(
 {
     for receiver in receivers {
         all.push(receiver.address(message)?)?;
+    }
+    Ok(())
+}
+
+/// Addresses a message to receivers, in turn, under names, and adds these deliveries.
+pub(crate) fn address_each_under(
+    message: &Message,
+    names: &Shared<Names>,
+    receivers: &[Receiver],
+    all: &mut Vec<Addressed>,
+) -> Result<(), NoMemory>
+    ensures { OnOk result (all.new.items ≡ all.old.items ++ map (addressed_at (named names.now message.now)) receivers.now) }
+{
+    for receiver in receivers {
+        all.push(receiver.address_under(message, names)?)?;
     }
     Ok(())
 }

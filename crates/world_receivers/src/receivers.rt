@@ -1,10 +1,11 @@
-ghost use Rattle.std.specs.Prelude.{◌≡◌, ◌++◌, true, Some, IfOk, OnOk};
+ghost use Rattle.std.specs.Prelude.{◌≡◌, ◌++◌, true, false, Some, IfOk, OnOk};
 ghost use Rattle.world_deliveries.specs.Sessions.{session_of};
-ghost use Rattle.world_receivers.specs.Cached.{IsCurrent, IsAlone, IsEmpty};
+ghost use Rattle.world_receivers.specs.Cached.{IsCurrent, KnowsOthers, TellsOthers, IsEmpty};
 ghost use Rattle.world_receivers.specs.Receivers.{addressed_among};
 ghost use Rattle.world_receivers.specs.Standing.{addressed_behind_in};
 
 use crate::cache::ReceiverCache;
+use crate::known::{Among, KnownView, known_views};
 use crate::naming::address_under;
 use crate::open::Open;
 use crate::standing::Standing;
@@ -14,6 +15,7 @@ use events::{Addressed, Message};
 use imports::Rows;
 use std::alloc::Global;
 use std::hash::RandomState;
+use std::mem;
 use subjects::{Subject, SubjectRef};
 use world_groups::{Routed, address_served, keep_chosen, passing_of};
 use world_sessions::{Session, Sessions};
@@ -39,13 +41,36 @@ pub struct Seen<'a> {
     pub subject: &'a Subject,
 }
 
-/// Returns whether a message that an account publishes on a subject is known to be seen in that account alone.
-fn is_alone(alloc: Global, rows: &Rows, account: &[u8], subject: &SubjectRef<'_>) -> bool
-    ensures { result ≡ true → IsAlone rows.now account.now subject.now }
+/// Returns what is known of the views of a publisher's messages on a subject behind its own. `NoMemory` where memory could not be
+/// had.
+fn find_others(
+    alloc: Global,
+    among: Among<'_>,
+    rows: &Rows,
+    subject: &SubjectRef<'_>,
+    ids: &mut Vec<u64>,
+) -> Result<Option<Vec<KnownView>>, NoMemory>
+    ensures { IfOk result (λ others. KnowsOthers others rows.now among.entry.sessions.now among.entry.subscriptions.now among.entry.publisher.now subject.now) }
 {
-    match rows.others(alloc, account, subject) {
-        Err(_) => false,
-        Ok(others) => others.is_empty(),
+    let account = among.publisher.user.account.as_slice();
+    let others = rows.others(alloc, account, subject)?;
+    let known = known_views(alloc, among, others.as_slice(), ids)?;
+    Ok(known)
+}
+
+/// Returns what is known of these views. Without memory they aren't known.
+fn others_of(
+    alloc: Global,
+    among: Among<'_>,
+    rows: &Rows,
+    subject: &SubjectRef<'_>,
+    ids: &mut Vec<u64>,
+) -> Option<Vec<KnownView>>
+    ensures { KnowsOthers result rows.now among.entry.sessions.now among.entry.subscriptions.now among.entry.publisher.now subject.now }
+{
+    match find_others(alloc, among, rows, subject, ids) {
+        Ok(known) => known,
+        Err(_) => None,
     }
 }
 
@@ -57,8 +82,8 @@ pub struct Receivers {
     cache: ReceiverCache,
     // The ids that a message finds, in memory that each message uses again.
     ids: Vec<u64>,
-    // The memory of the deliveries of a message, which each message takes and `keep_memory` puts back.
-    deliveries: Option<Vec<Addressed>>,
+    // The deliveries of the message that was addressed last, in memory that each message uses again.
+    deliveries: Vec<Addressed>,
 }
 
 impl Drop for Receivers {
@@ -84,7 +109,7 @@ impl Receivers {
             keys,
             cache: ReceiverCache::new(alloc),
             ids: Vec::new(alloc),
-            deliveries: None,
+            deliveries: Vec::new(alloc),
         }
     }
 
@@ -96,12 +121,27 @@ impl Receivers {
         self.cache.clear();
     }
 
-    /// Returns whether the latest message that was addressed is known to be seen in its publisher's account alone.
+    /// Returns where it takes its memory from.
     #[inline(always)]
-    pub fn is_alone(&self) -> bool
-        ensures { result ≡ self.now.cache.alone }
+    pub fn allocator(&self) -> Global {
+        self.alloc
+    }
+
+    /// Returns the deliveries of the message that was addressed last.
+    #[inline(always)]
+    pub fn deliveries(&self) -> &[Addressed]
+        ensures { result.now ≡ self.now.deliveries.items }
     {
-        self.cache.is_alone()
+        self.deliveries.as_slice()
+    }
+
+    /// Takes the deliveries of the message that was addressed last, with their memory. `keep_memory` puts that back.
+    #[inline(always)]
+    pub fn take_deliveries(&mut self) -> Vec<Addressed>
+        ensures all { result.items ≡ self.old.deliveries.items }
+        ensures cached { self.new.cache ≡ self.old.cache }
+    {
+        mem::replace(&mut self.deliveries, Vec::new(self.alloc))
     }
 
     /// Keeps the memory of deliveries that were handed over, for those of the next message.
@@ -109,12 +149,13 @@ impl Receivers {
     pub fn keep_memory(&mut self, all: Vec<Addressed>)
         ensures { self.new.cache ≡ self.old.cache }
     {
-        self.deliveries = Some(all);
+        // What stands there has no memory: it is what `take_deliveries` left.
+        mem::forget(mem::replace(&mut self.deliveries, all));
     }
 
-    /// Returns the deliveries of a message to those of the publisher's account that it is for, oldest subscription first:
-    /// to the plain subscriptions that may be sent it, and to the member of each queue group that the word chooses. What
-    /// their sessions are to note isn't put down yet. The ids that its subject reaches are cached for the next messages of
+    /// Addresses a message to those of the publisher's account that it is for, oldest subscription first: to the plain
+    /// subscriptions that may be sent it, and to the member of each queue group that the word chooses. These are its `deliveries`.
+    /// What their sessions are to note isn't put down yet. The ids that its subject reaches are cached for the next messages of
     /// that subject, and its receivers for the publisher's next ones on it. `NoMemory` where memory could not be had.
     #[inline(always)]
     pub fn address(
@@ -123,11 +164,11 @@ impl Receivers {
         subscriptions: &mut Subscriptions,
         rows: &Rows,
         sending: Sending<'_>,
-    ) -> Result<Vec<Addressed>, NoMemory>
+    ) -> Result<(), NoMemory>
         requires publisher { session_of sessions.now sending.publisher.now.conn ≡ Some sending.publisher.now }
         requires cached { IsCurrent rows.now sessions.now subscriptions.old self.old.cache }
-        ensures all { IfOk result (λ all. all.items ≡ addressed_among sessions.now subscriptions.old sending.entry.publisher.now sending.entry.message.now sending.entry.word) }
-        ensures alone { OnOk result (self.new.cache.alone ≡ true → IsAlone rows.now sending.entry.publisher.now.user.account sending.entry.message.now.subject) }
+        ensures all { OnOk result (self.new.deliveries.items ≡ addressed_among sessions.now subscriptions.old sending.entry.publisher.now sending.entry.message.now sending.entry.word) }
+        ensures others { OnOk result (KnowsOthers self.new.cache.others rows.now sessions.now subscriptions.old sending.entry.publisher.now sending.entry.message.now.subject) }
         ensures same { subscriptions.new ≡ subscriptions.old }
         ensures cached { IsCurrent rows.now sessions.now subscriptions.old self.new.cache }
     {
@@ -138,15 +179,13 @@ impl Receivers {
         } = sending;
         let subject = message.subject();
         let _ = subject.tokens();
-        let mut all = match self.deliveries.take() {
-            None => Vec::new(self.alloc),
-            Some(kept) => kept,
-        };
+        let text = subject.bytes();
+        let all = &mut self.deliveries;
         if self
             .cache
-            .address(publisher.conn, subject.bytes(), message, word, &mut all)?
+            .address(publisher.conn, text, message, word, all)?
         {
-            return Ok(all);
+            return Ok(());
         }
         let account = publisher.user.account.as_slice();
         subscriptions.remember(account, &subject);
@@ -167,23 +206,36 @@ impl Receivers {
             routed,
             &open,
             &mut self.ids,
-            &mut all,
+            &mut self.deliveries,
         )?;
-        Ok(all)
+        Ok(())
     }
 
-    /// Appends the deliveries of a message to those of another account that it is for under its subject there, oldest
-    /// subscription first. `all` has those of the views before it: a subscription that these end is sent nothing more.
-    /// `NoMemory` where memory could not be had: then some may be appended.
+    /// Appends the deliveries of the message that was addressed last in its views behind the publisher's own, if these are known.
+    /// Returns whether they are. `NoMemory` where memory could not be had: then some may be appended.
+    #[inline(always)]
+    pub fn address_others(&mut self, message: &Message, word: u64) -> Result<bool, NoMemory>
+        ensures tells { IfOk result (λ done. done ≡ true → TellsOthers self.old.cache.others message.now word self.old.deliveries.items self.new.deliveries.items) }
+        ensures same { IfOk result (λ done. done ≡ false → self.new.deliveries.items ≡ self.old.deliveries.items) }
+        ensures cached { self.new.cache ≡ self.old.cache }
+    {
+        let done = self
+            .cache
+            .address_others(message, word, &mut self.deliveries)?;
+        Ok(done)
+    }
+
+    /// Appends the deliveries of the message that was addressed last to those of another account that it is for under its subject
+    /// there, oldest subscription first. A subscription that the deliveries before them end is sent nothing more. `NoMemory` where
+    /// memory could not be had: then some may be appended.
     pub fn address_seen(
         &mut self,
         sessions: &Sessions,
         subscriptions: &Subscriptions,
         sending: Sending<'_>,
         seen: Seen<'_>,
-        all: &mut Vec<Addressed>,
     ) -> Result<(), NoMemory>
-        ensures all { OnOk result (all.new.items ≡ all.old.items ++ addressed_behind_in sessions.now subscriptions.now all.old.items
+        ensures all { OnOk result (self.new.deliveries.items ≡ self.old.deliveries.items ++ addressed_behind_in sessions.now subscriptions.now self.old.deliveries.items
             sending.entry.publisher.now sending.entry.message.now sending.entry.word seen.entry.account.now seen.entry.subject.now) }
         ensures cached { self.new.cache ≡ self.old.cache }
     {
@@ -194,7 +246,7 @@ impl Receivers {
                 publisher: sending.publisher,
                 subject: &subject,
             },
-            before: all.as_slice(),
+            before: self.deliveries.as_slice(),
         };
         let mut found = passing_of(
             self.alloc,
@@ -210,7 +262,7 @@ impl Receivers {
             sending.message,
             seen.subject,
             found.as_slice(),
-            all,
+            &mut self.deliveries,
         )?;
         Ok(())
     }
@@ -227,7 +279,7 @@ impl Receivers {
         requires publisher { session_of sessions.now publisher.now.conn ≡ Some publisher.now }
         requires cached { IsCurrent rows.now sessions.now subscriptions.now self.old.cache }
         ensures cached { IsCurrent rows.now sessions.now subscriptions.now self.new.cache }
-        ensures alone { self.new.cache.alone ≡ true → IsAlone rows.now publisher.now.user.account subject.now }
+        ensures others { KnowsOthers self.new.cache.others rows.now sessions.now subscriptions.now publisher.now subject.now }
     {
         let _ = subject.tokens();
         if !self.cache.select(publisher.conn, subject.bytes()) {
@@ -247,8 +299,13 @@ impl Receivers {
             &open,
             &mut self.ids,
         ) {
-            let alone = is_alone(self.alloc, rows, account, subject);
-            self.cache.fill(found.as_slice(), alone);
+            let among = Among {
+                sessions,
+                subscriptions,
+                publisher,
+            };
+            let others = others_of(self.alloc, among, rows, subject, &mut self.ids);
+            self.cache.fill(found.as_slice(), others);
         }
     }
 }

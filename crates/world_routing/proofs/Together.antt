@@ -1,14 +1,16 @@
 -- The deliveries of the views, addressed one after the other, are those of the guarantee; and so are the items with the rows
 -- that are reported between them.
-use Rattle.std.proofs.Common.{◌≡◌, ◌∙◌, ◌&&◌, ◌+◌, ◌-◌, ◌≤◌, ◌++◌, ◌∷◌, ℕ, suc, Bool, true, false, cond, List, [], All, None, nat_lt, length, map, filter, take, drop, ap, sym, refl, subst, arith}
+use Rattle.std.proofs.Common.{◌≡◌, ◌∙◌, ◌&&◌, ◌+◌, ◌-◌, ◌≤◌, ◌++◌, ◌∷◌, ℕ, suc, Bool, true, false, cond, List, [], All, Option, Some, None, nat_lt, length, map, filter, take, drop, ap, sym, refl, subst, arith}
 use Rattle.std.proofs.lemmas.List.{append-nil, append_assoc, length-append, length-map, map-append, take-append-drop}
 use Rattle.std.proofs.lemmas.List.Elements.{All-append, All-map}
+use Rattle.std.specs.Global.{Vec}
 use Rattle.subjects.specs.Subject.{Token}
 use Rattle.exports.specs.declared.document.Row.{Row}
 use Rattle.events.specs.Messages.{Message}
 use Rattle.events.specs.declared.answer.Addressed.{Addressed}
 use Rattle.events.specs.declared.answer.Item.{Item}
 use Rattle.events.specs.declared.answer.Item.TheVariants.{Entered, Full, MapTooLong}
+use Rattle.imports.specs.declared.rows.ImportRow.{ImportRow}
 use Rattle.imports.specs.declared.view.ViewItem.{ViewItem}
 use Rattle.imports.specs.declared.view.ViewItem.TheVariants.{At, TooLong}
 use Rattle.world_deliveries.specs.Sessions.{session_of}
@@ -27,6 +29,10 @@ use Rattle.world_groups.specs.Served.{served, is_served}
 use Rattle.world_receivers.specs.Open.{is_open}
 use Rattle.world_receivers.specs.Standing.{under_subject, stands_behind, standing_among, addressed_behind_in}
 use Rattle.world_receivers.specs.Receivers.{addressed_among}
+use Rattle.world_receivers.specs.Known.{AreSeen, addressed_in_each, others_in}
+use Rattle.world_receivers.specs.Cached.{KnowsOthers, TellsOthers}
+use Rattle.world_receivers.specs.declared.known.KnownView.{KnownView}
+use Rattle.world_receivers.proofs.Behind.{view_told}
 use Rattle.world_receivers.proofs.Left.{AllAgree, none_disagree, all_agree_append, addressed_agree, addressed_left}
 use Rattle.world_receivers.proofs.Stays.{made}
 use Rattle.world_receivers.proofs.Tests.{both}
@@ -295,14 +301,6 @@ own_first zs subs publisher m word going =
 
 -- ---- one view first
 
--- lists that are equal are so behind their first elements
-pub tail_of : {v u : ViewItem} {vs us : List ViewItem} → v ∷ vs ≡ u ∷ us → vs ≡ us
-tail_of {v} {u} {vs} {us} e = ap (λ (all : List ViewItem). rest all) e
-  where
-    rest : List ViewItem → List ViewItem
-    rest [] = []
-    rest (x ∷ xs) = xs
-
 pub after_first : (zs : List Session) (subs : List Subscription) (publisher : Session) (m : Message) (word : ℕ) (before : List Addressed) (v : ViewItem) (vs : List ViewItem) →
     addressed_after zs subs publisher m word before (v ∷ vs) ≡ addressed_after zs subs publisher m word (addressed_after zs subs publisher m word before (v ∷ [])) vs
 after_first zs subs publisher m word before (At account t way) vs = refl
@@ -327,3 +325,37 @@ unsaid_after zs subs publisher m word before (At account t way ∷ vs) none all 
     unsaid_after zs subs publisher m word (before ++ map (addressed_to (under_subject t m)) found) vs none
     (All-append reply before (map (addressed_to (under_subject t m)) found) all (All-map reply (addressed_to (under_subject t m)) found (λ k d h. none)))
 unsaid_after zs subs publisher m word before (TooLong row ∷ vs) none all = unsaid_after zs subs publisher m word before vs none all
+
+-- ---- known views
+
+-- in views that are known the deliveries are those of the views, and no row is reported
+pub known_after : (zs : List Session) (subs : List Subscription) (publisher : Session) (m : Message) (word : ℕ) (before : List Addressed) (known : List KnownView) (vs : List ViewItem) →
+    AreSeen zs subs publisher known vs → addressed_in_each m word before known ≡ addressed_after zs subs publisher m word before vs
+known_after zs subs publisher m word before [] [] seen = refl
+known_after zs subs publisher m word before [] (v ∷ vs) seen = absurd seen
+known_after zs subs publisher m word before (k ∷ known) [] seen = absurd seen
+known_after zs subs publisher m word before (k ∷ known) (TooLong row ∷ vs) seen = absurd seen
+known_after zs subs publisher m word before (k ∷ known) (At account t way ∷ vs) seen =
+    ap (λ (ds : List Addressed). addressed_in_each m word ds known) (view_told zs before publisher account t subs k m word seen.0)
+    ∙ known_after zs subs publisher m word (before ++ addressed_behind_in zs subs before publisher m word account t) known vs seen.1
+
+pub known_reports : (zs : List Session) (subs : List Subscription) (publisher : Session) (m : Message) (word : ℕ) (before : List Addressed) (known : List KnownView) (vs : List ViewItem) →
+    AreSeen zs subs publisher known vs → reports_after zs subs publisher m word before vs ≡ []
+known_reports zs subs publisher m word before [] [] seen = refl
+known_reports zs subs publisher m word before [] (v ∷ vs) seen = absurd seen
+known_reports zs subs publisher m word before (k ∷ known) [] seen = absurd seen
+known_reports zs subs publisher m word before (k ∷ known) (TooLong row ∷ vs) seen = absurd seen
+known_reports zs subs publisher m word before (k ∷ known) (At account t way ∷ vs) seen =
+    known_reports zs subs publisher m word (before ++ addressed_behind_in zs subs before publisher m word account t) known vs seen.1
+
+-- so it is with what the cache tells of the views behind the publisher's own
+module _ (rows : List ImportRow) (zs : List Session) (subs : List Subscription) (publisher : Session) (m : Message) (word : ℕ) (before all : List Addressed) where
+  pub others_told : (o : Option (Vec KnownView)) → KnowsOthers o rows zs subs publisher m.subject → TellsOthers o m word before all →
+      all ≡ addressed_after zs subs publisher m word before (others_in rows publisher.user.account m.subject)
+  others_told None known tells = absurd tells
+  others_told (Some views) known tells = tells ∙ known_after zs subs publisher m word before views.items (others_in rows publisher.user.account m.subject) known
+
+  pub others_unreported : (o : Option (Vec KnownView)) (behind : List Addressed) → KnowsOthers o rows zs subs publisher m.subject → TellsOthers o m word before all →
+      reports_after zs subs publisher m word behind (others_in rows publisher.user.account m.subject) ≡ []
+  others_unreported None behind known tells = absurd tells
+  others_unreported (Some views) behind known tells = known_reports zs subs publisher m word behind views.items (others_in rows publisher.user.account m.subject) known

@@ -8,12 +8,14 @@ ghost use Rattle.world_deliveries.specs.Replying.{noted_for};
 ghost use Rattle.world_deliveries.specs.declared.session.Session.{Session as SessionModel};
 ghost use Rattle.world_receivers.specs.Cached.{IsCurrent};
 ghost use Rattle.world_routing.specs.World.{World};
+ghost use Rattle.world_routing.specs.Viewing.{reports_in};
 ghost use Rattle.world_routing.specs.Publishing.{IsOf, IsPlanned, published_by};
 
-use crate::across::plan_across;
+use crate::across::address_all;
 use crate::answered::{Answered, answered_by};
 use crate::carrying::Deliveries;
 use crate::verdict::on_publish;
+use crate::viewing::{Report, with_reports};
 use base::{Items, NoMemory};
 use events::{Addressed, HubRefusal, Message, Met};
 use imports::Rows;
@@ -48,7 +50,7 @@ pub enum Plan {
 }
 
 /// Returns whether a message has no delivery and is no answer.
-pub(crate) fn is_for_nobody(all: &[Addressed], answered: &Option<Answered>) -> bool
+fn is_for_nobody(all: &[Addressed], answered: &Option<Answered>) -> bool
     ensures { IsTrue result → (all.now ≡ []) × (answered.now ≡ None) }
 {
     match answered {
@@ -60,9 +62,19 @@ pub(crate) fn is_for_nobody(all: &[Addressed], answered: &Option<Answered>) -> b
     }
 }
 
+/// Returns whether a message has no delivery, is no answer, and no row is reported.
+fn is_silent(all: &[Addressed], reports: &Option<Vec<Report>>, answered: &Option<Answered>) -> bool
+    ensures { IsTrue result → (all.now ≡ []) × (reports_in reports.now ≡ []) × (answered.now ≡ None) }
+{
+    match reports {
+        None => is_for_nobody(all, answered),
+        Some(_) => false,
+    }
+}
+
 /// Returns what the deliveries of a message will meet. Also sets each one's `noted`, what its session is to note.
 #[inline(always)]
-pub(crate) fn plan_all(
+fn plan_all(
     sessions: &mut Sessions,
     keys: RandomState,
     message: &Message,
@@ -102,19 +114,18 @@ pub fn plan_publish(
     ensures cached { IsCurrent rows.now sessions.new subscriptions.new receivers.new.cache }
 {
     subscriptions.known();
-    if !rows.is_empty() {
-        let plan = plan_across(sessions, subscriptions, receivers, rows, keys, publish)?;
-        return Ok(plan);
-    }
-    let (by, answered, mut all) = match sessions.find(publish.conn) {
+    let alloc = receivers.allocator();
+    let (by, answered, reports) = match sessions.find(publish.conn) {
         None => return Err(HubRefusal::NoSession),
         Some(session) => match on_publish(session, &publish.message.subject(), publish.now) {
             Verdict::Allowed(by) => (
                 by,
                 answered_by(by, session.conn, publish.message)?,
-                receivers.address(
+                address_all(
+                    alloc,
                     sessions,
                     subscriptions,
+                    receivers,
                     rows,
                     Sending {
                         publisher: session,
@@ -128,11 +139,12 @@ pub fn plan_publish(
             Verdict::NoQueueAllow(index) => return Ok(Plan::Refused(Verdict::NoQueueAllow(index))),
         },
     };
-    if is_for_nobody(all.as_slice(), &answered) {
-        receivers.keep_memory(all);
+    if is_silent(receivers.deliveries(), &reports, &answered) {
         return Ok(Plan::ToNobody(by));
     }
-    let items = plan_all(sessions, keys, publish.message, &mut all)?;
+    let mut all = receivers.take_deliveries();
+    let met = plan_all(sessions, keys, publish.message, &mut all)?;
+    let items = with_reports(alloc, met, &reports)?;
     Ok(Plan::ToSome(
         by,
         items,

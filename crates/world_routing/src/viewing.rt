@@ -1,9 +1,9 @@
 //! A message addressed in its views one after the other, and the import rows that are reported between its deliveries.
 ghost use Rattle.std.specs.Prelude.{◌≡◌, ◌++◌, ◌∷◌, ◌-◌, [], IfOk, OnOk, take, drop};
-ghost use Rattle.world_routing.specs.Viewing.{addressed_after, reports_after, with_reports};
+ghost use Rattle.world_routing.specs.Viewing.{addressed_after, reports_after, reports_in, with_reports};
 
 use base::{NoMemory, Shared};
-use events::{Addressed, Item, Met};
+use events::{Item, Met};
 use exports::Row;
 use imports::ViewItem;
 use std::alloc::Global;
@@ -20,29 +20,20 @@ pub(crate) struct Report {
     pub row: Shared<Row>,
 }
 
-/// What a message has been addressed to so far.
-#[derive(Drop)]
-pub(crate) struct Viewed {
-    /// The deliveries, view by view.
-    pub all: Vec<Addressed>,
-    /// The rows that are reported between them.
-    pub reports: Vec<Report>,
-}
-
-/// Appends the deliveries of a message in one more view, or the report of the row that it doesn't cross. `NoMemory` where
-/// memory could not be had: then some may be appended.
+/// Appends the deliveries of a message in one more view to those of the receivers, or the report of the row that it doesn't
+/// cross. `NoMemory` where memory could not be had: then some may be appended.
 fn address_one(
     sessions: &Sessions,
     subscriptions: &Subscriptions,
     receivers: &mut Receivers,
     sending: Sending<'_>,
     view: &ViewItem,
-    viewed: &mut Viewed,
+    reports: &mut Vec<Report>,
 ) -> Result<(), NoMemory>
-    ensures all { OnOk result (viewed.new.all.items ≡ addressed_after sessions.now subscriptions.now sending.entry.publisher.now sending.entry.message.now sending.entry.word
-        viewed.old.all.items (view.now ∷ [])) }
-    ensures reports { OnOk result (viewed.new.reports.items ≡ viewed.old.reports.items ++ reports_after sessions.now subscriptions.now sending.entry.publisher.now sending.entry.message.now
-        sending.entry.word viewed.old.all.items (view.now ∷ [])) }
+    ensures all { OnOk result (receivers.new.deliveries.items ≡ addressed_after sessions.now subscriptions.now sending.entry.publisher.now sending.entry.message.now sending.entry.word
+        receivers.old.deliveries.items (view.now ∷ [])) }
+    ensures reports { OnOk result (reports.new.items ≡ reports.old.items ++ reports_after sessions.now subscriptions.now sending.entry.publisher.now sending.entry.message.now
+        sending.entry.word receivers.old.deliveries.items (view.now ∷ [])) }
     ensures cached { receivers.new.cache ≡ receivers.old.cache }
 {
     match view {
@@ -52,38 +43,38 @@ fn address_one(
             way: _,
         } => {
             let seen = Seen { account, subject };
-            receivers.address_seen(sessions, subscriptions, sending, seen, &mut viewed.all)?;
+            receivers.address_seen(sessions, subscriptions, sending, seen)?;
             Ok(())
         }
         ViewItem::TooLong(row) => {
             let report = Report {
-                at: viewed.all.len(),
+                at: receivers.deliveries().len(),
                 row: row.again()?,
             };
-            viewed.reports.push(report)?;
+            reports.push(report)?;
             Ok(())
         }
     }
 }
 
-/// Appends the deliveries of a message in more views, and the reports between them. `NoMemory` where memory could not be had:
-/// then some may be appended.
+/// Appends the deliveries of a message in more views to those of the receivers, and the reports between them. `NoMemory` where
+/// memory could not be had: then some may be appended.
 pub(crate) fn address_each(
     sessions: &Sessions,
     subscriptions: &Subscriptions,
     receivers: &mut Receivers,
     sending: Sending<'_>,
     views: &[ViewItem],
-    viewed: &mut Viewed,
+    reports: &mut Vec<Report>,
 ) -> Result<(), NoMemory>
-    ensures all { OnOk result (viewed.new.all.items ≡ addressed_after sessions.now subscriptions.now sending.entry.publisher.now sending.entry.message.now sending.entry.word
-        viewed.old.all.items views.now) }
-    ensures reports { OnOk result (viewed.new.reports.items ≡ viewed.old.reports.items ++ reports_after sessions.now subscriptions.now sending.entry.publisher.now sending.entry.message.now
-        sending.entry.word viewed.old.all.items views.now) }
+    ensures all { OnOk result (receivers.new.deliveries.items ≡ addressed_after sessions.now subscriptions.now sending.entry.publisher.now sending.entry.message.now sending.entry.word
+        receivers.old.deliveries.items views.now) }
+    ensures reports { OnOk result (reports.new.items ≡ reports.old.items ++ reports_after sessions.now subscriptions.now sending.entry.publisher.now sending.entry.message.now
+        sending.entry.word receivers.old.deliveries.items views.now) }
     ensures cached { receivers.new.cache ≡ receivers.old.cache }
 {
     for view in views {
-        address_one(sessions, subscriptions, receivers, sending, view, viewed)?;
+        address_one(sessions, subscriptions, receivers, sending, view, reports)?;
     }
     Ok(())
 }
@@ -142,13 +133,20 @@ fn merged(alloc: Global, items: &[Item], reports: &[Report]) -> Result<Vec<Item>
     Ok(all)
 }
 
-/// Returns what deliveries met, with the reports in their places between them. Where there are none it takes no memory.
-pub(crate) fn with_reports(alloc: Global, met: Met, reports: &[Report]) -> Result<Met, NoMemory>
-    ensures { IfOk result (λ told. told ≡ with_reports 0 met reports.now) }
+/// Returns what deliveries met, with the reports in their places between them, if there are any.
+#[inline(always)]
+pub(crate) fn with_reports(
+    alloc: Global,
+    met: Met,
+    reports: &Option<Vec<Report>>,
+) -> Result<Met, NoMemory>
+    ensures { IfOk result (λ told. told ≡ with_reports 0 met (reports_in reports.now)) }
 {
-    if reports.is_empty() {
-        return Ok(met);
+    match reports {
+        None => Ok(met),
+        Some(reports) => {
+            let all = merged(alloc, met.as_slice(), reports.as_slice())?;
+            Ok(Met::from_vec(all))
+        }
     }
-    let all = merged(alloc, met.as_slice(), reports)?;
-    Ok(Met::from_vec(all))
 }

@@ -1,35 +1,52 @@
--- the own view first, then the others, where it isn't alone
+-- the own view first, then the others: none, known ones, or those that are found
 use Rattle.std.proofs.Common.{◌≡◌, ◌∙◌, ◌++◌, ◌∷◌, List, [], true, ap, sym}
 use Rattle.events.specs.declared.answer.Addressed.{Addressed}
-use Rattle.imports.specs.Views.{views_in}
 use Rattle.imports.specs.declared.view.ViewItem.{ViewItem}
 use Rattle.world_rows.specs.declared.subscription.Subscription.{Subscription}
-use Rattle.world_receivers.specs.Cached.{IsAlone}
+use Rattle.world_receivers.specs.Standing.{addressed_behind_in}
 use Rattle.world_routing.specs.Viewing.{others_in, addressed_after, reports_after}
-use Rattle.world_routing.specs.declared.viewing.Report.{Report}
-use Rattle.world_routing.proofs.Together.{own_first}
+use Rattle.world_routing.proofs.Together.{own_first, others_told, others_unreported}
 use Rattle.world_routing.proofs.across.address_all.Goals as goal
 
-pub returns-then-is_alone-clause-all : goal.returns-then-is_alone-clause-all
-returns-then-is_alone-clause-all c =
+pub returns-then-is_empty-clause-all : goal.returns-then-is_empty-clause-all
+returns-then-is_empty-clause-all c =
     let zs = c.args.sessions.now in
     let subs = c.args.subscriptions.now in
     let z = c.args.sending.publisher.now in
     let m = c.args.sending.message.now in
-    let alone : IsAlone c.args.rows.now z.user.account m.subject = c.in_ok-all.ensures.alone (sym c.is_alone.ensures ∙ c.if-is_alone.true) in
-    c.in_ok-all.ensures.all
+    c.in_ok-address.ensures.all
     ∙ own_first zs subs z m c.args.sending.word c.known.ensures.going
-    ∙ ap (λ (vs : List ViewItem). addressed_after zs subs z m c.args.sending.word [] vs) (sym alone)
+    ∙ ap (λ (vs : List ViewItem). addressed_after zs subs z m c.args.sending.word [] vs) (sym (c.is_empty.ensures.own c.if-is_empty.true z.user.account m.subject))
 
-pub returns-then-is_alone-clause-reports : goal.returns-then-is_alone-clause-reports
-returns-then-is_alone-clause-reports c =
+pub returns-then-is_empty-clause-reports : goal.returns-then-is_empty-clause-reports
+returns-then-is_empty-clause-reports c =
     let zs = c.args.sessions.now in
     let subs = c.args.subscriptions.now in
     let z = c.args.sending.publisher.now in
     let m = c.args.sending.message.now in
-    let alone : IsAlone c.args.rows.now z.user.account m.subject = c.in_ok-all.ensures.alone (sym c.is_alone.ensures ∙ c.if-is_alone.true) in
-    c.new.ensures.items
-    ∙ ap (λ (vs : List ViewItem). reports_after zs subs z m c.args.sending.word [] vs) (sym alone)
+    ap (λ (vs : List ViewItem). reports_after zs subs z m c.args.sending.word [] vs) (sym (c.is_empty.ensures.own c.if-is_empty.true z.user.account m.subject))
+
+pub returns-then-branch-clause-all : goal.returns-then-branch-clause-all
+returns-then-branch-clause-all c =
+    let zs = c.args.sessions.now in
+    let subs = c.args.subscriptions.now in
+    let z = c.args.sending.publisher.now in
+    let m = c.args.sending.message.now in
+    let vs = others_in c.args.rows.now z.user.account m.subject in
+    others_told c.args.rows.now zs subs z m c.args.sending.word c.address.new.self.deliveries.items c.address_others.new.self.deliveries.items c.address.new.self.cache.others
+    c.in_ok-address.ensures.others (c.in_ok-address_others.ensures.tells c.if-branch.true)
+    ∙ ap (λ (before : List Addressed). addressed_after zs subs z m c.args.sending.word before vs)
+    (c.in_ok-address.ensures.all ∙ own_first zs subs z m c.args.sending.word c.known.ensures.going)
+
+pub returns-then-branch-clause-reports : goal.returns-then-branch-clause-reports
+returns-then-branch-clause-reports c =
+    let zs = c.args.sessions.now in
+    let subs = c.args.subscriptions.now in
+    let z = c.args.sending.publisher.now in
+    let m = c.args.sending.message.now in
+    sym (others_unreported c.args.rows.now zs subs z m c.args.sending.word c.address.new.self.deliveries.items c.address_others.new.self.deliveries.items c.address.new.self.cache.others
+    (addressed_behind_in zs subs [] z m c.args.sending.word z.user.account m.subject)
+    c.in_ok-address.ensures.others (c.in_ok-address_others.ensures.tells c.if-branch.true))
 
 pub returns-clause-all : goal.returns-clause-all
 returns-clause-all c =
@@ -38,10 +55,10 @@ returns-clause-all c =
     let z = c.args.sending.publisher.now in
     let m = c.args.sending.message.now in
     let vs = others_in c.args.rows.now z.user.account m.subject in
-    c.in_ok-address_others.ensures.all
-    ∙ ap (λ (ss : List Subscription). addressed_after zs ss z m c.args.sending.word c.in_ok-all.all.items vs) c.address.ensures.same
+    c.in_ok-reports.ensures.all
+    ∙ ap (λ (ss : List Subscription). addressed_after zs ss z m c.args.sending.word c.address_others.new.self.deliveries.items vs) c.address.ensures.same
     ∙ ap (λ (before : List Addressed). addressed_after zs subs z m c.args.sending.word before vs)
-    (c.in_ok-all.ensures.all ∙ own_first zs subs z m c.args.sending.word c.known.ensures.going)
+    (c.in_ok-address_others.ensures.same c.if-branch.false ∙ c.in_ok-address.ensures.all ∙ own_first zs subs z m c.args.sending.word c.known.ensures.going)
 
 pub returns-clause-reports : goal.returns-clause-reports
 returns-clause-reports c =
@@ -50,8 +67,7 @@ returns-clause-reports c =
     let z = c.args.sending.publisher.now in
     let m = c.args.sending.message.now in
     let vs = others_in c.args.rows.now z.user.account m.subject in
-    c.in_ok-address_others.ensures.reports
-    ∙ ap (λ (rs : List Report). rs ++ reports_after zs c.address.new.subscriptions z m c.args.sending.word c.in_ok-all.all.items vs) c.new.ensures.items
-    ∙ ap (λ (ss : List Subscription). reports_after zs ss z m c.args.sending.word c.in_ok-all.all.items vs) c.address.ensures.same
+    c.in_ok-reports.ensures.reports
+    ∙ ap (λ (ss : List Subscription). reports_after zs ss z m c.args.sending.word c.address_others.new.self.deliveries.items vs) c.address.ensures.same
     ∙ ap (λ (before : List Addressed). reports_after zs subs z m c.args.sending.word before vs)
-    (c.in_ok-all.ensures.all ∙ own_first zs subs z m c.args.sending.word c.known.ensures.going)
+    (c.in_ok-address_others.ensures.same c.if-branch.false ∙ c.in_ok-address.ensures.all ∙ own_first zs subs z m c.args.sending.word c.known.ensures.going)

@@ -5,9 +5,9 @@ use Rattle.world_routing.proofs.viewing.address_each.Given as goal
 
 abbrev pub invariant-loop-view : goal.invariant-loop-view
 invariant-loop-view l = record {
-  all : addressed_after l.sessions l.subscriptions l.sending.publisher.now l.sending.message.now l.sending.word l.viewed.all.items (drop l.view-index l.views)
-      ≡ addressed_after l.sessions l.subscriptions l.sending.publisher.now l.sending.message.now l.sending.word l.initial.viewed.all.items l.views;
-  reports : l.viewed.reports.items ++ reports_after l.sessions l.subscriptions l.sending.publisher.now l.sending.message.now l.sending.word l.viewed.all.items (drop l.view-index l.views)
-      ≡ l.initial.viewed.reports.items ++ reports_after l.sessions l.subscriptions l.sending.publisher.now l.sending.message.now l.sending.word l.initial.viewed.all.items l.views;
+  all : addressed_after l.sessions l.subscriptions l.sending.publisher.now l.sending.message.now l.sending.word l.receivers.deliveries.items (drop l.view-index l.views)
+      ≡ addressed_after l.sessions l.subscriptions l.sending.publisher.now l.sending.message.now l.sending.word l.initial.receivers.deliveries.items l.views;
+  reports : l.reports.items ++ reports_after l.sessions l.subscriptions l.sending.publisher.now l.sending.message.now l.sending.word l.receivers.deliveries.items (drop l.view-index l.views)
+      ≡ l.initial.reports.items ++ reports_after l.sessions l.subscriptions l.sending.publisher.now l.sending.message.now l.sending.word l.initial.receivers.deliveries.items l.views;
   cached : l.receivers.cache ≡ l.initial.receivers.cache;
 }

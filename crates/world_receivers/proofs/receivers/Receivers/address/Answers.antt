@@ -9,21 +9,21 @@ use Rattle.world_rows.specs.declared.subscription.Subscription.{Subscription}
 use Rattle.world_groups.specs.Served.{served}
 use Rattle.world_receivers.specs.Open.{is_open}
 use Rattle.world_receivers.proofs.Tests.{both}
-use Rattle.world_receivers.proofs.Told.{told_are, alone_are}
+use Rattle.world_receivers.proofs.Told.{told_are, others_are}
 use Rattle.world_receivers.proofs.receivers.Receivers.address.Goals as goal
 
 pub returns-then-branch-clause-all : goal.returns-then-branch-clause-all
 returns-then-branch-clause-all c =
     told_are c.args.self.now.cache _ _ c.args.sending.message.now c.args.sending.word _ c.args.rows.now c.args.sessions.now c.args.subscriptions.now c.args.sending.publisher.now
     (c.in_ok-address.ensures.tells c.if-branch.true) c.requires.cached c.requires.publisher
-    (ap tokens_of c.bytes.ensures ∙ again c.subject-subject.result c.tokens.ensures.grammar ∙ c.subject-subject.ensures)
+    (ap tokens_of c.bytes-text.ensures ∙ again c.subject-subject.result c.tokens.ensures.grammar ∙ c.subject-subject.ensures)
 
-pub returns-then-branch-clause-alone : goal.returns-then-branch-clause-alone
-returns-then-branch-clause-alone c = λ said.
+pub returns-then-branch-clause-others : goal.returns-then-branch-clause-others
+returns-then-branch-clause-others c =
     let tells = c.in_ok-address.ensures.tells c.if-branch.true in
-    alone_are c.args.self.now.cache c.args.rows.now c.args.sessions.now c.args.subscriptions.now c.args.sending.publisher.now _ _ _
+    others_are c.args.self.now.cache c.args.rows.now c.args.sessions.now c.args.subscriptions.now c.args.sending.publisher.now _ _ _
     c.requires.cached tells.conn_is tells.text_is c.requires.publisher
-    (ap tokens_of c.bytes.ensures ∙ again c.subject-subject.result c.tokens.ensures.grammar ∙ c.subject-subject.ensures) said
+    (ap tokens_of c.bytes-text.ensures ∙ again c.subject-subject.result c.tokens.ensures.grammar ∙ c.subject-subject.ensures)
 
 pub returns-clause-all : goal.returns-clause-all
 returns-clause-all c =

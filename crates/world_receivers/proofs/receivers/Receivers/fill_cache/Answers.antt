@@ -1,13 +1,15 @@
 -- what is cached of a publisher and a subject is of those that may be sent its messages
-use Rattle.std.proofs.Common.{◌≡◌, ◌∙◌, ℕ, true, List, map, filter, ap, sym, refl, subst}
+use Rattle.std.proofs.Common.{◌≡◌, ◌∙◌, ℕ, List, Option, map, filter, ap, sym, refl, subst}
+use Rattle.std.specs.Global.{Vec}
 use Rattle.subjects.specs.Subject.{Token, tokens_of}
 use Rattle.subjects.proofs.Text.{again}
 use Rattle.world_deliveries.specs.Sessions.{session_of}
 use Rattle.world_subscriptions.specs.Subscriptions.{has_subject, having}
 use Rattle.world_receivers.specs.Open.{is_open}
-use Rattle.world_receivers.specs.Cached.{IsAlone}
+use Rattle.world_receivers.specs.Cached.{KnowsOthers}
+use Rattle.world_receivers.specs.declared.known.KnownView.{KnownView}
 use Rattle.world_receivers.proofs.Tests.{both}
-use Rattle.world_receivers.proofs.Told.{filled_current, still_current, alone_are}
+use Rattle.world_receivers.proofs.Told.{filled_current, still_current, others_selected}
 use Rattle.world_receivers.proofs.receivers.Receivers.fill_cache.Goals as goal
 
 pub returns-in-Ok-clause-cached : goal.returns-in-Ok-clause-cached
@@ -18,7 +20,7 @@ returns-in-Ok-clause-cached c =
     let s : List Token = c.args.subject.now in
     let selected = c.if-not-select.ensures.selected refl in
     filled_current c.fill.new.self c.args.rows.now zs subs (map (λ x. x.now) c.as_slice.result.now) z s c.fill.ensures.whom
-    (λ said. subst (λ (a : List ℕ). IsAlone c.args.rows.now a s) c.as_slice-account.ensures (c.is_alone-alone.ensures (sym c.fill.ensures.alone ∙ said)))
+    (subst (λ (o : Option (Vec KnownView)). KnowsOthers o c.args.rows.now zs subs z s) (sym c.fill.ensures.others) c.others_of-others.ensures)
     (ap (session_of zs) (c.fill.ensures.conn ∙ selected.0) ∙ c.requires.publisher)
     (ap (map (λ x. x.now)) c.as_slice.ensures.value
     ∙ c.in-Ok.ensures.found
@@ -26,23 +28,21 @@ returns-in-Ok-clause-cached c =
     ∙ both (is_open zs z s) (has_subject z.user.account s) subs)
     (ap tokens_of (ap (λ v. v.items) c.fill.ensures.subject ∙ selected.1 ∙ c.bytes.ensures) ∙ again s c.tokens.ensures.grammar)
 
-pub returns-in-Ok-clause-alone : goal.returns-in-Ok-clause-alone
-returns-in-Ok-clause-alone c = λ said.
-    subst (λ (a : List ℕ). IsAlone c.args.rows.now a c.args.subject.now) c.as_slice-account.ensures (c.is_alone-alone.ensures (sym c.fill.ensures.alone ∙ said))
+pub returns-in-Ok-clause-others : goal.returns-in-Ok-clause-others
+returns-in-Ok-clause-others c =
+    subst (λ (o : Option (Vec KnownView)). KnowsOthers o c.args.rows.now c.args.sessions.now c.args.subscriptions.now c.args.publisher.now c.args.subject.now) (sym c.fill.ensures.others) c.others_of-others.ensures
 
 -- what it said already of its publisher and subject stays so
-pub returns-then-not-select-clause-alone : goal.returns-then-not-select-clause-alone
-returns-then-not-select-clause-alone c = λ said.
+pub returns-then-not-select-clause-others : goal.returns-then-not-select-clause-others
+returns-then-not-select-clause-others c =
     let zs = c.args.sessions.now in
-    let is = c.select.ensures.alone said in
-    alone_are c.select.new.self c.args.rows.now zs c.args.subscriptions.now c.args.publisher.now _ _ c.args.subject.now
+    others_selected c.select.new.self c.args.rows.now zs c.args.subscriptions.now c.args.publisher.now _ _ c.args.subject.now
     (still_current c.args.self.now.cache c.select.new.self c.args.rows.now zs c.args.subscriptions.now c.requires.cached c.select.ensures.cached)
-    is.0 is.1 c.requires.publisher (ap tokens_of c.bytes.ensures ∙ again c.args.subject.now c.tokens.ensures.grammar) said
+    c.select.ensures.others c.requires.publisher (ap tokens_of c.bytes.ensures ∙ again c.args.subject.now c.tokens.ensures.grammar)
 
-pub returns-in_default-clause-alone : goal.returns-in_default-clause-alone
-returns-in_default-clause-alone c = λ said.
+pub returns-in_default-clause-others : goal.returns-in_default-clause-others
+returns-in_default-clause-others c =
     let zs = c.args.sessions.now in
-    let is = c.select.ensures.alone said in
-    alone_are c.select.new.self c.args.rows.now zs c.args.subscriptions.now c.args.publisher.now _ _ c.args.subject.now
+    others_selected c.select.new.self c.args.rows.now zs c.args.subscriptions.now c.args.publisher.now _ _ c.args.subject.now
     (still_current c.args.self.now.cache c.select.new.self c.args.rows.now zs c.args.subscriptions.now c.requires.cached c.select.ensures.cached)
-    is.0 is.1 c.requires.publisher (ap tokens_of c.bytes.ensures ∙ again c.args.subject.now c.tokens.ensures.grammar) said
+    c.select.ensures.others c.requires.publisher (ap tokens_of c.bytes.ensures ∙ again c.args.subject.now c.tokens.ensures.grammar)

@@ -1,0 +1,94 @@
+-- Views that are known say whom a message is for behind all deliveries of the views before them.
+use Rattle.std.proofs.Common.{◌≡◌, ◌∙◌, ◌&&◌, ◌||◌, ◌++◌, ℕ, Bool, true, false, cond, not, List, [], ◌∷◌, Option, Some, None, map, ap, sym, refl, subst}
+use Rattle.std.specs.Prelude.{is_some, IfSome}
+use Rattle.std.specs.Global.{Vec}
+use Rattle.std.specs.List.{list_any}
+use Rattle.subjects.specs.Subject.{Token}
+use Rattle.imports.specs.declared.rows.ImportRow.{ImportRow}
+use Rattle.imports.specs.declared.view.ViewItem.{ViewItem}
+use Rattle.imports.specs.declared.view.ViewItem.TheVariants.{At, TooLong}
+use Rattle.events.specs.Messages.{Message}
+use Rattle.events.specs.Sendings.{named}
+use Rattle.events.specs.declared.answer.Addressed.{Addressed}
+use Rattle.world_deliveries.specs.Sessions.{session_of}
+use Rattle.world_deliveries.specs.Delivered.{room_in}
+use Rattle.world_deliveries.specs.declared.session.Session.{Session}
+use Rattle.world_groups.specs.Served.{served}
+use Rattle.world_subscriptions.specs.Addressing.{addressed_to}
+use Rattle.world_subscriptions.specs.Subscriptions.{has_subject}
+use Rattle.world_rows.specs.declared.subscription.Subscription.{Subscription}
+use Rattle.world_receivers.specs.Open.{is_open, open_among}
+use Rattle.world_receivers.specs.Receivers.{addressed_at}
+use Rattle.world_receivers.specs.Standing.{times_entering, stands_behind, standing_among, under_subject, addressed_behind_in}
+use Rattle.world_receivers.specs.Known.{picked, has_limit, IsSeen, AreSeen, others_in, addressed_in}
+use Rattle.world_receivers.specs.Cached.{KnowsOthers}
+use Rattle.world_receivers.specs.declared.known.KnownView.{KnownView}
+use Rattle.world_receivers.proofs.Left.{never_ends}
+use Rattle.world_receivers.proofs.Told.{addressed_each}
+
+-- one known view more
+pub seen_more : (zs : List Session) (subs : List Subscription) (z : Session) (known : List KnownView) (vs : List ViewItem) (k : KnownView) (v : ViewItem) →
+    AreSeen zs subs z known vs → AreSeen zs subs z (k ∷ []) (v ∷ []) → AreSeen zs subs z (known ++ k ∷ []) (vs ++ v ∷ [])
+seen_more zs subs z [] [] k v all one = one
+seen_more zs subs z [] (u ∷ vs) k v all one = absurd all
+seen_more zs subs z (other ∷ known) [] k v all one = absurd all
+seen_more zs subs z (other ∷ known) (TooLong row ∷ vs) k v all one = absurd all
+seen_more zs subs z (other ∷ known) (At account s way ∷ vs) k v all one = (all.0, seen_more zs subs z known vs k v all.1 one)
+
+-- lists that are equal are so behind their first elements
+pub tail_of : {v u : ViewItem} {vs us : List ViewItem} → v ∷ vs ≡ u ∷ us → vs ≡ us
+tail_of {v} {u} {vs} {us} e = ap (λ (all : List ViewItem). rest all) e
+  where
+    rest : List ViewItem → List ViewItem
+    rest [] = []
+    rest (x ∷ xs) = xs
+
+-- views that are known are the others of a publisher's message, where these are its others
+pub known_if : (zs : List Session) (subs : List Subscription) (z : Session) (rows : List ImportRow) (s : List Token) (o : Option (Vec KnownView)) (vs : List ViewItem) →
+    vs ≡ others_in rows z.user.account s → IfSome o (λ (known : Vec KnownView). AreSeen zs subs z known.items vs) → KnowsOthers o rows zs subs z s
+known_if zs subs z rows s None vs same is = tt
+known_if zs subs z rows s (Some known) vs same is = subst (λ (us : List ViewItem). AreSeen zs subs z known.items us) same is
+
+module _ (zs : List Session) (before : List Addressed) (z : Session) (account : List ℕ) (s : List Token) where
+  no_most : (o : Option ℕ) → is_some o ≡ false → o ≡ None
+  no_most None e = refl
+  no_most (Some n) e = absurd (cc)
+
+  or_left : (b c : Bool) → (b || c) ≡ false → b ≡ false
+  or_left true c e = e
+  or_left false c e = refl
+
+  or_right : (b c : Bool) → (b || c) ≡ false → c ≡ false
+  or_right true c e = absurd (cc)
+  or_right false c e = e
+
+  stands : (x : Subscription) → has_limit x ≡ false → stands_behind zs before x ≡ true
+  stands x none = ap not (never_ends (times_entering x.conn x.id (room_in (session_of zs x.conn)) before) x (no_most x.most none))
+
+  -- where none of those that may be sent the message has a limit, all of them still stand
+  standing_open : (subs : List Subscription) → list_any has_limit (open_among zs subs z account s) ≡ false → standing_among zs subs before z account s ≡ open_among zs subs z account s
+  standing_open [] none = refl
+  standing_open (x ∷ xs) none = here (has_subject account s x) (is_open zs z s x) (standing_open xs) none
+    where
+      rest : List Subscription
+      rest = standing_among zs xs before z account s
+
+      all : List Subscription
+      all = open_among zs xs z account s
+
+      here : (b c : Bool) → (list_any has_limit all ≡ false → rest ≡ all) → list_any has_limit (cond (b && c) (x ∷ all) all) ≡ false →
+          cond (b && (c && stands_behind zs before x)) (x ∷ rest) rest ≡ cond (b && c) (x ∷ all) all
+      here true true later none =
+          ap (λ d. cond d (x ∷ rest) rest) (stands x (or_left (has_limit x) (list_any has_limit all) none))
+          ∙ ap (λ (more : List Subscription). x ∷ more) (later (or_right (has_limit x) (list_any has_limit all) none))
+      here true false later none = later none
+      here false c later none = later none
+
+  -- so a known view says what the deliveries in it are
+  pub view_told : (subs : List Subscription) (known : KnownView) (m : Message) (word : ℕ) → IsSeen zs subs z known account s →
+      addressed_in m word before known ≡ before ++ addressed_behind_in zs subs before z m word account s
+  view_told subs known m word is =
+      ap (λ (x : Message). before ++ map (addressed_at x) (picked word known.whom)) (is.names m)
+      ∙ ap (λ (rs : List _). before ++ map (addressed_at (under_subject s m)) rs) (sym (is.whom is.says word))
+      ∙ ap (λ (ds : List Addressed). before ++ ds) (addressed_each (under_subject s m) (served word (open_among zs subs z account s)))
+      ∙ ap (λ (ss : List Subscription). before ++ map (addressed_to (under_subject s m)) (served word ss)) (sym (standing_open subs is.unlimited))

@@ -1,0 +1,9 @@
+-- what has been addressed and what is still to be are what all give
+use Rattle.std.proofs.Common.{◌≡◌, ◌++◌, map, drop}
+use Rattle.events.specs.Sendings.{named}
+use Rattle.world_receivers.specs.Receivers.{addressed_at}
+use Rattle.world_receivers.proofs.receiver.address_each_under.Given as goal
+
+abbrev pub invariant-loop-receiver : goal.invariant-loop-receiver
+invariant-loop-receiver l =
+    l.all.items ++ map (addressed_at (named l.names l.message)) (drop l.receiver-index l.receivers) ≡ l.initial.all.items ++ map (addressed_at (named l.names l.message)) l.receivers

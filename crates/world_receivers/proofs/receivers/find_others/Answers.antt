@@ -1,0 +1,18 @@
+-- the views behind the publisher's own are the others
+use Rattle.std.proofs.Common.{◌≡◌, ◌∙◌, ◌∷◌, ℕ, List, [], Option, ap, subst}
+use Rattle.std.specs.Prelude.{IfSome}
+use Rattle.std.specs.Global.{Vec}
+use Rattle.imports.specs.declared.view.ViewItem.{ViewItem}
+use Rattle.world_receivers.specs.Known.{AreSeen, others_in}
+use Rattle.world_receivers.specs.declared.known.KnownView.{KnownView}
+use Rattle.world_receivers.proofs.Behind.{known_if, tail_of}
+use Rattle.world_receivers.proofs.receivers.find_others.Goals as goal
+
+pub returns : goal.returns
+returns c =
+    let zs = c.args.among.sessions.now in
+    let subs = c.args.among.subscriptions.now in
+    let z = c.args.among.publisher.now in
+    known_if zs subs z c.args.rows.now c.args.subject.now c.in_ok-known.known c.as_slice.result.now
+    (c.as_slice.ensures.value ∙ tail_of c.in_ok-others.ensures ∙ ap (λ (a : List ℕ). others_in c.args.rows.now a c.args.subject.now) c.as_slice-account.ensures)
+    c.in_ok-known.ensures
