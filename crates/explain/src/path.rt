@@ -1,9 +1,9 @@
 //! The accounts that a published message is seen in.
-ghost use Rattle.std.specs.Prelude.{◌≡◌, ◌++◌, flat_map, map, IfOk, OnOk};
+ghost use Rattle.std.specs.Prelude.{◌≡◌, ◌++◌, [], flat_map, map, IfOk, OnOk};
 ghost use Rattle.std.specs.Option.{option_copied};
 ghost use Rattle.explain.specs.Fault.{Answers};
 ghost use Rattle.explain.specs.Lines.{kind_words, view_line};
-ghost use Rattle.imports.specs.Views.{views};
+ghost use Rattle.imports.specs.Across.{views};
 ghost use Rattle.explain.specs.Path.{account_named, kind_of, path_of, view_of};
 ghost use Rattle.explain.specs.declared.fault.ExplainFault.TheVariants as fault;
 
@@ -76,10 +76,10 @@ fn views_from(
     account: &Bytes,
     subject: &Subject,
 ) -> Result<Items<View>, NoMemory>
-    ensures { IfOk result (λ found. found ≡ map view_of (views policy.now account.now subject.now)) }
+    ensures { IfOk result (λ found. found ≡ map view_of (views policy.now account.now subject.now [])) }
 {
     let rows = Rows::of(alloc, policy)?;
-    let items = rows.views(alloc, account, subject)?;
+    let items = rows.views(alloc, account, subject, None)?;
     let found = views_of(alloc, items.as_slice())?;
     Ok(found)
 }
@@ -123,6 +123,8 @@ fn kind_of(way: &Way) -> ViewKind
     match way {
         Way::Own => ViewKind::Own,
         Way::Stream(row) => ViewKind::Stream(row.get().index),
+        Way::Service(row) => ViewKind::Service(row.get().index),
+        Way::Response(row) => ViewKind::Service(row.get().index),
     }
 }
 

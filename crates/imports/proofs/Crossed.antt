@@ -1,33 +1,36 @@
--- Which views come across rows, and that each row has its export.
-use Rattle.std.proofs.Common.{◌≡◌, ◌∙◌, ◌&&◌, ◌+◌, ◌<◌, ◌≤◌, ℕ, zero, suc, Bool, true, false, true≢false, cond, List, [], ◌∷◌, Option, Some, None, length, ap, sym, refl, subst, arith}
-use Rattle.std.specs.Prelude.{nat_lt, All, Any, Contains, IsTrue, IsSome, IsSomeAnd, position}
+-- Which views come across rows, that each row has its export, and what streams alone give.
+use Rattle.std.proofs.Common.{◌≡◌, ◌∙◌, ◌+◌, ◌<◌, ◌≤◌, ℕ, zero, suc, Bool, true, false, true≢false, cond, if◌then◌else◌, List, [], ◌∷◌, ◌++◌, Option, Some, None, length, ap, sym, refl, subst, arith}
+use Rattle.std.specs.Prelude.{◌↔◌, nat_lt, All, Any, Contains, IsTrue, IsSome, IsSomeAnd, position}
 use Rattle.std.specs.List.{cons_option, filter_map, flat_map, slice_index_or}
 use Rattle.std.specs.Option.{option_map}
 use Rattle.std.specs.Str.{bytes_eq}
-use Rattle.std.proofs.lemmas.Bool.{and_parts}
 use Rattle.std.proofs.lemmas.Bool.Decides.{nat_tests}
-use Rattle.std.proofs.lemmas.List.{get_or_default}
+use Rattle.std.proofs.lemmas.List.{append-nil, get_or_default}
 use Rattle.std.proofs.lemmas.List.Elements.{All-nil, All-cons, All-append, All-head, All-tail}
 use Rattle.std.proofs.lemmas.List.Quantifiers.{position-Some}
 use Rattle.std.proofs.lemmas.Slice.Eq.{bytes_eq-Decides}
 use Rattle.subjects.specs.Subject.{Token, IsConcreteSubject}
-use Rattle.mapping.specs.Pairs.{forward}
-use Rattle.mapping.proofs.Pairs.{forward_pairs}
+use Rattle.mapping.specs.Pairs.{RowMap, IsRowMap}
+use Rattle.mapping.proofs.Pairs.{forward_pairs, back_pairs}
 use Rattle.exports.specs.Exports.{admits}
 use Rattle.exports.specs.declared.document.ExportDoc.{ExportDoc}
 use Rattle.exports.specs.declared.document.Kind.{Kind}
 use Rattle.exports.specs.declared.document.Kind.TheVariants as kind
-use Rattle.exports.specs.declared.document.Row.{Row}
+use Rattle.policy_doc.specs.Document.{imports_of}
 use Rattle.policy_doc.specs.Imports.{IsValidImport, export_of, exporter_of, mapping_by, mapping_of}
 use Rattle.policy_doc.specs.declared.document.ImportDoc.{ImportDoc}
 use Rattle.policy_doc.specs.declared.document.NamedAccount.{NamedAccount}
-use Rattle.imports.specs.Views.{crossed, crossing, crossings_in, is_stream, is_stream_of, row_at, rows_from, rows_in}
-use Rattle.imports.specs.Rows.{IsRow}
-use Rattle.imports.specs.Laws.{CrossesByPairs, IsCrossedBy, IsExported, RowsAreExported}
+use Rattle.imports.specs.Across.{across, across_by, crossed, crossing, crossings_in, source_of, target_of, way_of}
+use Rattle.imports.specs.Views as streams
+use Rattle.imports.specs.Views.{first_of_each, is_route, row_at, rows_from, rows_in, rows_of}
+use Rattle.imports.specs.Rows.{IsRow, is_asked}
+use Rattle.imports.specs.Laws.{CrossesByPairs, IsCrossedBy, IsExported, IsPairBy, IsSeenBy, RowsAreExported, StreamsAlone}
 use Rattle.imports.specs.declared.rows.ImportRow.{ImportRow}
 use Rattle.imports.specs.declared.view.ViewItem.{ViewItem}
 use Rattle.imports.specs.declared.view.ViewItem.TheVariants.{At, TooLong}
-use Rattle.imports.specs.declared.view.Way.TheVariants.{Stream}
+use Rattle.imports.specs.declared.view.Way.{Way}
+use Rattle.imports.specs.declared.view.Way.TheVariants.{Own}
+use Rattle.imports.proofs.Firsts.{same_given, streams_asked}
 
 -- ---- each row has its export
 
@@ -103,67 +106,116 @@ gives f (r ∷ rows) v any = by any.0 any.1 any.2 any.3 any.4 (λ k. gives f row
     by zero x below is e later = here (f r) (ap f is ∙ e)
     by (suc k) x below is e later = behind (f r) (later (k, x, omega (arith, below), is, e))
 
-pub stream_is : (k : Kind) → is_stream k ≡ true → k ≡ kind.Stream
-stream_is kind.Stream e = refl
-stream_is kind.Service e = absurd (true≢false (sym e))
-
--- a row gives that view exactly where it is crossed so
-crossed_by : (r : ImportRow) (a b : List ℕ) (s t : List Token) (row : Row) → IsRow r → IsConcreteSubject s → crossing a s r ≡ Some (At b t (Stream row)) → (r.row ≡ row) × IsCrossedBy r a s b t
-crossed_by r a b s t row holds subject gives = by (is_stream_of a r) refl gives
+-- a row gives that view exactly where the message is seen by it so
+pub seen_by : (r : ImportRow) (a b : List ℕ) (s t : List Token) (way : Way) → crossing a s r ≡ Some (At b t way) → (way_of r ≡ way) × IsSeenBy r a s b t
+seen_by r a b s t way given = by (bytes_eq (source_of r) a) refl given
   where
     View : Type 0
-    View = (r.row ≡ row) × IsCrossedBy r a s b t
+    View = (way_of r ≡ way) × IsSeenBy r a s b t
 
-    long : is_stream_of a r ≡ true → (u : List Token) → forward r.mapping s ≡ Some u → (c : Bool) → nat_lt 512 (length u) ≡ c → Some (cond c (TooLong r.row) (At r.row.importer u (Stream r.row))) ≡ Some (At b t (Stream row)) → View
+    long : bytes_eq (source_of r) a ≡ true → (u : List Token) → across r s ≡ Some u → (c : Bool) → nat_lt 512 (length u) ≡ c → Some (cond c (TooLong r.row) (At (target_of r) u (way_of r))) ≡ Some (At b t way) → View
     long e u f true far is = absurd (cc)
     long e u f false near is =
-        let parts = and_parts (is_stream r.kind) (bytes_eq r.exporter a) e in
         let same : u ≡ t = cc in
-        let own : r.row ≡ row = cc in
-        let importer : r.row.importer ≡ b = cc in
+        let comes : way_of r ≡ way = cc in
+        let target : target_of r ≡ b = cc in
         let short : length u ≤ 512 = grind (arith, nat_tests, near) in (
-          own,
+          comes,
           record {
-            stream = stream_is r.kind parts.0;
-            exporter = (bytes_eq-Decides r.exporter a).0 parts.1;
-            importer = importer;
-            pair = (forward_pairs r.mapping holds.mapping s t subject).0 (f ∙ ap Some same);
+            source = (bytes_eq-Decides (source_of r) a).0 e;
+            target = target;
+            subject = f ∙ ap Some same;
             short = subst (λ l. length l ≤ 512) same short;
           },
         )
 
-    mapped : is_stream_of a r ≡ true → (o : Option (List Token)) → forward r.mapping s ≡ o → option_map (crossed r.row) o ≡ Some (At b t (Stream row)) → View
+    mapped : bytes_eq (source_of r) a ≡ true → (o : Option (List Token)) → across r s ≡ o → option_map (crossed r) o ≡ Some (At b t way) → View
     mapped e None f is = absurd (cc)
     mapped e (Some u) f is = long e u f (nat_lt 512 (length u)) refl is
 
-    by : (c : Bool) → is_stream_of a r ≡ c → cond c (option_map (crossed r.row) (forward r.mapping s)) None ≡ Some (At b t (Stream row)) → View
+    by : (c : Bool) → bytes_eq (source_of r) a ≡ c → cond c (option_map (crossed r) (across r s)) None ≡ Some (At b t way) → View
     by false e is = absurd (cc)
-    by true e is = mapped e (forward r.mapping s) refl is
+    by true e is = mapped e (across r s) refl is
 
-pub crosses : (r : ImportRow) (a b : List ℕ) (s t : List Token) (row : Row) → IsRow r → IsConcreteSubject s → (r.row ≡ row) × IsCrossedBy r a s b t → crossing a s r ≡ Some (At b t (Stream row))
-crosses r a b s t row holds subject is =
-    let it = is.1 in
-    let stream : is_stream r.kind ≡ true = ap is_stream it.stream in
-    let from : bytes_eq r.exporter a ≡ true = (bytes_eq-Decides r.exporter a).1 it.exporter in
-    let found : forward r.mapping s ≡ Some t = (forward_pairs r.mapping holds.mapping s t subject).1 it.pair in
+pub seen_crosses : (r : ImportRow) (a b : List ℕ) (s t : List Token) → IsSeenBy r a s b t → crossing a s r ≡ Some (At b t (way_of r))
+seen_crosses r a b s t it =
+    let from : bytes_eq (source_of r) a ≡ true = (bytes_eq-Decides (source_of r) a).1 it.source in
     let near : nat_lt 512 (length t) ≡ false = grind (arith, nat_tests, it.short) in
-    ap (λ c. cond (c && bytes_eq r.exporter a) (option_map (crossed r.row) (forward r.mapping s)) None) stream
-    ∙ ap (λ c. cond c (option_map (crossed r.row) (forward r.mapping s)) None) from
-    ∙ ap (λ o. option_map (crossed r.row) o) found
-    ∙ ap (λ c. Some (cond c (TooLong r.row) (At r.row.importer t (Stream r.row)))) near
-    ∙ ap (λ n. Some (At n t (Stream r.row))) it.importer
-    ∙ ap (λ x. Some (At b t (Stream x))) is.0
+    ap (λ c. cond c (option_map (crossed r) (across r s)) None) from
+    ∙ ap (λ o. option_map (crossed r) o) it.subject
+    ∙ ap (λ c. Some (cond c (TooLong r.row) (At (target_of r) t (way_of r)))) near
+    ∙ ap (λ n. Some (At n t (way_of r))) it.target
+
+-- the subjects before and beyond a row are those that its mapping pairs
+across_pairs : (k : Kind) (m : RowMap) → IsRowMap m → (s t : List Token) → IsConcreteSubject s → (across_by k m s ≡ Some t) ↔ IsPairBy k m s t
+across_pairs kind.Stream m holds s t subject = forward_pairs m holds s t subject
+across_pairs kind.Service m holds s t subject = back_pairs m holds t s subject
+
+crossed_by : (r : ImportRow) (a b : List ℕ) (s t : List Token) → IsRow r → IsConcreteSubject s → IsSeenBy r a s b t → IsCrossedBy r a s b t
+crossed_by r a b s t holds subject it = record {
+  source = it.source;
+  target = it.target;
+  pair = (across_pairs r.kind r.mapping holds.mapping s t subject).0 it.subject;
+  short = it.short;
+}
+
+seen_as : (r : ImportRow) (a b : List ℕ) (s t : List Token) → IsRow r → IsConcreteSubject s → IsCrossedBy r a s b t → IsSeenBy r a s b t
+seen_as r a b s t holds subject it = record {
+  source = it.source;
+  target = it.target;
+  subject = (across_pairs r.kind r.mapping holds.mapping s t subject).1 it.pair;
+  short = it.short;
+}
 
 row_in : (rows : List ImportRow) → All IsRow rows → (k : ℕ) (x : ImportRow) → k < length rows → slice_index_or rows k x ≡ x → IsRow x
 row_in rows all k x below is = subst IsRow is (all k x below)
 
 pub by_pairs : CrossesByPairs
-by_pairs rows all a b s t row subject plain =
-    let v : ViewItem = At b t (Stream row) in
-    let across : crossings_in rows a s ≡ filter_map (crossing a s) rows = ap (λ c. cond c [] (filter_map (crossing a s) rows)) plain in (
+by_pairs rows all a b s t way subject plain =
+    let v : ViewItem = At b t way in
+    let beyond : crossings_in rows a s ≡ filter_map (crossing a s) rows = ap (λ c. cond c [] (filter_map (crossing a s) rows)) plain in (
       λ has.
-          let any = given_by (crossing a s) rows v (subst (λ l. Contains l v) across has) in
-          (any.0, any.1, any.2, any.3, crossed_by any.1 a b s t row (row_in rows all any.0 any.1 any.2 any.3) subject any.4),
-      λ any. subst (λ l. Contains l v) (sym across)
-          (gives (crossing a s) rows v (any.0, any.1, any.2, any.3, crosses any.1 a b s t row (row_in rows all any.0 any.1 any.2 any.3) subject any.4)),
+          let any = given_by (crossing a s) rows v (subst (λ l. Contains l v) beyond has) in
+          let it = seen_by any.1 a b s t way any.4 in
+          (any.0, any.1, any.2, any.3, (it.0, crossed_by any.1 a b s t (row_in rows all any.0 any.1 any.2 any.3) subject it.1)),
+      λ any.
+          let it = seen_as any.1 a b s t (row_in rows all any.0 any.1 any.2 any.3) subject any.4.1 in
+          subst (λ l. Contains l v) (sym beyond)
+          (gives (crossing a s) rows v (any.0, any.1, any.2, any.3, seen_crosses any.1 a b s t it ∙ ap (λ w. Some (At b t w)) any.4.0)),
     )
+
+-- ---- streams alone
+
+abbrev IsStream : ImportRow → Type 0
+IsStream r = r.kind ≡ kind.Stream
+
+abbrev IsOfStream : ImportDoc → Type 0
+IsOfStream i = i.kind ≡ kind.Stream
+
+-- what holds of all of two lists holds of each
+both : (xs ys : List ImportDoc) → All IsOfStream (xs ++ ys) → All IsOfStream xs × All IsOfStream ys
+both [] ys all = (All-nil IsOfStream, all)
+both (x ∷ xs) ys all =
+    let later = both xs ys (All-tail IsOfStream x (xs ++ ys) all) in
+    (All-cons IsOfStream x xs (All-head IsOfStream x (xs ++ ys) all) later.0, later.1)
+
+streams_from : (importer : List ℕ) (index : ℕ) (imports : List ImportDoc) → All IsOfStream imports → All IsStream (rows_from importer index imports)
+streams_from importer index [] all = All-nil IsStream
+streams_from importer index (i ∷ more) all =
+    All-cons IsStream (row_at importer index i) (rows_from importer (index + 1) more) (All-head IsOfStream i more all)
+    (streams_from importer (index + 1) more (All-tail IsOfStream i more all))
+
+streams_in : (accounts : List NamedAccount) → All IsOfStream (imports_of accounts) → All IsStream (flat_map rows_in accounts)
+streams_in [] all = All-nil IsStream
+streams_in (a ∷ more) all =
+    let parts = both a.account.imports (imports_of more) all in
+    All-append IsStream (rows_in a) (flat_map rows_in more) (streams_from a.name 0 a.account.imports parts.0) (streams_in more parts.1)
+
+stream_asked : (a : List ℕ) (s : List Token) (r : ImportRow) → IsStream r → crossing a s r ≡ streams.crossing a s r
+stream_asked a s r is = sym (ap (λ k. cond (is_asked false k) (crossing a s r) None) is) ∙ streams_asked a s r
+
+pub alone : StreamsAlone
+alone doc all a s =
+    let same = same_given (crossing a s) (streams.crossing a s) IsStream (stream_asked a s) (rows_of doc) (streams_in doc.accounts all) in
+    ap (λ l. first_of_each (At a s Own ∷ l)) (append-nil (crossings_in (rows_of doc) a s))
+    ∙ ap (λ l. first_of_each (At a s Own ∷ (if is_route s then [] else l))) same

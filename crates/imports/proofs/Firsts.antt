@@ -12,13 +12,16 @@ use Rattle.std.proofs.lemmas.List.Elements.{All-head, All-tail, filter-append, f
 use Rattle.std.proofs.lemmas.Slice.Eq.{bytes_eq-Decides}
 use Rattle.subjects.specs.Subject.{Token}
 use Rattle.subjects.specs.Equal.{same_subject}
-use Rattle.mapping.specs.Pairs.{forward}
-use Rattle.imports.specs.Views.{crossed, crossing, first_of_each, is_at, is_route, is_same, is_stream, is_stream_of, views_in}
-use Rattle.imports.specs.Rows.{IsRow, with_crossing}
+use Rattle.exports.specs.declared.document.Kind.{Kind}
+use Rattle.exports.specs.declared.document.Kind.TheVariants as kind
+use Rattle.imports.specs.Across.{across, crossed, crossing, crossings_in, first_by, last_by, source_of, target_of, views_in, way_of}
+use Rattle.imports.specs.Views as streams
+use Rattle.imports.specs.Views.{first_of_each, is_at, is_route, is_same}
+use Rattle.imports.specs.Rows.{IsRow, crossing_if, is_asked, with_crossing}
 use Rattle.imports.specs.declared.rows.ImportRow.{ImportRow}
 use Rattle.imports.specs.declared.view.ViewItem.{ViewItem}
 use Rattle.imports.specs.declared.view.ViewItem.TheVariants.{At, TooLong}
-use Rattle.imports.specs.declared.view.Way.TheVariants.{Own, Stream}
+use Rattle.imports.specs.declared.view.Way.TheVariants.{Own}
 
 -- ---- one more view
 
@@ -85,30 +88,47 @@ abbrev IsElsewhere : List ℕ → List Token → Option ViewItem → Type 0
 IsElsewhere a s None = ⊤
 IsElsewhere a s (Some v) = is_at a s v ≡ false
 
-row_elsewhere : (a : List ℕ) (s : List Token) (r : ImportRow) → IsRow r → IsElsewhere a s (crossing a s r)
-row_elsewhere a s r holds = by (is_stream_of a r) refl
+-- names that differ do so the other way round
+turned : (x y : List ℕ) → bytes_eq x y ≡ false → bytes_eq y x ≡ false
+turned x y apart = by (bytes_eq y x) refl
   where
-    long : bytes_eq a r.row.importer ≡ false → (t : List Token) (c : Bool) → IsElsewhere a s (Some (cond c (TooLong r.row) (At r.row.importer t (Stream r.row))))
+    by : (c : Bool) → bytes_eq y x ≡ c → c ≡ false
+    by false e = refl
+    by true e = absurd (true≢false (sym ((bytes_eq-Decides x y).1 (sym ((bytes_eq-Decides y x).0 e))) ∙ apart))
+
+ends_apart : (k : Kind) (exporter importer : List ℕ) → bytes_eq exporter importer ≡ false → bytes_eq (first_by k exporter importer) (last_by k exporter importer) ≡ false
+ends_apart kind.Stream exporter importer apart = apart
+ends_apart kind.Service exporter importer apart = turned exporter importer apart
+
+row_elsewhere : (services : Bool) (a : List ℕ) (s : List Token) (r : ImportRow) → IsRow r → IsElsewhere a s (crossing_if services a s r)
+row_elsewhere services a s r holds = by (is_asked services r.kind) (bytes_eq (source_of r) a) refl
+  where
+    long : bytes_eq a (target_of r) ≡ false → (t : List Token) (c : Bool) → IsElsewhere a s (Some (cond c (TooLong r.row) (At (target_of r) t (way_of r))))
     long other t true = refl
     long other t false = ap (λ c. c && same_subject s t) other
 
-    mapped : bytes_eq a r.row.importer ≡ false → (o : Option (List Token)) → IsElsewhere a s (option_map (crossed r.row) o)
+    mapped : bytes_eq a (target_of r) ≡ false → (o : Option (List Token)) → IsElsewhere a s (option_map (crossed r) o)
     mapped other None = tt
     mapped other (Some t) = long other t (nat_lt 512 (length t))
 
-    by : (b : Bool) → is_stream_of a r ≡ b → IsElsewhere a s (cond b (option_map (crossed r.row) (forward r.mapping s)) None)
-    by false e = tt
-    by true e =
-        let exporter : r.exporter ≡ a = (bytes_eq-Decides r.exporter a).0 (and_parts (is_stream r.kind) (bytes_eq r.exporter a) e).1 in
-        mapped (subst (λ n. bytes_eq n r.row.importer ≡ false) exporter holds.other) (forward r.mapping s)
+    by : (b c : Bool) → bytes_eq (source_of r) a ≡ c → IsElsewhere a s (cond b (cond c (option_map (crossed r) (across r s)) None) None)
+    by false c e = tt
+    by true false e = tt
+    by true true e =
+        let source : source_of r ≡ a = (bytes_eq-Decides (source_of r) a).0 e in
+        mapped (subst (λ n. bytes_eq n (target_of r) ≡ false) source (ends_apart r.kind r.exporter r.row.importer holds.other)) (across r s)
 
-rows_elsewhere : (a : List ℕ) (s : List Token) (rows : List ImportRow) → All IsRow rows → has_at a s (filter_map (crossing a s) rows) ≡ false
-rows_elsewhere a s [] all = refl
-rows_elsewhere a s (r ∷ rows) all = by (crossing a s r) (row_elsewhere a s r (All-head IsRow r rows all)) (rows_elsewhere a s rows (All-tail IsRow r rows all))
+rows_elsewhere : (services : Bool) (a : List ℕ) (s : List Token) (rows : List ImportRow) → All IsRow rows → has_at a s (filter_map (crossing_if services a s) rows) ≡ false
+rows_elsewhere services a s [] all = refl
+rows_elsewhere services a s (r ∷ rows) all =
+    by (crossing_if services a s r) (row_elsewhere services a s r (All-head IsRow r rows all)) (rows_elsewhere services a s rows (All-tail IsRow r rows all))
   where
-    by : (o : Option ViewItem) → IsElsewhere a s o → has_at a s (filter_map (crossing a s) rows) ≡ false → has_at a s (cons_option o (filter_map (crossing a s) rows)) ≡ false
+    given : List ViewItem
+    given = filter_map (crossing_if services a s) rows
+
+    by : (o : Option ViewItem) → IsElsewhere a s o → has_at a s given ≡ false → has_at a s (cons_option o given) ≡ false
     by None here later = later
-    by (Some v) here later = ap (λ c. c || has_at a s (filter_map (crossing a s) rows)) here ∙ later
+    by (Some v) here later = ap (λ c. c || has_at a s given) here ∙ later
 
 -- of views that are elsewhere each is kept beside the own one
 fewer_elsewhere : (a : List ℕ) (s : List Token) (x : ViewItem) (us : List ViewItem) → has_at a s us ≡ false → has_at a s (others x us) ≡ false
@@ -136,19 +156,64 @@ all_kept a s (u ∷ us) none = by (is_at a s u) refl none (λ rest. all_kept a s
     by true e none later = absurd (true≢false none)
     by false e none later = ap (λ c. cond (not c) (u ∷ others (At a s Own) us) (others (At a s Own) us)) e ∙ ap (λ l. u ∷ l) (later none)
 
+own_first : (a : List ℕ) (s : List Token) (vs : List ViewItem) → has_at a s vs ≡ false → At a s Own ∷ first_of_each vs ≡ first_of_each (At a s Own ∷ vs)
+own_first a s vs none = ap (λ l. At a s Own ∷ l) (sym (all_kept a s (first_of_each vs) (firsts_elsewhere a s vs none)))
+
+-- ---- which rows are asked
+
+-- rows that give the same one by one do so together
+pub same_given : (f g : ImportRow → Option ViewItem) (P : ImportRow → Type 0) → ((r : ImportRow) → P r → f r ≡ g r) → (rows : List ImportRow) → All P rows → filter_map f rows ≡ filter_map g rows
+same_given f g P same [] all = refl
+same_given f g P same (r ∷ rows) all =
+    ap (λ o. cons_option o (filter_map f rows)) (same r (All-head P r rows all))
+    ∙ ap (λ l. cons_option (g r) l) (same_given f g P same rows (All-tail P r rows all))
+
+-- all rows are asked
+pub all_asked : (a : List ℕ) (s : List Token) (r : ImportRow) → crossing_if true a s r ≡ crossing a s r
+all_asked a s r = by r.kind refl
+  where
+    by : (k : Kind) → r.kind ≡ k → cond (is_asked true r.kind) (crossing a s r) None ≡ crossing a s r
+    by kind.Stream e = ap (λ k. cond (is_asked true k) (crossing a s r) None) e
+    by kind.Service e = ap (λ k. cond (is_asked true k) (crossing a s r) None) e
+
+-- of streams alone
+pub streams_asked : (a : List ℕ) (s : List Token) (r : ImportRow) → crossing_if false a s r ≡ streams.crossing a s r
+streams_asked a s r = by r.kind refl
+  where
+    by : (k : Kind) → r.kind ≡ k → crossing_if false a s r ≡ streams.crossing a s r
+    by kind.Stream e = rw e refl
+    by kind.Service e = rw e refl
+
 -- the views of a message that crosses rows: the own one, then the first of each across the rows
-pub views_behind_own : (rows : List ImportRow) (a : List ℕ) (s : List Token) → All IsRow rows → is_route s ≡ false →
-    At a s Own ∷ first_of_each (filter_map (crossing a s) rows) ≡ views_in rows a s
-views_behind_own rows a s all plain =
-    ap (λ l. At a s Own ∷ l) (sym (all_kept a s (first_of_each (filter_map (crossing a s) rows)) (firsts_elsewhere a s (filter_map (crossing a s) rows) (rows_elsewhere a s rows all))))
-    ∙ sym (ap (λ c. first_of_each (At a s Own ∷ cond c [] (filter_map (crossing a s) rows))) plain)
+pub views_across : (rows : List ImportRow) (a : List ℕ) (s : List Token) → All IsRow rows → is_route s ≡ false →
+    At a s Own ∷ first_of_each (filter_map (crossing_if true a s) rows) ≡ views_in rows a s []
+views_across rows a s all plain =
+    own_first a s (filter_map (crossing_if true a s) rows) (rows_elsewhere true a s rows all)
+    ∙ ap (λ l. first_of_each (At a s Own ∷ l)) (same_given (crossing_if true a s) (crossing a s) IsRow (λ r h. all_asked a s r) rows all ∙ sym (append-nil (filter_map (crossing a s) rows)))
+    ∙ sym (ap (λ c. first_of_each (At a s Own ∷ (cond c [] (filter_map (crossing a s) rows) ++ []))) plain)
+
+pub streams_across : (rows : List ImportRow) (a : List ℕ) (s : List Token) → All IsRow rows → is_route s ≡ false →
+    At a s Own ∷ first_of_each (filter_map (crossing_if false a s) rows) ≡ streams.views_in rows a s
+streams_across rows a s all plain =
+    own_first a s (filter_map (crossing_if false a s) rows) (rows_elsewhere false a s rows all)
+    ∙ ap (λ l. first_of_each (At a s Own ∷ l)) (same_given (crossing_if false a s) (streams.crossing a s) IsRow (λ r h. streams_asked a s r) rows all)
+    ∙ sym (ap (λ c. first_of_each (At a s Own ∷ cond c [] (filter_map (streams.crossing a s) rows))) plain)
 
 -- and of one under `_R_`
-pub views_of_route : (rows : List ImportRow) (a : List ℕ) (s : List Token) → is_route s ≡ true → At a s Own ∷ [] ≡ views_in rows a s
-views_of_route rows a s is = sym (ap (λ c. first_of_each (At a s Own ∷ cond c [] (filter_map (crossing a s) rows))) is)
+pub views_of_route : (rows : List ImportRow) (a : List ℕ) (s : List Token) → is_route s ≡ true → At a s Own ∷ [] ≡ views_in rows a s []
+views_of_route rows a s is = sym (ap (λ c. first_of_each (At a s Own ∷ (cond c [] (filter_map (crossing a s) rows) ++ []))) is)
+
+pub streams_of_route : (rows : List ImportRow) (a : List ℕ) (s : List Token) → is_route s ≡ true → At a s Own ∷ [] ≡ streams.views_in rows a s
+streams_of_route rows a s is = sym (ap (λ c. first_of_each (At a s Own ∷ cond c [] (filter_map (streams.crossing a s) rows))) is)
+
+-- with a response, if there is one
+pub all_views : (rows : List ImportRow) (a : List ℕ) (s : List Token) (o : Option ViewItem) → with_crossing (views_in rows a s []) o ≡ views_in rows a s (cons_option o [])
+all_views rows a s o =
+    ap (λ l. with_crossing (first_of_each (At a s Own ∷ l)) o) (append-nil (crossings_in rows a s))
+    ∙ sym (with_one (At a s Own ∷ crossings_in rows a s) o)
 
 -- without rows there is the own view alone
-pub views_without_rows : (rows : List ImportRow) → (length rows == 0) ≡ true → (a : List ℕ) (s : List Token) → views_in rows a s ≡ At a s Own ∷ []
+pub views_without_rows : (rows : List ImportRow) → (length rows == 0) ≡ true → (a : List ℕ) (s : List Token) → streams.views_in rows a s ≡ At a s Own ∷ []
 views_without_rows [] none a s = by (is_route s)
   where
     by : (c : Bool) → first_of_each (At a s Own ∷ cond c [] []) ≡ At a s Own ∷ []

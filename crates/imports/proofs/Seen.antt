@@ -1,25 +1,22 @@
 -- Views come by rows, and rows give views.
-use Rattle.std.proofs.Common.{◌≡◌, ◌∙◌, ◌&&◌, ◌||◌, ◌<◌, ◌≤◌, ◌⊎◌, inl, inr, ℕ, zero, suc, Bool, true, false, true≢false, cond, not, List, [], ◌∷◌, Option, Some, None, length, filter, ap, sym, refl, subst, arith}
-use Rattle.std.specs.Prelude.{nat_lt, Any, Contains}
+use Rattle.std.proofs.Common.{◌≡◌, ◌∙◌, ◌&&◌, ◌||◌, ◌<◌, ◌⊎◌, inl, inr, ℕ, zero, suc, Bool, true, false, true≢false, cond, not, List, [], ◌∷◌, ◌++◌, length, filter, ap, sym, refl, arith}
+use Rattle.std.specs.Prelude.{Any, Contains}
 use Rattle.std.specs.List.{filter_map, list_any, slice_index_or}
-use Rattle.std.specs.Option.{option_map}
 use Rattle.std.specs.Str.{bytes_eq}
 use Rattle.std.specs.Cmp.Lexicographic.{bytes_decides, pointwise_decides}
 use Rattle.std.proofs.lemmas.Bool.{and_parts}
-use Rattle.std.proofs.lemmas.Bool.Decides.{nat_tests}
 use Rattle.std.proofs.lemmas.List.Folds.{Any-from_list_any, list_any_at}
 use Rattle.std.proofs.lemmas.Slice.Eq.{bytes_eq-Decides}
 use Rattle.subjects.specs.Subject.{Token}
 use Rattle.subjects.specs.Equal.{same_subject}
-use Rattle.mapping.specs.Pairs.{forward}
-use Rattle.imports.specs.Views.{crossed, crossing, crossings_in, first_of_each, is_at, is_route, is_same, is_stream, is_stream_of, views_in}
+use Rattle.imports.specs.Across.{crossing, crossings_in, views_in, way_of}
+use Rattle.imports.specs.Views.{first_of_each, is_at, is_route, is_same}
 use Rattle.imports.specs.Laws.{IsSeenBy, RowsGiveViews, ViewsComeByRows}
-use Rattle.imports.specs.declared.rows.ImportRow.{ImportRow}
 use Rattle.imports.specs.declared.view.ViewItem.{ViewItem}
 use Rattle.imports.specs.declared.view.ViewItem.TheVariants.{At, TooLong}
 use Rattle.imports.specs.declared.view.Way.{Way}
-use Rattle.imports.specs.declared.view.Way.TheVariants.{Own, Stream}
-use Rattle.imports.proofs.Crossed.{given_by, gives, stream_is}
+use Rattle.imports.specs.declared.view.Way.TheVariants.{Own}
+use Rattle.imports.proofs.Crossed.{given_by, gives, seen_by, seen_crosses}
 
 -- ---- each view comes by a row
 
@@ -46,60 +43,50 @@ first_was (x ∷ vs) v has = by has.0 has.1 has.2 (λ h. first_was vs v (kept_wa
     by zero below is later = (zero, omega arith, is)
     by (suc k) below is later = let h = later (k, omega (arith, below), is) in (suc h.0, omega (arith, h.1), h.2)
 
-seen_by : (r : ImportRow) (a b : List ℕ) (s t : List Token) (way : Way) → crossing a s r ≡ Some (At b t way) → (way ≡ Stream r.row) × IsSeenBy r a s b t
-seen_by r a b s t way given = by (is_stream_of a r) refl given
+-- what is in two lists is in one of them
+either : (xs ys : List ViewItem) (v : ViewItem) → Contains (xs ++ ys) v → Contains xs v ⊎ Contains ys v
+either [] ys v has = inr has
+either (x ∷ xs) ys v has = by has.0 has.1 has.2 (λ h. either xs ys v h)
   where
-    View : Type 0
-    View = (way ≡ Stream r.row) × IsSeenBy r a s b t
-
-    long : is_stream_of a r ≡ true → (u : List Token) → forward r.mapping s ≡ Some u → (c : Bool) → nat_lt 512 (length u) ≡ c → Some (cond c (TooLong r.row) (At r.row.importer u (Stream r.row))) ≡ Some (At b t way) → View
-    long e u f true far is = absurd (cc)
-    long e u f false near is =
-        let parts = and_parts (is_stream r.kind) (bytes_eq r.exporter a) e in
-        let same : u ≡ t = cc in
-        let by_row : Stream r.row ≡ way = cc in
-        let importer : r.row.importer ≡ b = cc in
-        let short : length u ≤ 512 = grind (arith, nat_tests, near) in (
-          sym by_row,
-          record {
-            stream = stream_is r.kind parts.0;
-            exporter = (bytes_eq-Decides r.exporter a).0 parts.1;
-            importer = importer;
-            local = f ∙ ap Some same;
-            short = subst (λ l. length l ≤ 512) same short;
-          },
-        )
-
-    mapped : is_stream_of a r ≡ true → (o : Option (List Token)) → forward r.mapping s ≡ o → option_map (crossed r.row) o ≡ Some (At b t way) → View
-    mapped e None f is = absurd (cc)
-    mapped e (Some u) f is = long e u f (nat_lt 512 (length u)) refl is
-
-    by : (c : Bool) → is_stream_of a r ≡ c → cond c (option_map (crossed r.row) (forward r.mapping s)) None ≡ Some (At b t way) → View
-    by false e is = absurd (cc)
-    by true e is = mapped e (forward r.mapping s) refl is
+    by : (k : ℕ) → k < length (x ∷ (xs ++ ys)) → slice_index_or (x ∷ (xs ++ ys)) k v ≡ v → (Contains (xs ++ ys) v → Contains xs v ⊎ Contains ys v) → Contains (x ∷ xs) v ⊎ Contains ys v
+    by zero below is later = inl (zero, omega arith, is)
+    by (suc k) below is later = elim (later (k, omega (arith, below), is)) [
+      | inl h ↦ inl (suc h.0, omega (arith, h.1), h.2)
+      | inr h ↦ inr h
+    ]
 
 pub come : ViewsComeByRows
-come rows a b s t way has = by it.0 it.1 it.2
+come rows responses a b s t way has = by it.0 it.1 it.2
   where
-    it : Contains (At a s Own ∷ crossings_in rows a s) (At b t way)
-    it = first_was (At a s Own ∷ crossings_in rows a s) (At b t way) has
+    others : List ViewItem
+    others = crossings_in rows a s ++ responses
+
+    it : Contains (At a s Own ∷ others) (At b t way)
+    it = first_was (At a s Own ∷ others) (At b t way) has
 
     Seen : Type 0
-    Seen = Any (λ r. (way ≡ Stream r.row) × IsSeenBy r a s b t) rows
+    Seen = Any (λ r. (way ≡ way_of r) × IsSeenBy r a s b t) rows
 
-    across : (c : Bool) → Contains (cond c [] (filter_map (crossing a s) rows)) (At b t way) → Seen
-    across true h = absurd (omega (arith, h.1))
-    across false h =
+    beyond : (c : Bool) → Contains (cond c [] (filter_map (crossing a s) rows)) (At b t way) → Seen
+    beyond true h = absurd (omega (arith, h.1))
+    beyond false h =
         let any = given_by (crossing a s) rows (At b t way) h in
-        (any.0, any.1, any.2, any.3, seen_by any.1 a b s t way any.4)
+        let seen = seen_by any.1 a b s t way any.4 in
+        (any.0, any.1, any.2, any.3, (sym seen.0, seen.1))
 
-    by : (k : ℕ) → k < length (At a s Own ∷ crossings_in rows a s) → slice_index_or (At a s Own ∷ crossings_in rows a s) k (At b t way) ≡ At b t way → ((b ≡ a) × (t ≡ s) × (way ≡ Own)) ⊎ Seen
+    behind : Contains others (At b t way) → Seen ⊎ Contains responses (At b t way)
+    behind h = elim (either (crossings_in rows a s) responses (At b t way) h) [
+      | inl g ↦ inl (beyond (is_route s) g)
+      | inr g ↦ inr g
+    ]
+
+    by : (k : ℕ) → k < length (At a s Own ∷ others) → slice_index_or (At a s Own ∷ others) k (At b t way) ≡ At b t way → ((b ≡ a) × (t ≡ s) × (way ≡ Own)) ⊎ (Seen ⊎ Contains responses (At b t way))
     by zero below is =
         let account : a ≡ b = cc in
         let subject : s ≡ t = cc in
         let own : Own ≡ way = cc in
         inl (sym account, sym subject, sym own)
-    by (suc k) below is = inr (across (is_route s) (k, omega (arith, below), is))
+    by (suc k) below is = inr (behind (k, omega (arith, below), is))
 
 -- ---- each row gives a view
 
@@ -134,31 +121,30 @@ firsts_at b t (x ∷ vs) = by (is_at b t x) refl (firsts_at b t vs)
     by true e later = refl
     by false e later = left_at b t x e (first_of_each vs) ∙ later
 
-seen_crosses : (r : ImportRow) (a b : List ℕ) (s t : List Token) → IsSeenBy r a s b t → crossing a s r ≡ Some (At b t (Stream r.row))
-seen_crosses r a b s t it =
-    let stream : is_stream r.kind ≡ true = ap is_stream it.stream in
-    let from : bytes_eq r.exporter a ≡ true = (bytes_eq-Decides r.exporter a).1 it.exporter in
-    let near : nat_lt 512 (length t) ≡ false = grind (arith, nat_tests, it.short) in
-    ap (λ c. cond (c && bytes_eq r.exporter a) (option_map (crossed r.row) (forward r.mapping s)) None) stream
-    ∙ ap (λ c. cond c (option_map (crossed r.row) (forward r.mapping s)) None) from
-    ∙ ap (λ o. option_map (crossed r.row) o) it.local
-    ∙ ap (λ c. Some (cond c (TooLong r.row) (At r.row.importer t (Stream r.row)))) near
-    ∙ ap (λ n. Some (At n t (Stream r.row))) it.importer
-
 itself : (b : List ℕ) (t : List Token) (way : Way) → is_at b t (At b t way) ≡ true
 itself b t way =
     ap (λ c. c && same_subject t t) ((bytes_eq-Decides b b).1 refl) ∙ (pointwise_decides bytes_decides t t).1 refl
 
+-- more views take none away
+still_at : (b : List ℕ) (t : List Token) (vs more : List ViewItem) → has_at b t vs ≡ true → has_at b t (vs ++ more) ≡ true
+still_at b t [] more has = absurd (true≢false (sym has))
+still_at b t (v ∷ vs) more has = by (is_at b t v) has (λ h. still_at b t vs more h)
+  where
+    by : (c : Bool) → (c || has_at b t vs) ≡ true → (has_at b t vs ≡ true → has_at b t (vs ++ more) ≡ true) → (c || has_at b t (vs ++ more)) ≡ true
+    by true has later = refl
+    by false has later = later has
+
 pub give : RowsGiveViews
-give rows a b s t plain any =
-    let v : ViewItem = At b t (Stream any.1.row) in
+give rows responses a b s t plain any =
+    let r = any.1 in
+    let v : ViewItem = At b t (way_of r) in
     let vs : List ViewItem = filter_map (crossing a s) rows in
-    let has = gives (crossing a s) rows v (any.0, any.1, any.2, any.3, seen_crosses any.1 a b s t any.4) in
-    let there : has_at b t vs ≡ true = list_any_at (is_at b t) vs has.0 v has.1 (ap (is_at b t) has.2 ∙ itself b t (Stream any.1.row)) in
-    let all : has_at b t (At a s Own ∷ vs) ≡ true = ap (λ d. is_at b t (At a s Own) || d) there ∙ or_true (is_at b t (At a s Own)) in
-    let views : has_at b t (views_in rows a s) ≡ true =
-    ap (λ c. has_at b t (first_of_each (At a s Own ∷ cond c [] vs))) plain ∙ firsts_at b t (At a s Own ∷ vs) ∙ all in
-    Any-from_list_any (is_at b t) (views_in rows a s) views
+    let has = gives (crossing a s) rows v (any.0, r, any.2, any.3, seen_crosses r a b s t any.4) in
+    let there : has_at b t vs ≡ true = list_any_at (is_at b t) vs has.0 v has.1 (ap (is_at b t) has.2 ∙ itself b t (way_of r)) in
+    let all : has_at b t (At a s Own ∷ (vs ++ responses)) ≡ true = ap (λ d. is_at b t (At a s Own) || d) (still_at b t vs responses there) ∙ or_true (is_at b t (At a s Own)) in
+    let views : has_at b t (views_in rows a s responses) ≡ true =
+    ap (λ c. has_at b t (first_of_each (At a s Own ∷ (cond c [] vs ++ responses)))) plain ∙ firsts_at b t (At a s Own ∷ (vs ++ responses)) ∙ all in
+    Any-from_list_any (is_at b t) (views_in rows a s responses) views
   where
     or_true : (c : Bool) → (c || true) ≡ true
     or_true true = refl

@@ -1,52 +1,59 @@
 -- Laws of import rows, and of the views across them.
-use Rattle.std.specs.Prelude.{◌≡◌, ◌≤◌, ◌⊎◌, ◌↔◌, ℕ, false, IsTrue, List, Some, length, All, Any, Contains, IsSomeAnd, find}
+use Rattle.std.specs.Prelude.{◌≡◌, ◌≤◌, ◌⊎◌, ◌↔◌, ℕ, false, IsTrue, List, [], Some, length, All, Any, Contains, IsSomeAnd, find}
 use Rattle.subjects.specs.Subject.{Token, IsConcreteSubject}
-use Rattle.mapping.specs.Pairs.{IsPair, forward}
+use Rattle.mapping.specs.Pairs.{RowMap, IsPair}
 use Rattle.exports.specs.Exports.{admits}
 use Rattle.exports.specs.declared.document.ExportDoc.{ExportDoc}
+use Rattle.exports.specs.declared.document.Kind.{Kind}
 use Rattle.exports.specs.declared.document.Kind.TheVariants as kind
-use Rattle.exports.specs.declared.document.Row.{Row}
 use Rattle.policy_doc.specs.Accounts.{has_name}
-use Rattle.policy_doc.specs.Document.{IsValidPolicy}
+use Rattle.policy_doc.specs.Document.{imports_of, IsValidPolicy}
+use Rattle.policy_doc.specs.declared.document.ImportDoc.{ImportDoc}
 use Rattle.policy_doc.specs.declared.document.NamedAccount.{NamedAccount}
 use Rattle.policy_doc.specs.declared.document.PolicyDoc.{PolicyDoc}
-use Rattle.imports.specs.Views.{crossings_in, is_at, is_route, rows_of, views_in}
+use Rattle.imports.specs.Across.{across, crossings_in, source_of, target_of, views_in, way_of, views}
+use Rattle.imports.specs.Views as streams
+use Rattle.imports.specs.Views.{is_at, is_route, rows_of}
 use Rattle.imports.specs.Rows.{IsRow}
 use Rattle.imports.specs.declared.rows.ImportRow.{ImportRow}
+use Rattle.imports.specs.declared.view.ViewItem.{ViewItem}
 use Rattle.imports.specs.declared.view.ViewItem.TheVariants.{At}
 use Rattle.imports.specs.declared.view.Way.{Way}
-use Rattle.imports.specs.declared.view.Way.TheVariants.{Own, Stream}
+use Rattle.imports.specs.declared.view.Way.TheVariants.{Own}
 
--- across a stream row from one account the message is seen in another, on a subject that the row's mapping pairs with its own
+-- the subjects before and beyond a row are a pair of its mapping: the exporter's and the importer's, or the other way round
+abbrev pub IsPairBy : Kind → RowMap → List Token → List Token → Type 0
+IsPairBy kind.Stream m s t = IsPair m s t
+IsPairBy kind.Service m s t = IsPair m t s
+
+-- across a row a message of one account is seen in another, on a subject that the row's mapping pairs with its own
 pub record IsCrossedBy (r : ImportRow) (from : List ℕ) (s : List Token) (to : List ℕ) (t : List Token) : Type 0 where
-  pub stream : r.kind ≡ kind.Stream
-  pub exporter : r.exporter ≡ from
-  pub importer : r.row.importer ≡ to
-  pub pair : IsPair r.mapping s t
+  pub source : source_of r ≡ from
+  pub target : target_of r ≡ to
+  pub pair : IsPairBy r.kind r.mapping s t
   pub short : length t ≤ 512
 
 -- a message is seen across exactly the rows that cross it so
 abbrev pub CrossesByPairs : Type 0
-CrossesByPairs = (rows : List ImportRow) → All IsRow rows → (a b : List ℕ) (s t : List Token) (row : Row) → IsConcreteSubject s → is_route s ≡ false →
-    Contains (crossings_in rows a s) (At b t (Stream row)) ↔ Any (λ r. (r.row ≡ row) × IsCrossedBy r a s b t) rows
+CrossesByPairs = (rows : List ImportRow) → All IsRow rows → (a b : List ℕ) (s t : List Token) (way : Way) → IsConcreteSubject s → is_route s ≡ false →
+    Contains (crossings_in rows a s) (At b t way) ↔ Any (λ r. (way_of r ≡ way) × IsCrossedBy r a s b t) rows
 
--- the same of any rows, by the mapping's function
+-- the same of any rows, by the mapping's functions
 pub record IsSeenBy (r : ImportRow) (from : List ℕ) (s : List Token) (to : List ℕ) (t : List Token) : Type 0 where
-  pub stream : r.kind ≡ kind.Stream
-  pub exporter : r.exporter ≡ from
-  pub importer : r.row.importer ≡ to
-  pub local : forward r.mapping s ≡ Some t
+  pub source : source_of r ≡ from
+  pub target : target_of r ≡ to
+  pub subject : across r s ≡ Some t
   pub short : length t ≤ 512
 
--- each view is the publisher's own, or comes by a row
+-- each view is the publisher's own, or comes by a row, or is a response
 abbrev pub ViewsComeByRows : Type 0
-ViewsComeByRows = (rows : List ImportRow) (a b : List ℕ) (s t : List Token) (way : Way) → Contains (views_in rows a s) (At b t way) →
-    ((b ≡ a) × (t ≡ s) × (way ≡ Own)) ⊎ Any (λ r. (way ≡ Stream r.row) × IsSeenBy r a s b t) rows
+ViewsComeByRows = (rows : List ImportRow) (responses : List ViewItem) (a b : List ℕ) (s t : List Token) (way : Way) → Contains (views_in rows a s responses) (At b t way) →
+    ((b ≡ a) × (t ≡ s) × (way ≡ Own)) ⊎ (Any (λ r. (way ≡ way_of r) × IsSeenBy r a s b t) rows ⊎ Contains responses (At b t way))
 
 -- and each row by which a message is seen gives a view, or an earlier one is of the same account and subject
 abbrev pub RowsGiveViews : Type 0
-RowsGiveViews = (rows : List ImportRow) (a b : List ℕ) (s t : List Token) → is_route s ≡ false → Any (λ r. IsSeenBy r a s b t) rows →
-    Any (λ v. IsTrue (is_at b t v)) (views_in rows a s)
+RowsGiveViews = (rows : List ImportRow) (responses : List ViewItem) (a b : List ℕ) (s t : List Token) → is_route s ≡ false → Any (λ r. IsSeenBy r a s b t) rows →
+    Any (λ v. IsTrue (is_at b t v)) (views_in rows a s responses)
 
 -- each row of a valid policy has an export of the account that it imports from, which lets it in
 abbrev pub IsExported : List NamedAccount → ImportRow → Type 0
@@ -54,3 +61,8 @@ IsExported accounts r = IsSomeAnd (find (has_name r.exporter) accounts) (λ expo
 
 abbrev pub RowsAreExported : Type 0
 RowsAreExported = (doc : PolicyDoc) → IsValidPolicy doc → All (IsExported doc.accounts) (rows_of doc)
+
+-- where a policy imports streams alone, the views without responses are those across streams
+abbrev pub StreamsAlone : Type 0
+StreamsAlone = (doc : PolicyDoc) → All (λ (i : ImportDoc). i.kind ≡ kind.Stream) (imports_of doc.accounts) → (account : List ℕ) (s : List Token) →
+    views doc account s [] ≡ streams.views doc account s

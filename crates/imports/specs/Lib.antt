@@ -1,3 +1,4 @@
 pub mod Views
+pub mod Across
 pub mod Rows
 pub mod Laws

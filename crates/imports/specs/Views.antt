@@ -1,5 +1,5 @@
--- Where a published message is seen (NATS documentation, "Multi Tenancy using Accounts" and "Subject Mapping and
--- Partitioning"; docs/GUARANTEE.md, "Views").
+-- Where a published message is seen across rows of streams (NATS documentation, "Multi Tenancy using Accounts" and "Subject
+-- Mapping and Partitioning"; docs/GUARANTEE.md, "Views").
 use Rattle.std.specs.Prelude.{◌&&◌, ◌∷◌, ◌+◌, ℕ, Bool, true, false, List, [], Option, None, codes, filter, length, nat_lt, not, if◌then◌else◌}
 use Rattle.std.specs.List.{filter_map, flat_map}
 use Rattle.std.specs.Option.{option_map}

@@ -1,8 +1,12 @@
 //! What an import row gives of a message, and the views across several rows.
-ghost use Rattle.std.specs.Prelude.{◌≡◌, ◌<◌, ℕ, All, IfOk, OnOk, Some, length};
+ghost use Rattle.std.specs.Prelude.{◌≡◌, ◌<◌, ◌&&◌, ℕ, All, IfOk, OnOk, Some, length};
 ghost use Rattle.std.specs.List.{filter_map, list_any};
-ghost use Rattle.imports.specs.Views.{crossing, first_of_each, is_at, is_route, is_same, is_stream, is_stream_of};
-ghost use Rattle.imports.specs.Rows.{is_crossed, numbers_of, row_by, rows_at, with_crossing};
+ghost use Rattle.std.specs.Str.{bytes_eq};
+ghost use Rattle.subjects.specs.Subject.{in_set};
+ghost use Rattle.imports.specs.Across.{across, crossing, entrance_of, source_of, target_of, way_of};
+ghost use Rattle.imports.specs.Views.{first_of_each, is_at, is_route, is_same};
+ghost use Rattle.imports.specs.Rows.{crossing_if, is_asked, is_crossed, numbers_of, row_by, rows_at, with_crossing};
+ghost use Rattle.mapping.specs.Pairs.{IsMapped};
 
 use crate::{ImportRow, ViewItem, Way};
 use base::NoMemory;
@@ -11,7 +15,7 @@ use exports::Kind;
 use mapping::MapError;
 use pattern_groups::{Groups, Patterns};
 use std::alloc::Global;
-use subjects::{Subject, SubjectRef};
+use subjects::{Pattern, Subject, SubjectRef};
 
 /// Returns whether a subject begins with the token `_R_`.
 pub(crate) fn is_route(subject: &SubjectRef<'_>) -> bool
@@ -28,6 +32,8 @@ pub(crate) fn is_route(subject: &SubjectRef<'_>) -> bool
 #[derive(Drop)]
 struct Asked<'a, 'b> {
     rows: &'a [ImportRow],
+    /// Whether rows of services are asked too.
+    services: bool,
     account: &'a [u8],
     subject: &'a SubjectRef<'b>,
 }
@@ -35,28 +41,31 @@ struct Asked<'a, 'b> {
 impl<'a, 'b> Patterns for Asked<'a, 'b> {
     ghost count = { λ a. length a.rows.now };
 
-    ghost passes = { λ a i. is_crossed a.account.now a.subject.now (row_by a.rows.now i) };
+    ghost passes = { λ a i. is_crossed a.services a.account.now a.subject.now (row_by a.rows.now i) };
 
     fn passes(&self, index: usize) -> bool {
-        is_crossed(&self.rows[index], self.account, self.subject)
+        is_crossed(&self.rows[index], self.services, self.account, self.subject)
     }
 }
 
-/// Returns the views of an account's message across rows. Only those are asked that are from the account and whose pattern
-/// begins as the subject does. It takes no memory where the message crosses none.
+/// Returns the views of an account's message across rows: those of streams, and those of services where they are wanted. Only
+/// those are asked that the account's messages cross and whose pattern begins as the subject does. It takes no memory where the
+/// message crosses none.
 pub(crate) fn crossings(
     alloc: Global,
     rows: &[ImportRow],
     groups: &Groups,
+    services: bool,
     account: &[u8],
     subject: &SubjectRef<'_>,
 ) -> Result<Vec<ViewItem>, NoMemory>
     requires { groups.now ≡ numbers_of rows.now }
-    ensures { IfOk result (λ views. views.items ≡ first_of_each (filter_map (crossing account.now subject.now) rows.now)) }
+    ensures { IfOk result (λ views. views.items ≡ first_of_each (filter_map (crossing_if services account.now subject.now) rows.now)) }
 {
     let _ = subject.tokens();
     let asked = Asked {
         rows,
+        services,
         account,
         subject,
     };
@@ -93,7 +102,16 @@ fn add_crossing(
 ) -> Result<(), NoMemory>
     ensures { OnOk result (views.new.items ≡ with_crossing views.old.items (crossing account.now subject.now row.now)) }
 {
-    match crossing(alloc, row, account, subject)? {
+    let view = crossing(alloc, row, account, subject)?;
+    add_if_new(views, view)?;
+    Ok(())
+}
+
+/// Appends a view, if there is one, unless one of the same account and subject stands.
+pub(crate) fn add_if_new(views: &mut Vec<ViewItem>, view: Option<ViewItem>) -> Result<(), NoMemory>
+    ensures { OnOk result (views.new.items ≡ with_crossing views.old.items view) }
+{
+    match view {
         None => Ok(()),
         Some(view) => {
             add_new(views, view)?;
@@ -123,41 +141,96 @@ fn crossing(
 ) -> Result<Option<ViewItem>, NoMemory>
     ensures { IfOk result (λ view. view ≡ crossing account.now subject.now row.now) }
 {
-    if !is_stream_of(row, account) {
+    if source_of(row) != account {
         return Ok(None);
     }
-    match row.mapping.forward(alloc, subject) {
+    match across(alloc, row, subject) {
         Ok(None) => Ok(None),
-        Ok(Some(local)) => Ok(Some(ViewItem::At {
-            account: row.row.get().importer.clone()?,
-            subject: local,
-            way: Way::Stream(row.row.again()?),
+        Ok(Some(beyond)) => Ok(Some(ViewItem::At {
+            account: target_of(row).clone()?,
+            subject: beyond,
+            way: way_of(row)?,
         })),
         Err(MapError::TooLong) => Ok(Some(ViewItem::TooLong(row.row.again()?))),
         Err(MapError::NoMemory) => Err(NoMemory),
     }
 }
 
+/// Returns the subject that a message has beyond a row.
+fn across(
+    alloc: Global,
+    row: &ImportRow,
+    subject: &SubjectRef<'_>,
+) -> Result<Option<Subject>, MapError>
+    ensures { IsMapped (across row.now subject.now) result }
+{
+    match row.kind {
+        Kind::Stream => row.mapping.forward(alloc, subject),
+        Kind::Service => row.mapping.back(alloc, subject),
+    }
+}
+
+/// Returns the name of the account whose messages cross a row.
+pub(crate) fn source_of(row: &ImportRow) -> &[u8]
+    ensures { result.now ≡ source_of row.now }
+{
+    match row.kind {
+        Kind::Stream => row.exporter.as_slice(),
+        Kind::Service => row.row.get().importer.as_slice(),
+    }
+}
+
+/// Returns the name of the account in which they are seen.
+fn target_of(row: &ImportRow) -> &Bytes
+    ensures { result.now ≡ target_of row.now }
+{
+    match row.kind {
+        Kind::Stream => &row.row.get().importer,
+        Kind::Service => &row.exporter,
+    }
+}
+
+/// Returns the pattern of the subjects that cross a row.
+pub(crate) fn entrance_of(row: &ImportRow) -> &Pattern
+    ensures { result.now ≡ entrance_of row.now }
+{
+    match row.kind {
+        Kind::Stream => row.mapping.outer(),
+        Kind::Service => row.mapping.local(),
+    }
+}
+
+/// Returns how a message comes across a row.
+fn way_of(row: &ImportRow) -> Result<Way, NoMemory>
+    ensures { IfOk result (λ way. way ≡ way_of row.now) }
+{
+    match row.kind {
+        Kind::Stream => Ok(Way::Stream(row.row.again()?)),
+        Kind::Service => Ok(Way::Service(row.row.again()?)),
+    }
+}
+
+/// Returns whether a message of the account crosses the row, where it is asked.
+fn is_crossed(row: &ImportRow, services: bool, account: &[u8], subject: &SubjectRef<'_>) -> bool
+    ensures { result ≡ is_crossed services account.now subject.now row.now }
+{
+    is_asked(row.kind, services) && is_entered(row, account, subject)
+}
+
 /// Returns whether a message of the account crosses the row.
-fn is_crossed(row: &ImportRow, account: &[u8], subject: &SubjectRef<'_>) -> bool
-    ensures { result ≡ is_crossed account.now subject.now row.now }
+fn is_entered(row: &ImportRow, account: &[u8], subject: &SubjectRef<'_>) -> bool
+    ensures { result ≡ (bytes_eq (source_of row.now) account.now && in_set (entrance_of row.now) subject.now) }
 {
-    is_stream_of(row, account) && row.mapping.outer().matches(subject)
+    source_of(row) == account && entrance_of(row).matches(subject)
 }
 
-/// Returns whether messages of the account cross the row.
-fn is_stream_of(row: &ImportRow, account: &[u8]) -> bool
-    ensures { result ≡ is_stream_of account.now row.now }
-{
-    is_stream(row.kind) && row.exporter.as_slice() == account
-}
-
-fn is_stream(kind: Kind) -> bool
-    ensures { result ≡ is_stream kind }
+/// Returns whether rows of a kind are asked.
+fn is_asked(kind: Kind, services: bool) -> bool
+    ensures { result ≡ is_asked services kind }
 {
     match kind {
         Kind::Stream => true,
-        Kind::Service => false,
+        Kind::Service => services,
     }
 }
 

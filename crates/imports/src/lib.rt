@@ -1,4 +1,5 @@
-//! Where a published message is seen: in its publisher's account, and across import rows in other accounts.
+//! Where a published message is seen: in its publisher's account, across import rows in other accounts, and as a response in
+//! the account of a request.
 #![tactic(auto)]
 
 mod crossing;
@@ -7,6 +8,6 @@ mod making;
 mod rows;
 mod view;
 
-pub use laws::{crosses_by_pairs, rows_are_exported, views_come_by_rows};
+pub use laws::{crosses_by_pairs, rows_are_exported, streams_alone, views_come_by_rows};
 pub use rows::{ImportRow, Rows};
 pub use view::{ViewItem, Way};

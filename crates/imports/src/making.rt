@@ -8,6 +8,7 @@ ghost use Rattle.imports.specs.Views.{row_at, rows_in};
 ghost use Rattle.imports.specs.Rows.{IsRow, numbers_of, row_number};
 
 use crate::ImportRow;
+use crate::crossing::{entrance_of, source_of};
 use base::{Items, NoMemory, Shared};
 use bytes::Bytes;
 use exports::Row;
@@ -93,7 +94,7 @@ fn made(alloc: Global, import: &ImportDoc) -> Result<Mapping, MappingError>
     }
 }
 
-/// Returns the groups of rows, by their exporters and the tokens that their outer patterns begin with.
+/// Returns the groups of rows, by the accounts whose messages cross them and the tokens that these messages begin with.
 pub(crate) fn groups_of(alloc: Global, rows: &[ImportRow]) -> Result<Groups, NoMemory>
     ensures { IfOk result (λ groups. groups ≡ numbers_of rows.now) }
 {
@@ -108,5 +109,5 @@ pub(crate) fn groups_of(alloc: Global, rows: &[ImportRow]) -> Result<Groups, NoM
 fn number_of(row: &ImportRow) -> u32
     ensures { result ≡ row_number row.now }
 {
-    number_under(row.exporter.as_slice(), row.mapping.outer())
+    number_under(source_of(row), entrance_of(row))
 }

@@ -1,5 +1,5 @@
 //! The import rows of a policy, and where a message is seen by them.
-use crate::crossing::{crossings, is_route};
+use crate::crossing::{add_if_new, crossings, is_route};
 use crate::making::{groups_of, rows_of};
 use crate::view::{ViewItem, Way};
 use base::{Copying, NoMemory, Shared};
@@ -49,8 +49,11 @@ impl Model for Rows {
 
 impl Rows {
     ghost use Rattle.std.specs.Prelude.{◌≡◌, ◌==◌, ◌∷◌, ℕ, [], All, IfOk, List, length, true};
+    ghost use Rattle.std.specs.List.{cons_option};
     ghost use Rattle.subjects.specs.Subject.{Token};
-    ghost use Rattle.imports.specs.Views.{rows_of, views_in};
+    ghost use Rattle.imports.specs.Across.{views_in};
+    ghost use Rattle.imports.specs.Views.{rows_of};
+    ghost use Rattle.imports.specs.Views as streams;
     ghost use Rattle.imports.specs.Rows.{IsRow};
     ghost use Rattle.imports.specs.declared.view.ViewItem.TheVariants as view;
     ghost use Rattle.imports.specs.declared.view.Way.TheVariants as way;
@@ -69,7 +72,7 @@ impl Rows {
     #[tactic(auto, using(crate::proofs::Firsts::views_without_rows))]
     pub fn is_empty(&self) -> bool
         ensures empty { result ≡ (length self.now == 0) }
-        ensures own { result ≡ true → (account : List ℕ) (s : List Token) → views_in self.now account s ≡ view.At account s way.Own ∷ [] }
+        ensures own { result ≡ true → (account : List ℕ) (s : List Token) → streams.views_in self.now account s ≡ view.At account s way.Own ∷ [] }
     {
         self.rows.is_empty()
     }
@@ -81,17 +84,20 @@ impl Rows {
         let _ = &self.rows;
     }
 
-    /// Returns the views of a message that a user of an account publishes on a subject: that of the account itself, and
-    /// those across the rows, in order. `NoMemory` where memory could not be had.
+    /// Returns the views of a message that a user of an account publishes on a subject: that of the account itself, those
+    /// across the rows in order, and then the response, where the subject is that of a response route of the account. `NoMemory`
+    /// where memory could not be had.
+    #[tactic(auto, using(crate::proofs::Firsts::all_views))]
     pub fn views(
         &self,
         alloc: Global,
         account: &Bytes,
         subject: &Subject,
+        response: Option<ViewItem>,
     ) -> Result<Vec<ViewItem>, NoMemory>
-        ensures { IfOk result (λ views. views.items ≡ views_in self.now account.now subject.now) }
+        ensures { IfOk result (λ views. views.items ≡ views_in self.now account.now subject.now (cons_option response [])) }
     {
-        let mut views = self.others(alloc, account.as_slice(), &subject.lend())?;
+        let mut views = self.crossings(alloc, account.as_slice(), &subject.lend())?;
         views.insert(
             0,
             ViewItem::At {
@@ -100,24 +106,57 @@ impl Rows {
                 way: Way::Own,
             },
         )?;
+        add_if_new(&mut views, response)?;
         Ok(views)
     }
 
-    /// Returns the views of such a message behind that of the account itself. `NoMemory` where memory could not be had.
-    /// It takes no memory where the message crosses no row.
-    #[tactic(auto, using(crate::proofs::Firsts::views_behind_own, crate::proofs::Firsts::views_of_route))]
+    /// Returns the views of such a message across the rows: those behind that of the account itself, without responses.
+    /// `NoMemory` where memory could not be had. It takes no memory where the message crosses no row.
+    #[tactic(auto, using(crate::proofs::Firsts::views_across, crate::proofs::Firsts::views_of_route))]
+    pub fn crossings(
+        &self,
+        alloc: Global,
+        account: &[u8],
+        subject: &SubjectRef<'_>,
+    ) -> Result<Vec<ViewItem>, NoMemory>
+        ensures { IfOk result (λ found. view.At account.now subject.now way.Own ∷ found.items ≡ views_in self.now account.now subject.now []) }
+    {
+        if is_route(subject) {
+            return Ok(Vec::new(alloc));
+        }
+        let found = crossings(
+            alloc,
+            self.rows.as_slice(),
+            &self.groups,
+            true,
+            account,
+            subject,
+        )?;
+        Ok(found)
+    }
+
+    /// Returns those across rows of streams alone. `NoMemory` where memory could not be had. It takes no memory where the
+    /// message crosses no row.
+    #[tactic(auto, using(crate::proofs::Firsts::streams_across, crate::proofs::Firsts::streams_of_route))]
     pub fn others(
         &self,
         alloc: Global,
         account: &[u8],
         subject: &SubjectRef<'_>,
     ) -> Result<Vec<ViewItem>, NoMemory>
-        ensures { IfOk result (λ others. view.At account.now subject.now way.Own ∷ others.items ≡ views_in self.now account.now subject.now) }
+        ensures { IfOk result (λ others. view.At account.now subject.now way.Own ∷ others.items ≡ streams.views_in self.now account.now subject.now) }
     {
         if is_route(subject) {
             return Ok(Vec::new(alloc));
         }
-        let others = crossings(alloc, self.rows.as_slice(), &self.groups, account, subject)?;
+        let others = crossings(
+            alloc,
+            self.rows.as_slice(),
+            &self.groups,
+            false,
+            account,
+            subject,
+        )?;
         Ok(others)
     }
 }

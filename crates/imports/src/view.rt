@@ -11,6 +11,10 @@ pub enum Way {
     Own,
     /// Across this import row of a stream.
     Stream(Shared<Row>),
+    /// As a request, across this import row of a service.
+    Service(Shared<Row>),
+    /// As a response to a request that came across this import row.
+    Response(Shared<Row>),
 }
 
 /// A view of a published message, or the import row that doesn't take it.

@@ -1,8 +1,8 @@
-use base::{Items, NoMemory};
+use base::{Items, NoMemory, Shared};
 use bytes::Bytes;
-use imports::{Rows, ViewItem};
+use imports::{Rows, ViewItem, Way};
 use policy_doc::{
-    AccountDoc, Accounts, ExportDoc, ImportDoc, Kind, Policy, PolicyDoc, ResponseTerms,
+    AccountDoc, Accounts, ExportDoc, ImportDoc, Kind, Policy, PolicyDoc, ResponseTerms, Row,
 };
 use std::alloc::Global;
 use std::test::Fail;
@@ -19,37 +19,48 @@ fn import(alloc: Global, subject: &[u8], prefix: &[u8]) -> Option<ImportDoc> {
     })
 }
 
-/// A, which exports all of its subjects.
-fn exporter(alloc: Global) -> Option<AccountDoc> {
-    let mut exports = Vec::new(alloc);
-    exports
-        .push(ExportDoc {
-            kind: Kind::Stream,
-            subject: Pattern::parse(alloc, b">").ok()?,
-            accounts: None,
-            response: ResponseTerms {
-                ttl: 120_000,
-                single: true,
-            },
-        })
-        .ok()?;
-    Some(AccountDoc {
-        users: Items::new(alloc),
-        exports: Items::from_vec(exports),
-        imports: Items::new(alloc),
+/// An import of B's service, under a name of its own.
+fn service(alloc: Global, subject: &[u8], to: &'static [u8]) -> Option<ImportDoc> {
+    Some(ImportDoc {
+        kind: Kind::Service,
+        account: Bytes::from_static(b"B"),
+        subject: Pattern::parse(alloc, subject).ok()?,
+        to: Some(Bytes::from_static(to)),
+        prefix: None,
     })
 }
 
-fn importer(alloc: Global, imports: Vec<ImportDoc>) -> AccountDoc {
-    AccountDoc {
-        users: Items::new(alloc),
-        exports: Items::new(alloc),
-        imports: Items::from_vec(imports),
-    }
+/// All subjects of an account, offered to every other.
+fn export(alloc: Global, kind: Kind) -> Option<ExportDoc> {
+    Some(ExportDoc {
+        kind,
+        subject: Pattern::parse(alloc, b">").ok()?,
+        accounts: None,
+        response: ResponseTerms {
+            ttl: 120_000,
+            single: true,
+        },
+    })
 }
 
-/// The rows of B, two for one subject, and of C.
+/// An account that offers all of its subjects, as a stream or a service.
+fn account(alloc: Global, kind: Kind, imports: Vec<ImportDoc>) -> Option<AccountDoc> {
+    let mut exports = Vec::new(alloc);
+    exports.push(export(alloc, kind)?).ok()?;
+    Some(AccountDoc {
+        users: Items::new(alloc),
+        exports: Items::from_vec(exports),
+        imports: Items::from_vec(imports),
+    })
+}
+
+/// The rows of A, which imports two services of B; of B, two for one subject; and of C.
 fn rows(alloc: Global) -> Option<Rows> {
+    let mut services = Vec::new(alloc);
+    services
+        .push(service(alloc, b"swap.*.*", b"call.$2.$1")?)
+        .ok()?;
+    services.push(service(alloc, b"time", b"clock")?).ok()?;
     let mut two = Vec::new(alloc);
     two.push(import(alloc, b"puba.>", b"from_a")?).ok()?;
     two.push(import(alloc, b"puba.x", b"from_a")?).ok()?;
@@ -57,13 +68,19 @@ fn rows(alloc: Global) -> Option<Rows> {
     all.push(import(alloc, b">", b"p")?).ok()?;
     let mut accounts = Accounts::new(alloc);
     accounts
-        .insert(Bytes::from_static(b"A"), exporter(alloc)?)
+        .insert(
+            Bytes::from_static(b"A"),
+            account(alloc, Kind::Stream, services)?,
+        )
         .ok()?;
     accounts
-        .insert(Bytes::from_static(b"B"), importer(alloc, two))
+        .insert(
+            Bytes::from_static(b"B"),
+            account(alloc, Kind::Service, two)?,
+        )
         .ok()?;
     accounts
-        .insert(Bytes::from_static(b"C"), importer(alloc, all))
+        .insert(Bytes::from_static(b"C"), account(alloc, Kind::Stream, all)?)
         .ok()?;
     let policy = Policy::check(alloc, PolicyDoc { accounts }).ok()?;
     Rows::of(alloc, &policy).ok()
@@ -71,8 +88,18 @@ fn rows(alloc: Global) -> Option<Rows> {
 
 /// Where a message of A is seen: a line each.
 fn lines(alloc: Global, rows: &Rows, subject: &[u8]) -> Option<Vec<u8>> {
+    lines_with(alloc, rows, subject, None)
+}
+
+fn lines_with(
+    alloc: Global,
+    rows: &Rows,
+    subject: &[u8],
+    response: Option<ViewItem>,
+) -> Option<Vec<u8>> {
     let subject = Subject::parse(alloc, subject).ok()?;
-    let views = rows.views(alloc, &Bytes::from_static(b"A"), &subject).ok()?;
+    let account = Bytes::from_static(b"A");
+    let views = rows.views(alloc, &account, &subject, response).ok()?;
     let mut out = Vec::new(alloc);
     for view in views.as_slice() {
         write_line(&mut out, view).ok()?;
@@ -119,8 +146,41 @@ fn a_message_is_seen_across_rows(rt: HostRuntime) -> Result<(), Fail> {
     assert_eq!(rt; route.as_slice(), b"A _R_\n".as_slice());
     let other = lines(alloc, &rows, b"_R_x").expect(&rt, "views");
     assert_eq!(rt; other.as_slice(), b"A _R_x\nC p._R_x\n".as_slice());
+    let swapped = lines(alloc, &rows, b"call.x.y").expect(&rt, "views");
+    assert_eq!(rt;
+        swapped.as_slice(),
+        b"A call.x.y\nB swap.y.x\nC p.call.x.y\n".as_slice()
+    );
+    let clock = lines(alloc, &rows, b"clock").expect(&rt, "views");
+    assert_eq!(rt;
+        clock.as_slice(),
+        b"A clock\nB time\nC p.clock\n".as_slice()
+    );
     let longest = longest(alloc).expect(&rt, "a text");
     let long = lines(alloc, &rows, longest.as_slice()).expect(&rt, "views");
     assert_eq!(rt; long.len(), 1_028);
+    Ok(())
+}
+
+/// What a response to a request of C gives: it is seen there under the request's reply.
+fn response(alloc: Global, reply: &[u8]) -> Option<ViewItem> {
+    let row = Row {
+        importer: Bytes::from_static(b"C"),
+        index: 0,
+    };
+    Some(ViewItem::At {
+        account: Bytes::from_static(b"C"),
+        subject: Subject::parse(alloc, reply).ok()?,
+        way: Way::Response(Shared::new(alloc, row).ok()?),
+    })
+}
+
+#[test]
+fn a_response_is_seen_where_its_request_was_made(rt: HostRuntime) -> Result<(), Fail> {
+    let alloc = rt.alloc();
+    let rows = rows(alloc).expect(&rt, "rows");
+    let response = response(alloc, b"inbox.1").expect(&rt, "a response");
+    let both = lines_with(alloc, &rows, b"_R_.0.1", Some(response)).expect(&rt, "views");
+    assert_eq!(rt; both.as_slice(), b"A _R_.0.1\nC inbox.1\n".as_slice());
     Ok(())
 }

@@ -43,6 +43,21 @@ fn a_response_finds_its_route_once(rt: HostRuntime) -> Result<(), Fail> {
 }
 
 #[test]
+fn a_route_lives_until_its_time(rt: HostRuntime) -> Result<(), Fail> {
+    let alloc = rt.alloc();
+    let exporter = Bytes::copy_from_slice(alloc, b"Q")?;
+    let subject = route_subject(alloc, 255, 1)?;
+    let mut all = Routes::new(alloc);
+    all.reserve(&exporter, 1, 0)?;
+    all.open_route(&exporter, route(alloc, 0)?);
+    let subject = subject.lend();
+    assert!(rt; all.find_living(&exporter, &subject, 120_000).is_some());
+    assert!(rt; all.find_living(&exporter, &subject, 120_001).is_none());
+    assert!(rt; all.find(&exporter, &subject).is_some());
+    Ok(())
+}
+
+#[test]
 fn no_more_than_65536_routes_live(rt: HostRuntime) -> Result<(), Fail> {
     let alloc = rt.alloc();
     let exporter = Bytes::copy_from_slice(alloc, b"Q")?;

@@ -1,7 +1,8 @@
 use Rattle.std.proofs.Common.{◌≡◌, ◌∙◌, ◌<◌, ap, sym, List, ℕ, length, take}
 use Rattle.std.specs.List.{filter_map, slice_index_or}
 use Rattle.std.proofs.lemmas.List.{get_or_default}
-use Rattle.imports.specs.Views.{crossing, first_of_each}
+use Rattle.imports.specs.Across.{crossing}
+use Rattle.imports.specs.Views.{first_of_each}
 use Rattle.imports.specs.Rows.{no_row, row_by, rows_at, with_crossing}
 use Rattle.imports.specs.declared.rows.ImportRow.{ImportRow}
 use Rattle.imports.proofs.Firsts.{gathered_more}

@@ -1,7 +1,8 @@
 -- the views across the rows at the places so far
 use Rattle.std.proofs.Common.{◌≡◌, take}
 use Rattle.std.specs.List.{filter_map}
-use Rattle.imports.specs.Views.{crossing, first_of_each}
+use Rattle.imports.specs.Across.{crossing}
+use Rattle.imports.specs.Views.{first_of_each}
 use Rattle.imports.specs.Rows.{rows_at}
 use Rattle.imports.proofs.crossing.crossings_at.Given as goal
 
