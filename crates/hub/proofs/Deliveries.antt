@@ -26,7 +26,8 @@ use Rattle.world_subscriptions.specs.Addressing.{addressed_to}
 use Rattle.world_deliveries.proofs.Changes.{only, with_session-map, session_of-changed, session_of-other, offered-conn}
 use Rattle.world.specs.Granting.{counted_on, ended_on}
 use Rattle.hub.specs.Replies.{noted_at, noted_each}
-use Rattle.hub.specs.Guarantee.{Sending, sent_to, delivery_of, receiver, receives, room_in, is_at, items_of, items_with_room, item_names, names_of}
+use Rattle.hub.specs.Items.{DeliveryItem, tells_of}
+use Rattle.hub.specs.Guarantee.{Sending, sent_to, delivery_of, receiver, receives, room_in, items_of, items_with_room, item_names, names_of}
 use Rattle.hub.proofs.Finds.{AllPairs-map, AllPairs-head, AllPairs-tail}
 use Rattle.hub.proofs.Soundness.{IsApart, either}
 
@@ -348,10 +349,10 @@ with_room-more now what (Some z) d sub own = here (nat_lt (length z.outbox.waiti
         let none : z.outbox.capacity - length z.outbox.waiting ≡ 0 = omega arith in
         ap (λ n. Full sub.conn sub.sid ∷ items_with_room n own) none ∙ sym (ap (λ n. items_with_room n (sub ∷ own)) none)
 
-item-at : (o : Option Session) (sub : Subscription) (conn : ℕ) → is_at conn (item_names (cond (has_room o) (Entered sub.conn sub.sid) (Full sub.conn sub.sid))) ≡ (sub.conn == conn)
+item-at : (o : Option Session) (sub : Subscription) (conn : ℕ) → tells_of (λ (d : DeliveryItem). d.conn == conn) (cond (has_room o) (Entered sub.conn sub.sid) (Full sub.conn sub.sid)) ≡ (sub.conn == conn)
 item-at o sub conn = here (has_room o)
   where
-    here : (b : Bool) → is_at conn (item_names (cond b (Entered sub.conn sub.sid) (Full sub.conn sub.sid))) ≡ (sub.conn == conn)
+    here : (b : Bool) → tells_of (λ (d : DeliveryItem). d.conn == conn) (cond b (Entered sub.conn sub.sid) (Full sub.conn sub.sid)) ≡ (sub.conn == conn)
     here true = refl
     here false = refl
 

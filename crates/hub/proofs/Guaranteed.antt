@@ -245,7 +245,7 @@ pub-keeps w now conn m word sound = by_session (session_of w.sessions conn) refl
     setting z = setting_of w now conn z m word
 
     ss : By → Session → List Sending
-    ss by z = sendings m (parts_of (setting z) by)
+    ss by z = sendings (parts_of (setting z) by)
 
     items : By → Session → List Item
     items by z = told_of (setting z) by
@@ -274,7 +274,7 @@ pub-keeps w now conn m word sound = by_session (session_of w.sessions conn) refl
         record {
           parts = parts_of (setting z) by;
           in_views = parts-views (setting z) [] ys vs;
-          each = each-part (λ told p. IsPart w conn word told p) [] (parts_of (setting z) by) (each-in (λ told p. IsPart w conn word told p) (setting z) (is_part w now conn z m word sound) [] ys vs);
+          each = each-part (IsPart w conn m word) [] (parts_of (setting z) by) (each-in (IsPart w conn m word) (setting z) (is_part w now conn z m word sound) [] [] ys vs refl);
           items_are = refl;
           delivered = record {
             with_room = λ c.

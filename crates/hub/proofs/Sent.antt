@@ -1,5 +1,5 @@
 -- A message that is published: whom each view is for by the policy in force, and what its sessions keep.
-use Rattle.std.proofs.Common.{◌||◌, ◌≡◌, ◌∙◌, ◌==◌, ◌&&◌, ℕ, ◌-◌, ◌<◌, ◌≤◌, Bool, true, false, not, List, ◌++◌, map, length, get_or, take, Option, Some, None, ap, sym, refl, arith}
+use Rattle.std.proofs.Common.{◌||◌, ◌≡◌, ◌∙◌, ◌==◌, ◌&&◌, ℕ, ◌-◌, ◌<◌, ◌≤◌, Bool, true, false, not, List, ◌++◌, map, filter, length, get_or, take, Option, Some, None, ap, sym, refl, subst, arith}
 use Rattle.std.specs.Prelude.{IfSome, nat_eq}
 use Rattle.std.specs.Cmp.Lexicographic.{pointwise}
 use Rattle.std.proofs.lemmas.List.{length-append, length-take}
@@ -21,7 +21,7 @@ use Rattle.world.specs.World.{World, advanced}
 use Rattle.world.specs.Routing.{view_of, is_admitted, may_hear, lets_through}
 use Rattle.hub.specs.Sound.{IsSound, user_behind, user_at, account_of, is_to_receive}
 use Rattle.hub.specs.Replies.{is_response}
-use Rattle.hub.specs.Guarantee.{room_in, sent_to, delivery_of, received_more, Sending, IsPart, may_receive, has_echo, is_for, IsReasonedFor}
+use Rattle.hub.specs.Guarantee.{room_in, sent_to, delivery_of, received_more, Sending, Part, told_by, AreServed, IsPart, may_receive, has_echo, is_for, IsReasonedFor}
 use Rattle.std.proofs.lemmas.Bool.{eqb-true}
 use Rattle.hub.proofs.Finds.{find-passes}
 use Rattle.hub.proofs.Grants.{kept_after}
@@ -29,7 +29,7 @@ use Rattle.hub.proofs.Soundness.{KeepsSession, user_at-session}
 use Rattle.hub.proofs.Reasons.{delivery_justified}
 use Rattle.hub.proofs.Groups.{are_served}
 use Rattle.hub.proofs.Deliveries.{receives_of}
-use Rattle.hub.proofs.Views.{Setting, IsSetting, able, part_in, named-each}
+use Rattle.hub.proofs.Views.{Setting, IsSetting, able, whom, part_in, named-each}
 
 -- the same four facts in another order
 reordered : (a i h l : Bool) → ((a && i) && (h && l)) ≡ ((i && h) && (a && l))
@@ -106,11 +106,16 @@ is_setting w now conn z m word sound at = record {
 }
 
 -- a view gives the message to those that it is for, and a row that is reported to nobody
-pub is_part : (w : World) (now conn : ℕ) (z : Session) (m : Message) (word : ℕ) → IsSound w → (told : List Item) (ys : List Session) (v : ViewItem) → IsPart w conn word told (part_in (setting_of w now conn z m word) told ys v)
-is_part w now conn z m word sound told ys (At account s way) = record {
-  served = are_served word (able (setting_of w now conn z m word) told account s)
-      (AllPairs-filter (λ (s t : Subscription). s.id < t.id) (λ (sub : Subscription). is_for w conn account s sub && is_to_receive (received_more told sub)) w.subscriptions sound.ids);
-  reasons = λ k d h. receiver-reason w s (get_or w.subscriptions k d);
-  one_each = named-each (setting_of w now conn z m word) told ys account s way;
-}
-is_part w now conn z m word sound told ys (TooLong row) = (refl, refl)
+pub is_part : (w : World) (now conn : ℕ) (z : Session) (m : Message) (word : ℕ) → IsSound w → (done : List Part) (told : List Item) (ys : List Session) (v : ViewItem) → told ≡ told_by done →
+    IsPart w conn m word done (part_in (setting_of w now conn z m word) told ys v)
+is_part w now conn z m word sound done told ys (At account s way) is = (
+  refl,
+  record {
+    served = subst (λ (l : List Item). AreServed word (filter (λ (sub : Subscription). is_for w conn account s sub && is_to_receive (received_more l sub)) w.subscriptions) (whom (setting_of w now conn z m word) told (At account s way))) is
+        (are_served word (able (setting_of w now conn z m word) told account s)
+        (AllPairs-filter (λ (s t : Subscription). s.id < t.id) (λ (sub : Subscription). is_for w conn account s sub && is_to_receive (received_more told sub)) w.subscriptions sound.ids));
+    reasons = λ k d h. receiver-reason w s (get_or w.subscriptions k d);
+    one_each = named-each (setting_of w now conn z m word) told ys account s way;
+  },
+)
+is_part w now conn z m word sound done told ys (TooLong row) is = (refl, refl)

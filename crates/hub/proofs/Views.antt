@@ -5,6 +5,7 @@ use Rattle.std.specs.Prelude.{All, AllPairs, min}
 use Rattle.std.specs.List.{flat_map}
 use Rattle.std.specs.Option.{option_map}
 use Rattle.std.proofs.Math.Bool.{and_comm}
+use Rattle.std.proofs.lemmas.Grind.{flat_map-append}
 use Rattle.std.proofs.lemmas.Simd.{map-map}
 use Rattle.std.proofs.lemmas.Option.{slice_get-map}
 use Rattle.std.proofs.lemmas.List.{append_assoc, append-nil, length-map, map-append}
@@ -40,10 +41,10 @@ use Rattle.world_groups.proofs.Chosen.{filter-map}
 use Rattle.world.specs.World.{World}
 use Rattle.world.specs.Granting.{counted_on, ended_on}
 use Rattle.world_routing.specs.Handing.{is_of_delivery, of_deliveries}
-use Rattle.world.specs.Routing.{under_subject, view_of, is_admitted, routed, in_view, in_views}
+use Rattle.world.specs.Routing.{View, under_subject, view_of, is_admitted, routed, in_view, in_views}
 use Rattle.world.specs.Transition.{published}
 use Rattle.hub.specs.Sound.{is_to_receive}
-use Rattle.hub.specs.Guarantee.{Part, Sending, seen_in, sendings, item_names, names_of, items_of, received_more}
+use Rattle.hub.specs.Guarantee.{Part, Sending, told_by, sendings, item_names, names_of, items_of, received_more}
 use Rattle.hub.proofs.Lists.{filter_same_on}
 use Rattle.hub.proofs.Grants.{all_pass}
 use Rattle.hub.proofs.Soundness.{HasCount, IsStillToReceive, unended-same}
@@ -139,8 +140,13 @@ whom c told (TooLong row) = []
 abbrev pub to_each : Message → List Subscription → List Sending
 to_each m subs = map (λ (s : Subscription). record { message = m; to = s }) subs
 
+-- the message as it is seen in a view; a row that is reported shows it to nobody
+abbrev pub seen_in : Message → ViewItem → View
+seen_in m (At account subject way) = view_of account subject m
+seen_in m (TooLong row) = record { account = []; message = m }
+
 abbrev pub sent_in : Setting → List Item → ViewItem → List Sending
-sent_in c told v = to_each (seen_in v c.message) (whom c told v)
+sent_in c told v = to_each (seen_in c.message v).message (whom c told v)
 
 -- what a view gives, where this was told and these are the sessions, and what each of some views gives
 abbrev pub told_in : Setting → List Item → List Session → ViewItem → List Item
@@ -148,7 +154,7 @@ told_in c told ys (At account subject way) = items_after c.world.sessions c.worl
 told_in c told ys (TooLong row) = MapTooLong row ∷ []
 
 abbrev pub part_in : Setting → List Item → List Session → ViewItem → Part
-part_in c told ys v = record { view = v; subs = whom c told v; items = told_in c told ys v }
+part_in c told ys v = record { view = v; seen = seen_in c.message v; subs = whom c told v; items = told_in c told ys v }
 
 abbrev pub sessions_after : Setting → List Item → List Session → ViewItem → List Session
 sessions_after c told ys v = (delivered c.world.moment (map (sent c.world.sessions) (sent_in c told v)) ys).0
@@ -298,11 +304,11 @@ published-is c is first by =
 
 -- the deliveries of all views are one list, delivered at once
 pub sessions-are : (c : Setting) (told : List Item) (ys : List Session) (vs : List ViewItem) →
-    (delivered c.world.moment (map (sent c.world.sessions) (sendings c.message (parts_in c told ys vs))) ys).0 ≡ sessions_in c told ys vs
+    (delivered c.world.moment (map (sent c.world.sessions) (sendings (parts_in c told ys vs))) ys).0 ≡ sessions_in c told ys vs
 sessions-are c told ys [] = refl
 sessions-are c told ys (v ∷ vs) =
-    ap (λ (all : List Addressed). (delivered c.world.moment all ys).0) (map-append (sent c.world.sessions) first (sendings c.message rest))
-    ∙ delivered_first c.world.moment (map (sent c.world.sessions) first) (map (sent c.world.sessions) (sendings c.message rest)) ys
+    ap (λ (all : List Addressed). (delivered c.world.moment all ys).0) (map-append (sent c.world.sessions) first (sendings rest))
+    ∙ delivered_first c.world.moment (map (sent c.world.sessions) first) (map (sent c.world.sessions) (sendings rest)) ys
     ∙ sessions-are c (told ++ told_in c told ys v) (sessions_after c told ys v) vs
   where
     first : List Sending
@@ -329,12 +335,12 @@ met-in c told ys (At account subject way) = sym (of-deliveries c.world.sessions 
 met-in c told ys (TooLong row) = refl
 
 pub items-are : (c : Setting) (told : List Item) (ys : List Session) (vs : List ViewItem) →
-    items_after c.world.sessions c.world.moment (sendings c.message (parts_in c told ys vs)) ys ≡ of_deliveries (flat_map items_in (parts_in c told ys vs))
+    items_after c.world.sessions c.world.moment (sendings (parts_in c told ys vs)) ys ≡ of_deliveries (flat_map items_in (parts_in c told ys vs))
 items-are c told ys [] = refl
 items-are c told ys (v ∷ vs) =
-    ap (λ (all : List Addressed). (delivered c.world.moment all ys).1) (map-append (sent c.world.sessions) first (sendings c.message rest))
-    ∙ delivered_items c.world.moment (map (sent c.world.sessions) first) (map (sent c.world.sessions) (sendings c.message rest)) ys
-    ∙ ap (λ (l : List Item). l ++ items_after c.world.sessions c.world.moment (sendings c.message rest) (sessions_after c told ys v)) (met-in c told ys v)
+    ap (λ (all : List Addressed). (delivered c.world.moment all ys).1) (map-append (sent c.world.sessions) first (sendings rest))
+    ∙ delivered_items c.world.moment (map (sent c.world.sessions) first) (map (sent c.world.sessions) (sendings rest)) ys
+    ∙ ap (λ (l : List Item). l ++ items_after c.world.sessions c.world.moment (sendings rest) (sessions_after c told ys v)) (met-in c told ys v)
     ∙ ap (λ (l : List Item). of_deliveries (told_in c told ys v) ++ l) (items-are c (told ++ told_in c told ys v) (sessions_after c told ys v) vs)
     ∙ sym (filter-append is_of_delivery (told_in c told ys v) (flat_map items_in rest))
   where
@@ -358,25 +364,33 @@ parts-views c told ys (v ∷ vs) = ap (λ rest. v ∷ rest) (parts-views c (told
 
 -- ---- each of them
 
--- what holds of each part, behind what those before it have told
-abbrev pub EachPart : (List Item → Part → Type 0) → List Item → List Part → Type 0
-EachPart P told [] = Unit {0}
-EachPart P told (p ∷ ps) = P told p × EachPart P (told ++ p.items) ps
+-- what holds of each part, behind those before it
+abbrev pub EachPart : (List Part → Part → Type 0) → List Part → List Part → Type 0
+EachPart P done [] = Unit {0}
+EachPart P done (p ∷ ps) = P done p × EachPart P (done ++ p ∷ []) ps
 
-pub each-part : (P : List Item → Part → Type 0) (told : List Item) (ps : List Part) → EachPart P told ps →
-    (before : List Part) (p : Part) (later : List Part) → ps ≡ before ++ p ∷ later → P (told ++ flat_map items_in before) p
-each-part P told [] each [] p later split = absurd (cc)
-each-part P told [] each (b ∷ before) p later split = absurd (cc)
-each-part P told (q ∷ ps) each [] p later split =
+pub each-part : (P : List Part → Part → Type 0) (done ps : List Part) → EachPart P done ps →
+    (before : List Part) (p : Part) (later : List Part) → ps ≡ before ++ p ∷ later → P (done ++ before) p
+each-part P done [] each [] p later split = absurd (cc)
+each-part P done [] each (b ∷ before) p later split = absurd (cc)
+each-part P done (q ∷ ps) each [] p later split =
     let same : q ≡ p = cc in
-    subst (P (told ++ [])) same (subst (λ (l : List Item). P l q) (sym (append-nil told)) each.0)
-each-part P told (q ∷ ps) each (b ∷ before) p later split =
+    subst (P (done ++ [])) same (subst (λ (l : List Part). P l q) (sym (append-nil done)) each.0)
+each-part P done (q ∷ ps) each (b ∷ before) p later split =
     let same : q ≡ b = cc in
     let rest : ps ≡ before ++ p ∷ later = cc in
-    subst (λ (l : List Item). P l p) (append_assoc told b.items (flat_map items_in before))
-    (subst (λ (r : Part). P ((told ++ r.items) ++ flat_map items_in before) p) same (each-part P (told ++ q.items) ps each.1 before p later rest))
+    subst (λ (l : List Part). P l p) (append_assoc done (b ∷ []) before)
+    (subst (λ (r : Part). P ((done ++ r ∷ []) ++ before) p) same (each-part P (done ++ q ∷ []) ps each.1 before p later rest))
 
-pub each-in : (P : List Item → Part → Type 0) (c : Setting) → ((told : List Item) (ys : List Session) (v : ViewItem) → P told (part_in c told ys v)) →
-    (told : List Item) (ys : List Session) (vs : List ViewItem) → EachPart P told (parts_in c told ys vs)
-each-in P c of told ys [] = tt
-each-in P c of told ys (v ∷ vs) = (of told ys v, each-in P c of (told ++ told_in c told ys v) (sessions_after c told ys v) vs)
+-- what one part more tells
+told-more : (done : List Part) (p : Part) (told : List Item) → told ≡ told_by done → told ++ p.items ≡ told_by (done ++ p ∷ [])
+told-more done p told is =
+    ap (λ l. l ++ p.items) is ∙ ap (λ l. told_by done ++ l) (sym (append-nil p.items)) ∙ sym (flat_map-append items_in done (p ∷ []))
+
+pub each-in : (P : List Part → Part → Type 0) (c : Setting) → ((done : List Part) (told : List Item) (ys : List Session) (v : ViewItem) → told ≡ told_by done → P done (part_in c told ys v)) →
+    (done : List Part) (told : List Item) (ys : List Session) (vs : List ViewItem) → told ≡ told_by done → EachPart P done (parts_in c told ys vs)
+each-in P c of done told ys [] is = tt
+each-in P c of done told ys (v ∷ vs) is = (
+  of done told ys v is,
+  each-in P c of (done ++ part_in c told ys v ∷ []) (told ++ told_in c told ys v) (sessions_after c told ys v) vs (told-more done (part_in c told ys v) told is),
+)

@@ -1,20 +1,18 @@
 -- What a subscription has received, as the history tells it (docs/GUARANTEE.md, "The history").
-use Rattle.std.specs.Prelude.{◌≡◌, ◌==◌, ◌&&◌, ◌^◌, ◌-◌, ◌∷◌, ◌++◌, ℕ, List, Bool, false, filter, length, min, nat_eq}
+use Rattle.std.specs.Prelude.{◌≡◌, ◌==◌, ◌&&◌, ◌^◌, ◌-◌, ◌∷◌, ◌++◌, ℕ, List, Bool, filter, length, min, nat_eq}
 use Rattle.std.specs.List.{flat_map}
 use Rattle.std.specs.Cmp.Lexicographic.{pointwise}
 use Rattle.events.specs.declared.event.Command.TheVariants.{Sub}
 use Rattle.events.specs.declared.answer.Item.{Item}
-use Rattle.events.specs.declared.answer.Item.TheVariants.{Entered, Full, MapTooLong}
 use Rattle.events.specs.declared.answer.Entry.{Entry}
 use Rattle.events.specs.declared.answer.Outcome.TheVariants.{Subscribed}
 use Rattle.world_rows.specs.declared.subscription.Subscription.{Subscription}
 use Rattle.world.specs.Changes.{items_in}
+use Rattle.hub.specs.Items.{DeliveryItem, tells_of}
 
 -- whether an item tells that a message has entered for the connection's subscription of that id
 abbrev pub is_entered_for : ℕ → List ℕ → Item → Bool
-is_entered_for conn sid (Entered c s) = (conn == c) && pointwise nat_eq sid s
-is_entered_for conn sid (Full c s) = false
-is_entered_for conn sid (MapTooLong row) = false
+is_entered_for conn sid item = tells_of (λ (d : DeliveryItem). d.entered && (conn == d.conn) && pointwise nat_eq sid d.sid) item
 
 -- the items that an entry tells
 abbrev pub items_told : Entry → List Item

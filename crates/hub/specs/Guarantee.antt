@@ -2,7 +2,7 @@
 -- world before the step (docs/GUARANTEE.md, "The guarantee").
 use Rattle.std.specs.Prelude.{◌≡◌, ◌==◌, ◌+◌, ◌-◌, ◌^◌, ◌&&◌, ◌||◌, ◌∷◌, ◌++◌, ℕ, List, [], Bool, true, false, Option, Some, None, Result, Ok, Err, if◌then◌else◌, filter, map, not, length, is_some, All, IfSome, IsSomeAnd, nat_lt, nat_le, nat_eq, max, min, take, drop}
 use Rattle.std.specs.List.{list_any, flat_map}
-use Rattle.std.specs.Option.{option_and_then}
+use Rattle.std.specs.Option.{option_map, option_and_then}
 use Rattle.std.specs.Cmp.Lexicographic.{pointwise}
 use Rattle.subjects.specs.Subject.{Token, in_set}
 use Rattle.permissions.specs.Verdicts.{publish_verdict, subscribe_verdict, delivery_verdict, is_allowed, IsJustifiedPublish, IsJustifiedSubscribe, IsJustifiedDelivery}
@@ -34,10 +34,11 @@ use Rattle.world.specs.World.{World}
 use Rattle.imports.specs.Views.{views}
 use Rattle.imports.specs.declared.view.ViewItem.{ViewItem}
 use Rattle.imports.specs.declared.view.ViewItem.TheVariants.{At, TooLong}
-use Rattle.world.specs.Routing.{under_subject}
+use Rattle.world.specs.Routing.{View, view_of}
 use Rattle.world_groups.specs.Served.{is_member, members}
 use Rattle.world_subscriptions.specs.Addressing.{delivery_to}
 use Rattle.hub.specs.Sound.{IsSound, user_at, may_subscribe, HasAllowance, is_to_receive}
+use Rattle.hub.specs.Items.{DeliveryItem, delivery_item, tells_of}
 use Rattle.hub.specs.Replies.{may_respond, replies_after}
 use Rattle.hub.specs.History.{State, is_history_full}
 use Rattle.hub.specs.InForce.{IsInForce, policy_after, epoch_after}
@@ -142,10 +143,22 @@ times_entered items sub = length (filter (is_entry_for sub) items)
 abbrev pub received_more : List Item → Subscription → Subscription
 received_more items sub = record sub { received = min (2 ^ 64 - 1) (sub.received + times_entered items sub) }
 
--- the subscriptions that a message may be sent to in an account on a subject, oldest first: those that are still to receive,
--- once what earlier views of the same message have told is counted
-abbrev pub eligible : World → ℕ → List Item → List ℕ → List Token → List Subscription
-eligible w conn told account s = filter (λ (sub : Subscription). is_for w conn account s sub && is_to_receive (received_more told sub)) w.subscriptions
+-- What one view of a message gives: the message as it is seen there, to whom it goes, and what is told of it.
+pub record Part : Type 0 where
+  pub view : ViewItem
+  pub seen : View
+  pub subs : List Subscription
+  pub items : List Item
+
+-- what parts tell, the first first
+abbrev pub told_by : List Part → List Item
+told_by parts = flat_map (λ (p : Part). p.items) parts
+
+-- the subscriptions that a message may be sent to as it is seen, oldest first: those that are still to receive, once what the
+-- parts before have told is counted
+abbrev pub eligible : World → ℕ → List Part → View → List Subscription
+eligible w conn before v =
+    filter (λ (sub : Subscription). is_for w conn v.account v.message.subject sub && is_to_receive (received_more (told_by before) sub)) w.subscriptions
 
 -- a subscription of no queue group
 abbrev pub is_plain : Subscription → Bool
@@ -196,62 +209,44 @@ items_with_room room subs = map entered (take room subs) ++ map found_full (drop
 
 -- the connection and the id that an item names, if it is of a delivery
 abbrev pub item_names : Item → Option (ℕ × List ℕ)
-item_names (Entered conn sid) = Some (conn, sid)
-item_names (Full conn sid) = Some (conn, sid)
-item_names (MapTooLong row) = None
+item_names item = option_map (λ (d : DeliveryItem). (d.conn, d.sid)) (delivery_item item)
 
 abbrev pub names_of : Subscription → ℕ × List ℕ
 names_of sub = (sub.conn, sub.sid)
 
-abbrev pub is_at : ℕ → Option (ℕ × List ℕ) → Bool
-is_at conn None = false
-is_at conn (Some names) = names.0 == conn
-
 -- the items of one connection
 abbrev pub items_of : ℕ → List Item → List Item
-items_of conn items = filter (λ (item : Item). is_at conn (item_names item)) items
+items_of conn items = filter (tells_of (λ (d : DeliveryItem). d.conn == conn)) items
 
--- What one view of a message gives: to whom, and what is told of it.
-pub record Part : Type 0 where
-  pub view : ViewItem
-  pub subs : List Subscription
-  pub items : List Item
-
--- In an account, on a subject, the message goes to those that it is for, and to nobody else; `told` is what its earlier views
--- have told.
-pub record IsGivenTo (w : World) (conn word : ℕ) (told : List Item) (account : List ℕ) (s : List Token) (subs : List Subscription) (items : List Item) : Type 0 where
+-- In a view the message goes to those that it is for as it is seen there, and to nobody else.
+pub record IsGivenTo (w : World) (conn word : ℕ) (before : List Part) (p : Part) : Type 0 where
   -- those that it is for, of those that it may be sent to: the plain ones and one of each queue group
-  pub served : AreServed word (eligible w conn told account s) subs
+  pub served : AreServed word (eligible w conn before p.seen) p.subs
   -- which of the standing subscriptions may be sent it, is decided with reason
-  pub reasons : All (IsReasonedFor w s) w.subscriptions
+  pub reasons : All (IsReasonedFor w p.seen.message.subject) w.subscriptions
   -- each of them has one item, oldest first, and nobody else has one
-  pub one_each : map item_names items ≡ map (λ (sub : Subscription). Some (names_of sub)) subs
+  pub one_each : map item_names p.items ≡ map (λ (sub : Subscription). Some (names_of sub)) p.subs
 
--- A view in an account gives the message to those that it is for there. An import row that the message doesn't cross is
--- reported once, and gives it to nobody.
-abbrev pub IsGiven : World → ℕ → ℕ → List Item → ViewItem → List Subscription → List Item → Type 0
-IsGiven w conn word told (At account s way) subs items = IsGivenTo w conn word told account s subs items
-IsGiven w conn word told (TooLong row) subs items = (subs ≡ []) × (items ≡ MapTooLong row ∷ [])
+-- What a view gives, behind the parts before it. In an account the message is seen under the view's subject, and goes to those
+-- that it is for there. An import row that the message doesn't cross is reported once, and gives it to nobody.
+abbrev pub IsGiven : World → ℕ → Message → ℕ → List Part → Part → ViewItem → Type 0
+IsGiven w conn m word before p (At account s way) = (p.seen ≡ view_of account s m) × IsGivenTo w conn word before p
+IsGiven w conn m word before p (TooLong row) = (p.subs ≡ []) × (p.items ≡ MapTooLong row ∷ [])
 
-abbrev pub IsPart : World → ℕ → ℕ → List Item → Part → Type 0
-IsPart w conn word told p = IsGiven w conn word told p.view p.subs p.items
+abbrev pub IsPart : World → ℕ → Message → ℕ → List Part → Part → Type 0
+IsPart w conn m word before p = IsGiven w conn m word before p p.view
 
 -- A message, as it is seen in a view, for a subscription.
 pub record Sending : Type 0 where
   pub message : Message
   pub to : Subscription
 
--- the message as it is seen in a view: under the view's subject
-abbrev pub seen_in : ViewItem → Message → Message
-seen_in (At account s way) m = under_subject s m
-seen_in (TooLong row) m = m
+abbrev pub sendings_in : Part → List Sending
+sendings_in p = map (λ (sub : Subscription). record { message = p.seen.message; to = sub }) p.subs
 
-abbrev pub sendings_in : Message → Part → List Sending
-sendings_in m p = map (λ (sub : Subscription). record { message = seen_in p.view m; to = sub }) p.subs
-
--- what is sent of a message in these parts, the first first, and in each the oldest subscription first
-abbrev pub sendings : Message → List Part → List Sending
-sendings m parts = flat_map (sendings_in m) parts
+-- what is sent in these parts, the first first, and in each to the oldest subscription first
+abbrev pub sendings : List Part → List Sending
+sendings parts = flat_map sendings_in parts
 
 -- what is sent to a connection
 abbrev pub sent_to : ℕ → List Sending → List Sending
@@ -276,11 +271,11 @@ pub record IsSent (w : World) (now : ℕ) (by : By) (conn : ℕ) (m : Message) (
   pub parts : List Part
   -- each view of the message, in order, and no other
   pub in_views : map (λ (p : Part). p.view) parts ≡ views w.policy account m.subject
-  -- each is given behind what those before it have told
-  pub each : (before : List Part) (p : Part) (later : List Part) → parts ≡ before ++ p ∷ later → IsPart w conn word (flat_map (λ (q : Part). q.items) before) p
+  -- each gives what it gives behind those before it
+  pub each : (before : List Part) (p : Part) (later : List Part) → parts ≡ before ++ p ∷ later → IsPart w conn m word before p
   -- what is told is what they tell
-  pub items_are : items ≡ flat_map (λ (p : Part). p.items) parts
-  pub delivered : IsDelivered w now by conn m.subject (sendings m parts) items after
+  pub items_are : items ≡ told_by parts
+  pub delivered : IsDelivered w now by conn m.subject (sendings parts) items after
 
 -- ---- what a step does
 

@@ -5,6 +5,7 @@ pub mod History
 pub mod Segments
 pub mod Run
 pub mod InForce
+pub mod Items
 pub mod Guarantee
 pub mod Counts
 pub mod Holding

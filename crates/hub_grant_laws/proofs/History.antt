@@ -1,11 +1,12 @@
--- In every legal run from an opening each grant was noted at the last request on its subject.
-use Rattle.std.proofs.Common.{◌≡◌, ◌∙◌, ◌==◌, ◌&&◌, ◌||◌, ℕ, ◌+◌, suc, zero, Bool, true, false, not, cond, List, [], ◌∷◌, ◌++◌, map, filter, length, take, get_or, Option, Some, None, Result, Ok, Err, ap, sym, refl, subst, arith, max, nat_lt}
+-- In every legal run from an opening each grant was noted at the last request on its subject, whatever is sent in the views of
+-- a message.
+use Rattle.std.proofs.Common.{◌≡◌, ◌∙◌, ◌==◌, ◌&&◌, ◌||◌, ℕ, ◌+◌, ◌≤◌, suc, zero, Bool, true, false, true≢false, not, cond, List, [], ◌∷◌, ◌++◌, map, filter, length, take, drop, get_or, Option, Some, None, Result, Ok, Err, ap, sym, refl, subst, arith, max}
 use Rattle.std.specs.Prelude.{All, AllPairs, nat_le}
 use Rattle.std.specs.List.{list_any, filter_map}
-use Rattle.std.proofs.Math.Bool.{and-false}
-use Rattle.std.proofs.lemmas.Bool.{eqb-true, eqb-false, ne_eqb, lt-ltb}
-use Rattle.std.proofs.lemmas.List.{append_assoc, append-nil}
-use Rattle.std.proofs.lemmas.List.Elements.{All-nil, All-cons, All-push, All-map, All-filter, All-take, All-head, All-tail, filter_passes}
+use Rattle.std.specs.Option.{option_map}
+use Rattle.std.proofs.lemmas.Bool.{eqb-true, eqb-false, ne_eqb}
+use Rattle.std.proofs.lemmas.List.{append_assoc, append-nil, length-drop}
+use Rattle.std.proofs.lemmas.List.Elements.{All-nil, All-cons, All-push, All-map, All-filter, All-head, All-tail, filter_passes}
 use Rattle.std.proofs.lemmas.List.Kept.{AllPairs-filter}
 use Rattle.std.proofs.lemmas.List.Quantifiers.{all_pairs_push}
 use Rattle.subjects.specs.Subject.{Token}
@@ -24,83 +25,90 @@ use Rattle.events.specs.declared.event.Command.{Command}
 use Rattle.events.specs.declared.event.Command.TheVariants.{Connect, Sub, Unsub, Pub, Take, Close, Reload}
 use Rattle.events.specs.declared.answer.Entry.{Entry}
 use Rattle.events.specs.declared.answer.Item.{Item}
-use Rattle.events.specs.declared.answer.Item.TheVariants.{Entered, Full, MapTooLong}
+use Rattle.events.specs.declared.answer.Delivery.{Delivery}
 use Rattle.events.specs.declared.answer.Outcome.{Outcome}
 use Rattle.events.specs.declared.answer.Outcome.TheVariants.{Connected, AuthViolation, Subscribed, SameSid, SubLimit, Denied, Unsubscribed, Published, Taken, Closed, Reloaded}
 use Rattle.events.specs.declared.refusal.HubRefusal.{HubRefusal}
 use Rattle.events.specs.declared.refusal.HubRefusal.TheVariants.{SessionLimit}
+use Rattle.imports.specs.declared.view.ViewItem.{ViewItem}
+use Rattle.imports.specs.declared.view.ViewItem.TheVariants.{At, TooLong}
 use Rattle.world_deliveries.specs.Sessions.{session_of, new_session, drained}
 use Rattle.world_sessions.specs.Renewal.{user_again_of, stays, goes, with_user, renewed, remaining, connection_of, closed_conns}
 use Rattle.world_deliveries.specs.declared.session.Session.{Session}
 use Rattle.world_sessions.proofs.Ascending.{among-ascending}
 use Rattle.world_deliveries.proofs.Changes.{only, apart-map, with_session-map}
 use Rattle.world_subscriptions.specs.Subscriptions.{stands, has_all, subscription_of}
+use Rattle.world_subscriptions.specs.Limit.{unended, limited}
 use Rattle.world_rows.specs.declared.subscription.Subscription.{Subscription}
 use Rattle.world.specs.World.{World, opening_world, advanced}
-use Rattle.world.specs.Changes.{items_in}
-use Rattle.world.specs.Granting.{verdict_on, counted_on, ended_on}
-use Rattle.imports.specs.Views.{views}
-use Rattle.imports.specs.declared.view.ViewItem.{ViewItem}
-use Rattle.imports.specs.declared.view.ViewItem.TheVariants.{At, TooLong}
-use Rattle.world_routing.specs.Handing.{of_deliveries}
-use Rattle.world.specs.Reload.{removal_after}
-use Rattle.world.specs.Transition.{connected, subscribed, unsubscribed, published, taken, closed, in_session, in_new_session, moved, numbered, entry_with}
+use Rattle.world.specs.Granting.{verdict_on}
+use Rattle.world.specs.Reload.{removal_after, stands_on}
+use Rattle.world.specs.Transition.{transition, connected, subscribed, unsubscribed, published, taken, closed, in_session, in_new_session, moved, numbered, entry_with}
 use Rattle.hub.specs.History.{IsEntry, IsLegalRun}
-use Rattle.hub.specs.Guarantee.{Sending, sent_to, delivery_of, receiver, room_in, items_of, items_with_room, found_full}
-use Rattle.world_routing.proofs.Publishing.{same_met}
+use Rattle.hub.specs.Guarantee.{Sending, sent_to, delivery_of, room_in}
 use Rattle.hub.specs.Kept.{IsKeptTable}
 use Rattle.hub.specs.Replies.{is_by_grant, is_response as is_counted}
-use Rattle.hub.proofs.Finds.{find-passes, find-none, AllPairs-head, AllPairs-tail}
+use Rattle.hub.proofs.Finds.{find-passes, find-none, find-map, find-All, AllPairs-head, AllPairs-tail}
 use Rattle.hub.proofs.Grants.{not-false, kept_none, kept_later, kept_after, kept_judged}
-use Rattle.hub.proofs.Soundness.{IsApart, HasTable}
-use Rattle.hub.proofs.Views.{items-of}
-use Rattle.hub.proofs.Deliveries.{sent, found, receives_of, outboxes, items_after, with_room}
-use Rattle.hub_grant_laws.specs.Noted.{is_reply, asks_on, is_entered_at, responds_by, ends_for, latest, IsNoted, AreNoted}
-use Rattle.hub_grant_laws.proofs.Noted.{HasReply, latest-more, after-publish, after-other, after-judged}
-use Rattle.hub_grant_laws.proofs.Sends.{Start, IsOf, sends}
+use Rattle.hub.proofs.Soundness.{next, IsApart, HasTable}
+use Rattle.hub.proofs.Deliveries.{found, receives_of}
+use Rattle.hub_grant_laws.specs.Dropping.{world_after}
+use Rattle.hub_grant_laws.specs.Noted.{Step, step_of, steps_of, asks_on, waiting_in, entered_between, is_request, is_publish, responds_by, ends_for, latest, IsNoted, AreNoted, RequestsArePublished}
+use Rattle.hub_grant_laws.proofs.Noted.{latest-more, after-publish, after-other, after-judged}
+use Rattle.hub_grant_laws.proofs.Sends.{IsOf, publishes}
 
--- ---- what an entry tells of deliveries
+-- ---- what a step brings into outboxes
 
--- where one has entered for the connection
-abbrev is_entering : Item → Bool
-is_entering (Entered c sid) = true
-is_entering (Full c sid) = false
-is_entering (MapTooLong row) = false
+drop-all : {X : Type 0} (n : ℕ) (xs : List X) → length xs ≤ n → drop n xs ≡ []
+drop-all zero [] all = refl
+drop-all (suc n) [] all = refl
+drop-all zero (x ∷ xs) all = absurd (omega (arith, all))
+drop-all (suc n) (x ∷ xs) all = drop-all n xs (omega (arith, all))
 
-any-own : (conn : ℕ) (items : List Item) → list_any (is_entered_at conn) items ≡ list_any is_entering (items_of conn items)
-any-own conn [] = refl
-any-own conn (Entered c sid ∷ items) = here (c == conn) (any-own conn items)
+drop-front : {X : Type 0} (xs ys : List X) → drop (length xs) (xs ++ ys) ≡ ys
+drop-front [] [] = refl
+drop-front [] (y ∷ ys) = refl
+drop-front (x ∷ xs) ys = drop-front xs ys
+
+take-zero : {X : Type 0} (xs : List X) → [] ≡ take 0 xs
+take-zero [] = refl
+take-zero (x ∷ xs) = refl
+
+-- no more waits for a session than waited before for its connection
+abbrev pub IsQuiet : List Session → Session → Type 0
+IsQuiet before z = length z.outbox.waiting ≤ length (waiting_in (session_of before z.conn))
+
+pub quiet-same : (zs : List Session) → AllPairs IsApart zs → All (IsQuiet zs) zs
+quiet-same zs apart k d h =
+    let z : Session = get_or zs k d in
+    subst (λ o. length z.outbox.waiting ≤ length (waiting_in o)) (sym (found zs apart k d h)) (omega arith)
+
+-- then nothing has entered
+pub none-entered : (before after : List Session) → All (IsQuiet before) after → (conn : ℕ) (s : List Token) → list_any (asks_on s) (entered_between conn before after) ≡ false
+none-entered before after quiet conn s = here (session_of after conn) refl
   where
-    here : (b : Bool) → list_any (is_entered_at conn) items ≡ list_any is_entering (items_of conn items) →
-        (b || list_any (is_entered_at conn) items) ≡ list_any is_entering (cond b (Entered c sid ∷ items_of conn items) (items_of conn items))
-    here true rest = refl
-    here false rest = rest
-any-own conn (Full c sid ∷ items) = here (c == conn) (any-own conn items)
+    here : (o : Option Session) → session_of after conn ≡ o → list_any (asks_on s) (drop (length (waiting_in (session_of before conn))) (waiting_in o)) ≡ false
+    here None e = ap (list_any (asks_on s)) (drop-all (length (waiting_in (session_of before conn))) [] (omega arith))
+    here (Some z) e =
+        ap (list_any (asks_on s)) (drop-all (length (waiting_in (session_of before conn))) z.outbox.waiting
+        (subst (λ n. length z.outbox.waiting ≤ length (waiting_in (session_of before n))) (eqb-true z.conn conn (find-passes (λ (y : Session). y.conn == conn) after z e))
+        (find-All (IsQuiet before) (λ (y : Session). y.conn == conn) after z quiet e)))
+
+-- of a message those deliveries have entered for a connection for which there was room
+pub entered-is : (now : ℕ) (by : By) (sender : ℕ) (s : List Token) (ss : List Sending) (zs : List Session) (to : ℕ) →
+    entered_between to zs (map (receives_of now by sender s ss) zs) ≡ take (room_in (session_of zs to)) (map delivery_of (sent_to to ss))
+entered-is now by sender s ss zs to =
+    ap (λ o. drop (length (waiting_in (session_of zs to))) (waiting_in o)) (find-map (λ (y : Session). y.conn == to) get zs (λ z. refl))
+    ∙ here (session_of zs to) refl
   where
-    here : (b : Bool) → list_any (is_entered_at conn) items ≡ list_any is_entering (items_of conn items) →
-        list_any (is_entered_at conn) items ≡ list_any is_entering (cond b (Full c sid ∷ items_of conn items) (items_of conn items))
-    here true rest = rest
-    here false rest = rest
-any-own conn (MapTooLong row ∷ items) = any-own conn items
+    get : Session → Session
+    get = receives_of now by sender s ss
 
-none-full : (subs : List Subscription) → list_any is_entering (map found_full subs) ≡ false
-none-full [] = refl
-none-full (sub ∷ subs) = none-full subs
-
-any-room : (n : ℕ) (ss : List Sending) → list_any is_entering (items_with_room n (map receiver ss)) ≡ nat_lt 0 (length (take n (map delivery_of ss)))
-any-room zero ss = none-full (map receiver ss)
-any-room (suc n) [] = refl
-any-room (suc n) (s ∷ ss) = sym (lt-ltb 0 (suc (length (take n (map delivery_of ss)))) (omega arith))
-
--- ---- the reply of what is sent
-
-abbrev AsksOn : Option (List Token) → Sending → Type 0
-AsksOn reply s = s.message.reply ≡ reply
-
--- each view of a message has the reply that was published
-own_replies : (m : Message) (v : ViewItem) → IsOf (AsksOn m.reply) m v
-own_replies m (At account subject way) s = refl
-own_replies m (TooLong row) s = refl
+    here : (o : Option Session) → session_of zs to ≡ o → drop (length (waiting_in o)) (waiting_in (option_map get o)) ≡ take (room_in o) (map delivery_of (sent_to to ss))
+    here None e = take-zero (map delivery_of (sent_to to ss))
+    here (Some z) e =
+        drop-front z.outbox.waiting (take (room_in (Some z)) (map delivery_of (sent_to z.conn ss)))
+        ∙ ap (λ n. take (room_in (Some z)) (map delivery_of (sent_to n ss))) (eqb-true z.conn to (find-passes (λ (y : Session). y.conn == to) zs z e))
 
 -- ---- the connections that a reload reports gone
 
@@ -131,62 +139,76 @@ not-gone p (y ∷ zs) apart =
     rest z true other later fails = ap (λ b. b || list_any (λ (n : ℕ). n == z.conn) (map connection_of (filter p zs))) (ne_eqb y.conn z.conn other) ∙ later fails
     rest z false other later fails = later fails
 
--- ---- the sessions after an entry
+-- ---- the sessions after a step
 
-abbrev pub HasNoted : List Entry → Session → Type 0
-HasNoted es z = All (IsNoted es z.conn) (grants_of z.replies)
+abbrev pub HasNoted : List Step → Session → Type 0
+HasNoted steps z = All (IsNoted steps z.conn) (grants_of z.replies)
 
--- What entries tell of the sessions and the clock, and what always holds of them.
-pub record Told (es : List Entry) (moment : ℕ) (zs : List Session) : Type 0 where
-  pub clock : moment ≡ latest es
+-- What steps tell of the sessions and the clock, and what always holds of them.
+pub record Told (steps : List Step) (moment : ℕ) (zs : List Session) : Type 0 where
+  pub clock : moment ≡ latest steps
   pub apart : AllPairs IsApart zs
   pub tables : All (HasTable moment) zs
-  pub noted : All (HasNoted es) zs
+  pub noted : All (HasNoted steps) zs
 
 -- the entry of an event
 abbrev pub told : ℕ → ℕ → ℕ → Command → Outcome → Entry
 told number epoch now c o = entry_with number epoch o (record { now = now; what = c })
 
--- an entry that tells nothing of a connection's grants
-record IsSilent (c : Command) (o : Outcome) (conn : ℕ) : Type 0 where
-  pub lasts : ends_for conn c o ≡ false
-  pub request : (s : List Token) → (asks_on s c && list_any (is_entered_at conn) (items_in o)) ≡ false
-  pub answer : (s : List Token) → responds_by conn s c o ≡ false
+-- a step that is nothing to the grants of a session
+record IsSilent (c : Command) (o : Outcome) (before : List Session) (z : Session) : Type 0 where
+  pub lasts : ends_for z.conn c o ≡ false
+  pub answer : (s : List Token) → responds_by z.conn s c o ≡ false
+  pub quiet : IsQuiet before z
 
 -- without terms there is no table
 bare : (now : ℕ) (terms : Option Terms) (table : Table) → IsKeptTable now terms table → terms ≡ None → table ≡ None
 bare now None table is none = is
 bare now (Some terms) table is none = absurd (cc)
 
-module _ (es : List Entry) (w : World) (now : ℕ) (t : Told es w.moment w.sessions) where
-  -- what an answered event leaves is told, with its entry
-  abbrev Leaves : Command → Outcome → List Session → Type 0
-  Leaves c o ys = (number epoch : ℕ) → Told (es ++ told number epoch now c o ∷ []) (max w.moment now) ys
+module _ (steps : List Step) (w : World) (now : ℕ) (t : Told steps w.moment w.sessions) where
+  -- the steps with that of an answered event, which leaves this world
+  abbrev with_step : ℕ → ℕ → Command → Outcome → World → List Step
+  with_step number epoch c o v = steps ++ step_of w (told number epoch now c o) v ∷ []
+
+  -- the world that an answered event leaves is told, with its step; and only a publish brings deliveries
+  abbrev Leaves : Command → Outcome → World → Type 0
+  Leaves c o v = ((number epoch : ℕ) → Told (with_step number epoch c o v) v.moment v.sessions) × (is_publish c ≡ false → All (IsQuiet w.sessions) v.sessions)
 
   abbrev pub Keeps : Command → Result (Outcome × World) HubRefusal → Type 0
   Keeps c (Err refusal) = Unit {0}
-  Keeps c (Ok r) = (number epoch : ℕ) → Told (es ++ told number epoch now c r.0 ∷ []) r.1.moment r.1.sessions
+  Keeps c (Ok r) = Leaves c r.0 r.1
 
-  pub clock_is : (a : Entry) → a.event.now ≡ now → max w.moment now ≡ latest (es ++ a ∷ [])
-  clock_is a is = omega (arith, is, t.clock, latest-more es a)
+  pub clock_is : (a : Step) → a.entry.event.now ≡ now → max w.moment now ≡ latest (steps ++ a ∷ [])
+  clock_is a is = omega (arith, is, t.clock, latest-more steps a)
 
   pub tables_are : All (HasTable (max w.moment now)) w.sessions
   tables_are k d h =
       let z = get_or w.sessions k d in
       kept_later w.moment (max w.moment now) z.user.rules.allow_responses z.replies (omega arith) (t.tables k d h)
 
-  leaves : (c : Command) (o : Outcome) (ys : List Session) → AllPairs IsApart ys → All (HasTable (max w.moment now)) ys → All (HasNoted es) ys → All (λ (z : Session). IsSilent c o z.conn) ys → Leaves c o ys
-  leaves c o ys apart tables noted silent number epoch = record {
-    clock = clock_is (told number epoch now c o) refl;
-    apart = apart;
-    tables = tables;
-    noted = λ k d h.
-        let is = silent k d h in
-        after-other es (told number epoch now c o) (get_or ys k d).conn is.lasts (get_or ys k d).replies is.answer is.request (noted k d h);
-  }
+  leaves : (c : Command) (o : Outcome) (v : World) → v.moment ≡ max w.moment now → AllPairs IsApart v.sessions → All (HasTable (max w.moment now)) v.sessions → All (HasNoted steps) v.sessions → All (IsSilent c o w.sessions) v.sessions → Leaves c o v
+  leaves c o v clock apart tables noted silent = (
+    (λ number epoch. let a : Step = step_of w (told number epoch now c o) v in record {
+      clock = clock ∙ clock_is a refl;
+      apart = apart;
+      tables = subst (λ n. All (HasTable n) v.sessions) (sym clock) tables;
+      noted = λ k d h.
+          let is = silent k d h in
+          after-other steps a (get_or v.sessions k d).conn is.lasts (get_or v.sessions k d).replies is.answer (none-entered w.sessions v.sessions quiet (get_or v.sessions k d).conn) (noted k d h);
+    }),
+    (λ _. quiet),
+  )
+    where
+      quiet : All (IsQuiet w.sessions) v.sessions
+      quiet k d h = (silent k d h).quiet
 
-  same : (c : Command) (o : Outcome) → ((conn : ℕ) → IsSilent c o conn) → Leaves c o w.sessions
-  same c o silent = leaves c o w.sessions t.apart tables_are t.noted (λ k d h. silent (get_or w.sessions k d).conn)
+  -- the sessions stay
+  same : (c : Command) (o : Outcome) (subs : List Subscription) → ((conn : ℕ) → ends_for conn c o ≡ false) → ((conn : ℕ) (s : List Token) → responds_by conn s c o ≡ false) → Leaves c o (next w now w.sessions subs)
+  same c o subs lasts answer =
+      leaves c o (next w now w.sessions subs) refl t.apart tables_are t.noted (λ k d h.
+      let z : Session = get_or w.sessions k d in
+      record { lasts = lasts z.conn; answer = answer z.conn; quiet = quiet-same w.sessions t.apart k d h })
 
   connect : (conn : ℕ) (name : Option (List ℕ)) (password : List ℕ) (echo : Bool) →
       Keeps (Connect conn name password echo) (numbered (w.number + 1) (moved (advanced w now) (Connect conn name password echo)))
@@ -195,22 +217,20 @@ module _ (es : List Entry) (w : World) (now : ℕ) (t : Told es w.moment w.sessi
       c : Command
       c = Connect conn name password echo
 
-      opens : (user : User) → session_of w.sessions conn ≡ None → Leaves c Connected (w.sessions ++ new_session conn user echo w.capacity ∷ [])
-      opens user none number epoch =
-          let a : Entry = told number epoch now c Connected in
+      opens : (user : User) → session_of w.sessions conn ≡ None → Leaves c Connected (next w now (w.sessions ++ new_session conn user echo w.capacity ∷ []) w.subscriptions)
+      opens user none =
           let new : Session = new_session conn user echo w.capacity in
           let others = find-none (λ (z : Session). z.conn == conn) w.sessions none in
-          record {
-            clock = clock_is a refl;
-            apart = all_pairs_push IsApart w.sessions new t.apart (λ k d h. eqb-false (get_or w.sessions k d).conn conn (others k d h));
-            tables = All-push (HasTable (max w.moment now)) w.sessions new tables_are (kept_none (max w.moment now) user.rules.allow_responses);
-            noted = All-push (HasNoted (es ++ a ∷ [])) w.sessions new
-                (λ k d h. after-other es a (get_or w.sessions k d).conn refl (get_or w.sessions k d).replies (λ s. refl) (λ s. refl) (t.noted k d h))
-                (All-nil (IsNoted (es ++ a ∷ []) conn));
-          }
+          leaves c Connected (next w now (w.sessions ++ new ∷ []) w.subscriptions) refl
+          (all_pairs_push IsApart w.sessions new t.apart (λ k d h. eqb-false (get_or w.sessions k d).conn conn (others k d h)))
+          (All-push (HasTable (max w.moment now)) w.sessions new tables_are (kept_none (max w.moment now) user.rules.allow_responses))
+          (All-push (HasNoted steps) w.sessions new t.noted (All-nil (IsNoted steps conn)))
+          (All-push (IsSilent c Connected w.sessions) w.sessions new
+          (λ k d h. record { lasts = refl; answer = λ s. refl; quiet = quiet-same w.sessions t.apart k d h })
+          (record { lasts = refl; answer = λ s. refl; quiet = omega arith }))
 
       by_user : (uo : Option User) → session_of w.sessions conn ≡ None → Keeps c (numbered (w.number + 1) (Ok (connected (advanced w now) conn echo uo)))
-      by_user None none = same c AuthViolation (λ n. record { lasts = refl; request = λ s. refl; answer = λ s. refl })
+      by_user None none = same c AuthViolation w.subscriptions (λ n. refl) (λ n s. refl)
       by_user (Some user) none = opens user none
 
       by_limit : (l : Bool) → session_of w.sessions conn ≡ None → Keeps c (numbered (w.number + 1) (cond l (Err SessionLimit) (Ok (connected (advanced w now) conn echo (user_with_password w.policy name password)))))
@@ -228,24 +248,24 @@ module _ (es : List Entry) (w : World) (now : ℕ) (t : Told es w.moment w.sessi
       c : Command
       c = Sub conn p queue sid
 
-      silent : (o : Outcome) → Leaves c o w.sessions
-      silent o = same c o (λ n. record { lasts = refl; request = λ s. refl; answer = λ s. refl })
+      silent : (o : Outcome) (subs : List Subscription) → Leaves c o (next w now w.sessions subs)
+      silent o subs = same c o subs (λ n. refl) (λ n s. refl)
 
       by_limit : (b : Bool) (account : List ℕ) →
           Keeps c (numbered (w.number + 1) (Ok (cond b (SubLimit, advanced w now) (Subscribed, record (advanced w now) { subscriptions = w.subscriptions ++ subscription_of (w.number + 1) conn account p queue sid ∷ [] }))))
-      by_limit true account = silent SubLimit
-      by_limit false account = silent Subscribed
+      by_limit true account = silent SubLimit w.subscriptions
+      by_limit false account = silent Subscribed (w.subscriptions ++ subscription_of (w.number + 1) conn account p queue sid ∷ [])
 
       by_sid : (b : Bool) (account : List ℕ) →
           Keeps c (numbered (w.number + 1) (Ok (cond b (SameSid, advanced w now) (cond (has_all w.subscriptions conn) (SubLimit, advanced w now) (Subscribed, record (advanced w now) { subscriptions = w.subscriptions ++ subscription_of (w.number + 1) conn account p queue sid ∷ [] })))))
-      by_sid true account = silent SameSid
+      by_sid true account = silent SameSid w.subscriptions
       by_sid false account = by_limit (has_all w.subscriptions conn) account
 
       by_verdict : (v : Verdict) (z : Session) → Keeps c (numbered (w.number + 1) (Ok (subscribed (advanced w now) conn z.user.account p queue sid v)))
       by_verdict (Allowed by) z = by_sid (stands w.subscriptions conn sid) z.user.account
-      by_verdict (DeniedBy i) z = silent (Denied (DeniedBy i))
-      by_verdict NoAllow z = silent (Denied NoAllow)
-      by_verdict (NoQueueAllow i) z = silent (Denied (NoQueueAllow i))
+      by_verdict (DeniedBy i) z = silent (Denied (DeniedBy i)) w.subscriptions
+      by_verdict NoAllow z = silent (Denied NoAllow) w.subscriptions
+      by_verdict (NoQueueAllow i) z = silent (Denied (NoQueueAllow i)) w.subscriptions
 
       by_session : (o : Option Session) → Keeps c (numbered (w.number + 1) (in_session o (λ z. subscribed (advanced w now) conn z.user.account p queue sid (subscribe_verdict z.user.rules p queue))))
       by_session None = tt
@@ -256,7 +276,7 @@ module _ (es : List Entry) (w : World) (now : ℕ) (t : Told es w.moment w.sessi
     where
       by_session : (o : Option Session) → Keeps (Unsub conn sid most) (numbered (w.number + 1) (in_session o (λ z. unsubscribed (advanced w now) conn sid most)))
       by_session None = tt
-      by_session (Some z) = same (Unsub conn sid most) Unsubscribed (λ n. record { lasts = refl; request = λ s. refl; answer = λ s. refl })
+      by_session (Some z) = same (Unsub conn sid most) Unsubscribed (unended (map (limited conn sid most) w.subscriptions)) (λ n. refl) (λ n s. refl)
 
   take-one : (conn most : ℕ) → Keeps (Take conn most) (numbered (w.number + 1) (moved (advanced w now) (Take conn most)))
   take-one conn most = by_session (session_of w.sessions conn)
@@ -282,16 +302,21 @@ module _ (es : List Entry) (w : World) (now : ℕ) (t : Told es w.moment w.sessi
           here true = refl
           here false = refl
 
-      drains : (o : Outcome) → Leaves c o (map f w.sessions)
-      drains o = leaves c o (map f w.sessions)
+      less : (z : Session) → IsQuiet w.sessions z → IsQuiet w.sessions (drained most z)
+      less z is = omega (arith, is, length-drop most z.outbox.waiting)
+
+      drains : (o : Outcome) → Leaves c o (next w now (map f w.sessions) w.subscriptions)
+      drains o = leaves c o (next w now (map f w.sessions) w.subscriptions) refl
           (apart-map f w.sessions conn-is t.apart)
           (as_before (HasTable (max w.moment now)) (λ z is. is) tables_are)
-          (as_before (HasNoted es) (λ z is. is) t.noted)
-          (λ k d h. record { lasts = refl; request = λ s. refl; answer = λ s. refl })
+          (as_before (HasNoted steps) (λ z is. is) t.noted)
+          (λ k d h. record { lasts = refl; answer = λ s. refl; quiet = as_before (IsQuiet w.sessions) less (quiet-same w.sessions t.apart) k d h })
 
       by_session : (o : Option Session) → Keeps c (numbered (w.number + 1) (in_session o (taken (advanced w now) conn most)))
       by_session None = tt
-      by_session (Some z) = subst (Leaves c (Taken (take most z.outbox.waiting) z.missed)) (sym (with_session-map (drained most) conn w.sessions t.apart)) (drains _)
+      by_session (Some z) =
+          let o : Outcome = Taken (take most z.outbox.waiting) z.missed in
+          subst (λ (zs : List Session). Leaves c o (next w now zs w.subscriptions)) (sym (with_session-map (drained most) conn w.sessions t.apart)) (drains o)
 
   close : (conn : ℕ) → Keeps (Close conn) (numbered (w.number + 1) (moved (advanced w now) (Close conn)))
   close conn = by_session (session_of w.sessions conn)
@@ -301,23 +326,33 @@ module _ (es : List Entry) (w : World) (now : ℕ) (t : Told es w.moment w.sessi
 
       by_session : (o : Option Session) → Keeps (Close conn) (numbered (w.number + 1) (in_session o (λ z. closed (advanced w now) conn)))
       by_session None = tt
-      by_session (Some z) = leaves (Close conn) Closed (filter other w.sessions)
+      by_session (Some z) = leaves (Close conn) Closed (next w now (filter other w.sessions) (filter (λ (sub : Subscription). not (sub.conn == conn)) w.subscriptions)) refl
           (AllPairs-filter IsApart other w.sessions t.apart)
           (All-filter other (HasTable (max w.moment now)) w.sessions tables_are)
-          (All-filter other (HasNoted es) w.sessions t.noted)
-          (λ k d h. record { lasts = not-false _ (filter_passes other w.sessions k d h); request = λ s. refl; answer = λ s. refl })
+          (All-filter other (HasNoted steps) w.sessions t.noted)
+          (λ k d h. record {
+            lasts = not-false _ (filter_passes other w.sessions k d h);
+            answer = λ s. refl;
+            quiet = All-filter other (IsQuiet w.sessions) w.sessions (quiet-same w.sessions t.apart) k d h;
+          })
 
   reload : (doc : PolicyDoc) → Keeps (Reload doc) (numbered (w.number + 1) (moved (advanced w now) (Reload doc)))
-  reload doc = leaves (Reload doc) told-gone (remaining M doc w.sessions)
+  reload doc = leaves (Reload doc) told-gone (record (advanced w now) {
+    policy = doc;
+    epoch = w.epoch + 1;
+    sessions = remaining M doc w.sessions;
+    subscriptions = filter (stands_on doc w.sessions) w.subscriptions;
+    number = w.number + 1;
+  }) refl
       (apart-map (renewed M doc) left (λ z. conn-is z (user_again_of doc z)) (AllPairs-filter IsApart (stays doc) w.sessions t.apart))
       (All-map (HasTable M) (renewed M doc) left (λ k d h. table (get_or left k d) (user_again_of doc (get_or left k d)) (All-filter (stays doc) (HasTable M) w.sessions tables_are k d h)))
-      (All-map (HasNoted es) (renewed M doc) left (λ k d h. grants (get_or left k d) (user_again_of doc (get_or left k d)) (All-filter (stays doc) (HasNoted es) w.sessions t.noted k d h)))
-      (All-map (λ (z : Session). IsSilent (Reload doc) told-gone z.conn) (renewed M doc) left (λ k d h. record {
+      (All-map (HasNoted steps) (renewed M doc) left (λ k d h. grants (get_or left k d) (user_again_of doc (get_or left k d)) (All-filter (stays doc) (HasNoted steps) w.sessions t.noted k d h)))
+      (All-map (IsSilent (Reload doc) told-gone w.sessions) (renewed M doc) left (λ k d h. record {
         lasts = ap (λ (n : ℕ). list_any (λ (m : ℕ). m == n) (closed_conns doc w.sessions)) (conn-is (get_or left k d) (user_again_of doc (get_or left k d)))
             ∙ among-ascending (get_or left k d).conn (map connection_of (filter (goes doc) w.sessions))
             ∙ All-filter (stays doc) (IsNoneOf (goes doc) w.sessions) w.sessions (not-gone (goes doc) w.sessions t.apart) k d h (ap not (filter_passes (stays doc) w.sessions k d h));
-        request = λ s. refl;
         answer = λ s. refl;
+        quiet = quiet (get_or left k d) (user_again_of doc (get_or left k d)) (All-filter (stays doc) (IsQuiet w.sessions) w.sessions (quiet-same w.sessions t.apart) k d h);
       }))
     where
       M : ℕ
@@ -337,9 +372,13 @@ module _ (es : List Entry) (w : World) (now : ℕ) (t : Told es w.moment w.sessi
       table z None is = is
       table z (Some u) is = kept_judged M z.user.rules.allow_responses u.rules.allow_responses z.replies is
 
-      grants : (z : Session) (o : Option User) → HasNoted es z → HasNoted es (with_user M z o)
+      quiet : (z : Session) (o : Option User) → IsQuiet w.sessions z → IsQuiet w.sessions (with_user M z o)
+      quiet z None is = is
+      quiet z (Some u) is = is
+
+      grants : (z : Session) (o : Option User) → HasNoted steps z → HasNoted steps (with_user M z o)
       grants z None is = is
-      grants z (Some u) is = after-judged (IsNoted es z.conn) M z.user.rules.allow_responses u.rules.allow_responses z.replies is
+      grants z (Some u) is = after-judged (IsNoted steps z.conn) M z.user.rules.allow_responses u.rules.allow_responses z.replies is
 
   publish : (conn : ℕ) (m : Message) (word : ℕ) → Keeps (Pub conn m word) (numbered (w.number + 1) (moved (advanced w now) (Pub conn m word)))
   publish conn m word = by_session (session_of w.sessions conn) refl
@@ -350,51 +389,45 @@ module _ (es : List Entry) (w : World) (now : ℕ) (t : Told es w.moment w.sessi
       M : ℕ
       M = max w.moment now
 
-      denied : (v : Verdict) → Leaves c (Denied v) w.sessions
-      denied v = same c (Denied v) (λ n. record { lasts = refl; request = λ s. and-false (asks_on s c); answer = λ s. refl })
+      denied : (v : Verdict) → Leaves c (Denied v) (next w now w.sessions w.subscriptions)
+      denied v = same c (Denied v) w.subscriptions (λ n. refl) (λ n s. refl)
 
-      entered-is : (ss : List Sending) (items : List Item) (z : Session) → of_deliveries items ≡ items_after w.sessions M ss w.sessions → session_of w.sessions z.conn ≡ Some z →
-          list_any (is_entered_at z.conn) items ≡ nat_lt 0 (length (take (room_in (Some z)) (map delivery_of (sent_to z.conn ss))))
-      entered-is ss items z met_is at =
-          any-own z.conn items
-          ∙ ap (list_any is_entering) (
-          items-of z.conn items
-          ∙ ap (items_of z.conn) met_is
-          ∙ with_room w.sessions M ss w.sessions z.conn
-          ∙ ap (λ o. items_with_room (room_in o) (map receiver (sent_to z.conn ss))) at)
-          ∙ any-room (room_in (Some z)) (sent_to z.conn ss)
+      -- of what is sent nothing is assumed
+      whatever : (v : ViewItem) → IsOf (λ s. Unit {0}) m v
+      whatever (At account subject way) = λ s. tt
+      whatever (TooLong row) = tt
 
-      leaves-sent : (by : By) (sender : ℕ) (ss : List Sending) (items : List Item) → sender ≡ conn → of_deliveries items ≡ items_after w.sessions M ss w.sessions → All (AsksOn m.reply) ss →
-          Leaves c (Published by items) (map (receives_of M by sender m.subject ss) w.sessions)
-      leaves-sent by sender ss items sender_is met_is asks number epoch =
-          let a : Entry = told number epoch now c (Published by items) in
-          let get : Session → Session = receives_of M by sender m.subject ss in
-          record {
-            clock = clock_is a refl;
-            apart = apart-map get w.sessions (λ z. refl) t.apart;
-            tables = All-map (HasTable M) get w.sessions (λ k d h.
-                let z = get_or w.sessions k d in
-                kept_after M (is_counted by sender z) m.subject (take (room_in (Some z)) (map delivery_of (sent_to z.conn ss))) z.user.rules.allow_responses z.replies (tables_are k d h));
-            noted = All-map (HasNoted (es ++ a ∷ [])) get w.sessions (λ k d h.
-                let z = get_or w.sessions k d in
-                after-publish es a z.conn refl M (is_counted by sender z) m.subject m.reply (take (room_in (Some z)) (map delivery_of (sent_to z.conn ss))) z.user.rules.allow_responses z.replies
-                (All-take (HasReply m.reply) (room_in (Some z)) (map delivery_of (sent_to z.conn ss)) (All-map (HasReply m.reply) delivery_of (sent_to z.conn ss) (All-filter (λ (s : Sending). s.to.conn == z.conn) (AsksOn m.reply) ss asks)))
-                (λ s. ap (λ n. (is_by_grant by && (z.conn == n)) && same_subject m.subject s) (sym sender_is))
-                (λ s. ap (λ b. is_reply s m.reply && b) (entered-is ss items z met_is (found w.sessions t.apart k d h)))
-                (bare M z.user.rules.allow_responses z.replies (tables_are k d h))
-                (clock_is a refl)
-                (t.noted k d h));
-          }
+      sent : (by : By) (ss : List Sending) (items : List Item) (left : List Subscription) (sender : ℕ) → sender ≡ conn → Leaves c (Published by items) (next w now (map (receives_of M by sender m.subject ss) w.sessions) left)
+      sent by ss items left sender sender_is = (
+        (λ number epoch.
+            let a : Step = step_of w (told number epoch now c (Published by items)) (next w now (map get w.sessions) left) in record {
+              clock = clock_is a refl;
+              apart = apart-map get w.sessions (λ z. refl) t.apart;
+              tables = All-map (HasTable M) get w.sessions (λ k d h.
+                  let z = get_or w.sessions k d in
+                  kept_after M (is_counted by sender z) m.subject (in_room z) z.user.rules.allow_responses z.replies (tables_are k d h));
+              noted = All-map (HasNoted (steps ++ a ∷ [])) get w.sessions (λ k d h.
+                  let z = get_or w.sessions k d in
+                  after-publish steps a z.conn refl M (is_counted by sender z) m.subject (in_room z) z.user.rules.allow_responses z.replies
+                  (λ s. ap (λ n. (is_by_grant by && (z.conn == n)) && same_subject m.subject s) (sym sender_is))
+                  (λ s. ap (list_any (asks_on s)) (entered-is M by sender m.subject ss w.sessions z.conn ∙ ap (λ o. take (room_in o) (map delivery_of (sent_to z.conn ss))) (found w.sessions t.apart k d h)))
+                  (bare M z.user.rules.allow_responses z.replies (tables_are k d h))
+                  (clock_is a refl)
+                  (t.noted k d h));
+            }),
+        (λ other. absurd (true≢false other)),
+      )
+        where
+          get : Session → Session
+          get = receives_of M by sender m.subject ss
+
+          in_room : Session → List Delivery
+          in_room z = take (room_in (Some z)) (map delivery_of (sent_to z.conn ss))
 
       by_verdict : (z : Session) (v : Verdict) → z.conn ≡ conn → Keeps c (numbered (w.number + 1) (Ok (published (advanced w now) z m word v)))
       by_verdict z (Allowed by) sender_is =
-          let begin : Start = record { before = w.sessions; begun = counted_on by z.conn m.subject w.sessions; world = advanced w now } in
-          let of = sends (AsksOn m.reply) begin z m word [] w.subscriptions (views w.policy z.user.account m.subject) (own_replies m) in
-          let items : List Item = of.items in
-          let finished : List Item × World → Outcome × World = λ r. (Published by r.0, record r.1 { sessions = ended_on by z.conn m.subject r.1.sessions }) in
-          subst (λ (r : Outcome × World). Keeps c (numbered (w.number + 1) (Ok r))) (sym (ap finished of.is))
-          (subst (Leaves c (Published by items)) (sym (outboxes M z.conn m.subject of.ss w.sessions by t.apart))
-          (leaves-sent by z.conn of.ss items sender_is (of.met ∙ same_met by z.conn m.subject M (map (sent w.sessions) of.ss) w.sessions) of.each))
+          let p = publishes (λ s. Unit {0}) w now z m word by t.apart whatever in
+          subst (λ (r : Outcome × World). Keeps c (numbered (w.number + 1) (Ok r))) (sym p.is) (sent by p.ss p.items p.left z.conn sender_is)
       by_verdict z (DeniedBy i) from = denied (DeniedBy i)
       by_verdict z NoAllow from = denied NoAllow
       by_verdict z (NoQueueAllow i) from = denied (NoQueueAllow i)
@@ -414,15 +447,32 @@ module _ (es : List Entry) (w : World) (now : ℕ) (t : Told es w.moment w.sessi
 
 -- ---- a run
 
-pub run-told : (done es : List Entry) (w after : World) → Told done w.moment w.sessions → IsLegalRun w es after → Told (done ++ es) after.moment after.sessions
+-- an entry of a legal run is a step
+pub step-is : (w : World) (a : Entry) (next : World) → IsEntry w a next → world_after w (transition w a.event) ≡ next
+step-is w a next is = ap (world_after w) is.outcome
+
+pub step-keeps : (steps : List Step) (w : World) (t : Told steps w.moment w.sessions) (a : Entry) (next : World) → IsEntry w a next → Keeps steps w a.event.now t a.event.what (Ok (a.outcome, next))
+step-keeps steps w t a next is = subst (Keeps steps w a.event.now t a.event.what) is.outcome (step-told steps w a.event.now t a.event.what)
+
+pub run-told : (done : List Step) (es : List Entry) (w after : World) → Told done w.moment w.sessions → IsLegalRun w es after → Told (done ++ steps_of w es) after.moment after.sessions
 unfolding IsLegalRun
 run-told done [] w after t run =
     subst (λ l. Told l after.moment after.sessions) (sym (append-nil done)) (subst (λ (v : World). Told done v.moment v.sessions) (sym run) t)
 run-told done (a ∷ es) w after t run =
-    let is : IsEntry w a run.0 = run.1 in
-    let moves : Keeps done w a.event.now t a.event.what (Ok (a.outcome, run.0)) = subst (Keeps done w a.event.now t a.event.what) is.outcome (step-told done w a.event.now t a.event.what) in
-    subst (λ l. Told l after.moment after.sessions) (append_assoc done (a ∷ []) es)
-    (run-told (done ++ a ∷ []) es run.0 after (moves a.number a.epoch) run.2)
+    let moves = step-keeps done w t a run.0 run.1 in
+    subst (λ (v : World). Told (done ++ step_of w a v ∷ steps_of v es) after.moment after.sessions) (sym (step-is w a run.0 run.1))
+    (subst (λ l. Told l after.moment after.sessions) (append_assoc done (step_of w a run.0 ∷ []) (steps_of run.0 es))
+    (run-told (done ++ step_of w a run.0 ∷ []) es run.0 after (moves.0 a.number a.epoch) run.2))
+
+-- what holds of each step
+pub run-each : (P : Step → Type 0) → ((steps : List Step) (w : World) (t : Told steps w.moment w.sessions) (a : Entry) (next : World) → IsEntry w a next → P (step_of w a next)) →
+    (done : List Step) (es : List Entry) (w after : World) → Told done w.moment w.sessions → IsLegalRun w es after → All P (steps_of w es)
+unfolding IsLegalRun
+run-each P each done [] w after t run = All-nil P
+run-each P each done (a ∷ es) w after t run =
+    subst (λ (v : World). All P (step_of w a v ∷ steps_of v es)) (sym (step-is w a run.0 run.1))
+    (All-cons P (step_of w a run.0) (steps_of run.0 es) (each done w t a run.0 run.1)
+    (run-each P each (done ++ step_of w a run.0 ∷ []) es run.0 after ((step-keeps done w t a run.0 run.1).0 a.number a.epoch) run.2))
 
 pub told-opening : (policy : PolicyDoc) (capacity : ℕ) → Told [] (opening_world policy capacity).moment (opening_world policy capacity).sessions
 told-opening policy capacity = record {
@@ -434,3 +484,14 @@ told-opening policy capacity = record {
 
 pub are_noted : AreNoted
 are_noted policy capacity es w run = (run-told [] es (opening_world policy capacity) w (told-opening policy capacity) run).noted
+
+-- a step in which a delivery enters is a publish
+published-step : (steps : List Step) (w : World) (t : Told steps w.moment w.sessions) (a : Entry) (after : World) → IsEntry w a after → (conn : ℕ) (s : List Token) → is_request conn s (step_of w a after) ≡ true → is_publish a.event.what ≡ true
+published-step steps w t a after is conn s asks = here (is_publish a.event.what) refl (step-keeps steps w t a after is)
+  where
+    here : (b : Bool) → is_publish a.event.what ≡ b → Keeps steps w a.event.now t a.event.what (Ok (a.outcome, after)) → is_publish a.event.what ≡ true
+    here true e keeps = e
+    here false e keeps = absurd (true≢false (sym asks ∙ none-entered w.sessions after.sessions (keeps.1 e) conn s))
+
+pub are_published : RequestsArePublished
+are_published policy capacity es w run = run-each (λ step. (conn : ℕ) (s : List Token) → is_request conn s step ≡ true → is_publish step.entry.event.what ≡ true) published-step [] es (opening_world policy capacity) w (told-opening policy capacity) run

@@ -1,5 +1,5 @@
 -- In every legal run from an opening whoever may respond, and whoever has responded by a grant, has an open request.
-use Rattle.std.proofs.Common.{◌≡◌, ◌∙◌, ◌==◌, ◌&&◌, ◌||◌, ℕ, ◌+◌, ◌-◌, ◌^◌, ◌<◌, Bool, true, false, not, cond, List, [], ◌∷◌, Option, Some, None, Result, Ok, Err, ap, sym, refl, subst, arith, max}
+use Rattle.std.proofs.Common.{◌≡◌, ◌∙◌, ◌==◌, ◌&&◌, ◌||◌, ℕ, ◌+◌, ◌-◌, ◌^◌, ◌<◌, Bool, true, false, not, cond, List, [], ◌∷◌, ◌++◌, Option, Some, None, Result, Ok, Err, ap, sym, refl, subst, arith, max}
 use Rattle.std.specs.Prelude.{position, All, IfSome, IsSomeAnd, ◌≤◌, min}
 use Rattle.std.specs.List.{list_any}
 use Rattle.std.specs.Cmp.Lexicographic.{pointwise_decides, bytes_decides}
@@ -19,7 +19,6 @@ use Rattle.reply_grants.specs.Replies.{grants_of}
 use Rattle.events.specs.Messages.{Message}
 use Rattle.events.specs.declared.event.Command.{Command}
 use Rattle.events.specs.declared.event.Command.TheVariants.{Connect, Sub, Unsub, Pub, Take, Close, Reload}
-use Rattle.events.specs.declared.answer.Entry.{Entry}
 use Rattle.events.specs.declared.answer.Outcome.{Outcome}
 use Rattle.events.specs.declared.refusal.HubRefusal.{HubRefusal}
 use Rattle.world_deliveries.specs.Sessions.{session_of}
@@ -33,9 +32,9 @@ use Rattle.hub.specs.Replies.{is_by_grant, terms_in, grants_at, is_young, is_liv
 use Rattle.hub.specs.Sound.{user_at}
 use Rattle.hub.proofs.Finds.{find-passes, find-All}
 use Rattle.hub.proofs.Grants.{granted_is}
-use Rattle.hub_grant_laws.specs.Noted.{responds_by, responses_on, terms_at, IsLastRequest, IsNoted, IsOpenRequest, MayRespondHasRequest, ResponseHasRequest}
+use Rattle.hub_grant_laws.specs.Noted.{Step, step_of, steps_of, responds_by, responses_on, terms_at, IsLastRequest, IsNoted, IsOpenRequest, MayRespondHasRequest, ResponseHasRequest}
 use Rattle.hub_grant_laws.proofs.Tables.{both-front, both-back}
-use Rattle.hub_grant_laws.proofs.History.{HasNoted, Told, clock_is, run-told, told-opening, are_noted}
+use Rattle.hub_grant_laws.proofs.History.{HasNoted, Told, clock_is, step-keeps, run-told, told-opening, are_noted}
 
 -- ---- who may respond
 
@@ -47,14 +46,14 @@ below : (max : Option ℕ) (count answers : ℕ) → count ≡ answers → is_op
 below None count answers is h = tt
 below (Some most) count answers is h = let less = ltb-true count most h in omega (arith, is, less)
 
-open-request : (es : List Entry) (now conn : ℕ) (s : List Token) (terms : Terms) (gs : List Grant) → All (IsNoted es conn) gs → list_any (is_live_for now s terms) gs ≡ true → IsOpenRequest es now conn s terms
-open-request es now conn s terms [] noted some = absurd (cc)
-open-request es now conn s terms (g ∷ gs) noted some = here (is_live_for now s terms g) refl (open-request es now conn s terms gs (All-tail (IsNoted es conn) g gs noted))
+open-request : (steps : List Step) (now conn : ℕ) (s : List Token) (terms : Terms) (gs : List Grant) → All (IsNoted steps conn) gs → list_any (is_live_for now s terms) gs ≡ true → IsOpenRequest steps now conn s terms
+open-request steps now conn s terms [] noted some = absurd (cc)
+open-request steps now conn s terms (g ∷ gs) noted some = here (is_live_for now s terms g) refl (open-request steps now conn s terms gs (All-tail (IsNoted steps conn) g gs noted))
   where
-    first : IsNoted es conn g
-    first = All-head (IsNoted es conn) g gs noted
+    first : IsNoted steps conn g
+    first = All-head (IsNoted steps conn) g gs noted
 
-    this : is_live_for now s terms g ≡ true → IsOpenRequest es now conn s terms
+    this : is_live_for now s terms g ≡ true → IsOpenRequest steps now conn s terms
     this is =
         let alive = both-back (same_subject s g.subject) _ is in
         let same : g.subject ≡ s = sym ((pointwise_decides bytes_decides s g.subject).0 (both-front (same_subject s g.subject) _ is)) in
@@ -62,33 +61,34 @@ open-request es now conn s terms (g ∷ gs) noted some = here (is_live_for now s
           before = first.before;
           made = first.made;
           since = first.since;
-          request = subst (λ r. IsLastRequest es conn r first.before first.made first.since) same first.request;
+          request = subst (λ r. IsLastRequest steps conn r first.before first.made first.since) same first.request;
           responses = below terms.max g.count _ (first.count ∙ ap (λ r. min (2 ^ 64 - 1) (responses_on conn r first.since)) same) (both-front (is_open terms.max g.count) _ alive);
           age = within now terms.expires g.noted _ first.noted (both-back (is_open terms.max g.count) _ alive);
         }
 
-    here : (b : Bool) → is_live_for now s terms g ≡ b → (list_any (is_live_for now s terms) gs ≡ true → IsOpenRequest es now conn s terms) → IsOpenRequest es now conn s terms
+    here : (b : Bool) → is_live_for now s terms g ≡ b → (list_any (is_live_for now s terms) gs ≡ true → IsOpenRequest steps now conn s terms) → IsOpenRequest steps now conn s terms
     here true is later = this is
     here false is later = later (ap (λ b. b || list_any (is_live_for now s terms) gs) (sym is) ∙ some)
 
 -- where there is a live grant
-by_terms : (es : List Entry) (now conn : ℕ) (s : List Token) (terms : Option Terms) (gs : List Grant) → All (IsNoted es conn) gs → has_grant now s terms gs ≡ true → IsSomeAnd terms (IsOpenRequest es now conn s)
-by_terms es now conn s None gs noted some = absurd (cc)
-by_terms es now conn s (Some terms) gs noted some = open-request es now conn s terms gs noted some
+by_terms : (steps : List Step) (now conn : ℕ) (s : List Token) (terms : Option Terms) (gs : List Grant) → All (IsNoted steps conn) gs → has_grant now s terms gs ≡ true → IsSomeAnd terms (IsOpenRequest steps now conn s)
+by_terms steps now conn s None gs noted some = absurd (cc)
+by_terms steps now conn s (Some terms) gs noted some = open-request steps now conn s terms gs noted some
 
 -- the grants of a connection
-noted_at-conn : (es : List Entry) (zs : List Session) (conn : ℕ) → All (HasNoted es) zs → All (IsNoted es conn) (grants_at (session_of zs conn))
-noted_at-conn es zs conn all = here (session_of zs conn) refl
+noted_at-conn : (steps : List Step) (zs : List Session) (conn : ℕ) → All (HasNoted steps) zs → All (IsNoted steps conn) (grants_at (session_of zs conn))
+noted_at-conn steps zs conn all = here (session_of zs conn) refl
   where
-    here : (o : Option Session) → session_of zs conn ≡ o → All (IsNoted es conn) (grants_at o)
-    here None e = All-nil (IsNoted es conn)
+    here : (o : Option Session) → session_of zs conn ≡ o → All (IsNoted steps conn) (grants_at o)
+    here None e = All-nil (IsNoted steps conn)
     here (Some z) e =
-        subst (λ n. All (IsNoted es n) (grants_of z.replies)) (eqb-true z.conn conn (find-passes (λ (y : Session). y.conn == conn) zs z e))
-        (find-All (HasNoted es) (λ (y : Session). y.conn == conn) zs z all e)
+        subst (λ n. All (IsNoted steps n) (grants_of z.replies)) (eqb-true z.conn conn (find-passes (λ (y : Session). y.conn == conn) zs z e))
+        (find-All (HasNoted steps) (λ (y : Session). y.conn == conn) zs z all e)
 
 pub may_respond-request : MayRespondHasRequest
 may_respond-request policy capacity es w run now conn s may =
-    by_terms es now conn s (terms_in (user_at w conn)) (grants_at (session_of w.sessions conn)) (noted_at-conn es w.sessions conn (are_noted policy capacity es w run)) may
+    let steps : List Step = steps_of (opening_world policy capacity) es in
+    by_terms steps now conn s (terms_in (user_at w conn)) (grants_at (session_of w.sessions conn)) (noted_at-conn steps w.sessions conn (are_noted policy capacity es w run)) may
 
 -- ---- who has responded
 
@@ -130,10 +130,10 @@ told-grant conn c s subject ByGrant h = (
   (pointwise_decides bytes_decides subject s).0 (both-back (conn == c) (same_subject subject s) h),
 )
 
-module _ (es : List Entry) (w : World) (now : ℕ) (t : Told es w.moment w.sessions) where
+module _ (steps : List Step) (w : World) (now : ℕ) (t : Told steps w.moment w.sessions) where
   -- what the outcome tells as a response had an open request
   abbrev HasRequest : Command → Outcome → Type 0
-  HasRequest c o = (conn : ℕ) (s : List Token) → responds_by conn s c o ≡ true → IsSomeAnd (terms_at (session_of w.sessions conn)) (IsOpenRequest es (max w.moment now) conn s)
+  HasRequest c o = (conn : ℕ) (s : List Token) → responds_by conn s c o ≡ true → IsSomeAnd (terms_at (session_of w.sessions conn)) (IsOpenRequest steps (max w.moment now) conn s)
 
   abbrev HasRequestIn : Command → Result (Outcome × World) HubRefusal → Type 0
   HasRequestIn c (Err refusal) = Unit {0}
@@ -156,15 +156,15 @@ module _ (es : List Entry) (w : World) (now : ℕ) (t : Told es w.moment w.sessi
       M = max w.moment now
 
       sent : (z : Session) (by : By) → session_of w.sessions conn ≡ Some z → verdict_on M z m.subject ≡ Allowed by → (n : ℕ) (s : List Token) → IsTold n conn s m.subject by →
-          IsSomeAnd (terms_at (session_of w.sessions n)) (IsOpenRequest es M n s)
+          IsSomeAnd (terms_at (session_of w.sessions n)) (IsOpenRequest steps M n s)
       sent z by e verdict n s h =
           let is = told-grant n conn s m.subject by h in
           let granted : is_granted M m.subject z ≡ true = granted-by (is_granted M m.subject z) (publish_verdict z.user.rules m.subject) (not_by_lists z.user.rules m.subject) (verdict ∙ ap (λ b. Allowed b) is.0) in
           let live : has_grant M m.subject (terms_at (Some z)) (grants_at (Some z)) ≡ true = sym (granted_is m.subject M (terms_of z) (grants_of z.replies)) ∙ granted in
           let whole : has_grant M m.subject (terms_at (session_of w.sessions conn)) (grants_at (session_of w.sessions conn)) ≡ true = ap (λ o. has_grant M m.subject (terms_at o) (grants_at o)) e ∙ live in
-          subst (λ k. IsSomeAnd (terms_at (session_of w.sessions k)) (IsOpenRequest es M k s)) (sym is.1)
-          (subst (λ r. IsSomeAnd (terms_at (session_of w.sessions conn)) (IsOpenRequest es M conn r)) is.2
-          (by_terms es M conn m.subject (terms_at (session_of w.sessions conn)) (grants_at (session_of w.sessions conn)) (noted_at-conn es w.sessions conn t.noted) whole))
+          subst (λ k. IsSomeAnd (terms_at (session_of w.sessions k)) (IsOpenRequest steps M k s)) (sym is.1)
+          (subst (λ r. IsSomeAnd (terms_at (session_of w.sessions conn)) (IsOpenRequest steps M conn r)) is.2
+          (by_terms steps M conn m.subject (terms_at (session_of w.sessions conn)) (grants_at (session_of w.sessions conn)) (noted_at-conn steps w.sessions conn t.noted) whole))
 
       by_verdict : (z : Session) (v : Verdict) → session_of w.sessions conn ≡ Some z → verdict_on M z m.subject ≡ v → HasRequestIn (Pub conn m word) (numbered (w.number + 1) (Ok (published (advanced w now) z m word v)))
       by_verdict z (Allowed by) e verdict = sent z by e verdict
@@ -187,6 +187,9 @@ module _ (es : List Entry) (w : World) (now : ℕ) (t : Told es w.moment w.sessi
 
 pub response-request : ResponseHasRequest
 response-request policy capacity es w run a next is conn s h =
-    let t : Told es w.moment w.sessions = run-told [] es (opening_world policy capacity) w (told-opening policy capacity) run in
-    let has : HasRequestIn es w a.event.now t a.event.what (Ok (a.outcome, next)) = subst (HasRequestIn es w a.event.now t a.event.what) is.outcome (step-request es w a.event.now t a.event.what) in
-    subst (λ now. IsSomeAnd (terms_at (session_of w.sessions conn)) (IsOpenRequest es now conn s)) (clock_is es w a.event.now t a refl) (has conn s h)
+    let steps : List Step = steps_of (opening_world policy capacity) es in
+    let t : Told steps w.moment w.sessions = run-told [] es (opening_world policy capacity) w (told-opening policy capacity) run in
+    let has : HasRequestIn steps w a.event.now t a.event.what (Ok (a.outcome, next)) = subst (HasRequestIn steps w a.event.now t a.event.what) is.outcome (step-request steps w a.event.now t a.event.what) in
+    let later : Told (steps ++ step_of w a next ∷ []) next.moment next.sessions = (step-keeps steps w t a next is).0 a.number a.epoch in
+    subst (λ now. IsSomeAnd (terms_at (session_of w.sessions conn)) (IsOpenRequest steps now conn s))
+    (clock_is steps w a.event.now t (step_of w a next) refl ∙ sym later.clock) (has conn s h)

@@ -1,13 +1,18 @@
 -- A message on its way in whatever views it has: all that is sent is one list, delivered at once.
 use Rattle.std.proofs.Common.{◌≡◌, ◌∙◌, ℕ, List, [], ◌∷◌, ◌++◌, map, filter, ap, sym, refl}
-use Rattle.std.specs.Prelude.{All}
+use Rattle.std.specs.Prelude.{All, AllPairs, max}
 use Rattle.std.proofs.lemmas.List.{append_assoc, append-nil, append_cancel_left, map-append}
 use Rattle.std.proofs.lemmas.List.Elements.{All-nil, All-append, All-map, filter_agree, filter-append}
 use Rattle.events.specs.declared.answer.Addressed.{Addressed}
 use Rattle.events.specs.Messages.{Message}
 use Rattle.events.specs.declared.answer.Item.{Item}
 use Rattle.events.specs.declared.answer.Item.TheVariants.{MapTooLong}
+use Rattle.events.specs.declared.answer.Outcome.{Outcome}
+use Rattle.events.specs.declared.answer.Outcome.TheVariants.{Published}
+use Rattle.permissions.specs.declared.verdict.By.{By}
+use Rattle.permissions.specs.declared.verdict.Verdict.TheVariants.{Allowed}
 use Rattle.exports.specs.declared.document.Row.{Row}
+use Rattle.imports.specs.Views.{views}
 use Rattle.imports.specs.declared.view.ViewItem.{ViewItem}
 use Rattle.imports.specs.declared.view.ViewItem.TheVariants.{At, TooLong}
 use Rattle.world_deliveries.specs.Delivered.{delivered}
@@ -17,11 +22,15 @@ use Rattle.world_subscriptions.specs.Addressing.{addressed_to}
 use Rattle.world_subscriptions.specs.Limit.{unended, counted}
 use Rattle.world_rows.specs.declared.subscription.Subscription.{Subscription}
 use Rattle.world_groups.specs.Served.{served}
-use Rattle.world.specs.World.{World}
+use Rattle.world.specs.World.{World, advanced}
+use Rattle.world.specs.Granting.{counted_on, ended_on}
+use Rattle.world.specs.Transition.{published}
 use Rattle.world.specs.Routing.{View, under_subject, view_of, is_admitted, routed, in_view, in_views}
 use Rattle.world_routing.specs.Handing.{is_of_delivery, of_deliveries}
-use Rattle.hub.specs.Guarantee.{Sending, seen_in}
-use Rattle.hub.proofs.Deliveries.{sent, map-twice}
+use Rattle.hub.specs.Guarantee.{Sending}
+use Rattle.world_routing.proofs.Publishing.{same_met}
+use Rattle.hub.proofs.Soundness.{IsApart}
+use Rattle.hub.proofs.Deliveries.{sent, map-twice, items_after, receives_of, outboxes}
 use Rattle.hub.proofs.Views.{to_each, of-deliveries, delivered_first, delivered_items}
 
 -- what stays the same over the views: the sessions before the message, those with which the first view begins, and the
@@ -110,7 +119,8 @@ pub record Sends (Q : Sending → Type 0) (b : Start) (publisher : Session) (m :
 
 -- of a view all is so that it can send
 abbrev pub IsOf : (Sending → Type 0) → Message → ViewItem → Type 0
-IsOf Q m v = (s : Subscription) → Q record { message = seen_in v m; to = s }
+IsOf Q m (At account subject way) = (s : Subscription) → Q record { message = under_subject subject m; to = s }
+IsOf Q m (TooLong row) = Unit {0}
 
 -- a view that sends these, and then the others
 sends-then : (Q : Sending → Type 0) (b : Start) (publisher : Session) (m : Message) (word : ℕ) (done ss : List Sending) (subs left : List Subscription) (items : List Item) (v : ViewItem) (vs : List ViewItem) →
@@ -147,6 +157,31 @@ sends Q b publisher m word done subs (At account subject way ∷ vs) of =
     (sends Q b publisher m word (done ++ first) left vs of)
 sends Q b publisher m word done subs (TooLong row ∷ vs) of =
     sends-then Q b publisher m word done [] subs subs (MapTooLong row ∷ []) (TooLong row) vs (All-nil Q) refl (row-is b done subs row) (sends Q b publisher m word (done ++ []) subs vs of)
+
+-- what is sent of a message that is published, each of which is so, what is told of it, and the world after it
+pub record Publishes (Q : Sending → Type 0) (w : World) (now : ℕ) (publisher : Session) (m : Message) (word : ℕ) (by : By) : Type 0 where
+  pub ss : List Sending
+  pub each : All Q ss
+  pub left : List Subscription
+  pub items : List Item
+  pub met : of_deliveries items ≡ items_after w.sessions (max w.moment now) ss w.sessions
+  pub is : published (advanced w now) publisher m word (Allowed by)
+      ≡ (Published by items, record (advanced w now) { sessions = map (receives_of (max w.moment now) by publisher.conn m.subject ss) w.sessions; subscriptions = left })
+
+pub publishes : (Q : Sending → Type 0) (w : World) (now : ℕ) (publisher : Session) (m : Message) (word : ℕ) (by : By) → AllPairs IsApart w.sessions → ((v : ViewItem) → IsOf Q m v) → Publishes Q w now publisher m word by
+publishes Q w now publisher m word by apart of =
+    let begin : Start = record { before = w.sessions; begun = counted_on by publisher.conn m.subject w.sessions; world = advanced w now } in
+    let all = sends Q begin publisher m word [] w.subscriptions (views w.policy publisher.user.account m.subject) of in
+    let finished : List Item × World → Outcome × World = λ r. (Published by r.0, record r.1 { sessions = ended_on by publisher.conn m.subject r.1.sessions }) in
+    record {
+      ss = all.ss;
+      each = all.each;
+      left = all.left;
+      items = all.items;
+      met = all.met ∙ same_met by publisher.conn m.subject (max w.moment now) (map (sent w.sessions) all.ss) w.sessions;
+      is = ap finished all.is
+          ∙ ap (λ (zs : List Session). (Published by all.items, record (advanced w now) { sessions = zs; subscriptions = all.left })) (outboxes (max w.moment now) publisher.conn m.subject all.ss w.sessions by apart);
+    }
 
 -- ---- two of them
 

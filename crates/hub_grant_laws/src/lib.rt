@@ -4,4 +4,4 @@
 
 mod laws;
 
-pub use laws::{any_event, any_events, any_history};
+pub use laws::{any_event, any_events, any_history, requests_are_told};

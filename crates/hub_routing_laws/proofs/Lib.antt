@@ -1,5 +1,6 @@
 mod Lists
 mod Seen
 mod Reaching
+mod Within
 mod Denying
 mod Reloading

@@ -2,7 +2,6 @@
 use Rattle.std.proofs.Common.{◌≡◌, ◌∙◌, ◌==◌, ◌&&◌, ◌++◌, ℕ, Bool, true, not, List, [], ◌∷◌, map, filter, length, get_or, Option, Some, None, ap, sym, refl, subst}
 use Rattle.std.proofs.Math.Path.{subst₂}
 use Rattle.std.specs.Prelude.{All, Contains, IfSome, IsSomeAnd, is_some, max}
-use Rattle.std.specs.List.{flat_map}
 use Rattle.std.specs.Option.{option_map}
 use Rattle.std.specs.Cmp.Lexicographic.{bytes_decides}
 use Rattle.std.proofs.lemmas.Bool.{eqb-true}
@@ -30,11 +29,11 @@ use Rattle.world_rows.specs.declared.subscription.Subscription.{Subscription}
 use Rattle.world_subscriptions.specs.Addressing.{delivery_to}
 use Rattle.world_groups.specs.Served.{members}
 use Rattle.world.specs.World.{World}
-use Rattle.world.specs.Routing.{under_subject}
+use Rattle.world.specs.Routing.{View, view_of, under_subject}
 use Rattle.hub.specs.Sound.{user_at, is_below, is_to_receive}
 use Rattle.hub.specs.History.{State}
 use Rattle.hub.specs.InForce.{policy_after}
-use Rattle.hub.specs.Guarantee.{IsRouted, IsEffect, IsSent, IsGiven, IsGivenTo, Part, Sending, eligible, is_plain, is_for, may_receive, item_names, names_of, received_more, receives, room_in, sendings_in, sendings, sent_to, delivery_of}
+use Rattle.hub.specs.Guarantee.{IsRouted, IsEffect, IsSent, IsPart, IsGiven, IsGivenTo, Part, told_by, Sending, eligible, is_plain, is_for, may_receive, item_names, names_of, received_more, receives, room_in, sendings_in, sendings, sent_to, delivery_of}
 use Rattle.hub.proofs.Finds.{find-map, find-passes}
 use Rattle.hub_routing_laws.specs.Seen.{IsSeen, IsReported}
 use Rattle.hub_routing_laws.specs.Reach.{OfEachPublish, AreNew, IsTold, IsAdmitted, NamesAdmitted, IsDeliveryToAdmitted, NothingUnadmitted, NobodyLeftOut, IsOfAccount, IsToOne, IsDeliveryToOne, ReachesItsViews, MayHave, AccountsApart, HasOneOfEach, OneOfEachGroup}
@@ -63,45 +62,48 @@ weaker Holds Follows follows each s e a after routed conn m word by items asked 
 -- ---- the parts
 
 -- what may be sent to where the message is seen stood, and is for it
-eligible_are : (w : World) (conn : ℕ) (told : List Item) (account : List ℕ) (m : Message) (into : List ℕ) (local : List Token) → IsSeen w.policy account m.subject into local → All (IsAdmitted w conn account m into local) (eligible w conn told into local)
-eligible_are w conn told account m into local seen k d below = record {
+eligible_are : (w : World) (conn : ℕ) (before : List Part) (account : List ℕ) (m : Message) (into : List ℕ) (local : List Token) → IsSeen w.policy account m.subject into local → All (IsAdmitted w conn account m into local) (eligible w conn before (view_of into local m))
+eligible_are w conn before account m into local seen k d below = record {
   seen = seen;
   stood = All-filter test (Contains w.subscriptions) w.subscriptions (All-contains_itself w.subscriptions) k d below;
   may = front _ _ (filter_passes test w.subscriptions k d below);
 }
   where
     test : Subscription → Bool
-    test sub = is_for w conn into local sub && is_to_receive (received_more told sub)
+    test sub = is_for w conn into local sub && is_to_receive (received_more (told_by before) sub)
 
 -- an item that names a subscription
 abbrev pub named : Subscription → Option (ℕ × List ℕ)
 named sub = Some (names_of sub)
 
 -- what a view gives is for such subscriptions, an item each; or it reports a row
-abbrev IsAdmittedIn : World → ℕ → List ℕ → Message → ViewItem → List Subscription → List Item → Type 0
-IsAdmittedIn w conn account m (At into local way) subs items = All (IsAdmitted w conn account m into local) subs × (map item_names items ≡ map named subs)
-IsAdmittedIn w conn account m (TooLong row) subs items = IsReported w.policy account m.subject row × (subs ≡ []) × (items ≡ MapTooLong row ∷ [])
+abbrev IsAdmittedIn : World → ℕ → List ℕ → Message → Part → ViewItem → Type 0
+IsAdmittedIn w conn account m p (At into local way) = (p.seen ≡ view_of into local m) × All (IsAdmitted w conn account m into local) p.subs × (map item_names p.items ≡ map named p.subs)
+IsAdmittedIn w conn account m p (TooLong row) = IsReported w.policy account m.subject row × (p.subs ≡ []) × (p.items ≡ MapTooLong row ∷ [])
 
 abbrev IsAdmittedPart : World → ℕ → List ℕ → Message → Part → Type 0
-IsAdmittedPart w conn account m p = IsAdmittedIn w conn account m p.view p.subs p.items
+IsAdmittedPart w conn account m p = IsAdmittedIn w conn account m p p.view
 
-part_is : (w : World) (conn word : ℕ) (account : List ℕ) (m : Message) (told : List Item) (v : ViewItem) (subs : List Subscription) (items : List Item) → Contains (views w.policy account m.subject) v → IsGiven w conn word told v subs items →
-    IsAdmittedIn w conn account m v subs items
-part_is w conn word account m told (At into local way) subs items has given = (
-  subst (All (IsAdmitted w conn account m into local)) (sym given.served.some)
-      (All-filter given.served.which (IsAdmitted w conn account m into local) _ (eligible_are w conn told account m into local record { way = way; view = has })),
-  given.one_each,
+part_is : (w : World) (conn word : ℕ) (account : List ℕ) (m : Message) (before : List Part) (p : Part) (v : ViewItem) → Contains (views w.policy account m.subject) v → IsGiven w conn m word before p v →
+    IsAdmittedIn w conn account m p v
+part_is w conn word account m before p (At into local way) has given = (
+  given.0,
+  subst (All (IsAdmitted w conn account m into local)) (sym given.1.served.some)
+      (All-filter given.1.served.which (IsAdmitted w conn account m into local) (eligible w conn before p.seen)
+      (subst (λ (v : View). All (IsAdmitted w conn account m into local) (eligible w conn before v)) (sym given.0)
+      (eligible_are w conn before account m into local record { way = way; view = has }))),
+  given.1.one_each,
 )
-part_is w conn word account m told (TooLong row) subs items has given = (has, given.0, given.1)
+part_is w conn word account m before p (TooLong row) has given = (has, given.0, given.1)
 
 parts_are : (w : World) (now : ℕ) (by : By) (conn : ℕ) (m : Message) (word : ℕ) (account : List ℕ) (items : List Item) (after : List Session) → (sent : IsSent w now by conn m word account items after) →
     All (IsAdmittedPart w conn account m) sent.parts
 parts_are w now by conn m word account items after sent k d below =
-    part_is w conn word account m _ _ _ _ (All-in_map (λ (p : Part). p.view) sent.parts (views w.policy account m.subject) sent.in_views k d below)
-    ((each_split Parted sent.parts (λ before p later at. (_, sent.each before p later at)) k d below).1)
+    part_is w conn word account m _ _ _ (All-in_map (λ (p : Part). p.view) sent.parts (views w.policy account m.subject) sent.in_views k d below)
+    ((each_split Parted sent.parts (λ before p later at. (before, sent.each before p later at)) k d below).1)
   where
     Parted : Part → Type 0
-    Parted p = (told : List Item) × IsGiven w conn word told p.view p.subs p.items
+    Parted p = (before : List Part) × IsPart w conn m word before p
 
 -- ---- items
 
@@ -124,10 +126,10 @@ item_is w conn account m into local (Entered to sid) sub admitted names = let sa
 item_is w conn account m into local (Full to sid) sub admitted names = let same : names_of sub ≡ (to, sid) = cc in (into, local, sub, admitted, same)
 item_is w conn account m into local (MapTooLong row) sub admitted names = absurd (cc)
 
-items_in : (w : World) (conn : ℕ) (account : List ℕ) (m : Message) (v : ViewItem) (subs : List Subscription) (items : List Item) → IsAdmittedIn w conn account m v subs items → All (IsItemOfAdmitted w conn account m) items
-items_in w conn account m (At into local way) subs items part =
-    (λ k d below. let is = names_each (IsAdmitted w conn account m into local) items subs part.1 part.0 k d below in item_is w conn account m into local (get_or items k d) is.0 is.1 is.2)
-items_in w conn account m (TooLong row) subs items part =
+items_in : (w : World) (conn : ℕ) (account : List ℕ) (m : Message) (p : Part) (v : ViewItem) → IsAdmittedIn w conn account m p v → All (IsItemOfAdmitted w conn account m) p.items
+items_in w conn account m p (At into local way) part =
+    (λ k d below. let is = names_each (IsAdmitted w conn account m into local) p.items p.subs part.2 part.1 k d below in item_is w conn account m into local (get_or p.items k d) is.0 is.1 is.2)
+items_in w conn account m p (TooLong row) part =
     subst (All (IsItemOfAdmitted w conn account m)) (sym part.2) (All-cons (IsItemOfAdmitted w conn account m) (MapTooLong row) [] part.0 (All-nil (IsItemOfAdmitted w conn account m)))
 
 -- ---- deliveries
@@ -136,15 +138,16 @@ items_in w conn account m (TooLong row) subs items part =
 abbrev IsAdmittedSending : World → ℕ → List ℕ → Message → Sending → Type 0
 IsAdmittedSending w conn account m s = (into : List ℕ) × (local : List Token) × IsAdmitted w conn account m into local s.to × (s.message ≡ under_subject local m)
 
-sendings_of : (w : World) (conn : ℕ) (account : List ℕ) (m : Message) (v : ViewItem) (subs : List Subscription) (items : List Item) → IsAdmittedIn w conn account m v subs items →
-    All (IsAdmittedSending w conn account m) (sendings_in m record { view = v; subs = subs; items = items })
-sendings_of w conn account m (At into local way) subs items part = All-map (IsAdmittedSending w conn account m) _ subs (λ k d below. (into, local, part.0 k d below, refl))
-sendings_of w conn account m (TooLong row) subs items part =
-    subst (λ (l : List Subscription). All (IsAdmittedSending w conn account m) (map (λ (sub : Subscription). record { message = m; to = sub }) l)) (sym part.1) (All-nil (IsAdmittedSending w conn account m))
+sendings_of : (w : World) (conn : ℕ) (account : List ℕ) (m : Message) (p : Part) (v : ViewItem) → IsAdmittedIn w conn account m p v → All (IsAdmittedSending w conn account m) (sendings_in p)
+sendings_of w conn account m p (At into local way) part =
+    All-map (IsAdmittedSending w conn account m) (λ (sub : Subscription). record { message = p.seen.message; to = sub }) p.subs
+    (λ k d below. (into, local, part.1 k d below, ap (λ (v : View). v.message) part.0))
+sendings_of w conn account m p (TooLong row) part =
+    subst (λ (l : List Subscription). All (IsAdmittedSending w conn account m) (map (λ (sub : Subscription). record { message = p.seen.message; to = sub }) l)) (sym part.1) (All-nil (IsAdmittedSending w conn account m))
 
-sendings_are : (w : World) (conn : ℕ) (account : List ℕ) (m : Message) (parts : List Part) → All (IsAdmittedPart w conn account m) parts → All (IsAdmittedSending w conn account m) (sendings m parts)
+sendings_are : (w : World) (conn : ℕ) (account : List ℕ) (m : Message) (parts : List Part) → All (IsAdmittedPart w conn account m) parts → All (IsAdmittedSending w conn account m) (sendings parts)
 sendings_are w conn account m parts all =
-    All-flat_map (IsAdmittedSending w conn account m) (sendings_in m) parts (λ k d below. let p = get_or parts k d in sendings_of w conn account m p.view p.subs p.items (all k d below))
+    All-flat_map (IsAdmittedSending w conn account m) sendings_in parts (λ k d below. let p = get_or parts k d in sendings_of w conn account m p p.view (all k d below))
 
 delivery_is : (w : World) (conn : ℕ) (account : List ℕ) (m : Message) (to : ℕ) (s : Sending) → IsAdmittedSending w conn account m s → (s.to.conn == to) ≡ true → IsDeliveryToAdmitted w conn account m to (delivery_of s)
 delivery_is w conn account m to s is here = (is.0, is.1, s.to, is.2, eqb-true s.to.conn to here, ap (λ (message : Message). delivery_to message s.to) is.3)
@@ -182,31 +185,34 @@ pub nothing_unadmitted : NothingUnadmitted
 nothing_unadmitted = of_each _ (λ w after now by conn m word u items sent. record {
   told = subst (All (IsItemOfAdmitted w conn u.account m)) (sym sent.items_are)
       (All-flat_map (IsItemOfAdmitted w conn u.account m) (λ (p : Part). p.items) sent.parts
-      (λ k d below. items_in w conn u.account m _ _ _ (parts_are w now by conn m word u.account items after.sessions sent k d below)));
-  sent = new_in (IsDeliveryToAdmitted w conn u.account m) now by conn m (sendings m sent.parts) w.sessions after.sessions
-      (λ to. deliveries_to w conn u.account m to (sendings m sent.parts) (sendings_are w conn u.account m sent.parts (parts_are w now by conn m word u.account items after.sessions sent)))
+      (λ k d below. items_in w conn u.account m (get_or sent.parts k d) (get_or sent.parts k d).view (parts_are w now by conn m word u.account items after.sessions sent k d below)));
+  sent = new_in (IsDeliveryToAdmitted w conn u.account m) now by conn m (sendings sent.parts) w.sessions after.sessions
+      (λ to. deliveries_to w conn u.account m to (sendings sent.parts) (sendings_are w conn u.account m sent.parts (parts_are w now by conn m word u.account items after.sessions sent)))
       sent.delivered.outboxes;
 })
 
 -- ---- nobody is left out
 
 -- whom a view gives the message has an item
-given_has : (w : World) (conn word : ℕ) (told : List Item) (into : List ℕ) (local : List Token) (subs : List Subscription) (items : List Item) (sub : Subscription) → IsGivenTo w conn word told into local subs items →
-    Contains w.subscriptions sub → is_for w conn into local sub ≡ true → sub.queue ≡ None → sub.most ≡ None → Contains (map item_names items) (named sub)
-given_has w conn word told into local subs items sub given stood may plain unlimited =
-    subst (λ l. Contains l (named sub)) (sym given.one_each) (Contains-map named subs sub served)
+given_has : (w : World) (conn word : ℕ) (before : List Part) (p : Part) (sub : Subscription) → IsGivenTo w conn word before p →
+    Contains w.subscriptions sub → is_for w conn p.seen.account p.seen.message.subject sub ≡ true → sub.queue ≡ None → sub.most ≡ None → Contains (map item_names p.items) (named sub)
+given_has w conn word before p sub given stood may plain unlimited =
+    subst (λ l. Contains l (named sub)) (sym given.one_each) (Contains-map named p.subs sub served)
   where
+    more : Subscription → Subscription
+    more = received_more (told_by before)
+
     test : Subscription → Bool
-    test x = is_for w conn into local x && is_to_receive (received_more told x)
+    test x = is_for w conn p.seen.account p.seen.message.subject x && is_to_receive (more x)
 
     passes : test sub ≡ true
-    passes = ap (λ b. b && is_to_receive (received_more told sub)) may ∙ ap (λ o. is_below o (received_more told sub).received) unlimited
+    passes = ap (λ b. b && is_to_receive (more sub)) may ∙ ap (λ o. is_below o (more sub).received) unlimited
 
-    able : Contains (filter is_plain (eligible w conn told into local)) sub
-    able = Contains-filter is_plain (eligible w conn told into local) sub (Contains-filter test w.subscriptions sub stood passes) (ap (λ o. not (is_some o)) plain)
+    able : Contains (filter is_plain (eligible w conn before p.seen)) sub
+    able = Contains-filter is_plain (eligible w conn before p.seen) sub (Contains-filter test w.subscriptions sub stood passes) (ap (λ o. not (is_some o)) plain)
 
-    served : Contains subs sub
-    served = All-contains (Contains subs) (filter is_plain subs) sub (All-filter is_plain (Contains subs) subs (All-contains_itself subs)) (subst (λ l. Contains l sub) (sym given.served.plain) able)
+    served : Contains p.subs sub
+    served = All-contains (Contains p.subs) (filter is_plain p.subs) sub (All-filter is_plain (Contains p.subs) p.subs (All-contains_itself p.subs)) (subst (λ l. Contains l sub) (sym given.served.plain) able)
 
 left_out : (w : World) (now : ℕ) (by : By) (conn : ℕ) (m : Message) (word : ℕ) (account : List ℕ) (items : List Item) (after : List Session) → IsSent w now by conn m word account items after →
     (into : List ℕ) (local : List Token) (sub : Subscription) → IsAdmitted w conn account m into local sub → sub.queue ≡ None → sub.most ≡ None → Contains (map item_names items) (named sub)
@@ -221,21 +227,21 @@ left_out w now by conn m word account items after sent into local sub admitted p
     part : IsSplit (λ (p : Part). p.view) sent.parts v
     part = split_at (λ (p : Part). p.view) sent.parts v (subst (λ l. Contains l v) (sym sent.in_views) admitted.seen.view)
 
-    told : List Item
-    told = flat_map (λ (q : Part). q.items) part.before
+    given : IsGiven w conn m word part.before part.here v
+    given = subst (IsGiven w conn m word part.before part.here) part.makes (sent.each part.before part.here part.later part.all)
 
-    given : IsGiven w conn word told v part.here.subs part.here.items
-    given = subst (λ x. IsGiven w conn word told x part.here.subs part.here.items) part.makes (sent.each part.before part.here part.later part.all)
+    may : is_for w conn part.here.seen.account part.here.seen.message.subject sub ≡ true
+    may = subst (λ (x : View). is_for w conn x.account x.message.subject sub ≡ true) (sym given.0) admitted.may
 
     item : IsSplit item_names part.here.items (named sub)
-    item = split_at item_names part.here.items (named sub) (given_has w conn word told into local part.here.subs part.here.items sub given admitted.stood admitted.may plain unlimited)
+    item = split_at item_names part.here.items (named sub) (given_has w conn word part.before part.here sub given.1 admitted.stood may plain unlimited)
 
 pub nobody_left_out : NobodyLeftOut
 nobody_left_out = of_each _ (λ w after now by conn m word u items sent. left_out w now by conn m word u.account items after.sessions sent)
 
 -- ---- what follows for each
 
-told_weaker : (P Q : ℕ → List ℕ → Type 0) (R S : Row → Type 0) → ((conn : ℕ) (sid : List ℕ) → P conn sid → Q conn sid) → ((row : Row) → R row → S row) → (items : List Item) → All (IsTold P R) items → All (IsTold Q S) items
+pub told_weaker : (P Q : ℕ → List ℕ → Type 0) (R S : Row → Type 0) → ((conn : ℕ) (sid : List ℕ) → P conn sid → Q conn sid) → ((row : Row) → R row → S row) → (items : List Item) → All (IsTold P R) items → All (IsTold Q S) items
 told_weaker P Q R S names rows items all k d below = here (get_or items k d) (all k d below)
   where
     here : (item : Item) → IsTold P R item → IsTold Q S item
@@ -290,19 +296,21 @@ accounts_apart = weaker _ _ (λ w after conn u m items valid reaches. record {
 
 -- ---- queue groups
 
-one_of_each : (w : World) (conn word : ℕ) (told : List Item) (v : ViewItem) (subs : List Subscription) (items : List Item) → IsGiven w conn word told v subs items → HasOneOfEach w conn told v subs items
-one_of_each w conn word told (At into local way) subs items given = record {
-  named = given.one_each;
-  may = subst (All (Contains (eligible w conn told into local))) (sym given.served.some)
-      (All-filter given.served.which (Contains (eligible w conn told into local)) _ (All-contains_itself (eligible w conn told into local)));
-  one = λ name some. sym (length-map (members name subs) Some) ∙ ap length (given.served.one_each name some);
+one_of_each : (w : World) (conn word : ℕ) (m : Message) (before : List Part) (p : Part) (v : ViewItem) → IsGiven w conn m word before p v → HasOneOfEach w conn before p v
+one_of_each w conn word m before p (At into local way) given = record {
+  account = ap (λ (x : View). x.account) given.0;
+  subject = ap (λ (x : View). x.message.subject) given.0;
+  named = given.1.one_each;
+  may = subst (All (Contains (eligible w conn before p.seen))) (sym given.1.served.some)
+      (All-filter given.1.served.which (Contains (eligible w conn before p.seen)) _ (All-contains_itself (eligible w conn before p.seen)));
+  one = λ name some. sym (length-map (members name p.subs) Some) ∙ ap length (given.1.served.one_each name some);
 }
-one_of_each w conn word told (TooLong row) subs items given = given.1
+one_of_each w conn word m before p (TooLong row) given = given.1
 
 pub one_of_each_group : OneOfEachGroup
 one_of_each_group = of_each _ (λ w after now by conn m word u items sent. record {
   parts = sent.parts;
   in_views = sent.in_views;
   items_are = sent.items_are;
-  each = λ before p later at. one_of_each w conn word _ p.view p.subs p.items (sent.each before p later at);
+  each = λ before p later at. one_of_each w conn word m before p p.view (sent.each before p later at);
 })

@@ -1,6 +1,6 @@
 -- Whom a published message reaches (docs/GUARANTEE.md, "Laws of routing").
 use Rattle.std.specs.Prelude.{◌≡◌, ◌⊎◌, ◌∷◌, ◌++◌, ℕ, List, [], true, length, map, Some, None, All, Contains, IfSome, IsSomeAnd}
-use Rattle.std.specs.List.{list_any, flat_map}
+use Rattle.std.specs.List.{list_any}
 use Rattle.subjects.specs.Subject.{Token}
 use Rattle.exports.specs.declared.document.Row.{Row}
 use Rattle.policy_doc.specs.declared.document.PolicyDoc.{PolicyDoc}
@@ -26,7 +26,7 @@ use Rattle.world.specs.World.{World}
 use Rattle.world.specs.Routing.{under_subject}
 use Rattle.hub.specs.Sound.{user_at}
 use Rattle.hub.specs.History.{State}
-use Rattle.hub.specs.Guarantee.{IsRouted, Part, eligible, is_for, item_names, names_of}
+use Rattle.hub.specs.Guarantee.{IsRouted, Part, told_by, eligible, is_for, item_names, names_of}
 use Rattle.hub_routing_laws.specs.Seen.{IsSeen, IsReported, IsOwn, IsTaken, IsTooLong}
 
 -- What holds whenever a message is published: of the worlds before and after, the connection, its user in the policy in
@@ -119,25 +119,27 @@ AccountsApart = OfEachPublish (λ w after conn u m items.
 
 -- ---- queue groups
 
--- What is told of one view in an account, on a subject, once earlier views have told this: an item for each of some
--- subscriptions that may be sent the message there, of which one, and no other, is a member of each queue group that has a
--- member among those.
-pub record HasOneOfEachAt (w : World) (conn : ℕ) (told : List Item) (into : List ℕ) (local : List Token) (subs : List Subscription) (items : List Item) : Type 0 where
-  pub named : map item_names items ≡ map (λ (sub : Subscription). Some (names_of sub)) subs
-  pub may : All (Contains (eligible w conn told into local)) subs
-  pub one : (name : List ℕ) → list_any (is_member name) (eligible w conn told into local) ≡ true → length (members name subs) ≡ 1
+-- What is told of one view in an account, on a subject, behind the parts before it: an item for each of some subscriptions
+-- that may be sent the message there, of which one, and no other, is a member of each queue group that has a member among
+-- those.
+pub record HasOneOfEachAt (w : World) (conn : ℕ) (before : List Part) (into : List ℕ) (local : List Token) (p : Part) : Type 0 where
+  pub account : p.seen.account ≡ into
+  pub subject : p.seen.message.subject ≡ local
+  pub named : map item_names p.items ≡ map (λ (sub : Subscription). Some (names_of sub)) p.subs
+  pub may : All (Contains (eligible w conn before p.seen)) p.subs
+  pub one : (name : List ℕ) → list_any (is_member name) (eligible w conn before p.seen) ≡ true → length (members name p.subs) ≡ 1
 
 -- of a row that is reported nothing else is told
-abbrev pub HasOneOfEach : World → ℕ → List Item → ViewItem → List Subscription → List Item → Type 0
-HasOneOfEach w conn told (At into local way) subs items = HasOneOfEachAt w conn told into local subs items
-HasOneOfEach w conn told (TooLong row) subs items = items ≡ MapTooLong row ∷ []
+abbrev pub HasOneOfEach : World → ℕ → List Part → Part → ViewItem → Type 0
+HasOneOfEach w conn before p (At into local way) = HasOneOfEachAt w conn before into local p
+HasOneOfEach w conn before p (TooLong row) = p.items ≡ MapTooLong row ∷ []
 
 -- What is told is what is told of each view, in order.
 pub record HasOneInEach (w : World) (conn : ℕ) (account : List ℕ) (m : Message) (items : List Item) : Type 0 where
   pub parts : List Part
   pub in_views : map (λ (p : Part). p.view) parts ≡ views w.policy account m.subject
-  pub items_are : items ≡ flat_map (λ (p : Part). p.items) parts
-  pub each : (before : List Part) (p : Part) (later : List Part) → parts ≡ before ++ p ∷ later → HasOneOfEach w conn (flat_map (λ (q : Part). q.items) before) p.view p.subs p.items
+  pub items_are : items ≡ told_by parts
+  pub each : (before : List Part) (p : Part) (later : List Part) → parts ≡ before ++ p ∷ later → HasOneOfEach w conn before p p.view
 
 -- Of each queue group with a member that may be sent the message exactly one has an item, in each view.
 abbrev pub OneOfEachGroup : Type 0

@@ -2,6 +2,7 @@
 ghost use Rattle.hub_routing_laws.specs.Denied.{DenyOverridesPublish, DenyOverridesSubscribe, DenyOverridesDelivery, DeniedReachesNobody};
 ghost use Rattle.hub_routing_laws.specs.Reach.{NothingUnadmitted, NobodyLeftOut, ReachesItsViews, AccountsApart, OneOfEachGroup};
 ghost use Rattle.hub_routing_laws.specs.Seen.{SeenByRows, ReportedByRows, RowsPair};
+ghost use Rattle.hub_routing_laws.specs.Within.{SeenWithin, ReachesItsSet};
 ghost use Rattle.hub_routing_laws.specs.Standing.{RefusedChangesNothing, ReloadLeavesNoneRefused};
 
 /// Tells that of a user's lists a deny entry wins over every allow entry. A publish that one has the subject of is denied,
@@ -62,6 +63,13 @@ pub fn rows_pair()
 /// that one alone, which an export of the first admits.
 pub fn accounts_apart()
     ensures { AccountsApart }
+{}
+
+/// Tells that a message of an account reaches only accounts of its closed set, and so it is of its views. A set of accounts is
+/// closed where no import row has one end in it and one outside.
+pub fn reaches_its_set()
+    ensures seen { SeenWithin }
+    ensures reaches { ReachesItsSet }
 {}
 
 /// Tells that a publish that is denied reaches nobody: no session, outbox or subscription changes.

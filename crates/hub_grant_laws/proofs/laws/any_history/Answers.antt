@@ -1,4 +1,4 @@
-use Rattle.hub_grant_laws.proofs.History.{are_noted}
+use Rattle.hub_grant_laws.proofs.History.{are_noted, are_published}
 use Rattle.hub_grant_laws.proofs.Requests.{may_respond-request, response-request}
 use Rattle.hub_grant_laws.proofs.laws.any_history.Goals as goal
 
@@ -10,3 +10,6 @@ returns-clause-may_respond c = may_respond-request
 
 pub returns-clause-responses : goal.returns-clause-responses
 returns-clause-responses c = response-request
+
+pub returns-clause-requests : goal.returns-clause-requests
+returns-clause-requests c = are_published
