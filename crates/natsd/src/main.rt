@@ -1,20 +1,27 @@
 //! natsd: the routing core of a multi-tenant NATS server.
 #![tactic(auto)]
 
+ghost use Rattle.std.specs.Prelude.{◌≡◌, Err};
 ghost use Rattle.command_line.specs.Options.{AreServable};
 
+mod notes;
 mod on_file;
+mod policy_input;
 mod serve;
 mod telling;
 
+use command_line::ServeOptions;
 use devices::{ReadSource, WriteSink};
+use notes::tell_of_input;
 use on_file::run_on_file;
+use policy_input::PolicyInput;
 use policy_source::{Frames, WatchedFile};
 use serve::serve_clients;
 use server::Outputs;
 use server_log::ServerLog;
 use server_prints::{Prints, print_all};
 use std::hash::RandomState;
+use std::io::Read;
 use std::process::ExitCode;
 use std::random::RandomSource;
 use std::rt::Env;
@@ -26,64 +33,63 @@ use telling::{FileWatcher, level_of};
 const ROOM: usize = 1024 * 1024;
 
 fn main(rt: HostRuntime) -> ExitCode {
-    let start = start(&rt);
-    let mut source = ReadSource::new(rt.reader());
+    let mut input = PolicyInput::new(rt.alloc(), rt.reader());
+    let options = match done(&rt, &mut input) {
+        Ok(status) => return ExitCode::from(status),
+        Err(options) => options,
+    };
+    let source = ReadSource::new(input.into_reader());
+    let (prints, errors) = (Prints::new(rt.alloc()), Prints::with_room(rt.alloc(), ROOM));
+    let (mut stdout, mut stderr) = (rt.stdout(), rt.stderr());
+    let (rt, options, prints, told) = (&rt, &options, &prints, &errors);
+    let (writer, other) = (&mut stdout, &mut stderr);
+    // (threads of their own print, so nothing else waits until the lines are taken)
+    let (_, status) = thread::join(
+        rt,
+        || thread::join(
+            rt,
+            || print_all(rt, rt.alloc(), prints, writer),
+            || print_all(rt, rt.alloc(), told, other),
+        ),
+        || -> u8
+            requires { AreServable options.now }
+        {
+            let log = ServerLog::new(rt.alloc(), level_of(options.log), told);
+            let outputs = Outputs { prints, log: &log };
+            match &options.policy {
+                Some(path) => {
+                    let mut watcher = FileWatcher { rt, log: &log };
+                    let mut policies = WatchedFile::new(rt, path.as_str(), &mut watcher);
+                    serve_clients(rt, options, &mut policies, outputs)
+                }
+                None => serve_clients(rt, options, &mut Frames::new(rt.alloc(), source), outputs),
+            }
+        },
+    );
+    ExitCode::from(status)
+}
+
+/// Does what the command line asks for, and returns the status; or the options by which clients are to be served.
+fn done<I: Read>(rt: &HostRuntime, input: &mut PolicyInput<I>) -> Result<u8, ServeOptions>
+    ensures { (options : ServeOptions) → result ≡ Err options → AreServable options }
+{
+    let start = start(rt);
     let mut sink = WriteSink::new(rt.stdout());
     let mut errors = WriteSink::new(rt.stderr());
-    match run(rt.alloc(), &start, &mut source, &mut sink, &mut errors) {
-        Ran::Ended(status) => ExitCode::from(status),
-        Ran::OnFile(task, file) => match &start {
-            Ok(start) => ExitCode::from(run_on_file(
-                &rt,
-                start.keys,
-                &task,
-                file.as_str(),
-                &mut sink,
-                &mut errors,
-            )),
-            // (who hasn't started names no file)
-            Err(_) => ExitCode::from(1),
-        },
-        Ran::Serve(options) => {
-            let (prints, errors) = (Prints::new(rt.alloc()), Prints::with_room(rt.alloc(), ROOM));
-            let (mut stdout, mut stderr) = (rt.stdout(), rt.stderr());
-            let (rt, options, lines, told) = (&rt, &options, &prints, &errors);
-            let (writer, other) = (&mut stdout, &mut stderr);
-            // (threads of their own print, so nothing else waits until the lines are taken)
-            let (_, status) = thread::join(
-                rt,
-                || thread::join(
-                    rt,
-                    || print_all(rt, rt.alloc(), lines, writer),
-                    || print_all(rt, rt.alloc(), told, other),
-                ),
-                || -> u8
-                    requires { AreServable options.now }
-                {
-                    let log = ServerLog::new(rt.alloc(), level_of(options.log), told);
-                    let outputs = Outputs {
-                        prints: lines,
-                        log: &log,
-                    };
-                    match &options.policy {
-                        Some(path) => {
-                            let mut watcher = FileWatcher {
-                                rt,
-                                log: &log,
-                                errors: told,
-                            };
-                            let mut policies = WatchedFile::new(rt, path.as_str(), &mut watcher);
-                            serve_clients(rt, options, &mut policies, outputs)
-                        }
-                        None => {
-                            let mut policies = Frames::new(rt.alloc(), source);
-                            serve_clients(rt, options, &mut policies, outputs)
-                        }
-                    }
-                },
-            );
-            ExitCode::from(status)
+    match run(rt.alloc(), &start, input, &mut sink, &mut errors) {
+        Ran::Ended(status) => {
+            tell_of_input(rt.alloc(), &start, input, &mut errors);
+            Ok(status)
         }
+        Ran::OnFile(task, file) => match &start {
+            Ok(start) => {
+                let path = file.as_str();
+                Ok(run_on_file(rt, start.keys, &task, path, &mut sink, &mut errors))
+            }
+            // (who hasn't started names no file)
+            Err(_) => Ok(1),
+        },
+        Ran::Serve(options) => Err(options),
     }
 }
 

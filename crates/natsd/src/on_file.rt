@@ -1,13 +1,15 @@
 // A task on the policy of a file, in place of standard input.
+use crate::notes::{tell_error, tell_of_text};
+use crate::policy_input::PolicyInput;
 use command_line::Task;
-use devices::{ReadSource, Sink, write_all};
+use devices::Sink;
 use std::alloc::AllocGlobal;
 use std::fs::{File, Files};
 use std::hash::RandomState;
 use tasks::run_and_tell;
 
-/// Does a task that reads a file, and returns its status. Where the file can't be opened, a line on the error sink tells
-/// why, and the status is 1.
+/// Does a task that reads a file, and returns its status. Where the file can't be read, a line on the error sink tells
+/// why, and the status is 1. There it is also told where a policy's fault stands.
 pub fn run_on_file<R: Files + AllocGlobal, W: Sink, E: Sink>(
     rt: &R,
     keys: RandomState,
@@ -16,16 +18,19 @@ pub fn run_on_file<R: Files + AllocGlobal, W: Sink, E: Sink>(
     sink: &mut W,
     errors: &mut E,
 ) -> u8 {
-    match File::open(rt, path) {
-        Ok(file) => {
-            let mut source = ReadSource::new(file);
-            run_and_tell(rt.alloc(), keys, task, &mut source, sink, errors)
-        }
+    let alloc = rt.alloc();
+    let mut input = match File::open(rt, path) {
+        Ok(file) => PolicyInput::new(alloc, file),
         Err(error) => {
-            if let Ok(line) = format!(in rt.alloc(); "{path}: {error}\n") {
-                drop(write_all(errors, line.as_str().as_bytes()));
-            }
-            1
+            tell_error(alloc, path, &error, errors);
+            return 1;
         }
+    };
+    let status = run_and_tell(alloc, keys, task, &mut input, sink, errors);
+    if let Some(error) = input.failed() {
+        tell_error(alloc, path, error, errors);
+    } else {
+        tell_of_text(alloc, &input, errors);
     }
+    status
 }

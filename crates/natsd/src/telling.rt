@@ -2,7 +2,6 @@
 use command_line::LogChoice;
 use policy_source::Watcher;
 use server_log::{LogLevel, ServerLog, What};
-use server_prints::Prints;
 use std::sync::Wait;
 use std::time::Clock;
 
@@ -15,22 +14,17 @@ pub fn level_of(choice: LogChoice) -> LogLevel {
     }
 }
 
-/// Tells of the policy's file. Where the log tells nothing, a plain line says why the file can't be read.
+/// Tells of the policy's file.
 #[derive(Drop)]
 pub struct FileWatcher<'a, R> {
     pub rt: &'a R,
     pub log: &'a ServerLog<'a>,
-    pub errors: &'a Prints,
 }
 
 impl<R: Wait + Clock> Watcher for FileWatcher<'_, R> {
     fn tell_unreadable(&mut self, why: &[u8]) {
-        if self.log.level() == LogLevel::None {
-            let _ = self.errors.add(self.rt, why);
-            let _ = self.errors.add(self.rt, b"\n");
-        } else {
-            self.log.tell(self.rt, What::PolicyUnreadable(why));
-        }
+        self.log
+            .tell_or_print(self.rt, What::PolicyUnreadable(why), why);
     }
 
     fn tell_readable(&mut self) {

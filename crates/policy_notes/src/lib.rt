@@ -1,0 +1,8 @@
+//! What an operator is told of a policy's text beside its fault's line: where the fault stands, and which keys stand twice in one
+//! object (docs/POLICY.md, "Where a fault stands").
+#![tactic(auto)]
+
+mod notes;
+mod place;
+
+pub use notes::{Notes, notes_of};

@@ -1,0 +1,4 @@
+pub mod Place
+pub mod Starts
+pub mod Spots
+pub mod Names
