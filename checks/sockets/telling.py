@@ -260,4 +260,5 @@ def full_pipe(program, divide):
     return f"{count} lines were due, and {len(lines)} told"
 
 
-run(__doc__, refusals, errors, slow_consumer, reloads, descriptors, levels, rates, full_pipe)
+if __name__ == "__main__":
+    run(__doc__, refusals, errors, slow_consumer, reloads, descriptors, levels, rates, full_pipe)

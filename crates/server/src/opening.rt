@@ -11,11 +11,14 @@ use server_fault::Fault;
 use server_log::ServerLog;
 use server_mail::Limits;
 use server_prints::Prints;
-use server_reloads::{NextPolicy, next_policy};
+use server_reloads::{NextPolicy, next_policy, tell_refused, tell_warnings};
 use std::alloc::{AllocGlobal, Global};
 use std::hash::RandomState;
+use std::io;
+use std::io::ErrorKind;
 use std::net::{Net, SocketAddr};
 use std::sync::{Mutex, Wait};
+use std::time::Clock;
 
 /// What is opened for a server beside its hub: where it listens, the limits that it keeps to, and its log.
 #[derive(Drop)]
@@ -25,31 +28,46 @@ pub(crate) struct Opened<'x> {
     pub(crate) log: &'x ServerLog<'x>,
 }
 
-/// Reads the first policy, or returns `None` where the input ends before it.
-pub(crate) fn first_policy<P: Policies>(
-    alloc: Global,
+/// Reads the first policy, or returns `None` where the input ends before it. The log tells what is to be known of its text.
+pub(crate) fn first_policy<R: Wait + Clock + AllocGlobal, P: Policies>(
+    rt: &R,
     policies: &mut P,
+    log: &ServerLog<'_>,
 ) -> Result<Option<Ready>, Fault> {
     // (nobody else opens anything yet)
     let descriptors = Mutex::new(());
-    match next_policy(alloc, policies, &descriptors) {
-        NextPolicy::Ready(ready) => Ok(Some(ready)),
+    match next_policy(rt.alloc(), policies, &descriptors) {
+        NextPolicy::Ready(ready, notes) => {
+            tell_warnings(rt, log, &notes);
+            Ok(Some(ready))
+        }
         NextPolicy::End => Ok(None),
-        NextPolicy::Refused(line) => Err(Fault::Refused(line)),
+        NextPolicy::Refused(line, notes) => {
+            tell_refused(rt, log, line.as_slice(), &notes);
+            Err(Fault::Refused(line))
+        }
         NextPolicy::Later => Err(Fault::ReadFailed),
         NextPolicy::Bad => Err(Fault::BadFrame),
         NextPolicy::NoMemory => Err(Fault::NoMemory),
     }
 }
 
-/// Listens at an address with its port. It fails where the text is none, or can't be listened at.
-pub(crate) fn listen<R: Net>(rt: &R, address: &str) -> Result<TcpListener, Fault> {
-    let Ok(address) = address.parse::<SocketAddr>() else {
-        return Err(Fault::ListenFailed);
+/// Listens at an address with its port. It fails where the text is none, or can't be listened at; the log tells why.
+pub(crate) fn listen<R: Net + Wait + Clock>(
+    rt: &R,
+    address: &str,
+    log: &ServerLog<'_>,
+) -> Result<TcpListener, Fault> {
+    let bound = match address.parse::<SocketAddr>() {
+        Ok(address) => TcpListener::bind(rt, address),
+        Err(_) => Err(io::Error::new(ErrorKind::InvalidInput, "no numeric address with a port")),
     };
-    match TcpListener::bind(rt, address) {
+    match bound {
         Ok(listener) => Ok(listener),
-        Err(_) => Err(Fault::ListenFailed),
+        Err(error) => {
+            log.tell_failed(rt, "listen", &error);
+            Err(Fault::ListenFailed)
+        }
     }
 }
 

@@ -107,12 +107,12 @@ fn serve_policies<
 ) -> Result<(), Fault>
     requires { AreServable settings.workers settings.outbox settings.history settings.history_bytes settings.connections }
 {
-    let Some(ready) = first_policy(rt.alloc(), policies)? else {
+    let Outputs { prints, log } = outputs;
+    let Some(ready) = first_policy(rt, policies, log)? else {
         return Ok(());
     };
-    let Outputs { prints, log } = outputs;
     log.note_policy(rt, 1, &ready);
-    let listener = listen(rt, settings.listen)?;
+    let listener = listen(rt, settings.listen, log)?;
     let Ok(keys) = RandomState::new(rt) else {
         return Err(Fault::NoKeys);
     };

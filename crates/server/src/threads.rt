@@ -4,6 +4,7 @@ use mio::net::TcpListener;
 use policy_source::Policies;
 use server_fault::{ServeFault, least};
 use server_gates::Gate;
+use server_log::ServerLog;
 use server_loop::{Access, Start, WAKER, Worker};
 use server_mail::{Flags, Mailbox, ServerState, millis, open_mailbox};
 use server_prints::Prints;
@@ -137,7 +138,7 @@ pub(crate) fn serve<
         log,
     } = opened;
     let ThreadStarts { accesses, reload } = starts;
-    let (mailboxes, starts) = open_all(rt, alloc, listener, accesses)?;
+    let (mailboxes, starts) = open_all(rt, alloc, listener, accesses, log)?;
     let flags = Flags::new(limits);
     let state = ServerState::new(mailboxes.as_slice(), limits, millis(rt), &flags, log);
     let common = common_of(rt, alloc, shared, &state, prints);
@@ -184,12 +185,14 @@ fn work_all<R: Threads + Sync, J: Send + Drop, O, T: Duties<J, O> + Sync>(
     }
 }
 
-/// Opens a mailbox for each worker, and makes its start. The first worker has the listener.
-fn open_all<L: Run, R: Net, G: Drop, W: Drop>(
+/// Opens a mailbox for each worker, and makes its start. The first worker has the listener. Where the system refuses, the log
+/// tells why.
+fn open_all<L: Run, R: Net + Wait + Clock, G: Drop, W: Drop>(
     rt: &R,
     alloc: Global,
     listener: TcpListener,
     accesses: Vec<WorkerAccess<L, G, W>>,
+    log: &ServerLog<'_>,
 ) -> Result<(Vec<Mailbox>, Vec<Start<L, G, W>>), ServeFault> {
     let mut accesses = VecDeque::from(accesses);
     let mut listener = Some(listener);
@@ -199,8 +202,12 @@ fn open_all<L: Run, R: Net, G: Drop, W: Drop>(
         let Some(WorkerAccess { access, words }) = accesses.pop_front() else {
             break;
         };
-        let Some((mailbox, poll)) = open_mailbox(rt, alloc, WAKER) else {
-            return Err(ServeFault::PollFailed);
+        let (mailbox, poll) = match open_mailbox(rt, alloc, WAKER) {
+            Ok(opened) => opened,
+            Err(error) => {
+                log.tell_failed(rt, "poll", &error);
+                return Err(ServeFault::PollFailed);
+            }
         };
         let start = Start {
             index,

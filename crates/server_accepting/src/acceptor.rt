@@ -103,13 +103,11 @@ impl Acceptor {
         }
     }
 
-    /// Registers the socket that listens, if there is one, and returns whether the system could.
-    pub fn listen(&mut self, registry: &Registry) -> bool {
+    /// Registers the socket that listens, if there is one. The error is the system's.
+    pub fn listen(&mut self, registry: &Registry) -> io::Result<()> {
         match &mut self.listener {
-            None => true,
-            Some(listener) => registry
-                .register(listener, LISTENER, Interest::READABLE)
-                .is_ok(),
+            None => Ok(()),
+            Some(listener) => registry.register(listener, LISTENER, Interest::READABLE),
         }
     }
 

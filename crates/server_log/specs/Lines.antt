@@ -11,7 +11,7 @@ use Rattle.permissions.specs.declared.verdict.Verdict.TheVariants.{Allowed, Deni
 use Rattle.server_log.specs.declared.notice.Notice.{Notice}
 use Rattle.server_log.specs.declared.notice.Denial.{Denial}
 use Rattle.server_log.specs.declared.notice.What.{What}
-use Rattle.server_log.specs.declared.notice.What.TheVariants.{Connected, Closed, AuthFailed, Denied, SlowConsumer, ProtocolError, Limit, NoDescriptors, Reloaded, Gone, Removed, PolicyRefused, PolicyUnreadable, PolicyReadable}
+use Rattle.server_log.specs.declared.notice.What.TheVariants.{Connected, Closed, AuthFailed, Denied, SlowConsumer, ProtocolError, Limit, NoDescriptors, Reloaded, Gone, Removed, PolicyRefused, PolicyWarning, PolicyUnreadable, PolicyReadable, Failed}
 
 -- ---- members: a name with a text or a number, where there is one
 
@@ -44,9 +44,11 @@ name_of NoDescriptors = codes "no_descriptors"
 name_of (Reloaded epoch gone removed) = codes "reloaded"
 name_of Gone = codes "gone"
 name_of (Removed denial) = codes "removed"
-name_of (PolicyRefused fault) = codes "policy_refused"
+name_of (PolicyRefused fault place) = codes "policy_refused"
+name_of (PolicyWarning warning) = codes "policy_warning"
 name_of (PolicyUnreadable why) = codes "policy_unreadable"
 name_of PolicyReadable = codes "policy_readable_again"
+name_of (Failed why) = codes "failed"
 
 -- a verdict, and the index of the entry that it names
 abbrev pub verdict_name : Verdict → List ℕ
@@ -80,9 +82,11 @@ details NoDescriptors = []
 details (Reloaded epoch gone removed) = count (codes "epoch") epoch ++ count (codes "gone") gone ++ count (codes "removed") removed
 details Gone = []
 details (Removed d) = denial d
-details (PolicyRefused fault) = text (codes "text") fault.now
+details (PolicyRefused fault place) = text (codes "text") fault.now ++ text_if (codes "place") (option_copied place)
+details (PolicyWarning warning) = text (codes "text") warning.now
 details (PolicyUnreadable why) = text (codes "text") why.now
 details PolicyReadable = []
+details (Failed why) = text (codes "text") why.now
 
 -- whose it is, as far as that is known
 abbrev pub party : Notice → List Token

@@ -61,9 +61,11 @@ fn name_of(what: &What<'_>) -> &'static str
         What::Reloaded { .. } => "reloaded",
         What::Gone => "gone",
         What::Removed(_) => "removed",
-        What::PolicyRefused(_) => "policy_refused",
+        What::PolicyRefused { .. } => "policy_refused",
+        What::PolicyWarning(_) => "policy_warning",
         What::PolicyUnreadable(_) => "policy_unreadable",
         What::PolicyReadable => "policy_readable_again",
+        What::Failed(_) => "failed",
     }
 }
 
@@ -76,7 +78,9 @@ fn put_details(alloc: Global, out: &mut Writer, what: &What<'_>) -> Result<(), N
         What::Removed(denial) => put_denial(alloc, out, denial),
         What::ProtocolError(text) => put_text(alloc, out, "text", text),
         What::Limit(text) => put_text(alloc, out, "text", text),
-        What::PolicyRefused(text) => put_text(alloc, out, "text", text),
+        What::PolicyRefused { text, place } => put_fault(alloc, out, text, *place),
+        What::PolicyWarning(text) => put_text(alloc, out, "text", text),
+        What::Failed(text) => put_text(alloc, out, "text", text),
         What::PolicyUnreadable(text) => put_text(alloc, out, "text", text),
         What::Reloaded {
             epoch,
@@ -100,6 +104,20 @@ fn put_reload(out: &mut Writer, epoch: u64, gone: u64, removed: u64) -> Result<(
     put_count(out, "epoch", epoch)?;
     put_count(out, "gone", gone)?;
     put_count(out, "removed", removed)?;
+    Ok(())
+}
+
+/// Writes a policy's fault, and where it is, where that is known.
+fn put_fault(
+    alloc: Global,
+    out: &mut Writer,
+    fault: &[u8],
+    place: Option<&[u8]>,
+) -> Result<(), NoMemory>
+    ensures { OnOk result (IsWritten out.old out.new (text (codes "text") fault.now ++ text_if (codes "place") (option_copied place.entry))) }
+{
+    put_text(alloc, out, "text", fault)?;
+    put_text_if(alloc, out, "place", place)?;
     Ok(())
 }
 

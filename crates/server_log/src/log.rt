@@ -10,6 +10,7 @@ use policy_doc::PermEntry;
 use policy_ready::{Ready, User};
 use server_prints::Prints;
 use std::alloc::Global;
+use std::io;
 use std::net::SocketAddr;
 use std::sync::{Mutex, Wait};
 use std::time::Clock;
@@ -245,6 +246,27 @@ impl<'a> ServerLog<'a> {
                 left_out: passed.left_out,
             },
         );
+    }
+
+    /// Tells something that an operator has to know: where the log tells nothing, this plain line has it.
+    pub fn tell_or_print<R: Wait + Clock>(&self, rt: &R, what: What<'_>, line: &[u8]) {
+        if self.level != LogLevel::None {
+            self.tell(rt, what);
+            return;
+        }
+        if let Ok(mut text) = Vec::from_slice(self.alloc, line) {
+            if text.push(b'\n').is_ok() {
+                let _ = self.prints.add(rt, text.as_slice());
+            }
+        }
+    }
+
+    /// Tells what the system has refused, and why, so that the server ends.
+    pub fn tell_failed<R: Wait + Clock>(&self, rt: &R, what: &str, error: &io::Error) {
+        if let Ok(why) = format!(in self.alloc; "{what}: {error}") {
+            let why = why.as_str().as_bytes();
+            self.tell_or_print(rt, What::Failed(why), why);
+        }
     }
 
     /// Tells something of a connection, with what is known of its client.

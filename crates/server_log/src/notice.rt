@@ -50,17 +50,28 @@ pub enum What<'a> {
     /// No more sockets can be had.
     NoDescriptors,
     /// A policy is in force. So many sessions are gone, and so many subscriptions were removed.
-    Reloaded { epoch: u64, gone: u64, removed: u64 },
+    Reloaded {
+        epoch: u64,
+        gone: u64,
+        removed: u64,
+    },
     /// A reload has ended this session.
     Gone,
     /// A reload has removed this subscription.
     Removed(Denial<'a>),
-    /// A policy has this fault.
-    PolicyRefused(&'a [u8]),
+    /// A policy has this fault, at this place of its text where it is known.
+    PolicyRefused {
+        text: &'a [u8],
+        place: Option<&'a [u8]>,
+    },
+    /// What an operator should know of a policy that may come into force.
+    PolicyWarning(&'a [u8]),
     /// The policy's file can't be read, for this reason.
     PolicyUnreadable(&'a [u8]),
     /// It can be read again.
     PolicyReadable,
+    /// The system has refused this, so the server ends.
+    Failed(&'a [u8]),
 }
 
 /// What was refused, and why.

@@ -5,6 +5,7 @@ use server_history::Kept;
 use server_log::ServerLog;
 use std::alloc::Global;
 use std::hash::RandomState;
+use std::io;
 use std::net::Net;
 use std::sync::Mutex;
 use std::sync::atomic::{AtomicU64, Ordering};
@@ -171,10 +172,10 @@ impl<'a> ServerState<'a> {
     }
 }
 
-/// Makes a worker's mailbox, and the poll by which it waits for its sockets and for mail; mail has this token. It returns
-/// `None` where the system refuses either.
-pub fn open_mailbox<R: Net>(rt: &R, alloc: Global, token: Token) -> Option<(Mailbox, Poll)> {
-    let poll = Poll::new(rt).ok()?;
-    let mailbox = Mailbox::new(alloc, poll.registry(), token).ok()?;
-    Some((mailbox, poll))
+/// Makes a worker's mailbox, and the poll by which it waits for its sockets and for mail; mail has this token. The error is
+/// the system's, which refuses either.
+pub fn open_mailbox<R: Net>(rt: &R, alloc: Global, token: Token) -> io::Result<(Mailbox, Poll)> {
+    let poll = Poll::new(rt)?;
+    let mailbox = Mailbox::new(alloc, poll.registry(), token)?;
+    Ok((mailbox, poll))
 }

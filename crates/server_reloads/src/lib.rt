@@ -4,5 +4,5 @@
 mod reading;
 mod reloads;
 
-pub use reading::{NextPolicy, next_policy};
+pub use reading::{NextPolicy, next_policy, tell_refused, tell_warnings};
 pub use reloads::Reloads;

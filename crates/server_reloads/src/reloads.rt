@@ -1,4 +1,4 @@
-use crate::reading::{NextPolicy, next_policy};
+use crate::reading::{NextPolicy, next_policy, tell_refused, tell_warnings};
 use events::{Answer, Command, Event, HubRefusal, Outcome};
 use policy_ready::Ready;
 use policy_source::Policies;
@@ -73,11 +73,12 @@ impl<'a, L: Run, R: Wait + Clock, G: Gate + Drop> Reloads<'a, L, R, G> {
                 NextPolicy::End => return None,
                 NextPolicy::Bad => return Some(ServeFault::BadFrame),
                 NextPolicy::NoMemory => self.say(b"no memory\n"),
-                NextPolicy::Refused(line) => {
-                    self.tell_refused(line.as_slice());
+                NextPolicy::Refused(line, notes) => {
+                    tell_refused(self.rt, self.state.log, line.as_slice(), &notes);
                     self.say(line.as_slice());
                 }
-                NextPolicy::Ready(ready) => {
+                NextPolicy::Ready(ready, notes) => {
+                    tell_warnings(self.rt, self.state.log, &notes);
                     self.install(ready);
                     if self.port.is_spent() {
                         return Some(ServeFault::GateClosed);
@@ -117,12 +118,6 @@ impl<'a, L: Run, R: Wait + Clock, G: Gate + Drop> Reloads<'a, L, R, G> {
                 });
             }
         }
-    }
-
-    /// Tells the server's operator that a policy has a fault, as this line says.
-    fn tell_refused(&self, line: &[u8]) {
-        let fault = line.strip_suffix(b"\n").unwrap_or(line);
-        self.state.log.tell(self.rt, What::PolicyRefused(fault));
     }
 
     /// Tells the server's operator what a reload has done, and leaves it for the workers, which tell what it has removed.
