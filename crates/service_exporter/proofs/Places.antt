@@ -13,7 +13,7 @@ use Rattle.std.specs.Prelude.{codes}
 use Rattle.std.specs.Fmt.{decimal}
 use Rattle.service_subjects.specs.Names.{hex_of, is_on, number_of}
 use Rattle.service_subjects.proofs.Tokens.{from_on, number_of_decimal}
-use Rattle.service_exporter.specs.Routes.{Numbered, ends_by, kept_route, living, lives, on_row, route_on}
+use Rattle.service_exporter.specs.Routes.{Numbered, ends_by, if_lives, kept_route, living, lives, on_row, route_on}
 use Rattle.service_exporter.specs.Slots.{entry_of, standing_in, passes, is_single, kept_in, is_in, kept_slot, LivesUntil, AreAbove, AreBelow, AreRising, IsAbsent, IsNowhere, IsPlaceOf, IsPlaceOn}
 use Rattle.service_exporter.specs.declared.route.NewRow.{NewRow}
 use Rattle.service_exporter.specs.declared.route.Route.{Route}
@@ -167,6 +167,43 @@ route_at s (slot ∷ slots) (suc at) d place =
         → route_on s (entry_of slot.number o ++ standing_in slots) ≡ (slice_index_or slots at d).route
     by None other later = later
     by (Some r) other later = rw other later
+
+-- no route of the subject lives where none is
+pub none_living : (now : ℕ) (s : List Token) (slots : List Slot) → IsNowhere s slots → route_on s (living now (standing_in slots)) ≡ None
+none_living now s [] nowhere = refl
+none_living now s (slot ∷ slots) nowhere = by slot.route (nowhere zero slot (omega arith)) (none_living now s slots (λ k d within. nowhere (suc k) d (omega arith)))
+  where
+    by : (o : Option Route) → passes (λ (r : Route). is_on s slot.number r.word) o ≡ false → route_on s (living now (standing_in slots)) ≡ None → route_on s (living now (entry_of slot.number o ++ standing_in slots)) ≡ None
+    by None other later = later
+    by (Some r) other later = here (lives now r)
+      where
+        here : (b : Bool) → route_on s (cond b ((slot.number, r) ∷ living now (standing_in slots)) (living now (standing_in slots))) ≡ None
+        here true = rw other later
+        here false = later
+
+-- and where one is, it is the one that lives, if it does
+pub living_at : (now : ℕ) (s : List Token) (slots : List Slot) (at : ℕ) (d : Slot) → IsPlaceOn s slots at → route_on s (living now (standing_in slots)) ≡ if_lives now (slice_index_or slots at d).route
+living_at now s [] at d place = absurd (let h = place.within in omega arith)
+living_at now s (slot ∷ slots) zero d place = by slot.route (place.here slot) (none_living now s slots (nowhere_behind s slot slots place))
+  where
+    by : (o : Option Route) → passes (λ (r : Route). is_on s slot.number r.word) o ≡ true → route_on s (living now (standing_in slots)) ≡ None → route_on s (living now (entry_of slot.number o ++ standing_in slots)) ≡ if_lives now o
+    by None here none = absurd (cc)
+    by (Some r) here none = by_life (lives now r)
+      where
+        by_life : (b : Bool) → route_on s (cond b ((slot.number, r) ∷ living now (standing_in slots)) (living now (standing_in slots))) ≡ cond b (Some r) None
+        by_life true = rw here refl
+        by_life false = none
+living_at now s (slot ∷ slots) (suc at) d place =
+    by slot.route (not_first s slot slots at place) (living_at now s slots at d (behind s slot slots at place))
+  where
+    by : (o : Option Route) → passes (λ (r : Route). is_on s slot.number r.word) o ≡ false → route_on s (living now (standing_in slots)) ≡ if_lives now (slice_index_or slots at d).route
+        → route_on s (living now (entry_of slot.number o ++ standing_in slots)) ≡ if_lives now (slice_index_or slots at d).route
+    by None other later = later
+    by (Some r) other later = by_life (lives now r)
+      where
+        by_life : (b : Bool) → route_on s (cond b ((slot.number, r) ∷ living now (standing_in slots)) (living now (standing_in slots))) ≡ if_lives now (slice_index_or slots at d).route
+        by_life true = rw other later
+        by_life false = later
 
 -- ---- slots that were lent
 

@@ -37,6 +37,11 @@ lives now r = nat_le (now - r.noted) r.terms.ttl
 abbrev pub living : ℕ → List Numbered → List Numbered
 living now rs = filter (λ (r : Numbered). lives now r.1) rs
 
+-- a route where it lives at a moment
+abbrev pub if_lives : ℕ → Option Route → Option Route
+if_lives now None = None
+if_lives now (Some r) = if lives now r then Some r else None
+
 -- the routes that live at a moment; the numbers that were given stay given
 abbrev pub pruned_of : ℕ → Exporter → Exporter
 pruned_of now e = record { last = e.last; routes = living now e.routes }

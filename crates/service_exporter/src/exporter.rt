@@ -1,7 +1,7 @@
 //! What one exporter has: the last number that it gave, and its routes.
-ghost use Rattle.std.specs.Prelude.{◌≡◌, ◌≤◌, ◌<◌, ◌+◌, ◌-◌, [], OnOk, length, nat_lt, vec_len, vec_capacity};
+ghost use Rattle.std.specs.Prelude.{◌≡◌, ◌≤◌, ◌<◌, ◌+◌, ◌-◌, ℕ, [], OnOk, length, nat_lt, vec_len, vec_capacity};
 ghost use Rattle.std.specs.Option.{option_copied};
-ghost use Rattle.service_exporter.specs.Routes.{kept_of, living, pruned_of, route_on, spent_of, with_route};
+ghost use Rattle.service_exporter.specs.Routes.{if_lives, kept_of, living, pruned_of, route_on, spent_of, with_route};
 ghost use Rattle.service_exporter.specs.Limit.{is_full, IsNext, IsReserved};
 ghost use Rattle.service_exporter.specs.Slots.{standing_in};
 
@@ -194,10 +194,21 @@ impl Exporter {
 
     /// The route of a subject, dead or alive, if there is one.
     pub fn find(&self, subject: &SubjectRef<'_>) -> Option<&Route>
-        ensures { option_copied result ≡ route_on subject.now self.now.exporter.routes }
+        ensures route { option_copied result ≡ route_on subject.now self.now.exporter.routes }
+        ensures living { (now : ℕ) → route_on subject.now (living now self.now.exporter.routes) ≡ if_lives now (option_copied result) }
     {
         let route = route_on(self.slots.as_slice(), subject);
         route
+    }
+
+    /// The route of a subject that lives at a moment, if there is one.
+    pub fn find_living(&self, subject: &SubjectRef<'_>, now: u64) -> Option<&Route>
+        ensures { option_copied result ≡ route_on subject.now (pruned_of now self.now.exporter).routes }
+    {
+        match self.find(subject) {
+            None => None,
+            Some(route) => { if route.lives(now) { Some(route) } else { None } }
+        }
     }
 
     /// Ends the route of a subject on which a response was published, if it is for a single response. Nothing happens

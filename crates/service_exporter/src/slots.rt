@@ -2,7 +2,7 @@
 ghost use Rattle.std.specs.Prelude.{◌≡◌, ◌≤◌, ◌<◌, ◌-◌, ℕ, true, not, None, MatchOption, filter, length, map, IfOk, vec_len, vec_capacity};
 ghost use Rattle.std.specs.List.{filter_map};
 ghost use Rattle.std.specs.Option.{option_copied};
-ghost use Rattle.service_exporter.specs.Routes.{Numbered, ends_by, kept_route, living, lives, route_on};
+ghost use Rattle.service_exporter.specs.Routes.{Numbered, ends_by, if_lives, kept_route, living, lives, route_on};
 ghost use Rattle.service_exporter.specs.Slots.{standing_in, AreRising, AreBelow, IsAbsent, IsPlaceOf, IsNowhere, IsPlaceOn, kept_slot};
 ghost use Rattle.service_exporter.specs.Tally.{IsTallied, IsLeft};
 
@@ -142,7 +142,8 @@ impl Slot {
 pub(crate) fn route_on<'a>(slots: &'a [Slot], subject: &SubjectRef<'_>) -> Option<&'a Route>
     requires rising { AreRising slots.now }
     requires small { AreBelow 18446744073709551616 slots.now }
-    ensures { option_copied result ≡ route_on subject.now (standing_in slots.now) }
+    ensures route { option_copied result ≡ route_on subject.now (standing_in slots.now) }
+    ensures living { (now : ℕ) → route_on subject.now (living now (standing_in slots.now)) ≡ if_lives now (option_copied result) }
 {
     match place_on(slots, subject) {
         None => None,

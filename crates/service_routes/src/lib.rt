@@ -5,8 +5,10 @@
 //! that asked, on the reply of its request. `service_exporter` has what one exporter has.
 #![tactic(auto)]
 
+mod laws;
 mod routes;
 
+pub use laws::{answers_to_routes, opens_together, seen_by_life};
 pub use routes::Routes;
 pub use service_exporter::{
     NewRow, ResponseTerms, Route, RouteError, Row, ServiceRows, route_subject,

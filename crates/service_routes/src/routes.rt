@@ -131,6 +131,21 @@ impl Routes {
         }
     }
 
+    /// The route of an exporter that has this subject and lives at a moment, if there is one.
+    pub fn find_living(
+        &self,
+        exporter: &Bytes,
+        subject: &SubjectRef<'_>,
+        now: u64,
+    ) -> Option<&Route>
+        ensures { option_copied result ≡ route_on subject.now (exporter_of exporter.now (pruned now self.now.exporters)).routes }
+    {
+        match self.exporters.get(exporter) {
+            None => None,
+            Some(part) => part.find_living(subject, now),
+        }
+    }
+
     /// Ends the route of a subject on which a session of the exporter has published a response, if it is for a single
     /// response. Nothing happens where no route has the subject.
     pub fn spend(&mut self, exporter: &Bytes, subject: &SubjectRef<'_>)

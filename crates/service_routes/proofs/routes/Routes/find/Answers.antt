@@ -19,4 +19,4 @@ returns-in-Some c =
     ap (λ (t : Table). exporter_of c.args.exporter.now t.exporters) (sym c.self.view_is)
     ∙ exporter-there c.args.exporter.now c.self.inside.exporters.entries c.in-Some.part.now (sym c.in-Some.ensures.value)
     in
-    c.find.ensures ∙ sym (ap (λ (e : Exporter). route_on c.args.subject.now e.routes) it)
+    c.find.ensures.route ∙ sym (ap (λ (e : Exporter). route_on c.args.subject.now e.routes) it)
