@@ -1,4 +1,6 @@
 // What a task reads, kept for what is told of it afterwards.
+ghost use Rattle.std.specs.Prelude.{◌≡◌};
+
 use devices::{DeviceFailed, Source};
 use std::alloc::Global;
 use std::io;
@@ -59,7 +61,9 @@ impl<R> PolicyInput<R> {
     }
 
     /// Keeps what was read.
-    fn keep(&mut self, bytes: &[u8]) {
+    fn keep(&mut self, bytes: &[u8])
+        ensures { self.new ≡ record self.old { text = self.new.text; lacks_memory = self.new.lacks_memory } }
+    {
         if self.reads == 0 {
             self.text = Some(Vec::new(self.alloc));
         }
