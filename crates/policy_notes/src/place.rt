@@ -9,7 +9,7 @@ use serde_json::Value;
 use std::alloc::Global;
 use std::str;
 
-/// Where in the text a fault is that isn't a want of memory, and whether what stands there is shown.
+/// A fault's path in the text, and whether the text that stands there is shown.
 #[derive(Debug, Drop)]
 pub(crate) struct Named {
     path: Path,

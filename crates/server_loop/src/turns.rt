@@ -26,7 +26,7 @@ const LEAST: usize = 1024;
 /// After how long a message is offered again whose receiver is to be closed, in milliseconds, if that isn't told before.
 const CLOSING: u64 = 100;
 
-/// What a client is told of which too much is kept before it says who it is.
+/// What a client is told that sends too much before its CONNECT.
 const UNKNOWN: &[u8] = b"Authorization Violation";
 
 /// After how long a turn that could not be ended is tried again, in milliseconds.

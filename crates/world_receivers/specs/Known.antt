@@ -35,7 +35,7 @@ Says (Each rs) = Unit {0}
 Says (One rs) = Unit {0}
 Says Various = ⊥
 
--- it says of the subscriptions that a message may be sent to whom it is for, whatever its word
+-- it says, whatever the message's word, which of these subscriptions are served
 abbrev pub IsWhom : Whom → List Subscription → Type 0
 IsWhom whom subs = Says whom → (word : ℕ) → map receiver_of (served word subs) ≡ picked word whom
 

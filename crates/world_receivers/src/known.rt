@@ -24,7 +24,7 @@ pub(crate) struct KnownView {
     whom: Whom,
 }
 
-/// A publisher, with those whom its messages may be for.
+/// A publisher, and the tables in which its receivers are found.
 #[derive(Clone, Copy)]
 pub(crate) struct Among<'a> {
     pub sessions: &'a Sessions,

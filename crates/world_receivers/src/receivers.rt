@@ -155,7 +155,7 @@ impl Receivers {
 
     /// Addresses a message to those of the publisher's account that it is for, oldest subscription first: to the plain
     /// subscriptions that may be sent it, and to the member of each queue group that the word chooses. These are its `deliveries`.
-    /// What their sessions are to note isn't put down yet. The ids that its subject reaches are cached for the next messages of
+    /// Their sessions don't note replies yet. The ids that its subject reaches are cached for the next messages of
     /// that subject, and its receivers for the publisher's next ones on it. `NoMemory` where memory could not be had.
     #[inline(always)]
     pub fn address(

@@ -1,4 +1,4 @@
--- whom it is for was found of those that may be sent it, and none of them has a limit
+-- the receivers are chosen of those that may be sent the message, and none of these has a limit
 use Rattle.std.proofs.Common.{◌≡◌, ◌∙◌, ◌&&◌, ℕ, true, List, map, filter, ap, sym, refl, subst}
 use Rattle.std.specs.List.{list_any}
 use Rattle.subjects.specs.Subject.{Token}
