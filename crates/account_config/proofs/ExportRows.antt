@@ -1,15 +1,15 @@
 -- The exports of an account are read as their faults and what is written say.
-use Rattle.std.proofs.Common.{◌≡◌, Option, Some, None, option_map, Ok, Err, Bool, true, false, ◌||◌, codes, if◌then◌else◌, bytes_eq, refl}
+use Rattle.std.proofs.Common.{◌≡◌, ◌++◌, Option, Some, None, option_map, Ok, Err, Bool, true, false, ◌||◌, codes, if◌then◌else◌, bytes_eq, refl}
 use Rattle.serde_json.specs.Data.{Data}
 use Rattle.serde_json.specs.Find.{get}
 use Rattle.policy_walk.specs.declared.fault.ConfigFault.{ConfigFault}
 use Rattle.policy_walk.specs.declared.fault.ConfigFault.TheVariants.{WrongType}
 use Rattle.policy_walk.specs.Path.{Path, at_key}
 use Rattle.policy_rows.specs.Names.{account_name_at, kind_of}
-use Rattle.policy_rows.specs.Exports.{accounts_at, accounts_under, either_rows, export_at, export_by, exports_at, exports_under, lone_rows, neither_at, offered_at, response_at, service_at, single_at, single_from, single_under, stream_at, ttl_under}
+use Rattle.policy_rows.specs.Exports.{accounts_at, accounts_under, either_rows, export_at, export_by, exports_at, exports_under, neither_at, offered_at, response_at, service_at, single_at, single_from, single_under, stream_at, ttl_under}
 use Rattle.account_config.specs.Policy.{or_empty}
 use Rattle.account_config.specs.Place.{IsReading}
-use Rattle.account_config.specs.Standing.{in_value, object_faults, text_faults, list_faults, duration_faults, name_faults, is_response_type, kindless_faults, keys_of_rows, stream_export_keys, service_export_keys, export_faults}
+use Rattle.account_config.specs.Standing.{in_value, object_faults, text_faults, list_faults, duration_faults, name_faults, is_response_type, kindless_faults, stream_export_keys, service_export_keys, export_faults}
 use Rattle.account_config.specs.Written.{text_in, list_in, pattern_under, accounts_list_in, single_in, ttl_in, stream_export_in, service_export_in, export_in}
 use Rattle.account_config.proofs.Order.{IsOrdered, Meets, under-ordered}
 use Rattle.account_config.proofs.First.{go_on}
@@ -72,21 +72,20 @@ both_kinds false true false more = refl
 both_kinds false false true more = refl
 both_kinds false false false more = refl
 
-neither_read : (services : Bool) (path : Path) (d : Data) → IsOrdered d →
-    IsReading (kindless_faults (keys_of_rows services stream_export_keys service_export_keys) path d) (stream_export_in d) (neither_at services path d)
+neither_read : (path : Path) (d : Data) → IsOrdered d →
+    IsReading (kindless_faults (stream_export_keys ++ service_export_keys) path d) (stream_export_in d) (neither_at path d)
 unfolding neither_at
-neither_read true path d up =
-    kindless_read either_rows (keys_of_rows true stream_export_keys service_export_keys) path d (stream_export_in d) up
+neither_read path d up =
+    kindless_read either_rows (stream_export_keys ++ service_export_keys) path d (stream_export_in d) up
     (λ key. both_kinds (bytes_eq (codes "stream") key) (bytes_eq (codes "service") key) (bytes_eq (codes "accounts") key) _) refl
-neither_read false path d up = kindless_read lone_rows (keys_of_rows false stream_export_keys service_export_keys) path d (stream_export_in d) up (λ key. refl) refl
 
-export_read : (services : Bool) → Reads (export_faults services) (export_in services) (export_at services)
-export_read services path d up =
-    row_read services stream_export_keys service_export_keys stream_export_in service_export_in path d (export_by services path d) (stream_read path d up) (service_read path d up)
-    (neither_read services path d up) (kind_of services d)
+export_read : Reads export_faults export_in export_at
+export_read path d up =
+    row_read stream_export_keys service_export_keys stream_export_in service_export_in path d (export_by path d) (stream_read path d up) (service_read path d up)
+    (neither_read path d up) (kind_of d)
 
-pub exports_under_read : (services : Bool) (path : Path) (found : Option Data) → Meets IsOrdered found →
-    IsReading (in_value (list_faults (export_faults services)) path found) (or_empty (option_map (list_in (export_in services)) found)) (exports_under services path found)
+pub exports_under_read : (path : Path) (found : Option Data) → Meets IsOrdered found →
+    IsReading (in_value (list_faults export_faults) path found) (or_empty (option_map (list_in export_in) found)) (exports_under path found)
 unfolding exports_at
-exports_under_read services path None up = (λ p. refl, refl)
-exports_under_read services path (Some d) up = list_read (export_faults services) (export_in services) (export_at services) (export_read services) path d up
+exports_under_read path None up = (λ p. refl, refl)
+exports_under_read path (Some d) up = list_read export_faults export_in export_at export_read path d up

@@ -1,5 +1,5 @@
 -- The imports of an account are read as their faults and what is written say.
-use Rattle.std.proofs.Common.{◌≡◌, List, ℕ, Option, Some, None, option_map, Ok, Err, Bool, true, false, not, ◌||◌, codes, if◌then◌else◌, is_some, bytes_eq, refl}
+use Rattle.std.proofs.Common.{◌≡◌, ◌++◌, List, ℕ, Option, Some, None, option_map, Ok, Err, Bool, true, false, not, ◌||◌, codes, if◌then◌else◌, is_some, bytes_eq, refl}
 use Rattle.serde_json.specs.Data.{Data}
 use Rattle.serde_json.specs.Find.{get}
 use Rattle.subjects.specs.Subject.{tokens_of}
@@ -8,10 +8,10 @@ use Rattle.policy_walk.specs.declared.fault.ConfigFault.TheVariants.{WrongType, 
 use Rattle.policy_walk.specs.Fault.{◌>>=◌}
 use Rattle.policy_walk.specs.Path.{Path, at_key}
 use Rattle.policy_rows.specs.Names.{kind_of}
-use Rattle.policy_rows.specs.Imports.{account_at, either_rows, import_at, import_by, imports_at, imports_under, lone_rows, neither_at, prefix_under, service_at, source_at, source_in, source_of, stream_at, subject_at, subject_from, to_under}
+use Rattle.policy_rows.specs.Imports.{account_at, either_rows, import_at, import_by, imports_at, imports_under, neither_at, prefix_under, service_at, source_at, source_in, source_of, stream_at, subject_at, subject_from, to_under}
 use Rattle.account_config.specs.Policy.{or_empty}
 use Rattle.account_config.specs.Place.{IsReading}
-use Rattle.account_config.specs.Standing.{unless_found, in_value, object_faults, text_faults, list_faults, any_text_faults, is_subject_text, source_keys, kindless_faults, keys_of_rows, stream_import_keys, service_import_keys, import_faults}
+use Rattle.account_config.specs.Standing.{unless_found, in_value, object_faults, text_faults, list_faults, any_text_faults, is_subject_text, source_keys, kindless_faults, stream_import_keys, service_import_keys, import_faults}
 use Rattle.account_config.specs.Written.{text_in, list_in, value_under, pattern_under, stream_import_in, service_import_in, import_in}
 use Rattle.account_config.proofs.Order.{IsOrdered, Meets, under-ordered}
 use Rattle.account_config.proofs.First.{go_on}
@@ -82,21 +82,20 @@ both_kinds false false true prefix = refl
 both_kinds false false false true = refl
 both_kinds false false false false = refl
 
-neither_read : (services : Bool) (path : Path) (d : Data) → IsOrdered d →
-    IsReading (kindless_faults (keys_of_rows services stream_import_keys service_import_keys) path d) (stream_import_in d) (neither_at services path d)
+neither_read : (path : Path) (d : Data) → IsOrdered d →
+    IsReading (kindless_faults (stream_import_keys ++ service_import_keys) path d) (stream_import_in d) (neither_at path d)
 unfolding neither_at
-neither_read true path d up =
-    kindless_read either_rows (keys_of_rows true stream_import_keys service_import_keys) path d (stream_import_in d) up
+neither_read path d up =
+    kindless_read either_rows (stream_import_keys ++ service_import_keys) path d (stream_import_in d) up
     (λ key. both_kinds (bytes_eq (codes "stream") key) (bytes_eq (codes "service") key) (bytes_eq (codes "to") key) (bytes_eq (codes "prefix") key)) refl
-neither_read false path d up = kindless_read lone_rows (keys_of_rows false stream_import_keys service_import_keys) path d (stream_import_in d) up (λ key. refl) refl
 
-import_read : (services : Bool) → Reads (import_faults services) (import_in services) (import_at services)
-import_read services path d up =
-    row_read services stream_import_keys service_import_keys stream_import_in service_import_in path d (import_by services path d) (stream_read path d up) (service_read path d up)
-    (neither_read services path d up) (kind_of services d)
+import_read : Reads import_faults import_in import_at
+import_read path d up =
+    row_read stream_import_keys service_import_keys stream_import_in service_import_in path d (import_by path d) (stream_read path d up) (service_read path d up)
+    (neither_read path d up) (kind_of d)
 
-pub imports_under_read : (services : Bool) (path : Path) (found : Option Data) → Meets IsOrdered found →
-    IsReading (in_value (list_faults (import_faults services)) path found) (or_empty (option_map (list_in (import_in services)) found)) (imports_under services path found)
+pub imports_under_read : (path : Path) (found : Option Data) → Meets IsOrdered found →
+    IsReading (in_value (list_faults import_faults) path found) (or_empty (option_map (list_in import_in) found)) (imports_under path found)
 unfolding imports_at
-imports_under_read services path None up = (λ p. refl, refl)
-imports_under_read services path (Some d) up = list_read (import_faults services) (import_in services) (import_at services) (import_read services) path d up
+imports_under_read path None up = (λ p. refl, refl)
+imports_under_read path (Some d) up = list_read import_faults import_in import_at import_read path d up

@@ -14,7 +14,7 @@ use Rattle.policy_permissions.specs.Entry.{is_entry_text, entry_written}
 use Rattle.policy_walk.specs.Fault.{◌>>=◌}
 use Rattle.policy_walk.specs.Texts.{required_text_at}
 use Rattle.policy_walk.specs.Path.{Path, at_key}
-use Rattle.account_config.specs.Policy.{entry_from, entry_at, entries_at, entries_under, or_empty, lists_at, allow_at, direction_at, spelled_from, is_bound, max_at, max_under, duration_at, expires_under, terms_at, responses_at, responses_under, allow_responses_at, permissions_at, permissions_under, has_name_length, is_hashed, user_name_at, password_at, user_permissions_at, user_at, users_at, users_under, exports_under, imports_under, services_known, account_at, is_account_name, named_account_at, accounts_at, is_version, version_under, document_at}
+use Rattle.account_config.specs.Policy.{entry_from, entry_at, entries_at, entries_under, or_empty, lists_at, allow_at, direction_at, spelled_from, is_bound, max_at, max_under, duration_at, expires_under, terms_at, responses_at, responses_under, allow_responses_at, permissions_at, permissions_under, has_name_length, is_hashed, user_name_at, password_at, user_permissions_at, user_at, users_at, users_under, exports_under, imports_under, account_at, is_account_name, named_account_at, accounts_at, is_version, version_under, document_at}
 use Rattle.account_config.specs.Place.{Place, itself, unknown, missing, under, named, Faults, IsReading}
 use Rattle.account_config.specs.Standing.{unless_found, in_value, in_spelled, object_faults, list_faults, entry_faults, entries_faults, direction_keys, direction_faults, max_faults, duration_faults, terms_keys, responses_faults, permission_keys, user_keys, account_keys, account_faults, accounts_faults, version_faults, top_keys}
 use Rattle.account_config.specs.Written.{text_in, list_in, entry_in, entries_in, lists_in, direction_in, bound_in, max_in, duration_in, terms_in, responses_in, permissions_in, user_in, export_in, import_in, account_in, accounts_in, document_in}
@@ -182,12 +182,12 @@ account_read path d up =
     then_object account_keys path d (account_in d) _ up λ clear.
     go_on _ 0 (or_empty (option_map (list_in user_in) (get (codes "users") d))) (account_in d) (users_under (at_key path (codes "users")) (get (codes "users") d)) _ clear
     (users_under_read _ _ (under-ordered (codes "users") d up)) λ clear.
-    go_on _ 1 (or_empty (option_map (list_in (export_in services_known)) (get (codes "exports") d))) (account_in d)
-    (exports_under services_known (at_key path (codes "exports")) (get (codes "exports") d)) _ clear
-    (exports_under_read services_known _ _ (under-ordered (codes "exports") d up)) λ clear.
-    go_on _ 2 (or_empty (option_map (list_in (import_in services_known)) (get (codes "imports") d))) (account_in d)
-    (imports_under services_known (at_key path (codes "imports")) (get (codes "imports") d)) _ clear
-    (imports_under_read services_known _ _ (under-ordered (codes "imports") d up)) λ clear.
+    go_on _ 1 (or_empty (option_map (list_in export_in) (get (codes "exports") d))) (account_in d)
+    (exports_under (at_key path (codes "exports")) (get (codes "exports") d)) _ clear
+    (exports_under_read _ _ (under-ordered (codes "exports") d up)) λ clear.
+    go_on _ 2 (or_empty (option_map (list_in import_in) (get (codes "imports") d))) (account_in d)
+    (imports_under (at_key path (codes "imports")) (get (codes "imports") d)) _ clear
+    (imports_under_read _ _ (under-ordered (codes "imports") d up)) λ clear.
     (none_left account_keys path d clear, refl)
 
 named_read : (path : Path) (name : List ℕ) (d : Data) → IsOrdered d →

@@ -1,5 +1,5 @@
 -- What exports and imports have alike.
-use Rattle.std.proofs.Common.{◌≡◌, ℕ, suc, Bool, List, Option, Some, None, Ok, Err, is_some, refl, subst}
+use Rattle.std.proofs.Common.{◌≡◌, ◌++◌, ℕ, suc, List, Option, Some, None, Ok, Err, is_some, refl, subst}
 use Rattle.serde_json.specs.Data.{Data}
 use Rattle.serde_json.specs.Find.{get}
 use Rattle.subjects.specs.Subject.{tokens_of}
@@ -14,7 +14,7 @@ use Rattle.policy_walk.specs.Path.{Path, at_key}
 use Rattle.policy_walk.specs.Texts.{required_text_at}
 use Rattle.policy_rows.specs.Names.{account_name_at, account_name_from, is_account_name}
 use Rattle.account_config.specs.Place.{under, Faults, IsReading}
-use Rattle.account_config.specs.Standing.{Key, unless_found, in_value, object_faults, kindless_faults, keys_of_rows, row_faults, name_faults, pattern_faults}
+use Rattle.account_config.specs.Standing.{Key, unless_found, in_value, object_faults, kindless_faults, row_faults, name_faults, pattern_faults}
 use Rattle.account_config.specs.Written.{text_in, value_under, pattern_under, row_in}
 use Rattle.account_config.proofs.First.{IsClear, go_on}
 use Rattle.account_config.proofs.Each.{Reads}
@@ -47,10 +47,10 @@ unfolding required_text_at
 name_under_read key path d there = required_read is_account_name BadName (λ text. text) (at_key path key) (account_name_from (at_key path key)) (λ text. refl) (get key d) there
 
 -- a row is read as its kind says
-pub row_read : {X : Type 0} (services : Bool) (stream_keys service_keys : List Key) (stream service : Data → X) (path : Path) (d : Data) (reader : Option Kind → Read X) →
+pub row_read : {X : Type 0} (stream_keys service_keys : List Key) (stream service : Data → X) (path : Path) (d : Data) (reader : Option Kind → Read X) →
     IsReading (object_faults stream_keys path d) (stream d) (reader (Some Stream)) → IsReading (object_faults service_keys path d) (service d) (reader (Some Service)) →
-    IsReading (kindless_faults (keys_of_rows services stream_keys service_keys) path d) (stream d) (reader None) →
-    (kind : Option Kind) → IsReading (row_faults services stream_keys service_keys kind path d) (row_in stream service kind d) (reader kind)
-row_read services stream_keys service_keys stream service path d reader is_stream is_service is_neither (Some Stream) = is_stream
-row_read services stream_keys service_keys stream service path d reader is_stream is_service is_neither (Some Service) = is_service
-row_read services stream_keys service_keys stream service path d reader is_stream is_service is_neither None = is_neither
+    IsReading (kindless_faults (stream_keys ++ service_keys) path d) (stream d) (reader None) →
+    (kind : Option Kind) → IsReading (row_faults stream_keys service_keys kind path d) (row_in stream service kind d) (reader kind)
+row_read stream_keys service_keys stream service path d reader is_stream is_service is_neither (Some Stream) = is_stream
+row_read stream_keys service_keys stream service path d reader is_stream is_service is_neither (Some Service) = is_service
+row_read stream_keys service_keys stream service path d reader is_stream is_service is_neither None = is_neither

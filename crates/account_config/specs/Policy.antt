@@ -11,7 +11,7 @@ use Rattle.policy_doc.specs.declared.document.PolicyDoc.{PolicyDoc}
 use Rattle.policy_doc.specs.declared.document.NamedAccount.{NamedAccount}
 use Rattle.policy_doc.specs.declared.document.AccountDoc.{AccountDoc}
 use Rattle.policy_doc.specs.declared.document.UserDoc.{UserDoc}
-use Rattle.policy_doc.specs.declared.document.PermDoc.{PermDoc}
+use Rattle.permission_doc.specs.declared.document.PermDoc.{PermDoc}
 use Rattle.policy_walk.specs.declared.fault.ConfigFault.TheVariants.{TooLarge, NotJson, WrongType, BadName, HashedPassword}
 use Rattle.policy_walk.specs.Fault.{Read, ◌>>=◌}
 use Rattle.policy_walk.specs.Path.{Path, at_key}
@@ -79,16 +79,12 @@ abbrev pub users_under : Path → Option Data → Read (List UserDoc)
 users_under path None = Ok []
 users_under path (Some d) = users_at path d
 
--- whether exports and imports of services are known; until they are, their keys are unknown ones
-abbrev pub services_known : Bool
-services_known = false
-
 unfoldable pub account_at : Path → Data → Read AccountDoc
 account_at path d = do
   known ← judged account_rows path d
   users ← users_under (at_key path (codes "users")) (get (codes "users") d)
-  exports ← exports_under services_known (at_key path (codes "exports")) (get (codes "exports") d)
-  imports ← imports_under services_known (at_key path (codes "imports")) (get (codes "imports") d)
+  exports ← exports_under (at_key path (codes "exports")) (get (codes "exports") d)
+  imports ← imports_under (at_key path (codes "imports")) (get (codes "imports") d)
   Ok (record { users = users; exports = exports; imports = imports })
 
 -- an account's name is judged before what the account has

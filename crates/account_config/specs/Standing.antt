@@ -16,7 +16,7 @@ use Rattle.policy_permissions.specs.Entry.{is_entry_text, is_pattern_text}
 use Rattle.policy_rows.specs.Names.{kind_of}
 use Rattle.policy_walk.specs.Path.{Path, at_key, at_index}
 use Rattle.account_config.specs.Place.{itself, unknown, missing, under, named, Faults}
-use Rattle.account_config.specs.Policy.{is_bound, has_name_length, is_account_name, is_hashed, is_version, services_known}
+use Rattle.account_config.specs.Policy.{is_bound, has_name_length, is_account_name, is_hashed, is_version}
 
 -- a key of an object with the faults of what stands under it: it has to be there, or it may be, or it has two spellings
 pub data Key : Type 0 where
@@ -172,14 +172,10 @@ kindless_faults keys path d (missing (suc i)) = None
 kindless_faults keys path d (under i p) = None
 kindless_faults keys path d (named key p) = None
 
--- the keys that a row of some kind has; those of services only where they are known
-abbrev pub keys_of_rows : Bool → List Key → List Key → List Key
-keys_of_rows services stream_keys service_keys = if services then stream_keys ++ service_keys else stream_keys
-
-abbrev pub row_faults : Bool → List Key → List Key → Option Kind → Path → Data → Faults
-row_faults services stream_keys service_keys (Some Stream) path d = object_faults stream_keys path d
-row_faults services stream_keys service_keys (Some Service) path d = object_faults service_keys path d
-row_faults services stream_keys service_keys None path d = kindless_faults (keys_of_rows services stream_keys service_keys) path d
+abbrev pub row_faults : List Key → List Key → Option Kind → Path → Data → Faults
+row_faults stream_keys service_keys (Some Stream) path d = object_faults stream_keys path d
+row_faults stream_keys service_keys (Some Service) path d = object_faults service_keys path d
+row_faults stream_keys service_keys None path d = kindless_faults (stream_keys ++ service_keys) path d
 
 abbrev pub stream_export_keys : List Key
 stream_export_keys = required (codes "stream") pattern_faults ∷ optional (codes "accounts") (list_faults name_faults) ∷ []
@@ -191,8 +187,8 @@ service_export_keys =
     ∷ optional (codes "response_type") (text_faults is_response_type WrongType)
     ∷ optional (codes "response_ttl") duration_faults ∷ []
 
-abbrev pub export_faults : Bool → Path → Data → Faults
-export_faults services path d = row_faults services stream_export_keys service_export_keys (kind_of services d) path d
+abbrev pub export_faults : Path → Data → Faults
+export_faults path d = row_faults stream_export_keys service_export_keys (kind_of d) path d
 
 -- an account, and a pattern of its subjects
 abbrev pub source_keys : List Key
@@ -207,16 +203,16 @@ stream_import_keys =
 abbrev pub service_import_keys : List Key
 service_import_keys = required (codes "service") (object_faults source_keys) ∷ optional (codes "to") any_text_faults ∷ []
 
-abbrev pub import_faults : Bool → Path → Data → Faults
-import_faults services path d = row_faults services stream_import_keys service_import_keys (kind_of services d) path d
+abbrev pub import_faults : Path → Data → Faults
+import_faults path d = row_faults stream_import_keys service_import_keys (kind_of d) path d
 
 -- ---- accounts
 
 abbrev pub account_keys : List Key
 account_keys =
     optional (codes "users") (list_faults (object_faults user_keys))
-    ∷ optional (codes "exports") (list_faults (export_faults services_known))
-    ∷ optional (codes "imports") (list_faults (import_faults services_known)) ∷ []
+    ∷ optional (codes "exports") (list_faults export_faults)
+    ∷ optional (codes "imports") (list_faults import_faults) ∷ []
 
 -- an account's name, and then the account
 abbrev pub account_faults : List ℕ → Path → Data → Faults

@@ -17,11 +17,11 @@ use Rattle.policy_doc.specs.declared.document.NamedAccount.{NamedAccount}
 use Rattle.policy_doc.specs.declared.document.AccountDoc.{AccountDoc}
 use Rattle.policy_doc.specs.declared.document.ImportDoc.{ImportDoc}
 use Rattle.policy_doc.specs.declared.document.UserDoc.{UserDoc}
-use Rattle.policy_doc.specs.declared.document.PermDoc.{PermDoc}
-use Rattle.policy_doc.specs.declared.document.Direction.{Direction}
-use Rattle.policy_doc.specs.declared.document.PermEntry.{PermEntry}
+use Rattle.permission_doc.specs.declared.document.PermDoc.{PermDoc}
+use Rattle.permission_doc.specs.declared.document.Direction.{Direction}
+use Rattle.permission_doc.specs.declared.document.PermEntry.{PermEntry}
 use Rattle.policy_walk.specs.Durations.{duration_of}
-use Rattle.policy_doc.specs.declared.document.Terms.{Terms}
+use Rattle.permission_doc.specs.declared.document.Terms.{Terms}
 use Rattle.policy_walk.specs.declared.fault.ConfigFault.TheVariants.{TooLarge, NotJson, NoMemory}
 use Rattle.policy_permissions.specs.declared.entry.Side.{Side}
 use Rattle.policy_permissions.specs.declared.entry.Side.TheVariants.{Publish, Subscribe}
@@ -29,7 +29,7 @@ use Rattle.policy_permissions.specs.Entry.{entry_written}
 use Rattle.policy_walk.specs.Fault.{Read}
 use Rattle.account_config.specs.Place.{IsReading}
 use Rattle.account_config.specs.Standing.{policy_faults}
-use Rattle.account_config.specs.Policy.{or_empty, services_known}
+use Rattle.account_config.specs.Policy.{or_empty}
 use Rattle.json_text.specs.Json.{json_of}
 
 abbrev pub text_in : Data → List ℕ
@@ -134,8 +134,8 @@ row_in stream service (Some Stream) d = stream d
 row_in stream service (Some Service) d = service d
 row_in stream service None d = stream d
 
-abbrev pub export_in : Bool → Data → ExportDoc
-export_in services d = row_in stream_export_in service_export_in (kind_of services d) d
+abbrev pub export_in : Data → ExportDoc
+export_in d = row_in stream_export_in service_export_in (kind_of d) d
 
 abbrev pub stream_import_in : Data → ImportDoc
 stream_import_in d = record {
@@ -155,14 +155,14 @@ service_import_in d = record {
   prefix = None;
 }
 
-abbrev pub import_in : Bool → Data → ImportDoc
-import_in services d = row_in stream_import_in service_import_in (kind_of services d) d
+abbrev pub import_in : Data → ImportDoc
+import_in d = row_in stream_import_in service_import_in (kind_of d) d
 
 abbrev pub account_in : Data → AccountDoc
 account_in d = record {
   users = or_empty (option_map (list_in user_in) (get (codes "users") d));
-  exports = or_empty (option_map (list_in (export_in services_known)) (get (codes "exports") d));
-  imports = or_empty (option_map (list_in (import_in services_known)) (get (codes "imports") d));
+  exports = or_empty (option_map (list_in export_in) (get (codes "exports") d));
+  imports = or_empty (option_map (list_in import_in) (get (codes "imports") d));
 }
 
 -- accounts, each put under its name

@@ -2,7 +2,7 @@
 ghost use Rattle.std.specs.Prelude.{◌≡◌, [], option_map};
 ghost use Rattle.serde_json.specs.View.{view, items_view, members_view};
 ghost use Rattle.policy_walk.specs.Fault.{Gives};
-ghost use Rattle.account_config.specs.Policy.{account_at, account_name_from, accounts_at, accounts_from, each, exports_under, imports_under, named_account_at, services_known, user_at, users_at, users_under};
+ghost use Rattle.account_config.specs.Policy.{account_at, account_name_from, accounts_at, accounts_from, each, exports_under, imports_under, named_account_at, user_at, users_at, users_under};
 
 use crate::user::user_of;
 use base::Items;
@@ -11,9 +11,6 @@ use policy_rows::{account_name_from, exports_under, imports_under};
 use policy_walk::{ConfigFault, Path, items_of, judge, members_of};
 use serde_json::{Map, Value};
 use std::alloc::Global;
-
-/// Whether exports and imports of services are known. Their keys are unknown ones until they are.
-const SERVICES: bool = false;
 
 /// The accounts of an object, name by name.
 #[tactic(auto, unfolding(crate::specs::Policy::accounts_at))]
@@ -70,9 +67,9 @@ fn account_of(alloc: Global, path: &Path, value: &Value) -> Result<AccountDoc, C
     let below = path.key(alloc, "users")?;
     let users = users_under(alloc, &below, value.get("users"))?;
     let below = path.key(alloc, "exports")?;
-    let exports = exports_under(alloc, SERVICES, &below, value.get("exports"))?;
+    let exports = exports_under(alloc, &below, value.get("exports"))?;
     let below = path.key(alloc, "imports")?;
-    let imports = imports_under(alloc, SERVICES, &below, value.get("imports"))?;
+    let imports = imports_under(alloc, &below, value.get("imports"))?;
     Ok(AccountDoc {
         users,
         exports,

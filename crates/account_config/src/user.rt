@@ -5,7 +5,8 @@ ghost use Rattle.policy_walk.specs.Fault.{Gives};
 ghost use Rattle.account_config.specs.Policy.{has_name_length, is_hashed, password_at, password_from, user_at, user_name_at, user_name_from, user_permissions_at};
 
 use bytes::Bytes;
-use policy_doc::{PermDoc, UserDoc};
+use permission_doc::PermDoc;
+use policy_doc::UserDoc;
 use policy_permissions::permissions_under;
 use policy_rows::has_name_length;
 use policy_walk::{ConfigFault, Path, judge, required_text_of};

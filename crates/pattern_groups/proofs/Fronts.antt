@@ -1,10 +1,10 @@
--- Whoever has a subject has the number of some of its first tokens, and so has whoever covers a pattern.
+-- Whoever has a subject has the number of some of its first tokens.
 use Rattle.std.proofs.Common.{◌≡◌, ◌∙◌, ◌==◌, ◌&&◌, ◌||◌, inl, inr, ℕ, Bool, true, false, not, List, [], ◌∷◌, sym, subst, refl, arith}
 use Rattle.std.proofs.lemmas.Bool.{cases_Bool, and_parts}
 use Rattle.std.proofs.lemmas.Bool.Decides.{nat_tests}
 use Rattle.std.proofs.lemmas.Slice.Eq.{bytes_eq-Decides}
 use Rattle.std.proofs.lemmas.List.Splits.{slice_split-cons_yes, slice_split-cons_no}
-use Rattle.subjects.specs.Subject.{Token, is_star, is_tail, is_wildcard, same_token, in_set, covers, tokens_of}
+use Rattle.subjects.specs.Subject.{Token, is_star, is_tail, is_wildcard, same_token, in_set, tokens_of}
 use Rattle.subjects.specs.Mark.{with_byte, number_from}
 use Rattle.pattern_groups.specs.Numbers.{front_from, IsOfFront, IsPast}
 
@@ -51,18 +51,6 @@ in_set-front n (q ∷ qs) (s ∷ ss) has = elim (cases_Bool (is_wildcard q)) [
       let both : ((is_star q || same_token q s) && in_set qs ss) ≡ true = rw (no_tail q name) at has in
       let parts = and_parts (is_star q || same_token q s) (in_set qs ss) both in
       one_more n q s qs ss name (same_first q s name parts.0) (in_set-front (number_from n q) qs ss parts.1)
-]
-
-pub covers-front : (n : ℕ) (q p : List Token) → covers q p ≡ true → IsOfFront (front_from n q) n p
-covers-front n [] p has = at_front n p
-covers-front n (q ∷ qs) [] has = absurd (cc)
-covers-front n (q ∷ qs) (p ∷ ps) has = elim (cases_Bool (is_wildcard q)) [
-  | inl is ↦ wild n q qs (p ∷ ps) is
-  | inr name ↦
-      let all : (not (is_tail p) && (is_star q || same_token q p) && covers qs ps) ≡ true = rw (no_tail q name) at has in
-      let parts = and_parts (not (is_tail p) && (is_star q || same_token q p)) (covers qs ps) all in
-      let same = (and_parts (not (is_tail p)) (is_star q || same_token q p) parts.0).1 in
-      one_more n q p qs ps name (same_first q p name same) (covers-front (number_from n q) qs ps parts.1)
 ]
 
 -- ---- past a token

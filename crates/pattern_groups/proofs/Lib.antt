@@ -2,3 +2,5 @@ pub mod Fronts
 pub mod Linked
 pub mod Search
 pub mod Found
+pub mod Literal
+pub mod Numbered

@@ -60,10 +60,6 @@ IsLeast passes count (Some i) = (i < count) × (passes i ≡ true) × ((j : ℕ)
 abbrev pub PassesBehind : (ℕ → Bool) → List ℕ → ℕ → List (List ℕ) → Type 0
 PassesBehind passes numbers first tokens = (j : ℕ) → j < length numbers → passes j ≡ true → IsOfFront (at numbers j) first tokens
 
--- what passes has the number of some of the first tokens
-abbrev pub PassesByFront : (ℕ → Bool) → List ℕ → List (List ℕ) → Type 0
-PassesByFront passes numbers tokens = PassesBehind passes numbers 7 tokens
-
 -- a place that passes
 abbrev pub IsFound : (ℕ → Bool) → ℕ → ℕ → Type 0
 IsFound passes count j = (j < count) × (passes j ≡ true)

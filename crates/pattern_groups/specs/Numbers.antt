@@ -8,10 +8,6 @@ abbrev pub front_from : ℕ → List Token → ℕ
 front_from n [] = n
 front_from n (t ∷ ts) = if is_wildcard t then n else front_from (number_from n t) ts
 
--- the number of the literal tokens that a pattern begins with
-abbrev pub front_number : List Token → ℕ
-front_number tokens = front_from 7 tokens
-
 -- this is the number with some of the first tokens: none, or more of them
 abbrev pub IsOfFront : ℕ → ℕ → List Token → Type 0
 IsOfFront k n [] = k ≡ n

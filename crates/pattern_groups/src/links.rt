@@ -1,5 +1,5 @@
 //! Where the numbers of a list stand.
-ghost use Rattle.std.specs.Prelude.{◌≡◌, ◌<◌, ◌≤◌, ◌^◌, length, IfOk, OnOk};
+ghost use Rattle.std.specs.Prelude.{◌≡◌, ◌<◌, ◌≤◌, ◌^◌, length, IfOk, IfSome, OnOk};
 ghost use Rattle.pattern_groups.specs.Links.{row_of, AreLinks, Finds, IsLeastWith};
 
 use crate::patterns::Patterns;
@@ -11,6 +11,18 @@ use std::alloc::Global;
 pub(crate) struct Links {
     pub first: Vec<u32>,
     pub next: Vec<u32>,
+}
+
+/// Returns the places of numbers, unless there is only one: to find it costs as much as to ask it. `NoMemory` where memory could
+/// not be had.
+pub(crate) fn links_of(alloc: Global, numbers: &[u32]) -> Result<Option<Links>, NoMemory>
+    ensures { IfOk result (λ found. IfSome found (λ links. AreLinks numbers.now links.first.items links.next.items)) }
+{
+    if numbers.len() < 2 || numbers.len() > u32::MAX as usize {
+        return Ok(None);
+    }
+    let links = Links::of(alloc, numbers)?;
+    Ok(Some(links))
 }
 
 /// The row of a number, one of a power of two.

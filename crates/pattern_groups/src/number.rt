@@ -2,7 +2,7 @@
 ghost use Rattle.std.specs.Prelude.{◌≡◌, option_copied};
 ghost use Rattle.base.specs.Pieces.{pieces_left};
 ghost use Rattle.subjects.specs.Mark.{with_byte, number_from};
-ghost use Rattle.pattern_groups.specs.Numbers.{front_from, front_number, IsPast};
+ghost use Rattle.pattern_groups.specs.Numbers.{front_from, IsPast};
 
 use subjects::{Pattern, is_star, is_tail};
 
@@ -28,27 +28,13 @@ pub(crate) fn with_token(number: u32, token: &[u8]) -> u32
     all
 }
 
-/// Returns the number of the literal tokens that a pattern begins with. Whoever has a subject, or covers a pattern, has
-/// the number of some of its first tokens, so many as stand before its own first wildcard.
-pub fn number_of(pattern: &Pattern) -> u32
-    ensures { result ≡ front_number pattern.now }
-{
-    number_behind(NONE, pattern)
-}
-
-/// Returns the same number of a token and the pattern's tokens behind it.
+/// Returns the number of a token and the literal tokens that a pattern behind it begins with. Whatever has a subject behind that
+/// token has the number of the token and some of the subject's first tokens, so many as stand before its own first wildcard.
 pub fn number_under(token: &[u8], pattern: &Pattern) -> u32
     ensures { result ≡ front_from (number_from 7 token.now) pattern.now }
 {
-    number_behind(with_token(NONE, token), pattern)
-}
-
-/// A number with the literal tokens that a pattern begins with.
-fn number_behind(first: u32, pattern: &Pattern) -> u32
-    ensures { result ≡ front_from first pattern.now }
-{
     let mut tokens = pattern.tokens();
-    let mut number = first;
+    let mut number = with_token(NONE, token);
     while let Some(token) = tokens.next_piece() {
         if is_star(token) || is_tail(token) {
             return number;

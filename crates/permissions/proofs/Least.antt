@@ -4,7 +4,7 @@ use Rattle.std.specs.List.{position, position_or_len, slice_index_or}
 use Rattle.std.proofs.lemmas.List.Sums.{position_or_len_is}
 use Rattle.std.proofs.lemmas.Grind.{common_steps}
 use Rattle.subjects.specs.Subject.{Token, Lacks}
-use Rattle.policy_doc.specs.Document.{entry_of}
+use Rattle.permission_doc.specs.Entries.{entry_of}
 use Rattle.permissions.specs.Lists.{Entry, is_plain, is_queued}
 use Rattle.pattern_groups.specs.Links.{IsLeast as IsLeastPlace}
 use Rattle.permissions.specs.Verdicts.{EachLacks, LacksSome, NoneCovers}

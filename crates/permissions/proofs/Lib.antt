@@ -1,4 +1,4 @@
-pub mod Fronts
+pub mod Found
 pub mod Least
 pub mod One
 pub mod Reason

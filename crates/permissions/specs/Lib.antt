@@ -1,4 +1,4 @@
 pub mod Lists
 pub mod Verdicts
 pub mod Looked
-pub mod Numbers
+pub mod Indexes

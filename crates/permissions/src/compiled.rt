@@ -1,39 +1,50 @@
 use crate::decision::{on_delivery, on_publish, on_subscribe};
 use crate::equality::has_no_list;
-use crate::grouped::Parts;
+use crate::indexed::Indexed;
 use crate::{By, Verdict};
 use base::{Alike, Copying, Items, NoMemory};
-use policy_doc::{PermDoc, Terms, UserDoc};
+use permission_doc::{PermDoc, Terms};
+use policy_doc::UserDoc;
 use std::alloc::Global;
 use std::marker::Model;
 use std::sync::Arc;
 use subjects::{Pattern, Subject, SubjectRef};
 
 /// A user's permission lists, ready to be asked. Copies share them. A clause sees the lists.
+///
+/// ```
+/// let rules = Compiled::of(rt.alloc(), &user)?;
+/// assert_eq!(rt; rules.publish(&foo.lend()), Verdict::Allowed(By::Index(0)));
+/// assert_eq!(rt; rules.publish(&secret.lend()), Verdict::DeniedBy(0));
+/// assert_eq!(rt; rules.publish(&bar.lend()), Verdict::NoAllow);
+/// ```
+///
+/// A question takes no memory. Of each list it looks at the entries that have the literal tokens of what is asked, found by a
+/// number of these, and at few others.
 #[derive(Debug)]
 pub struct Compiled {
-    parts: Option<Arc<Parts>>,
+    indexed: Option<Arc<Indexed>>,
 }
 
 impl Drop for Compiled {
     fn drop(self) {
-        let Self { parts: _ } = self;
+        let Self { indexed: _ } = self;
     }
 }
 
 impl Model for Compiled {
     ghost use Rattle.std.specs.Prelude.{IfSome};
     ghost use Rattle.permissions.specs.Lists.{Lists, lists_of_permissions};
-    ghost use Rattle.permissions.specs.Numbers.{AreGrouped};
-    ghost use Rattle.permissions.specs.declared.grouped.Parts.{Parts};
+    ghost use Rattle.permissions.specs.Indexes.{AreIndexed};
+    ghost use Rattle.permissions.specs.declared.indexed.Indexed.{Indexed};
     ghost use Rattle.std.specs.Option.{option_map};
     ghost use Rattle.std.specs.Arc.{arc_value};
 
     ghost Value = { Lists };
 
-    ghost view = { λ c. lists_of_permissions (option_map (λ parts. (arc_value {X = Parts} parts).lists) c.parts) };
+    ghost view = { λ c. lists_of_permissions (option_map (λ indexed. (arc_value {X = Indexed} indexed).lists) c.indexed) };
 
-    ghost invariant = { λ c. IfSome c.parts (λ parts. AreGrouped (arc_value {X = Parts} parts)) };
+    ghost invariant = { λ c. IfSome c.indexed (λ indexed. AreIndexed (arc_value {X = Indexed} indexed)) };
 }
 
 impl Compiled {
@@ -49,14 +60,14 @@ impl Compiled {
         ensures { IfOk result (λ compiled. compiled ≡ lists_of user.now) }
     {
         match &user.permissions {
-            None => Ok(Compiled { parts: None }),
+            None => Ok(Compiled { indexed: None }),
             Some(permissions) => {
                 let mut copy = permissions.copy(alloc)?;
                 bring_allow_list(alloc, &mut copy);
-                let parts = Parts::of(alloc, copy)?;
-                let shared = Arc::new(alloc, parts)?;
+                let indexed = Indexed::of(alloc, copy)?;
+                let shared = Arc::new(alloc, indexed)?;
                 Ok(Compiled {
-                    parts: Some(shared),
+                    indexed: Some(shared),
                 })
             }
         }
@@ -66,9 +77,9 @@ impl Compiled {
     pub fn permissions(&self) -> Option<&PermDoc>
         ensures { lists_of_permissions (option_copied result) ≡ self.now }
     {
-        match &self.parts {
+        match &self.indexed {
             None => None,
-            Some(parts) => Some(&parts.lists),
+            Some(indexed) => Some(&indexed.lists),
         }
     }
 
@@ -76,9 +87,9 @@ impl Compiled {
     pub fn terms(&self) -> Option<Terms>
         ensures { result ≡ self.now.allow_responses }
     {
-        match &self.parts {
+        match &self.indexed {
             None => None,
-            Some(parts) => parts.lists.allow_responses,
+            Some(indexed) => indexed.lists.allow_responses,
         }
     }
 
@@ -97,9 +108,9 @@ impl Compiled {
     fn judge_publish(&self, subject: &SubjectRef<'_>) -> Verdict
         ensures { result ≡ publish_verdict self.now subject.now }
     {
-        match &self.parts {
+        match &self.indexed {
             None => Verdict::Allowed(By::All),
-            Some(parts) => on_publish(&parts.lists.publish, &parts.publish, subject),
+            Some(indexed) => on_publish(&indexed.lists.publish, &indexed.publish, subject),
         }
     }
 
@@ -122,9 +133,9 @@ impl Compiled {
     fn judge_subscribe(&self, pattern: &Pattern, queue: Option<&Subject>) -> Verdict
         ensures { result ≡ subscribe_verdict self.now pattern.now (option_copied queue.entry) }
     {
-        match &self.parts {
+        match &self.indexed {
             None => Verdict::Allowed(By::All),
-            Some(parts) => on_subscribe(&parts.lists.subscribe, &parts.subscribe, pattern, queue),
+            Some(indexed) => on_subscribe(&indexed.lists.subscribe, &indexed.subscribe, pattern, queue),
         }
     }
 
@@ -158,9 +169,9 @@ impl Compiled {
     fn judge_delivery(&self, subject: &SubjectRef<'_>, queue: Option<&Subject>) -> Verdict
         ensures { result ≡ delivery_verdict self.now subject.now (option_copied queue.entry) }
     {
-        match &self.parts {
+        match &self.indexed {
             None => Verdict::Allowed(By::All),
-            Some(parts) => on_delivery(&parts.lists.subscribe, &parts.subscribe, subject, queue),
+            Some(indexed) => on_delivery(&indexed.lists.subscribe, &indexed.subscribe, subject, queue),
         }
     }
 }
@@ -181,12 +192,12 @@ fn bring_allow_list(alloc: Global, permissions: &mut PermDoc)
 
 impl Copying for Compiled {
     fn copy(&self, alloc: Global) -> Result<Compiled, NoMemory> {
-        match &self.parts {
-            None => Ok(Compiled { parts: None }),
-            Some(parts) => {
-                let shared = Arc::try_clone(parts)?;
+        match &self.indexed {
+            None => Ok(Compiled { indexed: None }),
+            Some(indexed) => {
+                let shared = Arc::try_clone(indexed)?;
                 Ok(Compiled {
-                    parts: Some(shared),
+                    indexed: Some(shared),
                 })
             }
         }

@@ -2,19 +2,19 @@ ghost use Rattle.std.specs.Prelude.{◌≡◌, ◌&&◌, [], length, position};
 ghost use Rattle.std.specs.List.{slice_index_or};
 ghost use Rattle.std.specs.Option.{option_copied};
 ghost use Rattle.subjects.specs.Subject.{in_set};
-ghost use Rattle.policy_doc.specs.Document.{entry_of};
+ghost use Rattle.permission_doc.specs.Entries.{entry_of};
 ghost use Rattle.permissions.specs.Lists.{Entry, names, is_for};
 ghost use Rattle.permissions.specs.Looked.{is_looked_at, has_whole};
-ghost use Rattle.permissions.specs.Numbers.{AreGroupsOf, numbers_of};
+ghost use Rattle.permissions.specs.Indexes.{AreIndexesOf, IsIndexOf};
 ghost use Rattle.permissions.specs.Verdicts.{publish_by, by_entry_with, subscribe_by, allow_verdict, by_plain_entry, unless_denied};
 ghost use Rattle.permissions.specs.declared.verdict.By.TheVariants.{All as AllowsAll};
 ghost use Rattle.permissions.specs.declared.verdict.Verdict.TheVariants.{Allowed};
 
-use crate::grouped::DirectionGroups;
+use crate::indexed::Indexes;
 use crate::subject_set::SubjectSet;
 use crate::{By, Verdict};
-use pattern_groups::{Groups, Patterns};
-use policy_doc::{Direction, PermEntry};
+use pattern_groups::{PatternIndex, Patterns};
+use permission_doc::{Direction, PermEntry};
 use subjects::{Pattern, Subject, SubjectRef};
 
 /// Which entries of a list are looked at, by their queue parts.
@@ -35,27 +35,27 @@ pub(crate) enum Among {
 /// The verdict of a direction's lists on a publish.
 pub(crate) fn on_publish(
     rules: &Direction,
-    groups: &DirectionGroups,
+    indexes: &Indexes,
     subject: &SubjectRef<'_>,
 ) -> Verdict
-    requires { AreGroupsOf rules.now groups.now }
+    requires { AreIndexesOf rules.now indexes.now }
     ensures { result ≡ publish_by rules.now subject.now }
 {
-    match first_with(rules.deny.as_slice(), &groups.deny, subject) {
+    match first_with(rules.deny.as_slice(), &indexes.deny, subject) {
         Some(index) => Verdict::DeniedBy(index),
         None => match &rules.allow {
             None => Verdict::Allowed(By::All),
-            Some(entries) => by_entry(entries.as_slice(), &groups.allow, subject),
+            Some(entries) => by_entry(entries.as_slice(), &indexes.allow, subject),
         },
     }
 }
 
 /// The verdict of an allow list on a publish.
-fn by_entry(entries: &[PermEntry], groups: &Groups, subject: &SubjectRef<'_>) -> Verdict
-    requires { groups.now ≡ numbers_of entries.now }
+fn by_entry(entries: &[PermEntry], index: &PatternIndex, subject: &SubjectRef<'_>) -> Verdict
+    requires { IsIndexOf entries.now index.now }
     ensures { result ≡ by_entry_with subject.now entries.now }
 {
-    match first_with(entries, groups, subject) {
+    match first_with(entries, index, subject) {
         Some(index) => Verdict::Allowed(By::Index(index)),
         None => Verdict::NoAllow,
     }
@@ -64,19 +64,19 @@ fn by_entry(entries: &[PermEntry], groups: &Groups, subject: &SubjectRef<'_>) ->
 /// The verdict of a direction's lists on a subscription.
 pub(crate) fn on_subscribe(
     rules: &Direction,
-    groups: &DirectionGroups,
+    indexes: &Indexes,
     pattern: &Pattern,
     queue: Option<&Subject>,
 ) -> Verdict
-    requires { AreGroupsOf rules.now groups.now }
+    requires { AreIndexesOf rules.now indexes.now }
     ensures { result ≡ subscribe_by rules.now pattern.now (option_copied queue.entry) }
 {
     let deny = rules.deny.as_slice();
-    match first_entry(deny, &groups.deny, Among::PlainAndNamed, queue, pattern) {
+    match first_entry(deny, &indexes.deny, Among::PlainAndNamed, queue, pattern) {
         Some(least) => Verdict::DeniedBy(least),
         None => match &rules.allow {
             None => Verdict::Allowed(By::All),
-            Some(entries) => allow_verdict(entries.as_slice(), &groups.allow, pattern, queue),
+            Some(entries) => allow_verdict(entries.as_slice(), &indexes.allow, pattern, queue),
         },
     }
 }
@@ -84,18 +84,18 @@ pub(crate) fn on_subscribe(
 /// The verdict of an allow list on a subscription.
 fn allow_verdict(
     entries: &[PermEntry],
-    groups: &Groups,
+    index: &PatternIndex,
     pattern: &Pattern,
     queue: Option<&Subject>,
 ) -> Verdict
-    requires { groups.now ≡ numbers_of entries.now }
+    requires { IsIndexOf entries.now index.now }
     ensures { result ≡ allow_verdict pattern.now (option_copied queue.entry) entries.now }
 {
     match queue {
-        None => by_plain_entry(entries, groups, pattern),
-        Some(name) => match first_entry(entries, groups, Among::Queued, queue, pattern) {
-            None => by_plain_entry(entries, groups, pattern),
-            Some(least) => match first_entry(entries, groups, Among::Named, Some(name), pattern) {
+        None => by_plain_entry(entries, index, pattern),
+        Some(name) => match first_entry(entries, index, Among::Queued, queue, pattern) {
+            None => by_plain_entry(entries, index, pattern),
+            Some(least) => match first_entry(entries, index, Among::Named, Some(name), pattern) {
                 Some(index) => Verdict::Allowed(By::Index(index)),
                 None => Verdict::NoQueueAllow(least),
             },
@@ -104,11 +104,11 @@ fn allow_verdict(
 }
 
 /// The verdict of an allow list's plain entries.
-fn by_plain_entry(entries: &[PermEntry], groups: &Groups, pattern: &Pattern) -> Verdict
-    requires { groups.now ≡ numbers_of entries.now }
+fn by_plain_entry(entries: &[PermEntry], index: &PatternIndex, pattern: &Pattern) -> Verdict
+    requires { IsIndexOf entries.now index.now }
     ensures { result ≡ by_plain_entry pattern.now entries.now }
 {
-    match first_entry(entries, groups, Among::Plain, None, pattern) {
+    match first_entry(entries, index, Among::Plain, None, pattern) {
         Some(index) => Verdict::Allowed(By::Index(index)),
         None => Verdict::NoAllow,
     }
@@ -117,26 +117,26 @@ fn by_plain_entry(entries: &[PermEntry], groups: &Groups, pattern: &Pattern) -> 
 /// The verdict of a direction's deny list on a delivery.
 pub(crate) fn on_delivery(
     rules: &Direction,
-    groups: &DirectionGroups,
+    indexes: &Indexes,
     subject: &SubjectRef<'_>,
     queue: Option<&Subject>,
 ) -> Verdict
-    requires { AreGroupsOf rules.now groups.now }
+    requires { AreIndexesOf rules.now indexes.now }
     ensures { result ≡ unless_denied (position (λ (e : Entry). is_for (option_copied queue.entry) e && in_set e.subject subject.now) rules.now.deny) (Allowed AllowsAll) }
 {
     let deny = rules.deny.as_slice();
-    match first_entry(deny, &groups.deny, Among::PlainAndNamed, queue, subject) {
+    match first_entry(deny, &indexes.deny, Among::PlainAndNamed, queue, subject) {
         Some(denied) => Verdict::DeniedBy(denied),
         None => Verdict::Allowed(By::All),
     }
 }
 
 /// The index of the first entry that has the whole of what is asked, whatever its queue part.
-fn first_with<A: SubjectSet>(entries: &[PermEntry], groups: &Groups, asked: &A) -> Option<usize>
-    requires { groups.now ≡ numbers_of entries.now }
+fn first_with<A: SubjectSet>(entries: &[PermEntry], index: &PatternIndex, asked: &A) -> Option<usize>
+    requires { IsIndexOf entries.now index.now }
     ensures { result ≡ position (λ (e : Entry). A.is_within e.subject asked.now) entries.now }
 {
-    first_entry(entries, groups, Among::All, None, asked)
+    first_entry(entries, index, Among::All, None, asked)
 }
 
 /// Entries, which of them are looked at, and what they are asked.
@@ -159,18 +159,18 @@ impl<'a, A: SubjectSet> Patterns for Asked<'a, A> {
     }
 }
 
-/// The index of the first entry that is looked at and has the whole of what is asked. Only those are asked that begin as
-/// it does.
+/// The index of the first entry that is looked at and has the whole of what is asked. Only those are asked that
+/// have its literal tokens.
 #[inline(always)]
-#[tactic(auto, using(crate::proofs::Fronts::as_many, crate::proofs::Fronts::passes_by_front, crate::proofs::Least::least_position))]
+#[tactic(auto, using(crate::proofs::Found::as_many, crate::proofs::Found::passes_by_number, crate::proofs::Least::least_position))]
 fn first_entry<A: SubjectSet>(
     entries: &[PermEntry],
-    groups: &Groups,
+    index: &PatternIndex,
     among: Among,
     queue: Option<&Subject>,
     asked: &A,
 ) -> Option<usize>
-    requires { groups.now ≡ numbers_of entries.now }
+    requires { IsIndexOf entries.now index.now }
     ensures { result ≡ position (has_whole A.is_within among (option_copied queue.entry) asked.now) entries.now }
 {
     let text = asked.text();
@@ -180,7 +180,7 @@ fn first_entry<A: SubjectSet>(
         queue,
         asked,
     };
-    let least = groups.least(text, &all);
+    let least = index.least(text, &all);
     least
 }
 

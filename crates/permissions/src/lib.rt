@@ -4,7 +4,7 @@
 mod compiled;
 mod decision;
 mod equality;
-mod grouped;
+mod indexed;
 mod laws;
 mod subject_set;
 mod verdict;

@@ -4,7 +4,7 @@ use Rattle.std.specs.Option.{is_some}
 use Rattle.subjects.specs.Subject.{Token, tokens_of}
 use Rattle.subjects.specs.Fault.{IsParse, pattern_fault, is_no_memory}
 use Rattle.subjects.specs.declared.error.SubjectError.{SubjectError}
-use Rattle.policy_doc.specs.declared.document.PermEntry.{PermEntry}
+use Rattle.permission_doc.specs.declared.document.PermEntry.{PermEntry}
 use Rattle.policy_permissions.specs.declared.entry.Side.{Side}
 use Rattle.policy_permissions.specs.declared.entry.Side.TheVariants.{Publish, Subscribe}
 use Rattle.policy_walk.specs.declared.fault.ConfigFault.TheVariants.{BadSubject}

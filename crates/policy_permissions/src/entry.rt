@@ -4,7 +4,7 @@ ghost use Rattle.policy_permissions.specs.Entry.{behind_spaces, entry_parts};
 ghost use Rattle.policy_walk.specs.Fault.{Gives};
 ghost use Rattle.policy_permissions.specs.Permissions.{entry_from, parts_from, pattern_from, queue_from};
 
-use policy_doc::PermEntry;
+use permission_doc::PermEntry;
 use policy_walk::{ConfigFault, Path};
 use std::alloc::Global;
 use subjects::Pattern;

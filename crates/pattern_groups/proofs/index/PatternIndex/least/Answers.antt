@@ -1,6 +1,6 @@
 use Rattle.std.proofs.Common.{sym, subst}
 use Rattle.pattern_groups.specs.Links.{IsLeast, IsLeastBelow}
-use Rattle.pattern_groups.proofs.groups.Groups.least.Goals as goal
+use Rattle.pattern_groups.proofs.index.PatternIndex.least.Goals as goal
 
 pub returns : goal.returns
 returns g c =

@@ -1,0 +1,30 @@
+-- The indexes of a direction's lists.
+use Rattle.std.specs.Prelude.{◌≡◌, ℕ, List, map, IfSome}
+use Rattle.subjects.specs.Subject.{Token}
+use Rattle.pattern_groups.specs.Places.{Numbered, AreLiteral, number_at}
+use Rattle.pattern_groups.specs.Places as patterns
+use Rattle.permissions.specs.Lists.{Entry, Rules}
+use Rattle.permissions.specs.declared.indexed.Indexes.{Indexes}
+use Rattle.permissions.specs.declared.indexed.Indexed.{Indexed}
+
+-- an entry's pattern
+abbrev pub pattern_of : Entry → List Token
+pattern_of e = e.subject
+
+-- this is the index of the entries' patterns
+abbrev pub IsIndexOf : List Entry → Numbered → Type 0
+IsIndexOf entries index = patterns.IsIndexOf (map pattern_of entries) index
+
+-- these are the indexes of a direction's lists
+pub record AreIndexesOf (rules : Rules) (indexes : Indexes) : Type 0 where
+  pub allow : IfSome rules.allow (λ entries. IsIndexOf entries indexes.allow)
+  pub deny : IsIndexOf rules.deny indexes.deny
+
+-- both directions have their indexes
+pub record AreIndexed (indexed : Indexed) : Type 0 where
+  pub publish : AreIndexesOf indexed.lists.publish indexed.publish
+  pub subscribe : AreIndexesOf indexed.lists.subscribe indexed.subscribe
+
+-- these tokens have the number of the pattern at each choice of its literal tokens
+abbrev pub HasNumbers : List Token → List Token → Type 0
+HasNumbers pattern tokens = (places : ℕ) → AreLiteral places pattern → number_at places pattern ≡ number_at places tokens
