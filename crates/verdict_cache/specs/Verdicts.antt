@@ -1,0 +1,35 @@
+-- Verdicts that are kept for when they are asked again.
+use Rattle.std.specs.Prelude.{◌≡◌, ◌≤◌, ℕ, List, Option, Some, None, All, if◌then◌else◌}
+use Rattle.std.specs.Option.{option_copied}
+use Rattle.permissions.specs.declared.verdict.Verdict.{Verdict}
+use Rattle.verdict_cache.specs.declared.asked.Action.{Action}
+use Rattle.verdict_cache.specs.declared.asked.Asked.{Asked}
+use Rattle.verdict_cache.specs.declared.asked.Asking.{Asking}
+use Rattle.verdict_cache.specs.declared.cache.Known.{Known}
+use Rattle.verdict_cache.specs.declared.cache.VerdictCache.{VerdictCache}
+
+-- what a verdict is on: a user's name, what its permissions are asked for, the text of a subject or a pattern, a queue's name or none
+pub record Question : Type 0 where
+  pub user : List ℕ
+  pub action : Action
+  pub text : List ℕ
+  pub queue : Option (List ℕ)
+
+abbrev pub asked_of : Asked → Question
+asked_of asked = record { user = asked.user.items; action = asked.action; text = asked.text.items; queue = if asked.has_queue then Some asked.queue.items else None }
+
+abbrev pub asked_by : Asking → Question
+asked_by asking = record { user = asking.user.now; action = asking.action; text = asking.text.now; queue = option_copied asking.queue }
+
+-- which verdict each question has
+abbrev pub Judgement : Type 0
+Judgement = Question → Verdict
+
+-- a verdict that is kept isn't of a later epoch, and if it is of this one, its question has it
+pub record IsCurrent (verdict_of : Judgement) (epoch : ℕ) (entry : Asked × Known) : Type 0 where
+  pub no_later : entry.1.epoch ≤ epoch
+  pub same : entry.1.epoch ≡ epoch → entry.1.verdict ≡ verdict_of (asked_of entry.0)
+
+-- so is each that is kept
+abbrev pub AreCurrent : Judgement → ℕ → VerdictCache → Type 0
+AreCurrent verdict_of epoch cache = All (IsCurrent verdict_of epoch) cache.known.entries

@@ -1,0 +1,8 @@
+//! Verdicts that were given under the policy in force, for when they are asked again.
+#![tactic(auto)]
+
+mod asked;
+mod cache;
+
+pub use asked::{Action, Asking};
+pub use cache::VerdictCache;
