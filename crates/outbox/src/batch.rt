@@ -5,6 +5,7 @@ use base::{Alike, NoMemory, are_alike};
 use circular_buffer::HeapCircularBuffer;
 use std::alloc::Global;
 use std::marker::Model;
+use std::mem;
 use std::sync::Arc;
 
 /// Elements that leave an outbox together, oldest first. They may have several owners: one more takes no memory and
@@ -108,9 +109,10 @@ impl<T: Drop> Batch<T> {
 ghost use Rattle.std.specs.Prelude.{[], ◌+◌};
 ghost use Rattle.std.specs.Vec.{vec_len, vec_capacity};
 
-/// Moves the first so many elements of a ring into an empty vector, which has room for them.
+/// Moves the first so many elements of a ring into an empty vector, which has room for them. The vector is a local meanwhile, so
+/// that its fields stay in registers. What stands in its place takes no memory.
 #[tactic(auto, using(crate::proofs::Fronts::take_first_left, crate::proofs::Fronts::drop_first_left, crate::proofs::Fronts::is_left))]
-fn move_front<T>(ring: &mut HeapCircularBuffer<T>, count: usize, room: &mut Vec<T>)
+fn move_front<T: Drop>(ring: &mut HeapCircularBuffer<T>, count: usize, room: &mut Vec<T>)
     requires count { count ≤ length ring.old.items }
     requires empty { room.old.items ≡ [] }
     requires room { count ≤ vec_capacity room.old }
@@ -118,11 +120,14 @@ fn move_front<T>(ring: &mut HeapCircularBuffer<T>, count: usize, room: &mut Vec<
     ensures rest { ring.new.items ≡ drop count ring.old.items }
     ensures capacity { ring.new.capacity ≡ ring.old.capacity }
 {
+    let alloc = *room.allocator();
+    let mut moved = mem::replace(room, Vec::new(alloc));
     'moving: for _ in 0..count {
         if let Some(next) = ring.pop_front() {
-            room.push_reserved(next);
+            moved.push_reserved(next);
         }
     }
+    mem::forget(mem::replace(room, moved));
 }
 
 impl<T: Alike> Alike for Batch<T> {

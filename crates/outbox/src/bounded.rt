@@ -8,6 +8,16 @@ use std::alloc::Global;
 use std::marker::Model;
 
 /// What waits for one session, oldest first. A clause sees the list and how long it may be.
+///
+/// ```
+/// let mut outbox = Outbox::new(rt.alloc(), 1)?;
+/// assert_eq!(rt; outbox.offer(Numbered(3)), Ok(()));
+/// assert_eq!(rt; outbox.offer(Numbered(4)), Err(Numbered(4)));
+/// assert_eq!(rt; outbox.take(5)?.as_slice(), [Numbered(3)].as_slice());
+/// ```
+///
+/// All its memory is taken at its making. `offer` writes one element; `share` moves those that wait once, and hands them on without
+/// a copy.
 #[derive(Debug)]
 pub struct Outbox<T> {
     /// The oldest, once they were asked for together. They wait until they are let go.

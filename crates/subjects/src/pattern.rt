@@ -9,6 +9,17 @@ use std::alloc::Global;
 use std::marker::Model;
 
 /// A subject that may have wildcards, as a subscription and a permission have it. A clause sees its tokens.
+///
+/// ```
+/// let orders = Pattern::parse(rt.alloc(), b"orders.*.eu")?;
+/// let all = Pattern::parse(rt.alloc(), b"orders.>")?;
+/// assert!(rt; orders.matches(&Subject::parse(rt.alloc(), b"orders.new.eu")?.lend()));
+/// assert!(rt; all.covers(&orders));
+/// assert!(rt; !orders.covers(&all));
+/// ```
+///
+/// `matches`, `covers` and `overlaps` take no memory and look at each byte of both texts once at most. `covers` compares two
+/// numbers first, which settle most questions.
 #[derive(Debug)]
 pub struct Pattern {
     text: SharedBytes,

@@ -19,11 +19,11 @@ use Rattle.sublist.specs.Pairs.{IsMatching}
 use Rattle.sublist.proofs.Levels.{has, ids_at-end, at_star, at_literal, at_tail_end, ids_at-more}
 use Rattle.sublist.proofs.Rising.{contains-dedup}
 
-matched-end : (n : Node) → matched [] n ≡ (out-Node n).ids.items
+matched-end : (n : Node) → matched [] n ≡ (out-Node n).ids.keys
 unfolding matched
 matched-end n = refl
 
-matched-more : (t : Token) (ts : List Token) (n : Node) → matched (t ∷ ts) n ≡ (out-Node n).tail.items ++ (below (matched ts) (out-Node n).star ++ below (matched ts) (lookup (has t) (out-Node n).children.entries))
+matched-more : (t : Token) (ts : List Token) (n : Node) → matched (t ∷ ts) n ≡ (out-Node n).tail.keys ++ (below (matched ts) (out-Node n).star ++ below (matched ts) (lookup (has t) (out-Node n).children.entries))
 unfolding matched
 matched-more t ts n = refl
 
@@ -51,7 +51,7 @@ sound [] l n i h = ([], rw (ids_at-end n) (rw (matched-end n) at h), refl)
 sound (t ∷ ts) l n i h =
     let parts = and_parts (is_literal t) (list_all is_literal ts) l in
     let plain = literal-parts t parts.0 in
-    let found : (contains (out-Node n).tail.items i || (contains (below (matched ts) (out-Node n).star) i || contains (below (matched ts) (lookup (has t) (out-Node n).children.entries)) i)) ≡ true = sym (in_three (out-Node n).tail.items (below (matched ts) (out-Node n).star) (below (matched ts) (lookup (has t) (out-Node n).children.entries)) i) ∙ (rw (matched-more t ts n) at h) in
+    let found : (contains (out-Node n).tail.keys i || (contains (below (matched ts) (out-Node n).star) i || contains (below (matched ts) (lookup (has t) (out-Node n).children.entries)) i)) ≡ true = sym (in_three (out-Node n).tail.keys (below (matched ts) (out-Node n).star) (below (matched ts) (lookup (has t) (out-Node n).children.entries)) i) ∙ (rw (matched-more t ts n) at h) in
     elim (or_cases _ _ found) [
       | inl y ↦ ((62 ∷ []) ∷ [], rw (at_tail_end (62 ∷ []) n refl) y, refl)
       | inr z ↦ elim (or_cases _ _ z) [
@@ -77,7 +77,7 @@ complete : (p ts : List Token) (n : Node) (i : ℕ) → contains (ids_at p n) i 
 complete [] [] n i h m = rw (matched-end n) (rw (ids_at-end n) at h)
 complete [] (s ∷ ss) n i h m = absurd (false≢true m)
 complete (p ∷ ps) [] n i h m = absurd (false≢true m)
-complete (p ∷ ps) (s ∷ ss) n i h m = rw (matched-more s ss n, in_three (out-Node n).tail.items (below (matched ss) (out-Node n).star) (below (matched ss) (lookup (has s) (out-Node n).children.entries)) i)
+complete (p ∷ ps) (s ∷ ss) n i h m = rw (matched-more s ss n, in_three (out-Node n).tail.keys (below (matched ss) (out-Node n).star) (below (matched ss) (lookup (has s) (out-Node n).children.entries)) i)
     (elim (cases_Bool (is_tail p)) [
       | inl y ↦ at_tail ps y (rw (ids_at-more p ps n, y) at h)
       | inr t ↦ elim (cases_Bool (is_star p)) [
@@ -88,7 +88,7 @@ complete (p ∷ ps) (s ∷ ss) n i h m = rw (matched-more s ss n, in_three (out-
       ]
     ])
   where
-    at_tail : (ps : List Token) → is_tail p ≡ true → contains (at_end ps (out-Node n).tail.items) i ≡ true → (contains (out-Node n).tail.items i || (contains (below (matched ss) (out-Node n).star) i || contains (below (matched ss) (lookup (has s) (out-Node n).children.entries)) i)) ≡ true
+    at_tail : (ps : List Token) → is_tail p ≡ true → contains (at_end ps (out-Node n).tail.keys) i ≡ true → (contains (out-Node n).tail.keys i || (contains (below (matched ss) (out-Node n).star) i || contains (below (matched ss) (lookup (has s) (out-Node n).children.entries)) i)) ≡ true
     at_tail [] y g = or_left _ _ g
     at_tail (u ∷ us) y g = absurd (false≢true g)
 

@@ -1,9 +1,13 @@
 -- Lists of ids that rise, and lists with the same members.
-use Rattle.std.proofs.Common.{◌≡◌, ◌==◌, ◌<◌, ◌≤◌, ℕ, Bool, true, false, List, [], ◌∷◌, Less, refl, sym, ap, subst, ◌∙◌, inl, inr, arith, eqb}
-use Rattle.std.specs.List.{filter, dedup, AllByRecursion, Contains}
+use Rattle.std.proofs.Common.{◌≡◌, ◌==◌, ◌<◌, ◌≤◌, ℕ, Bool, true, false, ◌||◌, not, List, [], ◌∷◌, refl, sym, ap, subst, ◌∙◌, inl, inr, arith, eqb}
+use Rattle.std.specs.List.{filter, dedup, list_any, AllByRecursion, Contains}
 use Rattle.std.specs.List.Sorted.{IsStrictlySortedBy}
 use Rattle.std.specs.Map.{keys_of}
-use Rattle.std.specs.Ordering.{nat_cmp}
+use Rattle.std.specs.Ordering.{nat_cmp, is_eq, match_ordering}
+use Rattle.std.specs.BTreeSet.{insert_key}
+use Rattle.std.specs.Set.{remove_key}
+use Rattle.std.specs.declared.cmp.Ordering.{Ordering}
+use Rattle.std.specs.declared.cmp.Ordering.TheVariants.{Less, Equal, Greater}
 use Rattle.std.proofs.lemmas.Bool.{cases_Bool, false≢true, eqb-true, eq-eqb, or_cases, or_left}
 use Rattle.std.proofs.lemmas.Bool.Decides.{nat_tests}
 use Rattle.std.proofs.lemmas.List.Folds.{Any-from_list_any, list_any-from_Any}
@@ -87,3 +91,70 @@ module _ {X : Type 0} where
     | inl y ↦ rw y (kept _ p es h.0, keys-filter p es h.1)
     | inr n ↦ rw n (keys-filter p es h.1)
   ]
+
+-- ---- a set of ids in order
+
+-- the order says which ids are equal
+equal_by_order : (id i : ℕ) → is_eq (nat_cmp id i) ≡ (i == id)
+equal_by_order id i = elim (cases_Bool (i == id)) [
+  | inl y ↦ rw y (sym (same (eqb-true i id y)))
+  | inr n ↦ rw n (other n)
+]
+  where
+    same : i ≡ id → true ≡ is_eq (nat_cmp id i)
+    same e = grind (arith, nat_tests, e)
+
+    other : (i == id) ≡ false → is_eq (nat_cmp id i) ≡ false
+    other n = grind (arith, nat_tests, n)
+
+-- whether a set has an id
+pub found_by_order : (id : ℕ) (ids : List ℕ) → list_any (λ i. is_eq (nat_cmp id i)) ids ≡ contains ids id
+found_by_order id [] = refl
+found_by_order id (i ∷ ids) = rw (equal_by_order id i, found_by_order id ids) refl
+
+above_stay : (id : ℕ) (ids : List ℕ) → AllByRecursion (λ i. nat_cmp id i ≡ Less) ids → ids ≡ filter (λ i. not (i == id)) ids
+above_stay id [] h = refl
+above_stay id (i ∷ ids) h =
+    let apart : (i == id) ≡ false = grind (arith, nat_tests, h.0) in
+    rw apart (ap (λ is. i ∷ is) (above_stay id ids h.1))
+
+-- a set without an id
+pub filtered_by_order : (id : ℕ) (ids : List ℕ) → IsStrictlySortedBy nat_cmp ids → remove_key (λ i. is_eq (nat_cmp id i)) ids ≡ filter (λ i. not (i == id)) ids
+filtered_by_order id [] h = refl
+filtered_by_order id (i ∷ ids) h =
+    let parts = head_parts i ids h in
+    elim (cases_Bool (i == id)) [
+      | inl y ↦ rw (equal_by_order id i, y) (above_stay id ids (subst (λ x. AllByRecursion (λ j. nat_cmp x j ≡ Less) ids) (eqb-true i id y) parts.0))
+      | inr n ↦ rw (equal_by_order id i, n) (ap (λ is. i ∷ is) (filtered_by_order id ids parts.1))
+    ]
+
+-- a set with one id more
+pub contains-insert_key : (id : ℕ) (ids : List ℕ) (i : ℕ) → contains (insert_key nat_cmp ids id) i ≡ (contains ids i || id == i)
+contains-insert_key id [] i = last (id == i)
+  where
+    last : (b : Bool) → (b || false) ≡ b
+    last true = refl
+    last false = refl
+contains-insert_key id (j ∷ ids) i = at (nat_cmp id j) refl (contains-insert_key id ids i)
+  where
+    turned : (a b : Bool) → (a || b) ≡ (b || a)
+    turned true true = refl
+    turned true false = refl
+    turned false true = refl
+    turned false false = refl
+
+    held : (a b c : Bool) → (c ≡ true → a ≡ true) → (a || b) ≡ ((a || b) || c)
+    held true b c h = refl
+    held false true c h = refl
+    held false false true h = h refl
+    held false false false h = refl
+
+    behind : (a b c : Bool) → (a || (b || c)) ≡ ((a || b) || c)
+    behind true b c = refl
+    behind false b c = refl
+
+    at : (o : Ordering) → nat_cmp id j ≡ o → contains (insert_key nat_cmp ids id) i ≡ (contains ids i || id == i)
+        → contains (match_ordering o (id ∷ j ∷ ids) (j ∷ ids) (j ∷ insert_key nat_cmp ids id)) i ≡ ((j == i || contains ids i) || id == i)
+    at Less e more = turned (id == i) (j == i || contains ids i)
+    at Equal e more = held (j == i) (contains ids i) (id == i) (λ y. let same : j ≡ id = grind (arith, nat_tests, e) in rw same y)
+    at Greater e more = ap (λ b. j == i || b) more ∙ behind (j == i) (contains ids i) (id == i)

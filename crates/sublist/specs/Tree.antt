@@ -1,7 +1,9 @@
 -- What stands where in a tree of nodes.
 use Rattle.std.specs.Prelude.{◌≡◌, ◌==◌, ℕ, Bool, false, not, cond, List, [], ◌∷◌, ◌++◌, Option, Some, None, Box}
 use Rattle.std.specs.List.{list_any, filter}
+use Rattle.std.specs.BTreeSet.{insert_key}
 use Rattle.std.specs.Map.{lookup}
+use Rattle.std.specs.Ordering.{nat_cmp}
 use Rattle.std.specs.Cmp.Lexicographic.{pointwise}
 use Rattle.std.specs.declared.alloc.Global.{Global}
 use Rattle.subjects.specs.Subject.{Token, is_star, is_tail, same_token}
@@ -17,8 +19,8 @@ below f (Some n) = f n.value
 
 -- the ids whose patterns have the subject with these tokens left, in the order of the walk
 unfoldable pub matched : List Token → Node → List ℕ
-matched [] n = (out-Node n).ids.items
-matched (t ∷ ts) n = (out-Node n).tail.items ++ (below (matched ts) (out-Node n).star ++ below (matched ts) (lookup (λ k. same_token t k.items) (out-Node n).children.entries))
+matched [] n = (out-Node n).ids.keys
+matched (t ∷ ts) n = (out-Node n).tail.keys ++ (below (matched ts) (out-Node n).star ++ below (matched ts) (lookup (λ k. same_token t k.items) (out-Node n).children.entries))
 
 -- what stands at a path that ends here
 abbrev pub at_end : List Token → List ℕ → List ℕ
@@ -27,9 +29,9 @@ at_end (t ∷ ts) ids = []
 
 -- the ids at the path of a pattern
 unfoldable pub ids_at : List Token → Node → List ℕ
-ids_at [] n = (out-Node n).ids.items
+ids_at [] n = (out-Node n).ids.keys
 ids_at (t ∷ ts) n =
-    cond (is_tail t) (at_end ts (out-Node n).tail.items)
+    cond (is_tail t) (at_end ts (out-Node n).tail.keys)
     (cond (is_star t) (below (ids_at ts) (out-Node n).star)
     (below (ids_at ts) (lookup (λ k. same_token t k.items) (out-Node n).children.entries)))
 
@@ -49,7 +51,7 @@ IsChanged f p old new = (q : List Token) → ids_at q new ≡ cond (same_path p 
 
 -- the new tree has the id at the path p besides
 abbrev pub IsAdded : List Token → ℕ → Node → Node → Type 0
-IsAdded p id old new = IsChanged (λ ids. ids ++ (id ∷ [])) p old new
+IsAdded p id old new = IsChanged (λ ids. insert_key nat_cmp ids id) p old new
 
 -- the tree has this id at the path p, and no other anywhere
 abbrev pub HasOnly : List Token → ℕ → Node → Type 0

@@ -1,5 +1,7 @@
 ghost use Rattle.std.specs.Bool.{OnTrue};
+ghost use Rattle.std.specs.BTreeSet.{insert_key};
 ghost use Rattle.std.specs.List.{filter};
+ghost use Rattle.std.specs.Ordering.{nat_cmp};
 ghost use Rattle.std.specs.Prelude.{◌≡◌, ◌==◌, not, ◌++◌, ◌∷◌, [], IfOk, OnOk, OnErr, IsTrue};
 ghost use Rattle.subjects.specs.Subject.{Token, tail_is_last};
 ghost use Rattle.sublist.specs.Tree.{matched, ids_at, contains, IsSame, IsAdded, IsRemoved, HasOnly};
@@ -7,13 +9,13 @@ ghost use Rattle.sublist.specs.Tree.{matched, ids_at, contains, IsSame, IsAdded,
 use crate::branch::{Branch, next_branch};
 use base::{NoMemory, Pieces};
 use std::alloc::Global;
-use std::collections::HashMap;
+use std::collections::{BTreeSet, HashMap};
 use std::hash::RandomState;
 
 /// What stands at one path of the tree, and below it. A path is the tokens of a pattern.
 pub struct Node {
-    ids: Vec<u64>,
-    tail: Vec<u64>,
+    ids: BTreeSet<u64>,
+    tail: BTreeSet<u64>,
     star: Option<Box<Node>>,
     children: HashMap<Vec<u8>, Box<Node>, RandomState>,
 }
@@ -38,8 +40,8 @@ impl Node {
         ensures { (path : List Token) → ids_at path result ≡ [] }
     {
         Node {
-            ids: Vec::new(alloc),
-            tail: Vec::new(alloc),
+            ids: BTreeSet::new(alloc),
+            tail: BTreeSet::new(alloc),
             star: None,
             children: HashMap::with_hasher(alloc, keys),
         }
@@ -51,10 +53,10 @@ impl Node {
         ensures { OnOk result (found.new.items ≡ found.old.items ++ matched tokens.entry self.now) }
     {
         let Some(token) = tokens.next_piece() else {
-            found.extend_from_slice(&self.ids)?;
+            append(&self.ids, found)?;
             return Ok(());
         };
-        found.extend_from_slice(&self.tail)?;
+        append(&self.tail, found)?;
         if let Some(star) = &self.star {
             star.matching(tokens.again(), found)?;
         }
@@ -78,13 +80,13 @@ impl Node {
         ensures err { OnErr result (IsSame self.old self.new) }
     {
         match next_branch(&mut path) {
-            Branch::End => match self.ids.push(id) {
+            Branch::End => match add(&mut self.ids, id) {
                 Ok(()) => Ok(()),
-                Err(_) => Err(NoMemory),
+                Err(refused) => Err(refused),
             },
-            Branch::Tail => match self.tail.push(id) {
+            Branch::Tail => match add(&mut self.tail, id) {
                 Ok(()) => Ok(()),
-                Err(_) => Err(NoMemory),
+                Err(refused) => Err(refused),
             },
             Branch::Star => match &mut self.star {
                 Some(star) => match star.insert(alloc, keys, path, id) {
@@ -182,10 +184,10 @@ impl Node {
     fn is_bare(&self) -> bool
         ensures { OnTrue result ((path : List Token) → ids_at path self.now ≡ []) }
     {
-        if !self.ids.as_slice().is_empty() {
+        if !self.ids.is_empty() {
             return false;
         }
-        if !self.tail.as_slice().is_empty() {
+        if !self.tail.is_empty() {
             return false;
         }
         match &self.star {
@@ -195,9 +197,32 @@ impl Node {
     }
 }
 
-/// Takes an id out of a list.
-fn take_out(ids: &mut Vec<u64>, id: u64)
-    ensures { ids.new.items ≡ filter (λ i. not (i == id)) ids.old.items }
+/// Appends ids, in rising order.
+fn append(ids: &BTreeSet<u64>, found: &mut Vec<u64>) -> Result<(), NoMemory>
+    ensures { OnOk result (found.new.items ≡ found.old.items ++ ids.now.keys) }
 {
-    ids.retain(|i| *i != id);
+    for id in ids.iter() {
+        found.push(*id)?;
+    }
+    Ok(())
+}
+
+/// Adds an id, if it isn't there.
+fn add(ids: &mut BTreeSet<u64>, id: u64) -> Result<(), NoMemory>
+    ensures ok { OnOk result (ids.new.keys ≡ insert_key nat_cmp ids.old.keys id) }
+    ensures err { OnErr result (ids.new.keys ≡ ids.old.keys) }
+{
+    match ids.insert(id) {
+        Ok(_) => Ok(()),
+        Err(_) => Err(NoMemory),
+    }
+}
+
+/// Takes an id out, if it is there.
+fn take_out(ids: &mut BTreeSet<u64>, id: u64)
+    ensures { ids.new.keys ≡ filter (λ i. not (i == id)) ids.old.keys }
+{
+    // (it tells the prover that they rise)
+    let _ = ids.len();
+    ids.remove(&id);
 }

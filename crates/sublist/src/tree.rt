@@ -10,6 +10,17 @@ use subjects::{Pattern, SubjectRef};
 
 /// Pairs of a pattern and an id, found by subject. An id may stand with several patterns.
 ///
+/// ```
+/// let mut tree = Sublist::new(rt.alloc(), RandomState::new(&rt)?);
+/// assert!(rt; tree.insert(&wildcard, 1).is_ok());
+/// assert!(rt; tree.insert(&all, 2).is_ok());
+/// let found = tree.matching(&subject.lend())?;
+/// assert_eq!(rt; found.as_slice(), [1, 2].as_slice());
+/// ```
+///
+/// `matching` looks up each token of the subject in a table, once for each branch of wildcards that leads to it, and sorts the ids
+/// that it finds. So it costs what the subject and its receivers do, however many other patterns stand.
+///
 /// A clause sees which pairs stand. Whoever keeps a list of subscriptions, whose ids rise, says in its own
 /// invariant that the tree is the index of the list (`IsIndexOf`): then `matching` is the list's filter.
 pub struct Sublist {

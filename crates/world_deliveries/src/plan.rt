@@ -1,5 +1,5 @@
 //! What deliveries will meet, and what is to be noted with them, before one is handed over.
-ghost use Rattle.std.specs.Prelude.{◌≡◌, ℕ, ◌<◌, ◌≤◌, ◌-◌, ◌==◌, ◌∷◌, [], All, None, false, IfOk, OnOk, IsTrue, length, map, position, nat_lt, slice_index_or, if◌then◌else◌};
+ghost use Rattle.std.specs.Prelude.{◌≡◌, ℕ, ◌<◌, ◌≤◌, ◌-◌, ◌==◌, ◌∷◌, [], All, None, false, IfOk, IfSome, OnOk, IsTrue, length, map, position, nat_lt, slice_index_or, if◌then◌else◌};
 ghost use Rattle.std.specs.Option.{option_copied};
 ghost use Rattle.world_deliveries.specs.Sessions.{session_of};
 ghost use Rattle.world_deliveries.specs.Delivered.{has_room, room_in, delivered};
@@ -199,29 +199,24 @@ fn has_room_after(by: ByConnection<'_>, next: &Addressed, before: usize) -> bool
     }
 }
 
-/// Returns whether no delivery has anything `noted`, and each has room even where all those before it are for the same
-/// session.
-fn have_room(by: ByConnection<'_>, all: &[Addressed]) -> bool
+/// Returns what deliveries meet, where none has anything `noted` and each has room even where all those before it are for the
+/// same session: they all enter.
+fn enter_all(
+    alloc: Global,
+    by: ByConnection<'_>,
+    all: &[Addressed],
+) -> Result<Option<Vec<Item>>, NoMemory>
     requires { by.conns.now ≡ map connection_of by.list.now }
-    ensures { IsTrue result → AreRoomy all.now (rooms_of by.entry.list.now) }
-{
-    for (before, next) in all.iter().enumerate() {
-        if !has_room_after(by, next, before) {
-            return false;
-        }
-    }
-    true
-}
-
-/// Returns what deliveries meet that all enter.
-fn enter_all(alloc: Global, all: &[Addressed]) -> Result<Vec<Item>, NoMemory>
-    ensures { IfOk result (λ items. items.items ≡ map entered all.now) }
+    ensures { IfOk result (λ entering. IfSome entering (λ items. AreRoomy all.now (rooms_of by.entry.list.now) × (items.items ≡ map entered all.now))) }
 {
     let mut items = Vec::with_capacity(alloc, all.len())?;
-    for next in all {
+    for (before, next) in all.iter().enumerate() {
+        if !has_room_after(by, next, before) {
+            return Ok(None);
+        }
         items.push_reserved(item(next, true)?);
     }
-    Ok(items)
+    Ok(Some(items))
 }
 
 /// Returns what each delivery of a message will meet, told by the room that is left for each. Also sets each one's
@@ -263,9 +258,9 @@ pub fn plan_all(
     ensures noted { OnOk result (all.new ≡ map (noted_for by.entry.list.now) all.old) }
 {
     if !has_reply {
-        if have_room(by, all) {
-            let items = enter_all(alloc, all)?;
-            return Ok(items);
+        match enter_all(alloc, by, all)? {
+            None => {}
+            Some(items) => return Ok(items),
         }
     }
     let items = plan_by_rooms(alloc, keys, by, rooms, all)?;

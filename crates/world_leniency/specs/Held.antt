@@ -4,7 +4,7 @@ use Rattle.std.specs.List.{filter_map, sum_by}
 use Rattle.events.specs.Messages.{Message}
 use Rattle.events.specs.declared.answer.Delivery.{Delivery}
 use Rattle.events.specs.declared.answer.Item.{Item}
-use Rattle.events.specs.declared.answer.Item.TheVariants.{Entered, Full, MapTooLong}
+use Rattle.events.specs.declared.answer.Item.TheVariants.{Entered, Full, RouteFull, MapTooLong}
 use Rattle.world_deliveries.specs.Sessions.{session_of}
 use Rattle.world_deliveries.specs.declared.session.Session.{Session}
 
@@ -44,6 +44,7 @@ is_over (Some room) z = nat_lt room (weight z)
 abbrev pub is_full : Item → Bool
 is_full (Entered conn sid) = false
 is_full (Full conn sid) = true
+is_full (RouteFull row) = false
 is_full (MapTooLong row) = false
 
 -- whether nothing waits in an outbox: then no room comes by waiting
@@ -61,6 +62,7 @@ holds_back lets zs conn = not (lets conn || has_nothing (session_of zs conn))
 abbrev pub held_conn : Terms → List Session → Item → Option ℕ
 held_conn t zs (Entered conn sid) = if is_over t.room (session_of zs conn) then Some conn else None
 held_conn t zs (Full conn sid) = if holds_back t.lets zs conn then Some conn else None
+held_conn t zs (RouteFull row) = None
 held_conn t zs (MapTooLong row) = None
 
 -- the connections that hold back a message that is to meet these items, once for each item

@@ -64,6 +64,7 @@ fn note_if_held<T: Lenient>(
             }
             Ok(())
         }
+        Item::RouteFull(_) => Ok(()),
         Item::MapTooLong(_) => Ok(()),
     }
 }

@@ -7,8 +7,8 @@ use Rattle.subjects.specs.Subject.{Token}
 use Rattle.imports.specs.declared.rows.ImportRow.{ImportRow}
 use Rattle.imports.specs.declared.view.ViewItem.{ViewItem}
 use Rattle.imports.specs.declared.view.ViewItem.TheVariants.{At, TooLong}
+use Rattle.imports.specs.declared.view.Way.TheVariants.{Own, Stream, Service, Response}
 use Rattle.events.specs.Messages.{Message}
-use Rattle.events.specs.Sendings.{named}
 use Rattle.events.specs.declared.answer.Addressed.{Addressed}
 use Rattle.world_deliveries.specs.Sessions.{session_of}
 use Rattle.world_deliveries.specs.Delivered.{room_in}
@@ -33,7 +33,10 @@ seen_more zs subs z [] [] k v all one = one
 seen_more zs subs z [] (u ∷ vs) k v all one = absurd all
 seen_more zs subs z (other ∷ known) [] k v all one = absurd all
 seen_more zs subs z (other ∷ known) (TooLong row ∷ vs) k v all one = absurd all
-seen_more zs subs z (other ∷ known) (At account s way ∷ vs) k v all one = (all.0, seen_more zs subs z known vs k v all.1 one)
+seen_more zs subs z (other ∷ known) (At account s Own ∷ vs) k v all one = absurd all
+seen_more zs subs z (other ∷ known) (At account s (Service row) ∷ vs) k v all one = absurd all
+seen_more zs subs z (other ∷ known) (At account s (Response row) ∷ vs) k v all one = absurd all
+seen_more zs subs z (other ∷ known) (At account s (Stream row) ∷ vs) k v all one = (all.0, seen_more zs subs z known vs k v all.1 one)
 
 -- lists that are equal are so behind their first elements
 pub tail_of : {v u : ViewItem} {vs us : List ViewItem} → v ∷ vs ≡ u ∷ us → vs ≡ us
@@ -86,7 +89,7 @@ module _ (zs : List Session) (before : List Addressed) (z : Session) (account : 
 
   -- so a known view says what the deliveries in it are
   pub view_told : (subs : List Subscription) (known : KnownView) (m : Message) (word : ℕ) → IsSeen zs subs z known account s →
-      addressed_in m word before known ≡ before ++ addressed_behind_in zs subs before z m word account s
+      addressed_in m word before known ≡ before ++ addressed_behind_in zs subs before z (under_subject s m) word account
   view_told subs known m word is =
       ap (λ (x : Message). before ++ map (addressed_at x) (picked word known.whom)) (is.names m)
       ∙ ap (λ (rs : List _). before ++ map (addressed_at (under_subject s m)) rs) (sym (is.whom is.says word))

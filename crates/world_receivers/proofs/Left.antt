@@ -266,13 +266,21 @@ same_passing p now zs all (s ∷ subs) agree =
     ap (λ b. cond (p s && b) (s ∷ filter (λ s. p s && not (has_ended (bumps (entered_ids all (delivered now all zs).1) s))) subs) (filter (λ s. p s && not (has_ended (bumps (entered_ids all (delivered now all zs).1) s))) subs)) (stands_is now zs all s agree.0)
     ∙ ap (λ more. cond (p s && stands_behind zs all s) (s ∷ more) more) (same_passing p now zs all subs agree.1)
 
--- The deliveries of a message to those of the subscriptions that deliveries leave are those to the ones that still stand.
+-- Those of the subscriptions that deliveries leave are the ones that still stand, each with what it has counted.
+pub passing_left : (now : ℕ) (zs : List Session) (all : List Addressed) (subs : List Subscription) (p : Subscription → Bool) →
+    ((s t : Subscription) → made s ≡ made t → p s ≡ p t) → unended subs ≡ subs → AllAgree subs all →
+    filter p (in_turn (entered_ids all (delivered now all zs).1) subs) ≡ map (bumps (entered_ids all (delivered now all zs).1)) (filter (λ s. p s && stands_behind zs all s) subs)
+passing_left now zs all subs p same going agree =
+    let ids : List ℕ = entered_ids all (delivered now all zs).1 in
+    ap (filter p) (in_turn_is ids subs going)
+    ∙ left_passing (bumps ids) p (λ s. same (bumps ids s) s (bumps-made ids s)) subs
+    ∙ ap (map (bumps ids)) (same_passing p now zs all subs agree)
+
+-- The deliveries of a message to those are those to the ones that still stand.
 pub addressed_left : (now : ℕ) (zs : List Session) (all : List Addressed) (subs : List Subscription) (p : Subscription → Bool) →
     ((s t : Subscription) → made s ≡ made t → p s ≡ p t) → unended subs ≡ subs → AllAgree subs all → (m : Message) (word : ℕ) →
     map (addressed_to m) (served word (filter p (in_turn (entered_ids all (delivered now all zs).1) subs))) ≡ map (addressed_to m) (served word (filter (λ s. p s && stands_behind zs all s) subs))
 addressed_left now zs all subs p same going agree m word =
     let ids : List ℕ = entered_ids all (delivered now all zs).1 in
-    ap (λ (left : List Subscription). map (addressed_to m) (served word (filter p left))) (in_turn_is ids subs going)
-    ∙ ap (λ (left : List Subscription). map (addressed_to m) (served word left)) (left_passing (bumps ids) p (λ s. same (bumps ids s) s (bumps-made ids s)) subs)
-    ∙ addressed_counted ids m word (filter (λ s. p s && not (has_ended (bumps ids s))) subs)
-    ∙ ap (λ (left : List Subscription). map (addressed_to m) (served word left)) (same_passing p now zs all subs agree)
+    ap (λ (left : List Subscription). map (addressed_to m) (served word left)) (passing_left now zs all subs p same going agree)
+    ∙ addressed_counted ids m word (filter (λ s. p s && stands_behind zs all s) subs)

@@ -12,6 +12,7 @@ use Rattle.subjects.specs.Subject.{Token, tokens_of, text_of}
 use Rattle.imports.specs.declared.rows.ImportRow.{ImportRow}
 use Rattle.imports.specs.declared.view.ViewItem.{ViewItem}
 use Rattle.imports.specs.declared.view.ViewItem.TheVariants.{At, TooLong}
+use Rattle.imports.specs.declared.view.Way.TheVariants.{Own, Stream, Service, Response}
 use Rattle.policy_ready.specs.declared.ready.User.{User}
 use Rattle.permissions.specs.Verdicts.{delivery_verdict, is_allowed}
 use Rattle.events.specs.declared.answer.Addressed.{Addressed}
@@ -176,7 +177,10 @@ module _ (f : Subscription → Subscription) (same : (s : Subscription) → made
       views-stay z y own [] (v ∷ vs) is = absurd is
       views-stay z y own (k ∷ known) [] is = absurd is
       views-stay z y own (k ∷ known) (TooLong row ∷ vs) is = absurd is
-      views-stay z y own (k ∷ known) (At account s way ∷ vs) is = (view-stays z y own k account s is.0, views-stay z y own known vs is.1)
+      views-stay z y own (k ∷ known) (At account s Own ∷ vs) is = absurd is
+      views-stay z y own (k ∷ known) (At account s (Service row) ∷ vs) is = absurd is
+      views-stay z y own (k ∷ known) (At account s (Response row) ∷ vs) is = absurd is
+      views-stay z y own (k ∷ known) (At account s (Stream row) ∷ vs) is = (view-stays z y own k account s is.0, views-stay z y own known vs is.1)
 
       others-stay : (o : Option (Vec KnownView)) (rows : List ImportRow) (conn : ℕ) (text : List ℕ) → KnowsOthersFor o rows conn text zs subs → KnowsOthersFor o rows conn text after (map f subs)
       others-stay None rows conn text is = tt

@@ -1,7 +1,8 @@
 -- Lists by tests of their elements.
-use Rattle.std.proofs.Common.{◌≡◌, ◌&&◌, Bool, true, false, cond, List, [], ◌∷◌, Some, filter, ap, refl, inl, inr}
+use Rattle.std.proofs.Common.{◌≡◌, ◌&&◌, Bool, true, false, cond, List, [], ◌∷◌, Some, filter, map, ap, refl, inl, inr}
 use Rattle.std.specs.Prelude.{find}
 use Rattle.std.proofs.lemmas.Bool.{cases_Bool}
+use Rattle.world_receivers.specs.Standing.{is_nil}
 
 -- those that pass one test and then another pass both
 pub both : {X : Type 0} (p q : X → Bool) (xs : List X) → filter p (filter q xs) ≡ filter (λ x. q x && p x) xs
@@ -19,3 +20,8 @@ find-passes t (x ∷ xs) y e = here (t x) refl e (find-passes t xs y)
     here : (b : Bool) → t x ≡ b → cond b (Some x) (find t xs) ≡ Some y → (find t xs ≡ Some y → t y ≡ true) → t y ≡ true
     here true h e' later = cc
     here false h e' later = later e'
+
+-- there is none of those that are changed where there is none
+pub nil_map : {X Y : Type 0} (f : X → Y) (xs : List X) → is_nil (map f xs) ≡ is_nil xs
+nil_map f [] = refl
+nil_map f (x ∷ xs) = refl

@@ -13,7 +13,7 @@ use Rattle.world_subscriptions.specs.Addressing.{addressed_to}
 use Rattle.world_rows.specs.declared.subscription.Subscription.{Subscription}
 use Rattle.world_receivers.specs.Open.{open_among}
 use Rattle.world_receivers.specs.Receivers.{receiver_of, addressed_at, addressed_among}
-use Rattle.world_receivers.specs.Known.{picked, IsWhom}
+use Rattle.world_receivers.specs.Known.{IsWhom}
 use Rattle.world_receivers.specs.Cached.{IsWhomFor, KnowsOthers, KnowsOthersFor, IsCurrent, IsEmpty, Tells}
 use Rattle.world_receivers.specs.declared.cache.ReceiverCache.{ReceiverCache}
 use Rattle.world_receivers.specs.declared.known.KnownView.{KnownView}

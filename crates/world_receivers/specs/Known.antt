@@ -2,11 +2,12 @@
 use Rattle.std.specs.Prelude.{◌≡◌, ◌++◌, ◌∷◌, ℕ, Bool, false, List, [], Option, Some, None, is_some, filter, map, not}
 use Rattle.std.specs.List.{list_any}
 use Rattle.subjects.specs.Subject.{Token}
-use Rattle.imports.specs.Views.{is_same, first_of_each, crossings_in}
+use Rattle.imports.specs.Views.{is_same, first_of_each}
+use Rattle.imports.specs.Across.{crossings_in}
 use Rattle.imports.specs.declared.rows.ImportRow.{ImportRow}
 use Rattle.imports.specs.declared.view.ViewItem.{ViewItem}
 use Rattle.imports.specs.declared.view.ViewItem.TheVariants.{At, TooLong}
-use Rattle.imports.specs.declared.view.Way.TheVariants.{Own}
+use Rattle.imports.specs.declared.view.Way.TheVariants.{Own, Stream, Service, Response}
 use Rattle.events.specs.Messages.{Message}
 use Rattle.events.specs.Sendings.{named}
 use Rattle.events.specs.declared.answer.Addressed.{Addressed}
@@ -41,9 +42,13 @@ IsWhom whom subs = Says whom → (word : ℕ) → map receiver_of (served word s
 
 -- ---- views behind the publisher's own
 
--- the views of an account's message across these rows, behind that of the account itself
+-- the views of an account's message behind that of the account itself: those across these rows, and then responses
+abbrev pub others_with : List ImportRow → List ViewItem → List ℕ → List Token → List ViewItem
+others_with rows responses account s = filter (λ (v : ViewItem). not (is_same (At account s Own) v)) (first_of_each (crossings_in rows account s ++ responses))
+
+-- those of one that is no response
 abbrev pub others_in : List ImportRow → List ℕ → List Token → List ViewItem
-others_in rows account s = filter (λ (v : ViewItem). not (is_same (At account s Own) v)) (first_of_each (crossings_in rows account s))
+others_in rows account s = others_with rows [] account s
 
 abbrev pub has_limit : Subscription → Bool
 has_limit sub = is_some sub.most
@@ -61,13 +66,16 @@ abbrev pub IsKnown : Option KnownView → List Session → List Subscription →
 IsKnown None zs subs publisher account s = Unit {0}
 IsKnown (Some known) zs subs publisher account s = IsSeen zs subs publisher known account s
 
--- so it is with views in turn
+-- So it is with views in turn, each of a stream: a request has another reply each time, and a row that isn't crossed is told.
 abbrev pub AreSeen : List Session → List Subscription → Session → List KnownView → List ViewItem → Type 0
 AreSeen zs subs publisher [] [] = Unit {0}
 AreSeen zs subs publisher [] (v ∷ vs) = ⊥
 AreSeen zs subs publisher (k ∷ known) [] = ⊥
 AreSeen zs subs publisher (k ∷ known) (TooLong row ∷ vs) = ⊥
-AreSeen zs subs publisher (k ∷ known) (At account s way ∷ vs) = IsSeen zs subs publisher k account s × AreSeen zs subs publisher known vs
+AreSeen zs subs publisher (k ∷ known) (At account s Own ∷ vs) = ⊥
+AreSeen zs subs publisher (k ∷ known) (At account s (Service row) ∷ vs) = ⊥
+AreSeen zs subs publisher (k ∷ known) (At account s (Response row) ∷ vs) = ⊥
+AreSeen zs subs publisher (k ∷ known) (At account s (Stream row) ∷ vs) = IsSeen zs subs publisher k account s × AreSeen zs subs publisher known vs
 
 -- the deliveries of a message in a known view, and in several, behind others
 abbrev pub addressed_in : Message → ℕ → List Addressed → KnownView → List Addressed

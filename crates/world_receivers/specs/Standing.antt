@@ -1,6 +1,6 @@
 -- Which subscriptions still stand behind deliveries of the same message, before any of these is counted (docs/GUARANTEE.md,
 -- "Views").
-use Rattle.std.specs.Prelude.{◌&&◌, ◌==◌, ◌-◌, ℕ, List, [], ◌∷◌, Bool, not, filter, map, nat_lt, suc, zero, if◌then◌else◌}
+use Rattle.std.specs.Prelude.{◌&&◌, ◌==◌, ◌-◌, ℕ, List, [], ◌∷◌, Bool, true, false, not, filter, map, nat_lt, suc, zero, if◌then◌else◌}
 use Rattle.subjects.specs.Subject.{Token}
 use Rattle.events.specs.Messages.{Message}
 use Rattle.events.specs.declared.answer.Addressed.{Addressed}
@@ -41,7 +41,15 @@ standing_among zs subs before publisher account s =
 abbrev pub under_subject : List Token → Message → Message
 under_subject s m = record m { subject = s }
 
--- the deliveries of a message to those of an account that it is for under a subject, behind others of the same message
-abbrev pub addressed_behind_in : List Session → List Subscription → List Addressed → Session → Message → ℕ → List ℕ → List Token → List Addressed
-addressed_behind_in zs subs before publisher m word account s =
-    map (addressed_to (under_subject s m)) (served word (standing_among zs subs before publisher account s))
+-- the deliveries of a message, as it is seen in an account, to those that it is for there, behind others of the same message
+abbrev pub addressed_behind_in : List Session → List Subscription → List Addressed → Session → Message → ℕ → List ℕ → List Addressed
+addressed_behind_in zs subs before publisher seen word account =
+    map (addressed_to seen) (served word (standing_among zs subs before publisher account seen.subject))
+
+abbrev pub is_nil : {X : Type 0} → List X → Bool
+is_nil [] = true
+is_nil (x ∷ xs) = false
+
+-- nobody of an account may be sent a message on this subject behind them
+abbrev pub is_for_nobody : List Session → List Subscription → List Addressed → Session → List ℕ → List Token → Bool
+is_for_nobody zs subs before publisher account s = is_nil (standing_among zs subs before publisher account s)

@@ -1,5 +1,5 @@
 //! A cache of whom the messages of a publisher on a subject are for.
-ghost use Rattle.std.specs.Prelude.{◌≡◌, map};
+ghost use Rattle.std.specs.Prelude.{◌≡◌, [], map};
 ghost use Rattle.world_groups.specs.Chosen.{Rising};
 ghost use Rattle.world_receivers.specs.Known.{IsWhom};
 
@@ -32,6 +32,16 @@ impl Drop for ReceiverCache {
             whom: _,
             others: _,
         } = self;
+    }
+}
+
+/// Empties a list. Mostly it is empty already, and then nothing is called.
+#[inline(always)]
+fn clear(all: &mut Vec<Addressed>)
+    ensures { all.new.items ≡ [] }
+{
+    if !all.is_empty() {
+        all.clear();
     }
 }
 
@@ -90,12 +100,12 @@ impl ReceiverCache {
             None => Ok(false),
             Some(Whom::Various) => Ok(false),
             Some(Whom::Each(receivers)) => {
-                all.clear();
+                clear(all);
                 address_each(message, receivers.as_slice(), all)?;
                 Ok(true)
             }
             Some(Whom::One(receivers)) => {
-                all.clear();
+                clear(all);
                 address_chosen(message, receivers.as_slice(), word, all)?;
                 Ok(true)
             }

@@ -8,8 +8,8 @@ use crate::open::Open;
 use crate::receiver::address_each_under;
 use crate::whom::{Whom, address_chosen_under, whom_of};
 use base::{NoMemory, Shared};
-use events::{Addressed, Message, Names};
-use imports::ViewItem;
+use events::{Addressed, Message, Names, Said};
+use imports::{ViewItem, Way};
 use std::alloc::Global;
 use subjects::Subject;
 use world_groups::passing_of;
@@ -86,11 +86,11 @@ fn known_at(
     if !says(&whom) {
         return Ok(None);
     }
-    let names = names_of(alloc, subject)?;
+    let names = names_of(alloc, subject, Said::AsPublished)?;
     Ok(Some(KnownView { names, whom }))
 }
 
-/// Returns whom a publisher's messages are for in a view, if each of them is for the same.
+/// Returns whom a publisher's messages are for in a view of a stream, if each of them is for the same.
 fn known_view(
     alloc: Global,
     among: Among<'_>,
@@ -104,16 +104,21 @@ fn known_view(
         ViewItem::At {
             account,
             subject,
-            way: _,
-        } => {
-            let known = known_at(alloc, among, account.as_slice(), subject, ids)?;
-            Ok(known)
-        }
+            way,
+        } => match way {
+            Way::Stream(_) => {
+                let known = known_at(alloc, among, account.as_slice(), subject, ids)?;
+                Ok(known)
+            }
+            Way::Own => Ok(None),
+            Way::Service(_) => Ok(None),
+            Way::Response(_) => Ok(None),
+        },
     }
 }
 
-/// Returns whom a publisher's messages are for in each of these views, if each of them is for the same. `NoMemory` where memory
-/// could not be had.
+/// Returns whom a publisher's messages are for in each of these views, if all are of streams and each message is for the same.
+/// `NoMemory` where memory could not be had.
 pub(crate) fn known_views(
     alloc: Global,
     among: Among<'_>,

@@ -6,6 +6,7 @@ ghost use Rattle.world_receivers.specs.Receivers.{addressed_at, receiver_of};
 use base::{NoMemory, Shared};
 use events::{Addressed, Delivery, Message, Names, Sent, Sid};
 use std::alloc::Global;
+use std::mem;
 use world_subscriptions::SharedSubscription;
 
 /// What a delivery needs of the subscription that it is for.
@@ -77,7 +78,8 @@ pub(crate) fn receivers_of(
     Ok(all)
 }
 
-/// Addresses a message to receivers, in turn, and adds these deliveries.
+/// Addresses a message to receivers, in turn, and adds these deliveries. The list is a local meanwhile, so that its fields stay in
+/// registers. What stands in its place takes no memory.
 pub(crate) fn address_each(
     message: &Message,
     receivers: &[Receiver],
@@ -85,9 +87,13 @@ pub(crate) fn address_each(
 ) -> Result<(), NoMemory>
     ensures { OnOk result (all.new.items ≡ all.old.items ++ map (addressed_at message.now) receivers.now) }
 {
+    all.reserve(receivers.len())?;
+    let alloc = *all.allocator();
+    let mut made = mem::replace(all, Vec::new(alloc));
     for receiver in receivers {
-        all.push(receiver.address(message)?)?;
+        made.push_reserved(receiver.address(message)?);
     }
+    mem::forget(mem::replace(all, made));
     Ok(())
 }
 
@@ -100,8 +106,9 @@ pub(crate) fn address_each_under(
 ) -> Result<(), NoMemory>
     ensures { OnOk result (all.new.items ≡ all.old.items ++ map (addressed_at (named names.now message.now)) receivers.now) }
 {
+    all.reserve(receivers.len())?;
     for receiver in receivers {
-        all.push(receiver.address_under(message, names)?)?;
+        all.push_reserved(receiver.address_under(message, names)?);
     }
     Ok(())
 }

@@ -1,8 +1,9 @@
-ghost use Rattle.std.specs.Prelude.{◌≡◌, ◌++◌, true, false, Some, IfOk, OnOk};
+ghost use Rattle.std.specs.Prelude.{◌≡◌, ◌++◌, true, false, Some, IfOk, OnOk, map, take};
+ghost use Rattle.events.specs.Sendings.{named};
 ghost use Rattle.world_deliveries.specs.Sessions.{session_of};
 ghost use Rattle.world_receivers.specs.Cached.{IsCurrent, KnowsOthers, TellsOthers, IsEmpty};
 ghost use Rattle.world_receivers.specs.Receivers.{addressed_among};
-ghost use Rattle.world_receivers.specs.Standing.{addressed_behind_in};
+ghost use Rattle.world_receivers.specs.Standing.{addressed_behind_in, is_for_nobody, is_nil};
 
 use crate::cache::ReceiverCache;
 use crate::known::{Among, KnownView, known_views};
@@ -11,7 +12,7 @@ use crate::open::Open;
 use crate::standing::Standing;
 use base::NoMemory;
 use bytes::Bytes;
-use events::{Addressed, Message};
+use events::{Addressed, Message, Said};
 use imports::Rows;
 use std::alloc::Global;
 use std::hash::RandomState;
@@ -19,7 +20,7 @@ use std::mem;
 use subjects::{Subject, SubjectRef};
 use world_groups::{Routed, address_served, keep_chosen, passing_of};
 use world_sessions::{Session, Sessions};
-use world_subscriptions::Subscriptions;
+use world_subscriptions::{SharedSubscription, Subscriptions};
 
 /// A message that a session publishes.
 #[derive(Clone, Copy)]
@@ -33,12 +34,14 @@ pub struct Sending<'a> {
 }
 
 /// Another account in which a message is seen.
-#[derive(Clone, Copy)]
+#[derive(Drop)]
 pub struct Seen<'a> {
     /// The account's name.
     pub account: &'a Bytes,
     /// The subject that the message has there.
     pub subject: &'a Subject,
+    /// The reply that it has there.
+    pub reply: Said,
 }
 
 /// Returns what is known of the views of a publisher's messages on a subject behind its own. `NoMemory` where memory could not be
@@ -53,7 +56,7 @@ fn find_others(
     ensures { IfOk result (λ others. KnowsOthers others rows.now among.entry.sessions.now among.entry.subscriptions.now among.entry.publisher.now subject.now) }
 {
     let account = among.publisher.user.account.as_slice();
-    let others = rows.others(alloc, account, subject)?;
+    let others = rows.crossings(alloc, account, subject)?;
     let known = known_views(alloc, among, others.as_slice(), ids)?;
     Ok(known)
 }
@@ -71,6 +74,16 @@ fn others_of(
     match find_others(alloc, among, rows, subject, ids) {
         Ok(known) => known,
         Err(_) => None,
+    }
+}
+
+/// Returns whether there is none.
+fn is_nil(found: &[&SharedSubscription]) -> bool
+    ensures { result ≡ is_nil (map (λ s. s.now) found.now) }
+{
+    match found {
+        [] => true,
+        _ => false,
     }
 }
 
@@ -119,6 +132,12 @@ impl Receivers {
         ensures { IsEmpty self.new.cache }
     {
         self.cache.clear();
+    }
+
+    /// Returns the keys under which the names of queues are hashed.
+    #[inline(always)]
+    pub fn keys(&self) -> RandomState {
+        self.keys
     }
 
     /// Returns where it takes its memory from.
@@ -212,8 +231,9 @@ impl Receivers {
     }
 
     /// Appends the deliveries of the message that was addressed last in its views behind the publisher's own, if these are known.
-    /// Returns whether they are. `NoMemory` where memory could not be had: then some may be appended.
-    #[inline(always)]
+    /// Returns whether they are. `NoMemory` where memory could not be had: then some may be appended. Apart, so that a message
+    /// without rows doesn't need its locals.
+    #[inline(never)]
     pub fn address_others(&mut self, message: &Message, word: u64) -> Result<bool, NoMemory>
         ensures tells { IfOk result (λ done. done ≡ true → TellsOthers self.old.cache.others message.now word self.old.deliveries.items self.new.deliveries.items) }
         ensures same { IfOk result (λ done. done ≡ false → self.new.deliveries.items ≡ self.old.deliveries.items) }
@@ -225,18 +245,20 @@ impl Receivers {
         Ok(done)
     }
 
-    /// Appends the deliveries of the message that was addressed last to those of another account that it is for under its subject
-    /// there, oldest subscription first. A subscription that the deliveries before them end is sent nothing more. `NoMemory` where
-    /// memory could not be had: then some may be appended.
+    /// Appends the deliveries of the message that was addressed last to those of another account that it is for as it is seen
+    /// there, oldest subscription first. A subscription that the deliveries before them end is sent nothing more. Returns whether
+    /// there is nobody who may be sent it. `NoMemory` where memory could not be had: then some may be appended.
     pub fn address_seen(
         &mut self,
         sessions: &Sessions,
         subscriptions: &Subscriptions,
         sending: Sending<'_>,
         seen: Seen<'_>,
-    ) -> Result<(), NoMemory>
+    ) -> Result<bool, NoMemory>
         ensures all { OnOk result (self.new.deliveries.items ≡ self.old.deliveries.items ++ addressed_behind_in sessions.now subscriptions.now self.old.deliveries.items
-            sending.entry.publisher.now sending.entry.message.now sending.entry.word seen.entry.account.now seen.entry.subject.now) }
+            sending.entry.publisher.now (named (record { subject = seen.entry.subject.now; reply = seen.entry.reply }) sending.entry.message.now) sending.entry.word seen.entry.account.now) }
+        ensures nobody { IfOk result (λ nobody. nobody ≡ is_for_nobody sessions.now subscriptions.now self.old.deliveries.items
+            sending.entry.publisher.now seen.entry.account.now seen.entry.subject.now) }
         ensures cached { self.new.cache ≡ self.old.cache }
     {
         let subject = seen.subject.lend();
@@ -256,15 +278,24 @@ impl Receivers {
             &standing,
             &mut self.ids,
         )?;
+        let nobody = is_nil(found.as_slice());
         keep_chosen(self.alloc, self.keys, &mut found, sending.word)?;
         address_under(
             self.alloc,
             sending.message,
-            seen.subject,
+            seen,
             found.as_slice(),
             &mut self.deliveries,
         )?;
-        Ok(())
+        Ok(nobody)
+    }
+
+    /// Takes back the deliveries behind the first so many.
+    pub fn take_back(&mut self, count: usize)
+        ensures all { self.new.deliveries.items ≡ take count self.old.deliveries.items }
+        ensures cached { self.new.cache ≡ self.old.cache }
+    {
+        self.deliveries.truncate(count);
     }
 
     /// Caches whom the publisher's next messages on a subject are for, where this is the second of them in a row.

@@ -3,7 +3,7 @@ use Rattle.std.proofs.Common.{◌≡◌, ◌∙◌, ℕ, Bool, true, false, cond
 use Rattle.events.specs.Messages.{Message}
 use Rattle.events.specs.declared.answer.Addressed.{Addressed}
 use Rattle.events.specs.declared.answer.Item.{Item}
-use Rattle.events.specs.declared.answer.Item.TheVariants.{Entered, Full, MapTooLong}
+use Rattle.events.specs.declared.answer.Item.TheVariants.{Entered, Full, RouteFull, MapTooLong}
 use Rattle.world_deliveries.specs.Sessions.{session_of, with_session}
 use Rattle.world_deliveries.specs.Delivered.{delivered, after_offer, item_of, has_room}
 use Rattle.world_deliveries.specs.Replying.{noted_for, answering, ending}
@@ -44,6 +44,7 @@ entered_append [] more (i ∷ items) later tell = absurd tell
 entered_append (a ∷ all) more [] later tell = absurd tell
 entered_append (a ∷ all) more (Entered conn sid ∷ items) later tell = ap (λ ids. a.id ∷ ids) (entered_append all more items later tell.1)
 entered_append (a ∷ all) more (Full conn sid ∷ items) later tell = entered_append all more items later tell.1
+entered_append (a ∷ all) more (RouteFull row ∷ items) later tell = absurd tell.0
 entered_append (a ∷ all) more (MapTooLong row ∷ items) later tell = absurd tell.0
 
 -- ids that are counted behind others
@@ -81,6 +82,7 @@ module _ (zs : List Session) where
   entered_noted (d ∷ ds) [] = refl
   entered_noted (d ∷ ds) (Entered conn sid ∷ items) = ap (λ ids. d.id ∷ ids) (entered_noted ds items)
   entered_noted (d ∷ ds) (Full conn sid ∷ items) = entered_noted ds items
+  entered_noted (d ∷ ds) (RouteFull row ∷ items) = entered_noted (d ∷ ds) items
   entered_noted (d ∷ ds) (MapTooLong row ∷ items) = entered_noted (d ∷ ds) items
 
   told_noted : (ds : List Addressed) (items : List Item) → TellEach (map (noted_for zs) ds) items → TellEach ds items
@@ -89,6 +91,7 @@ module _ (zs : List Session) where
   told_noted (d ∷ ds) [] t = t
   told_noted (d ∷ ds) (Entered conn sid ∷ items) t = (t.0, told_noted ds items t.1)
   told_noted (d ∷ ds) (Full conn sid ∷ items) t = (tt, told_noted ds items t.1)
+  told_noted (d ∷ ds) (RouteFull row ∷ items) t = absurd t.0
   told_noted (d ∷ ds) (MapTooLong row ∷ items) t = absurd t.0
 
 -- each of some that the deliveries of one message have entered for counts it

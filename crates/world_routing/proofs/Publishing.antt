@@ -13,8 +13,7 @@ use Rattle.events.specs.declared.answer.Addressed.{Addressed}
 use Rattle.events.specs.declared.answer.Item.{Item}
 use Rattle.events.specs.declared.answer.Outcome.{Outcome}
 use Rattle.events.specs.declared.answer.Outcome.TheVariants.{Published}
-use Rattle.imports.specs.Views.{rows_of, views_in, views}
-use Rattle.imports.specs.declared.rows.ImportRow.{ImportRow}
+use Rattle.imports.specs.Across.{views}
 use Rattle.imports.specs.declared.view.ViewItem.{ViewItem}
 use Rattle.world_deliveries.specs.Sessions.{session_of, with_session}
 use Rattle.world_deliveries.specs.Delivered.{delivered, room_in}
@@ -31,16 +30,21 @@ use Rattle.world_groups.specs.Served.{served}
 use Rattle.world_receivers.specs.Receivers.{addressed_among}
 use Rattle.world_routing.specs.World.{World}
 use Rattle.world_routing.specs.Granting.{verdict_on, counted_on, ended_on}
-use Rattle.world_routing.specs.Routing.{in_views}
-use Rattle.world_routing.specs.Handing.{met, of_deliveries, addressed_behind, answered_by, handed_over, carried}
-use Rattle.world_routing.specs.Viewing.{addressed_after, reports_after, with_reports}
+use Rattle.service_exporter.specs.Routes.{Exporter}
+use Rattle.service_routes.specs.Routes.{Name, spent}
+use Rattle.world_routing.specs.Changing.{changed_by, opened_each, AreNoted}
+use Rattle.world_routing.specs.Routing.{in_views, responses_on}
+use Rattle.world_routing.specs.Handing.{met, of_deliveries, answered_by, handed_over, carried}
+use Rattle.world_routing.specs.Viewing.{Tables, Publication, publication, Addressing, addressing, addressed_after, reports_after, with_reports, reports_in, routes_after, AreNotedIn}
+use Rattle.world_routing.specs.declared.across.Told.{Told}
 use Rattle.world_routing.specs.declared.viewing.Report.{Report}
-use Rattle.world_routing.proofs.Together.{after_is, told_are, plain_is, entered_of}
-use Rattle.world_receivers.proofs.Left.{none_disagree}
-use Rattle.world_routing.specs.Publishing.{published, in_session, published_by, IsOf, IsPlanned}
+use Rattle.world_routing.proofs.Together.{so_far, items_after, views_are, told_are, plain_is, entered_of}
+use Rattle.world_receivers.proofs.Left.{AllAgree, none_disagree}
+use Rattle.world_routing.specs.Publishing.{published, in_session, published_by, tables_of, IsPlanOf, IsPlanned}
 use Rattle.world_routing.specs.declared.answered.Answered.{Answered}
-use Rattle.world_routing.specs.declared.planning.Plan.TheVariants.{ToNobody, ToSome}
-use Rattle.world_routing.proofs.Views.{sent, items_behind, views_are}
+use Rattle.world_routing.specs.declared.planning.Plan.{Plan}
+use Rattle.world_routing.specs.declared.planning.Plan.TheVariants.{ToNobody, ToSome, OnRoutes}
+use Rattle.world_routing.proofs.Views.{sent}
 
 -- ---- an answer that is counted
 
@@ -82,34 +86,48 @@ same_handed Grant conn m now all zs = refl
 -- ---- what a publish comes to
 
 -- a message that is allowed comes to the deliveries of all its views in one list, handed over and counted once, and to what they
--- meet, with the rows that are reported between
-pub published_is : (w : World) (z : Session) (m : Message) (word : ℕ) (by : By) (vs : List ViewItem) (all : List Addressed) (reports : List Report) (items : List Item) →
-    Apart w.subscriptions → unended w.subscriptions ≡ w.subscriptions → views w.policy z.user.account m.subject ≡ vs →
-    all ≡ map (noted_for w.sessions) (addressed_after w.sessions w.subscriptions z m word [] vs) →
-    reports ≡ reports_after w.sessions w.subscriptions z m word [] vs → items ≡ with_reports 0 (met w all) reports →
-    (published w z m word (Allowed by) ≡ (Published by items, carried w (answered_by by z.conn m) all items)) × (of_deliveries items ≡ met w all)
-published_is w z m word by vs all reports items apart going seen addressed rows told =
+-- meet, with the rows that are reported between; and response routes open or end by it
+pub published_is : (w : World) (z : Session) (m : Message) (word : ℕ) (by : By) (a : Addressing) (vs : List ViewItem) (all : List Addressed) (reports : List Report) (items : List Item) →
+    Apart w.subscriptions → unended w.subscriptions ≡ w.subscriptions →
+    views w.policy z.user.account m.subject (responses_on w.routes z.user.account m.subject) ≡ vs →
+    a ≡ addressed_after (tables_of w) (publication z m word) (addressing [] []) vs →
+    all ≡ map (noted_for w.sessions) a.deliveries →
+    reports ≡ reports_after (tables_of w) (publication z m word) (addressing [] []) vs → items ≡ with_reports 0 (met w all) reports →
+    (published w z m word (Allowed by)
+    ≡ (Published by items, record (carried w (answered_by by z.conn m) all items) { routes = spent z.user.account m.subject (opened_each a.openings w.routes) }))
+    × (of_deliveries items ≡ met w all)
+published_is w z m word by a vs all reports items apart going seen_are addressed noted_are rows told =
     let zs : List Session = counted_on by z.conn m.subject w.sessions in
     let counting : World = record w { sessions = zs } in
+    let p : Publication = publication z m word in
+    let after : Addressing = addressed_after (tables_of w) p (addressing [] []) vs in
     let same : (all : List Addressed) → met counting all ≡ met w all = λ all. same_met by z.conn m.subject w.moment all w.sessions in
-    let outcome : List Item × World → Outcome × World = λ after. (Published by after.0, record after.1 { sessions = ended_on by z.conn m.subject after.1.sessions }) in
-    let by_both : List Item → List Addressed → Outcome × World = λ is ds. outcome (is, sent counting ds) in
-    let by_ids : List ℕ → Outcome × World = λ ids. (Published by items, record w { sessions = ended_on by z.conn m.subject (delivered w.moment all zs).0; subscriptions = in_turn ids w.subscriptions }) in
-    let by_sessions : List Session → Outcome × World = λ ys. (Published by items, record w { sessions = ys; subscriptions = in_turn (entered_ids all items) w.subscriptions }) in
-    let all_is : addressed_behind w.sessions counting z m word [] vs ≡ all = after_is w.sessions counting z m word same apart going [] vs (none_disagree w.subscriptions) ∙ sym addressed in
-    let met_is : met counting (map (noted_for w.sessions) (addressed_after w.sessions w.subscriptions z m word [] vs)) ≡ met w all = ap (met counting) (sym addressed) ∙ same all in
-    let items_are : items_behind w.sessions z m word counting [] vs ≡ items =
-    told_are w.sessions counting z m word same apart going vs
-    ∙ ap (λ (is : List Item). with_reports 0 is (reports_after w.sessions w.subscriptions z m word [] vs)) met_is
+    let agree : AllAgree w.subscriptions [] = none_disagree w.subscriptions in
+    let outcome : List Item × World → Outcome × World = λ x.
+    (Published by x.0, record x.1 { sessions = ended_on by z.conn m.subject x.1.sessions; routes = spent z.user.account m.subject x.1.routes }) in
+    let by_items : List Item → Outcome × World = λ is. outcome (is, so_far w.sessions counting p same apart going after) in
+    let by_after : Addressing → Outcome × World = λ x. outcome (items, so_far w.sessions counting p same apart going x) in
+    let by_all : List Addressed → Outcome × World = λ ds. outcome (items, record (sent counting ds) { routes = opened_each a.openings w.routes }) in
+    let routes : List (Name × Exporter) = spent z.user.account m.subject (opened_each a.openings w.routes) in
+    let by_ids : List ℕ → Outcome × World = λ ids.
+    (Published by items, record w { sessions = ended_on by z.conn m.subject (delivered w.moment all zs).0; subscriptions = in_turn ids w.subscriptions; routes = routes }) in
+    let by_sessions : List Session → Outcome × World = λ ys.
+    (Published by items, record w { sessions = ys; subscriptions = in_turn (entered_ids all items) w.subscriptions; routes = routes }) in
+    let all_is : map (noted_for w.sessions) after.deliveries ≡ all = ap (λ (x : Addressing). map (noted_for w.sessions) x.deliveries) (sym addressed) ∙ sym noted_are in
+    let met_is : met counting (map (noted_for w.sessions) after.deliveries) ≡ met w all = ap (met counting) all_is ∙ same all in
+    let items_are : items_after w.sessions counting p same apart going (addressing [] []) vs ≡ items =
+    told_are w.sessions counting p same apart going vs
+    ∙ ap (λ (is : List Item). with_reports 0 is (reports_after (tables_of w) p (addressing [] []) vs)) met_is
     ∙ ap (with_reports 0 (met w all)) (sym rows)
     ∙ sym told in
     let plain : of_deliveries items ≡ met w all =
-    ap of_deliveries (sym items_are) ∙ plain_is w.sessions counting z m word same apart going vs ∙ met_is in
+    ap of_deliveries (sym items_are) ∙ plain_is w.sessions counting p same apart going vs ∙ met_is in
     let ids : entered_ids all (met counting all) ≡ entered_ids all items = ap (entered_ids all) (same all ∙ sym plain) ∙ entered_of all items in (
-      ap (λ (vs : List ViewItem). outcome (in_views w.sessions counting z m word vs)) seen
-          ∙ ap outcome (views_are w.sessions z m word counting apart going vs)
-          ∙ ap (λ (is : List Item). by_both is (addressed_behind w.sessions counting z m word [] vs)) items_are
-          ∙ ap (by_both items) all_is
+      ap (λ (vs : List ViewItem). outcome (in_views w.sessions counting z m word vs)) seen_are
+          ∙ ap outcome (views_are w.sessions counting p same apart going (addressing [] []) vs agree)
+          ∙ ap by_items items_are
+          ∙ ap by_after (sym addressed)
+          ∙ ap by_all (sym noted_are)
           ∙ ap by_ids ids
           ∙ ap by_sessions (same_handed by z.conn m w.moment all w.sessions),
       plain,
@@ -134,57 +152,99 @@ publish_reason o z s t v is same which h =
 
 -- ---- what is planned
 
-module _ (w : World) (conn : ℕ) (m : Message) (word now : ℕ) (rows : List ImportRow) (zs : List Session) (subs : List Subscription) (of : IsOf w rows now zs subs)
-    (z : Session) (s : List Token) (is : Some z ≡ session_of zs conn) (same : s ≡ m.subject) where
-  found : Some z ≡ session_of w.sessions conn
-  found = is ∙ ap (λ (ys : List Session). session_of ys conn) (sym of.sessions)
+-- a publish that is allowed, and addressed in all its views under these tables
+module _ (t : Tables) (conn : ℕ) (m : Message) (word : ℕ) (z : Session) (s : List Token) (is : Some z ≡ session_of t.sessions conn) (same : s ≡ m.subject)
+    (by : By) (allowed : Allowed by ≡ verdict_on t.now z s) (apart : Apart t.subscriptions) (going : unended t.subscriptions ≡ t.subscriptions) where
+  abbrev p : Publication
+  p = publication z m word
 
-  -- what a verdict comes to
-  pub comes_to : (v : Verdict) → v ≡ verdict_on now z s → published_by w conn m word ≡ Ok (published w z m word v)
-  comes_to v which = by_verdict w (session_of w.sessions conn) z m word s v found same (which ∙ ap (λ n. verdict_on n z s) (sym of.moment))
+  abbrev vs : List ViewItem
+  vs = views t.policy z.user.account m.subject (responses_on t.routes z.user.account m.subject)
 
-  -- the message is allowed, and addressed in all its views
-  module _ (by : By) (answered : Option Answered) (vs : List ViewItem) (all : List Addressed) (reports : List Report) (allowed : Allowed by ≡ verdict_on now z s) (noted : answered ≡ answered_by by z.conn m)
-      (apart : Apart subs) (going : unended subs ≡ subs) (seen : views_in rows z.user.account m.subject ≡ vs)
-      (addressed : all ≡ map (noted_for zs) (addressed_after zs subs z m word [] vs)) (rows_are : reports ≡ reports_after zs subs z m word [] vs) where
-    allowed_is : (items : List Item) → items ≡ with_reports 0 (met w all) reports →
-        (published_by w conn m word ≡ Ok (Published by items, carried w answered all items)) × (of_deliveries items ≡ met w all)
-    allowed_is items told =
-        let here = published_is w z m word by vs all reports items
-        (subst Apart (sym of.subscriptions) apart)
-        (subst (λ (ss : List Subscription). unended ss ≡ ss) (sym of.subscriptions) going)
-        (ap (λ (rs : List ImportRow). views_in rs z.user.account m.subject) of.rows ∙ seen)
-        (addressed
-        ∙ ap (λ (ys : List Session). map (noted_for ys) (addressed_after ys subs z m word [] vs)) (sym of.sessions)
-        ∙ ap (λ (ss : List Subscription). map (noted_for w.sessions) (addressed_after w.sessions ss z m word [] vs)) (sym of.subscriptions))
-        (rows_are
-        ∙ ap (λ (ys : List Session). reports_after ys subs z m word [] vs) (sym of.sessions)
-        ∙ ap (λ (ss : List Subscription). reports_after w.sessions ss z m word [] vs) (sym of.subscriptions))
-        told in (
-          comes_to (Allowed by) allowed
-              ∙ ap (λ (r : Outcome × World). Ok r) here.0
-              ∙ ap (λ (a : Option Answered). Ok (Published by items, carried w a all items)) (sym noted),
-          here.1,
-        )
+  abbrev after : Addressing
+  after = addressed_after t p (addressing [] []) vs
 
-    -- what deliveries meet is planned, and told with the rows that are reported
-    pub planned_to_some : (plain items : List Item) → ((n : ℕ) → plain ≡ (delivered n all zs).1) → items ≡ with_reports 0 plain reports →
-        IsPlanned w (published_by w conn m word) (Ok (ToSome by items (record { all = all; answered = answered })))
-    planned_to_some plain items meets told =
-        allowed_is items (told ∙ ap (λ (is : List Item). with_reports 0 is reports) (meets w.moment ∙ ap (λ (ys : List Session). (delivered w.moment all ys).1) (sym of.sessions)))
+  abbrev changed_to : List (Name × Exporter)
+  changed_to = spent z.user.account m.subject (opened_each after.openings t.routes)
+
+  -- its outcome and the world after it
+  abbrev IsAllowed : World → Option Answered → List Addressed → List Item → Type 0
+  IsAllowed w answered all items =
+      (published_by w conn m word ≡ Ok (Published by items, record (carried w answered all items) { routes = changed_to })) × (of_deliveries items ≡ met w all)
+
+  allowed_of : (w : World) → tables_of w ≡ t → (answered : Option Answered) (all : List Addressed) (reports : List Report) (items : List Item) → answered ≡ answered_by by z.conn m →
+      all ≡ map (noted_for t.sessions) after.deliveries → reports ≡ reports_after t p (addressing [] []) vs → items ≡ with_reports 0 (met w all) reports →
+      IsAllowed w answered all items
+  allowed_of w of answered all reports items noted addressed rows told = subst P of own is allowed apart going addressed rows
+    where
+      in_tables : Tables → List ViewItem
+      in_tables u = views u.policy z.user.account m.subject (responses_on u.routes z.user.account m.subject)
+
+      P : Tables → Type 0
+      P u = Some z ≡ session_of u.sessions conn → Allowed by ≡ verdict_on u.now z s → Apart u.subscriptions → unended u.subscriptions ≡ u.subscriptions →
+          all ≡ map (noted_for u.sessions) (addressed_after u p (addressing [] []) (in_tables u)).deliveries →
+          reports ≡ reports_after u p (addressing [] []) (in_tables u) →
+          (published_by w conn m word ≡ Ok (
+            Published by items,
+            record (carried w answered all items) {
+              routes = spent z.user.account m.subject
+                  (opened_each (addressed_after u p (addressing [] []) (in_tables u)).openings u.routes);
+            },
+          ))
+          × (of_deliveries items ≡ met w all)
+
+      own : P (tables_of w)
+      own found verdict apart going addressed rows =
+          let a : Addressing = addressed_after (tables_of w) p (addressing [] []) (in_tables (tables_of w)) in
+          let made = published_is w z m word by a (in_tables (tables_of w)) all reports items apart going refl refl addressed rows told in (
+            by_verdict w (session_of w.sessions conn) z m word s (Allowed by) found same verdict
+                ∙ ap (λ (r : Outcome × World). Ok r) made.0
+                ∙ ap (λ (x : Option Answered). Ok (Published by items, record (carried w x all items) { routes = spent z.user.account m.subject (opened_each a.openings w.routes) })) (sym noted),
+            made.1,
+          )
+
+  -- what is planned where more is told, or not
+  module _ (answered : Option Answered) (noted : answered ≡ answered_by by z.conn m) (told : Option Told) (rows : reports_in told ≡ reports_after t p (addressing [] []) vs)
+      (routes : routes_after told t.routes ≡ changed_to) (opened : AreNotedIn t.now told) (w : World) (of : tables_of w ≡ t) where
+    pub planned_by : (all : List Addressed) (plain : List Item) (plan : Plan) → all ≡ map (noted_for t.sessions) after.deliveries → ((n : ℕ) → plain ≡ (delivered n all t.sessions).1) →
+        IsPlanOf by plain (record { all = all; answered = answered }) told plan → IsPlanned w (published_by w conn m word) (Ok plan)
+    planned_by all plain plan addressed meets = here told rows routes opened
+      where
+        plain_is_met : plain ≡ met w all
+        plain_is_met = meets w.moment ∙ ap (λ (x : Tables). (delivered w.moment all x.sessions).1) (sym of)
+
+        moment_is : w.moment ≡ t.now
+        moment_is = ap (λ (x : Tables). x.now) of
+
+        routes_are : w.routes ≡ t.routes
+        routes_are = ap (λ (x : Tables). x.routes) of
+
+        here : (o : Option Told) → reports_in o ≡ reports_after t p (addressing [] []) vs → routes_after o t.routes ≡ changed_to → AreNotedIn t.now o →
+            IsPlanOf by plain (record { all = all; answered = answered }) o plan → IsPlanned w (published_by w conn m word) (Ok plan)
+        here None rows routes opened is_plan =
+            let made = allowed_of w of answered all [] plain noted addressed rows plain_is_met in
+            subst (λ (x : Plan). IsPlanned w (published_by w conn m word) (Ok x)) (sym is_plan) (
+              made.0 ∙ ap (λ (rs : List (Name × Exporter)). Ok (Published by plain, record (carried w answered all plain) { routes = rs })) (sym routes ∙ sym routes_are),
+              made.1,
+            )
+        here (Some o) rows routes opened is_plan =
+            let items : List Item = with_reports 0 plain o.reports.items in
+            let made = allowed_of w of answered all o.reports.items items noted addressed rows (ap (λ (is : List Item). with_reports 0 is o.reports.items) plain_is_met) in
+            subst (λ (x : Plan). IsPlanned w (published_by w conn m word) (Ok x)) (sym is_plan) (
+              made.0
+                  ∙ ap (λ (rs : List (Name × Exporter)). Ok (Published by items, record (carried w answered all items) { routes = rs })) (sym routes ∙ ap (changed_by o.routes) (sym routes_are)),
+              made.1,
+              subst (λ n. AreNoted n o.routes) (sym moment_is) opened,
+            )
 
     -- where nobody is there to be sent it, nothing to be counted and nothing to be told, nothing changes
-    pub planned_to_nobody : all ≡ [] → reports ≡ [] → answered ≡ None → IsPlanned w (published_by w conn m word) (Ok (ToNobody by))
-    planned_to_nobody empty quiet none =
-        let nothing : with_reports 0 (met w all) reports ≡ [] =
-        ap (λ (ds : List Addressed). with_reports 0 (met w ds) reports) empty ∙ ap (with_reports 0 []) quiet in
-        (allowed_is [] (sym nothing)).0
+    pub planned_nobody : (all : List Addressed) → all ≡ map (noted_for t.sessions) after.deliveries → all ≡ [] → told ≡ None → answered ≡ None →
+        IsPlanned w (published_by w conn m word) (Ok (ToNobody by))
+    planned_nobody all addressed empty quiet none =
+        let nothing : reports_in told ≡ [] = ap reports_in quiet in
+        let nobody : [] ≡ with_reports 0 (met w all) (reports_in told) = sym (ap (λ (ds : List Addressed). with_reports 0 (met w ds) (reports_in told)) empty ∙ ap (with_reports 0 []) nothing) in
+        let same_routes : changed_to ≡ w.routes = sym routes ∙ ap (λ (o : Option Told). routes_after o t.routes) quiet ∙ sym (ap (λ (x : Tables). x.routes) of) in
+        (allowed_of w of answered all (reports_in told) [] noted addressed rows nobody).0
+        ∙ ap (λ (rs : List (Name × Exporter)). Ok (Published by [], record (carried w answered all []) { routes = rs })) same_routes
         ∙ ap (λ (ds : List Addressed). Ok (Published by [], carried w answered ds [])) empty
-        ∙ ap (λ (a : Option Answered). Ok (Published by [], carried w a [] [])) none
-
--- where a message has no reply, none of its deliveries has one
-pub unsaid : (m : Message) (subs : List Subscription) (all : List Addressed) → all ≡ map (addressed_to m) subs → m.reply ≡ None →
-    All (λ (a : Addressed). a.delivery.message.reply ≡ None) all
-unsaid m subs all addressed none =
-    subst (All (λ (a : Addressed). a.delivery.message.reply ≡ None)) (sym addressed)
-    (All-map (λ (a : Addressed). a.delivery.message.reply ≡ None) (addressed_to m) subs (λ k d h. none))
+        ∙ ap (λ (x : Option Answered). Ok (Published by [], carried w x [] [])) none

@@ -9,10 +9,11 @@ use Rattle.exports.specs.declared.document.Row.{Row}
 use Rattle.events.specs.Messages.{Message}
 use Rattle.events.specs.declared.answer.Addressed.{Addressed}
 use Rattle.events.specs.declared.answer.Item.{Item}
-use Rattle.events.specs.declared.answer.Item.TheVariants.{Entered, Full, MapTooLong}
+use Rattle.events.specs.declared.answer.Item.TheVariants.{Entered, Full, RouteFull, MapTooLong}
 use Rattle.imports.specs.declared.rows.ImportRow.{ImportRow}
 use Rattle.imports.specs.declared.view.ViewItem.{ViewItem}
 use Rattle.imports.specs.declared.view.ViewItem.TheVariants.{At, TooLong}
+use Rattle.imports.specs.declared.view.Way.TheVariants.{Own, Stream, Service, Response}
 use Rattle.world_deliveries.specs.Sessions.{session_of}
 use Rattle.world_deliveries.specs.Delivered.{delivered, after_offer, has_room}
 use Rattle.world_deliveries.specs.Planned.{planned, rooms_of, with_room}
@@ -27,22 +28,30 @@ use Rattle.world_subscriptions.specs.Subscriptions.{has_subject}
 use Rattle.world_rows.specs.declared.subscription.Subscription.{Subscription}
 use Rattle.world_groups.specs.Served.{served, is_served}
 use Rattle.world_receivers.specs.Open.{is_open}
-use Rattle.world_receivers.specs.Standing.{under_subject, stands_behind, standing_among, addressed_behind_in}
+use Rattle.world_receivers.specs.Standing.{under_subject, stands_behind, standing_among, addressed_behind_in, is_for_nobody, is_nil}
 use Rattle.world_receivers.specs.Receivers.{addressed_among}
-use Rattle.world_receivers.specs.Known.{AreSeen, addressed_in_each, others_in}
+use Rattle.world_receivers.specs.Known.{IsSeen, AreSeen, addressed_in, addressed_in_each, others_in}
 use Rattle.world_receivers.specs.Cached.{KnowsOthers, TellsOthers}
 use Rattle.world_receivers.specs.declared.known.KnownView.{KnownView}
 use Rattle.world_receivers.proofs.Behind.{view_told}
-use Rattle.world_receivers.proofs.Left.{AllAgree, none_disagree, all_agree_append, addressed_agree, addressed_left}
+use Rattle.world_receivers.proofs.Left.{AllAgree, none_disagree, all_agree_append, addressed_agree, addressed_left, passing_left}
 use Rattle.world_receivers.proofs.Stays.{made}
-use Rattle.world_receivers.proofs.Tests.{both}
+use Rattle.world_receivers.proofs.Tests.{both, nil_map}
 use Rattle.world_routing.specs.World.{World}
-use Rattle.world_routing.specs.Routing.{view_of, is_admitted, deliveries}
-use Rattle.world_routing.specs.Handing.{met, left_by, addressed_behind, of_deliveries}
-use Rattle.world_routing.specs.Viewing.{addressed_after, report, reports_after, with_reports}
+use Rattle.service_exporter.specs.Limit.{is_full}
+use Rattle.service_exporter.specs.Routes.{Exporter}
+use Rattle.service_routes.specs.Routes.{Name, exporter_of}
+use Rattle.world_routing.specs.Changing.{opened_each}
+use Rattle.world_routing.specs.declared.changing.Opening.{Opening}
+use Rattle.world_routing.specs.Routing.{View, view_of, is_admitted, admitted, deliveries, routed, requested_by, requested, in_view, in_views}
+use Rattle.world_routing.specs.Handing.{met, left_by, of_deliveries}
+use Rattle.world_routing.specs.Viewing.{Tables, Publication, Addressing, addressing, Effect, seen, reports, nothing, seen_with, requested_if, request_in, effect_of, with_effect, addressed_after, report, reports_by, reports_after, item_of, with_reports}
+use Rattle.world_routing.specs.declared.viewing.Cause.{Cause}
+use Rattle.world_routing.specs.declared.viewing.Cause.TheVariants as cause
 use Rattle.world_routing.specs.declared.viewing.Report.{Report}
 use Rattle.world_routing.proofs.Delivering.{entered_noted, delivered_append}
-use Rattle.world_routing.proofs.Views.{sent, met_behind, items_behind}
+use Rattle.world_routing.proofs.InTurn.{opened_append}
+use Rattle.world_routing.proofs.Views.{sent, met_behind, view_behind}
 
 -- ---- deliveries
 
@@ -89,6 +98,7 @@ pub of_append : (xs ys : List Item) → of_deliveries (xs ++ ys) ≡ of_deliveri
 of_append [] ys = refl
 of_append (Entered conn sid ∷ xs) ys = ap (λ (more : List Item). Entered conn sid ∷ more) (of_append xs ys)
 of_append (Full conn sid ∷ xs) ys = ap (λ (more : List Item). Full conn sid ∷ more) (of_append xs ys)
+of_append (RouteFull row ∷ xs) ys = of_append xs ys
 of_append (MapTooLong row ∷ xs) ys = of_append xs ys
 
 -- the rows that are reported count nothing
@@ -97,6 +107,7 @@ entered_of [] items = refl
 entered_of (a ∷ all) [] = refl
 entered_of (a ∷ all) (Entered conn sid ∷ items) = ap (λ ids. a.id ∷ ids) (entered_of all items)
 entered_of (a ∷ all) (Full conn sid ∷ items) = entered_of all items
+entered_of (a ∷ all) (RouteFull row ∷ items) = entered_of (a ∷ all) items
 entered_of (a ∷ all) (MapTooLong row ∷ items) = entered_of (a ∷ all) items
 
 -- there is an item for each delivery
@@ -114,15 +125,6 @@ AtLeast n (r ∷ rs) = n ≤ r.at
 later_still : (n k : ℕ) (rs : List Report) → n ≤ k → AtLeast k rs → AtLeast n rs
 later_still n k [] h at = tt
 later_still n k (r ∷ rs) h at = omega (arith, h, at)
-
-reports_at : (zs : List Session) (subs : List Subscription) (publisher : Session) (m : Message) (word : ℕ) (before : List Addressed) (vs : List ViewItem) →
-    AtLeast (length before) (reports_after zs subs publisher m word before vs)
-reports_at zs subs publisher m word before [] = tt
-reports_at zs subs publisher m word before (At account t way ∷ vs) =
-    let ds : List Addressed = addressed_behind_in zs subs before publisher m word account t in
-    let more = length-append before ds in
-    later_still (length before) (length (before ++ ds)) (reports_after zs subs publisher m word (before ++ ds) vs) (omega (arith, more)) (reports_at zs subs publisher m word (before ++ ds) vs)
-reports_at zs subs publisher m word before (TooLong row ∷ vs) = omega arith
 
 take_over : (xs ys : List Item) (k : ℕ) → take (length xs + k) (xs ++ ys) ≡ xs ++ take k ys
 take_over [] ys k = let none : 0 + k ≡ k = omega arith in ap (λ n. take n ys) none
@@ -149,213 +151,353 @@ reports_over front xs ys (r ∷ rs) at =
     let all : List Item = front ++ (xs ++ ys) in
     let k : ℕ = r.at - (length front + length xs) in
     let far : r.at - length front ≡ length xs + k = omega (arith, at) in
-    ap (λ (items : List Item). take (r.at - length front) items ++ MapTooLong r.row ∷ with_reports r.at all rs) (drop_front front (xs ++ ys))
-    ∙ ap (λ (many : ℕ). take many (xs ++ ys) ++ MapTooLong r.row ∷ with_reports r.at all rs) far
-    ∙ ap (λ (before : List Item). before ++ MapTooLong r.row ∷ with_reports r.at all rs) (take_over xs ys k)
-    ∙ append_assoc xs (take k ys) (MapTooLong r.row ∷ with_reports r.at all rs)
-    ∙ ap (λ (items : List Item). xs ++ (take k items ++ MapTooLong r.row ∷ with_reports r.at all rs)) (sym (drop_both front xs ys))
+    ap (λ (items : List Item). take (r.at - length front) items ++ item_of r.cause r.row ∷ with_reports r.at all rs) (drop_front front (xs ++ ys))
+    ∙ ap (λ (many : ℕ). take many (xs ++ ys) ++ item_of r.cause r.row ∷ with_reports r.at all rs) far
+    ∙ ap (λ (before : List Item). before ++ item_of r.cause r.row ∷ with_reports r.at all rs) (take_over xs ys k)
+    ∙ append_assoc xs (take k ys) (item_of r.cause r.row ∷ with_reports r.at all rs)
+    ∙ ap (λ (items : List Item). xs ++ (take k items ++ item_of r.cause r.row ∷ with_reports r.at all rs)) (sym (drop_both front xs ys))
 
-reported_here : (n : ℕ) (items : List Item) (row : Row) (rs : List Report) → with_reports n items (report n row ∷ rs) ≡ MapTooLong row ∷ with_reports n items rs
-reported_here n items row rs =
+reported_here : (n : ℕ) (items : List Item) (why : Cause) (row : Row) (rs : List Report) → with_reports n items (report n why row ∷ rs) ≡ item_of why row ∷ with_reports n items rs
+reported_here n items why row rs =
     let none : n - n ≡ 0 = omega arith in
-    ap (λ (many : ℕ). take many (drop n items) ++ MapTooLong row ∷ with_reports n items rs) none
+    ap (λ (many : ℕ). take many (drop n items) ++ item_of why row ∷ with_reports n items rs) none
+
+-- ---- effects
+
+-- the first report of views is behind the deliveries before them
+reports_at : (t : Tables) (p : Publication) (a : Addressing) (vs : List ViewItem) → AtLeast (length a.deliveries) (reports_after t p a vs)
+reports_at t p a [] = tt
+reports_at t p a (v ∷ vs) = by (effect_of t p a v) (reports_at t p (with_effect t p a (effect_of t p a v)) vs)
+  where
+    by : (e : Effect) → AtLeast (length (with_effect t p a e).deliveries) (reports_after t p (with_effect t p a e) vs) →
+        AtLeast (length a.deliveries) (reports_by a e ++ reports_after t p (with_effect t p a e) vs)
+    by (seen account as_seen os) later =
+        let ds : List Addressed = addressed_behind_in t.sessions t.subscriptions a.deliveries p.publisher as_seen p.word account in
+        let more = length-append a.deliveries ds in
+        later_still (length a.deliveries) (length (a.deliveries ++ ds)) (reports_after t p (with_effect t p a (seen account as_seen os)) vs) (omega (arith, more)) later
+    by (reports why row) later = omega arith
+    by nothing later = later
 
 -- ---- views
 
 -- `zs` are the sessions before the message, in which deliveries meet what they meet in the world
-module _ (zs : List Session) (w : World) (publisher : Session) (m : Message) (word : ℕ) (same : (all : List Addressed) → met w all ≡ (delivered w.moment all zs).1)
+module _ (zs : List Session) (w : World) (p : Publication) (same : (all : List Addressed) → met w all ≡ (delivered w.moment all zs).1)
     (apart : Apart w.subscriptions) (going : unended w.subscriptions ≡ w.subscriptions) where
   abbrev pub noted : List Addressed → List Addressed
   noted all = map (noted_for zs) all
 
-  -- the deliveries of one view behind others
-  view_is : (before : List Addressed) (account : List ℕ) (t : List Token) → AllAgree w.subscriptions before →
-      deliveries zs (sent w (noted before)) publisher (view_of account t m) word ≡ noted (addressed_behind_in zs w.subscriptions before publisher m word account t)
-  view_is before account t agree =
-      let p : Subscription → Bool = λ s. has_subject account t s && is_open zs publisher t s in
-      let some : List Subscription → List Addressed = λ subs. map (addressed_to (under_subject t m)) (served word subs) in
+  abbrev pub tables : Tables
+  tables = record { policy = w.policy; now = w.moment; sessions = zs; subscriptions = w.subscriptions; routes = w.routes }
+
+  -- the world once a message is addressed so far, and this is handed over
+  abbrev pub so_far : Addressing → World
+  so_far a = record (sent w (noted a.deliveries)) { routes = opened_each a.openings w.routes }
+
+  abbrev view : List ℕ → Message → View
+  view account as_seen = record { account = account; message = as_seen }
+
+  -- its deliveries in an account behind others
+  abbrev behind : List Addressed → List ℕ → Message → List Addressed
+  behind before account as_seen = addressed_behind_in zs w.subscriptions before p.publisher as_seen p.word account
+
+  -- whom it may be sent to there, by a test
+  left : (before : List Addressed) → AllAgree w.subscriptions before → (account : List ℕ) (s : List Token) →
+      in_turn (entered_ids (noted before) (met w (noted before))) w.subscriptions ≡ in_turn (entered_ids before (delivered w.moment before zs).1) w.subscriptions
+  left before agree account s =
+      ap (λ (items : List Item). in_turn (entered_ids (noted before) items) w.subscriptions) (same (noted before) ∙ met_noted w.moment zs zs before)
+      ∙ ap (λ ids. in_turn ids w.subscriptions) (entered_noted zs before (delivered w.moment before zs).1)
+
+  view_is : (before : List Addressed) (account : List ℕ) (as_seen : Message) → AllAgree w.subscriptions before →
+      deliveries zs (sent w (noted before)) p.publisher (view account as_seen) p.word ≡ noted (behind before account as_seen)
+  view_is before account as_seen agree =
+      let s : List Token = as_seen.subject in
+      let test : Subscription → Bool = λ x. has_subject account s x && is_open zs p.publisher s x in
+      let some : List Subscription → List Addressed = λ subs. map (addressed_to as_seen) (served p.word subs) in
       ap noted
-      (ap (λ (items : List Item). some (filter p (in_turn (entered_ids (noted before) items) w.subscriptions))) (same (noted before) ∙ met_noted w.moment zs zs before)
-      ∙ ap (λ ids. some (filter p (in_turn ids w.subscriptions))) (entered_noted zs before (delivered w.moment before zs).1)
-      ∙ addressed_left w.moment zs before w.subscriptions p (admitted_made zs publisher account t) going agree (under_subject t m) word
-      ∙ ap some (standing_same zs publisher account t before w.subscriptions))
+      (ap (λ (subs : List Subscription). some (filter test subs)) (left before agree account s)
+      ∙ addressed_left w.moment zs before w.subscriptions test (admitted_made zs p.publisher account s) going agree as_seen p.word
+      ∙ ap some (standing_same zs p.publisher account s before w.subscriptions))
 
-  view_agrees : (before : List Addressed) (account : List ℕ) (t : List Token) → AllAgree w.subscriptions (addressed_behind_in zs w.subscriptions before publisher m word account t)
-  view_agrees before account t =
-      let q : Subscription → Bool = λ s. has_subject account t s && (is_open zs publisher t s && stands_behind zs before s) in
-      let r : Subscription → Bool = is_served word (standing_among zs w.subscriptions before publisher account t) in
-      subst (λ (ss : List Subscription). AllAgree w.subscriptions (map (addressed_to (under_subject t m)) ss)) (sym (both r q w.subscriptions))
-      (addressed_agree (under_subject t m) (λ s. q s && r s) w.subscriptions apart)
+  -- whether there is nobody
+  nobody_is : (before : List Addressed) (account : List ℕ) (s : List Token) → AllAgree w.subscriptions before →
+      is_nil (admitted zs (sent w (noted before)) p.publisher (view_of account s p.message)) ≡ is_for_nobody zs w.subscriptions before p.publisher account s
+  nobody_is before account s agree =
+      let test : Subscription → Bool = λ x. has_subject account s x && is_open zs p.publisher s x in
+      ap (λ (subs : List Subscription). is_nil (filter test subs)) (left before agree account s)
+      ∙ ap is_nil (passing_left w.moment zs before w.subscriptions test (admitted_made zs p.publisher account s) going agree)
+      ∙ nil_map _ (filter (λ x. test x && stands_behind zs before x) w.subscriptions)
+      ∙ ap is_nil (standing_same zs p.publisher account s before w.subscriptions)
 
-  -- behind those of one view more
-  noted_more : (before : List Addressed) (account : List ℕ) (t : List Token) → AllAgree w.subscriptions before →
-      noted before ++ deliveries zs (sent w (noted before)) publisher (view_of account t m) word ≡ noted (before ++ addressed_behind_in zs w.subscriptions before publisher m word account t)
-  noted_more before account t agree =
-      ap (λ (more : List Addressed). noted before ++ more) (view_is before account t agree)
-      ∙ sym (map-append (noted_for zs) before (addressed_behind_in zs w.subscriptions before publisher m word account t))
-
-  agree_more : (before : List Addressed) (account : List ℕ) (t : List Token) → AllAgree w.subscriptions before →
-      AllAgree w.subscriptions (before ++ addressed_behind_in zs w.subscriptions before publisher m word account t)
-  agree_more before account t agree =
-      all_agree_append w.subscriptions before (addressed_behind_in zs w.subscriptions before publisher m word account t) agree (view_agrees before account t)
+  view_agrees : (before : List Addressed) (account : List ℕ) (as_seen : Message) → AllAgree w.subscriptions (behind before account as_seen)
+  view_agrees before account as_seen =
+      let s : List Token = as_seen.subject in
+      let q : Subscription → Bool = λ x. has_subject account s x && (is_open zs p.publisher s x && stands_behind zs before x) in
+      let r : Subscription → Bool = is_served p.word (standing_among zs w.subscriptions before p.publisher account s) in
+      subst (λ (ss : List Subscription). AllAgree w.subscriptions (map (addressed_to as_seen) ss)) (sym (both r q w.subscriptions))
+      (addressed_agree as_seen (λ x. q x && r x) w.subscriptions apart)
 
   -- there is an item for each delivery
   many_met : (before : List Addressed) → length (met w (noted before)) ≡ length before
   many_met before = length_met w.moment (noted before) w.sessions ∙ length-map before (noted_for zs)
 
-  -- the deliveries of all views
-  pub after_is : (before : List Addressed) (vs : List ViewItem) → AllAgree w.subscriptions before →
-      addressed_behind zs w publisher m word (noted before) vs ≡ noted (addressed_after zs w.subscriptions publisher m word before vs)
-  after_is before [] agree = refl
-  after_is before (At account t way ∷ vs) agree =
-      ap (λ (more : List Addressed). addressed_behind zs w publisher m word more vs) (noted_more before account t agree)
-      ∙ after_is (before ++ addressed_behind_in zs w.subscriptions before publisher m word account t) vs (agree_more before account t agree)
-  after_is before (TooLong row ∷ vs) agree = after_is before vs agree
+  -- one view more, with these routes
+  routed_is : (before : List Addressed) (account : List ℕ) (as_seen : Message) (routes : List (Name × Exporter)) → AllAgree w.subscriptions before →
+      routed zs (record (sent w (noted before)) { routes = routes }) p.publisher (view account as_seen) p.word
+      ≡ (met_behind w (noted before) (noted (behind before account as_seen)), record (sent w (noted (before ++ behind before account as_seen))) { routes = routes })
+  routed_is before account as_seen routes agree =
+      let ds : List Addressed = deliveries zs (sent w (noted before)) p.publisher (view account as_seen) p.word in
+      let by_world : World → List Item × World = λ x. (met_behind w (noted before) ds, record x { routes = routes }) in
+      let by_all : List Addressed → List Item × World = λ all. (met_behind w (noted before) all, record (sent w (noted before ++ all)) { routes = routes }) in
+      let by_front : List Addressed → List Item × World = λ all. (met_behind w (noted before) (noted (behind before account as_seen)), record (sent w all) { routes = routes }) in
+      ap by_world (view_behind zs p.publisher p.word w apart going (noted before) (view account as_seen))
+      ∙ ap by_all (view_is before account as_seen agree)
+      ∙ ap by_front (sym (map-append (noted_for zs) before (behind before account as_seen)))
+
+  -- what an effect makes of a world
+  abbrev by_effect : World → Effect → List Item × World
+  by_effect x (seen account as_seen os) = routed zs (record x { routes = opened_each os x.routes }) p.publisher (view account as_seen) p.word
+  by_effect x (reports why row) = (item_of why row ∷ [], x)
+  by_effect x nothing = ([], x)
+
+  request_tests : (a : Addressing) (account : List ℕ) (s : List Token) (row : Row) (reply : List Token) (b c : Bool) →
+      requested_by b c zs (so_far a) p.publisher p.message p.word account s row reply
+      ≡ by_effect (so_far a) (requested_if b c tables p (opened_each a.openings w.routes) account s row reply)
+  request_tests a account s row reply true c = refl
+  request_tests a account s row reply false true = refl
+  request_tests a account s row reply false false = refl
+
+  request_effect : (a : Addressing) (account : List ℕ) (s : List Token) (row : Row) (o : Option (List Token)) → AllAgree w.subscriptions a.deliveries →
+      requested zs (so_far a) p.publisher p.message p.word account s row o ≡ by_effect (so_far a) (request_in tables p a account s row o)
+  request_effect a account s row None agree = refl
+  request_effect a account s row (Some reply) agree =
+      let full : Bool = is_full 1 w.moment (exporter_of account (opened_each a.openings w.routes)) in
+      ap (λ b. requested_by b full zs (so_far a) p.publisher p.message p.word account s row reply) (nobody_is a.deliveries account s agree)
+      ∙ request_tests a account s row reply (is_for_nobody zs w.subscriptions a.deliveries p.publisher account s) full
+
+  view_effect : (a : Addressing) (v : ViewItem) → AllAgree w.subscriptions a.deliveries →
+      in_view zs (so_far a) p.publisher p.message p.word v ≡ by_effect (so_far a) (effect_of tables p a v)
+  view_effect a (At account s Own) agree = refl
+  view_effect a (At account s (Stream row)) agree = refl
+  view_effect a (At account s (Service row)) agree = request_effect a account s row p.message.reply agree
+  view_effect a (At account s (Response row)) agree = refl
+  view_effect a (TooLong row) agree = refl
+
+  -- what it tells
+  abbrev items_by : Addressing → Effect → List Item
+  items_by a (seen account as_seen os) = met_behind w (noted a.deliveries) (noted (behind a.deliveries account as_seen))
+  items_by a (reports why row) = item_of why row ∷ []
+  items_by a nothing = []
+
+  effect_is : (a : Addressing) (e : Effect) → AllAgree w.subscriptions a.deliveries → by_effect (so_far a) e ≡ (items_by a e, so_far (with_effect tables p a e))
+  effect_is a (seen account as_seen os) agree =
+      let after : List Addressed = noted (a.deliveries ++ behind a.deliveries account as_seen) in
+      let by_routes : List (Name × Exporter) → List Item × World = λ routes. (met_behind w (noted a.deliveries) (noted (behind a.deliveries account as_seen)), record (sent w after) { routes = routes }) in
+      routed_is a.deliveries account as_seen (opened_each os (opened_each a.openings w.routes)) agree
+      ∙ ap by_routes (sym (opened_append a.openings os w.routes))
+  effect_is a (reports why row) agree = refl
+  effect_is a nothing agree = refl
+
+  agree_after : (a : Addressing) (e : Effect) → AllAgree w.subscriptions a.deliveries → AllAgree w.subscriptions (with_effect tables p a e).deliveries
+  agree_after a (seen account as_seen os) agree =
+      all_agree_append w.subscriptions a.deliveries (behind a.deliveries account as_seen) agree (view_agrees a.deliveries account as_seen)
+  agree_after a (reports why row) agree = agree
+  agree_after a nothing agree = agree
+
+  -- what views tell
+  abbrev pub items_after : Addressing → List ViewItem → List Item
+  items_after a [] = []
+  items_after a (v ∷ vs) = items_by a (effect_of tables p a v) ++ items_after (with_effect tables p a (effect_of tables p a v)) vs
+
+  -- What the views make of a world, one after the other, is what one list makes of it that has the deliveries of all of them,
+  -- with the routes that they open.
+  pub views_are : (a : Addressing) (vs : List ViewItem) → AllAgree w.subscriptions a.deliveries →
+      in_views zs (so_far a) p.publisher p.message p.word vs ≡ (items_after a vs, so_far (addressed_after tables p a vs))
+  views_are a [] agree = refl
+  views_are a (v ∷ vs) agree =
+      let e : Effect = effect_of tables p a v in
+      let rest : World → List Item × World = λ x. in_views zs x p.publisher p.message p.word vs in
+      let go : List Item × World → List Item × World = λ first. (first.0 ++ (rest first.1).0, (rest first.1).1) in
+      let more : List Item × World → List Item × World = λ later. (items_by a e ++ later.0, later.1) in
+      ap go (view_effect a v agree ∙ effect_is a e agree) ∙ ap more (views_are (with_effect tables p a e) vs (agree_after a e agree))
+
+  -- ---- reports
 
   -- what the deliveries of views meet behind others
-  abbrev pub plain_behind : List Addressed → List ViewItem → List Item
-  plain_behind before [] = []
-  plain_behind before (At account t way ∷ vs) =
-      let ds = deliveries zs (sent w before) publisher (view_of account t m) word in
-      met_behind w before ds ++ plain_behind (before ++ ds) vs
-  plain_behind before (TooLong row ∷ vs) = plain_behind before vs
+  abbrev plain_by : Addressing → Effect → List Item
+  plain_by a (seen account as_seen os) = met_behind w (noted a.deliveries) (noted (behind a.deliveries account as_seen))
+  plain_by a (reports why row) = []
+  plain_by a nothing = []
 
-  plain_are : (before : List Addressed) (vs : List ViewItem) → met w before ++ plain_behind before vs ≡ met w (addressed_behind zs w publisher m word before vs)
-  plain_are before [] = append-nil (met w before)
-  plain_are before (At account t way ∷ vs) =
-      let ds : List Addressed = deliveries zs (sent w before) publisher (view_of account t m) word in
-      sym (append_assoc (met w before) (met_behind w before ds) (plain_behind (before ++ ds) vs))
-      ∙ ap (λ (after : List Session × List Item). after.1 ++ plain_behind (before ++ ds) vs) (sym (delivered_append w.moment before ds w.sessions))
-      ∙ plain_are (before ++ ds) vs
-  plain_are before (TooLong row ∷ vs) = plain_are before vs
+  abbrev plain_after : Addressing → List ViewItem → List Item
+  plain_after a [] = []
+  plain_after a (v ∷ vs) = plain_by a (effect_of tables p a v) ++ plain_after (with_effect tables p a (effect_of tables p a v)) vs
+
+  plain_more : (a : Addressing) (e : Effect) → met w (noted a.deliveries) ++ plain_by a e ≡ met w (noted (with_effect tables p a e).deliveries)
+  plain_more a (seen account as_seen os) =
+      let ds : List Addressed = behind a.deliveries account as_seen in
+      ap (λ (after : List Session × List Item). after.1) (sym (delivered_append w.moment (noted a.deliveries) (noted ds) w.sessions))
+      ∙ ap (met w) (sym (map-append (noted_for zs) a.deliveries ds))
+  plain_more a (reports why row) = append-nil (met w (noted a.deliveries))
+  plain_more a nothing = append-nil (met w (noted a.deliveries))
+
+  plain_next : (a : Addressing) (e : Effect) (rest : List Item) → met w (noted a.deliveries) ++ (plain_by a e ++ rest) ≡ met w (noted (with_effect tables p a e).deliveries) ++ rest
+  plain_next a e rest =
+      sym (append_assoc (met w (noted a.deliveries)) (plain_by a e) rest) ∙ ap (λ (front : List Item). front ++ rest) (plain_more a e)
+
+  plain_are : (a : Addressing) (vs : List ViewItem) → met w (noted a.deliveries) ++ plain_after a vs ≡ met w (noted (addressed_after tables p a vs).deliveries)
+  plain_are a [] = append-nil (met w (noted a.deliveries))
+  plain_are a (v ∷ vs) =
+      let e : Effect = effect_of tables p a v in
+      plain_next a e (plain_after (with_effect tables p a e) vs) ∙ plain_are (with_effect tables p a e) vs
 
   -- without the rows that are reported it is what the views tell
-  plain_told : (before : List Addressed) (vs : List ViewItem) → of_deliveries (items_behind zs publisher m word w before vs) ≡ plain_behind before vs
-  plain_told before [] = refl
-  plain_told before (At account t way ∷ vs) =
-      let ds : List Addressed = deliveries zs (sent w before) publisher (view_of account t m) word in
-      of_append (met_behind w before ds) (items_behind zs publisher m word w (before ++ ds) vs)
-      ∙ ap (λ (front : List Item). front ++ of_deliveries (items_behind zs publisher m word w (before ++ ds) vs)) (all_delivered w.moment ds (sent w before).sessions)
-      ∙ ap (λ (more : List Item). met_behind w before ds ++ more) (plain_told (before ++ ds) vs)
-  plain_told before (TooLong row ∷ vs) = plain_told before vs
+  of_effect : (a : Addressing) (e : Effect) → of_deliveries (items_by a e) ≡ plain_by a e
+  of_effect a (seen account as_seen os) = all_delivered w.moment (noted (behind a.deliveries account as_seen)) (sent w (noted a.deliveries)).sessions
+  of_effect a (reports cause.TooLong row) = refl
+  of_effect a (reports cause.RouteFull row) = refl
+  of_effect a nothing = refl
+
+  plain_told : (a : Addressing) (vs : List ViewItem) → of_deliveries (items_after a vs) ≡ plain_after a vs
+  plain_told a [] = refl
+  plain_told a (v ∷ vs) =
+      let e : Effect = effect_of tables p a v in
+      let later : Addressing = with_effect tables p a e in
+      of_append (items_by a e) (items_after later vs)
+      ∙ ap (λ (front : List Item). front ++ of_deliveries (items_after later vs)) (of_effect a e)
+      ∙ ap (λ (more : List Item). plain_by a e ++ more) (plain_told later vs)
 
   -- with the reports between them they are what the views tell
-  reported : (all : List Item) (before : List Addressed) (vs : List ViewItem) → AllAgree w.subscriptions before → all ≡ met w (noted before) ++ plain_behind (noted before) vs →
-      with_reports (length before) all (reports_after zs w.subscriptions publisher m word before vs) ≡ items_behind zs publisher m word w (noted before) vs
-  reported all before [] agree is =
-      ap (drop (length before)) (is ∙ append-nil (met w (noted before)))
-      ∙ ap (λ n. drop n (met w (noted before))) (sym (many_met before))
-      ∙ drop_all (met w (noted before))
-    where
-      drop_all : (xs : List Item) → drop (length xs) xs ≡ []
-      drop_all [] = refl
-      drop_all (x ∷ xs) = drop_all xs
-  reported all before (At account t way ∷ vs) agree is =
-      let raw : List Addressed = addressed_behind_in zs w.subscriptions before publisher m word account t in
-      let ds : List Addressed = deliveries zs (sent w (noted before)) publisher (view_of account t m) word in
-      let rs : List Report = reports_after zs w.subscriptions publisher m word (before ++ raw) vs in
+  reported_by : (all : List Item) (a : Addressing) (e : Effect) (rest : List Item) (rs : List Report) → all ≡ met w (noted a.deliveries) ++ (plain_by a e ++ rest) →
+      AtLeast (length (with_effect tables p a e).deliveries) rs →
+      with_reports (length a.deliveries) all (reports_by a e ++ rs) ≡ items_by a e ++ with_reports (length (with_effect tables p a e).deliveries) all rs
+  reported_by all a (seen account as_seen os) rest rs is at =
+      let raw : List Addressed = behind a.deliveries account as_seen in
+      let before : List Addressed = a.deliveries in
       let front : List Item = met w (noted before) in
-      let here : List Item = met_behind w (noted before) ds in
-      let rest : List Item = plain_behind (noted before ++ ds) vs in
+      let here : List Item = met_behind w (noted before) (noted raw) in
       let many : length front + length here ≡ length (before ++ raw) =
       ap (λ n. n + length here) (many_met before)
-      ∙ ap (λ n. length before + n) (length_met w.moment ds (sent w (noted before)).sessions ∙ ap length (view_is before account t agree) ∙ length-map raw (noted_for zs))
+      ∙ ap (λ n. length before + n) (length_met w.moment (noted raw) (sent w (noted before)).sessions ∙ length-map raw (noted_for zs))
       ∙ sym (length-append before raw) in
-      let next : all ≡ met w (noted (before ++ raw)) ++ plain_behind (noted (before ++ raw)) vs =
-      is
-      ∙ sym (append_assoc front here rest)
-      ∙ ap (λ (after : List Session × List Item). after.1 ++ rest) (sym (delivered_append w.moment (noted before) ds w.sessions))
-      ∙ ap (λ (ads : List Addressed). met w ads ++ plain_behind ads vs) (noted_more before account t agree) in
       ap (λ (n : ℕ). with_reports n all rs) (sym (many_met before))
       ∙ ap (λ (items : List Item). with_reports (length front) items rs) is
-      ∙ reports_over front here rest rs (subst (λ n. AtLeast n rs) (sym many) (reports_at zs w.subscriptions publisher m word (before ++ raw) vs))
+      ∙ reports_over front here rest rs (subst (λ n. AtLeast n rs) (sym many) at)
       ∙ ap (λ (n : ℕ). here ++ with_reports n (front ++ (here ++ rest)) rs) many
       ∙ ap (λ (items : List Item). here ++ with_reports (length (before ++ raw)) items rs) (sym is)
-      ∙ ap (λ (more : List Item). here ++ more) (reported all (before ++ raw) vs (agree_more before account t agree) next)
-      ∙ ap (λ (ads : List Addressed). here ++ items_behind zs publisher m word w ads vs) (sym (noted_more before account t agree))
-  reported all before (TooLong row ∷ vs) agree is =
-      reported_here (length before) all row (reports_after zs w.subscriptions publisher m word before vs)
-      ∙ ap (λ (more : List Item). MapTooLong row ∷ more) (reported all before vs agree is)
+  reported_by all a (reports why row) rest rs is at = reported_here (length a.deliveries) all why row rs
+  reported_by all a nothing rest rs is at = refl
+
+  drop_all : (xs : List Item) → drop (length xs) xs ≡ []
+  drop_all [] = refl
+  drop_all (x ∷ xs) = drop_all xs
+
+  reported : (all : List Item) (a : Addressing) (vs : List ViewItem) → all ≡ met w (noted a.deliveries) ++ plain_after a vs →
+      with_reports (length a.deliveries) all (reports_after tables p a vs) ≡ items_after a vs
+  reported all a [] is =
+      ap (drop (length a.deliveries)) (is ∙ append-nil (met w (noted a.deliveries)))
+      ∙ ap (λ n. drop n (met w (noted a.deliveries))) (sym (many_met a.deliveries))
+      ∙ drop_all (met w (noted a.deliveries))
+  reported all a (v ∷ vs) is =
+      let e : Effect = effect_of tables p a v in
+      let later : Addressing = with_effect tables p a e in
+      reported_by all a e (plain_after later vs) (reports_after tables p later vs) is (reports_at tables p later vs)
+      ∙ ap (λ (more : List Item). items_by a e ++ more) (reported all later vs (is ∙ plain_next a e (plain_after later vs)))
 
   -- So what the views tell is what all deliveries meet, with the reports between.
   pub told_are : (vs : List ViewItem) →
-      items_behind zs publisher m word w [] vs
-      ≡ with_reports 0 (met w (noted (addressed_after zs w.subscriptions publisher m word [] vs))) (reports_after zs w.subscriptions publisher m word [] vs)
-  told_are vs =
-      let none : AllAgree w.subscriptions [] = none_disagree w.subscriptions in
-      let all : List Item = met w (noted (addressed_after zs w.subscriptions publisher m word [] vs)) in
-      sym (reported all [] vs none (ap (met w) (sym (after_is [] vs none)) ∙ sym (plain_are [] vs)))
+      items_after (addressing [] []) vs
+      ≡ with_reports 0 (met w (noted (addressed_after tables p (addressing [] []) vs).deliveries)) (reports_after tables p (addressing [] []) vs)
+  told_are vs = sym (reported _ (addressing [] []) vs (sym (plain_are (addressing [] []) vs)))
 
   -- and without them what all deliveries meet
   pub plain_is : (vs : List ViewItem) →
-      of_deliveries (items_behind zs publisher m word w [] vs) ≡ met w (noted (addressed_after zs w.subscriptions publisher m word [] vs))
-  plain_is vs = plain_told [] vs ∙ plain_are [] vs ∙ ap (met w) (after_is [] vs (none_disagree w.subscriptions))
+      of_deliveries (items_after (addressing [] []) vs) ≡ met w (noted (addressed_after tables p (addressing [] []) vs).deliveries)
+  plain_is vs = plain_told (addressing [] []) vs ∙ plain_are (addressing [] []) vs
 
 -- the own view is the first
 pub own_first : (zs : List Session) (subs : List Subscription) (publisher : Session) (m : Message) (word : ℕ) → unended subs ≡ subs →
-    addressed_among zs subs publisher m word ≡ addressed_behind_in zs subs [] publisher m word publisher.user.account m.subject
+    addressed_among zs subs publisher m word ≡ addressed_behind_in zs subs [] publisher m word publisher.user.account
 own_first zs subs publisher m word going =
     let account : List ℕ = publisher.user.account in
     addressed_left 0 zs [] subs (λ s. has_subject account m.subject s && is_open zs publisher m.subject s) (admitted_made zs publisher account m.subject) going (none_disagree subs) m word
     ∙ ap (λ (ss : List Subscription). map (addressed_to m) (served word ss)) (standing_same zs publisher account m.subject [] subs)
 
--- ---- one view first
-
-pub after_first : (zs : List Session) (subs : List Subscription) (publisher : Session) (m : Message) (word : ℕ) (before : List Addressed) (v : ViewItem) (vs : List ViewItem) →
-    addressed_after zs subs publisher m word before (v ∷ vs) ≡ addressed_after zs subs publisher m word (addressed_after zs subs publisher m word before (v ∷ [])) vs
-after_first zs subs publisher m word before (At account t way) vs = refl
-after_first zs subs publisher m word before (TooLong row) vs = refl
-
-pub reports_first : (zs : List Session) (subs : List Subscription) (publisher : Session) (m : Message) (word : ℕ) (before : List Addressed) (v : ViewItem) (vs : List ViewItem) →
-    reports_after zs subs publisher m word before (v ∷ vs)
-    ≡ reports_after zs subs publisher m word before (v ∷ []) ++ reports_after zs subs publisher m word (addressed_after zs subs publisher m word before (v ∷ [])) vs
-reports_first zs subs publisher m word before (At account t way) vs = refl
-reports_first zs subs publisher m word before (TooLong row) vs = refl
-
 -- ---- replies
 
 -- where a message has no reply, none of its deliveries has one
-pub unsaid_after : (zs : List Session) (subs : List Subscription) (publisher : Session) (m : Message) (word : ℕ) (before : List Addressed) (vs : List ViewItem) → m.reply ≡ None →
-    All (λ (a : Addressed). a.delivery.message.reply ≡ None) before →
-    All (λ (a : Addressed). a.delivery.message.reply ≡ None) (addressed_after zs subs publisher m word before vs)
-unsaid_after zs subs publisher m word before [] none all = all
-unsaid_after zs subs publisher m word before (At account t way ∷ vs) none all =
-    let reply : Addressed → Type 0 = λ a. a.delivery.message.reply ≡ None in
-    let found : List Subscription = served word (standing_among zs subs before publisher account t) in
-    unsaid_after zs subs publisher m word (before ++ map (addressed_to (under_subject t m)) found) vs none
-    (All-append reply before (map (addressed_to (under_subject t m)) found) all (All-map reply (addressed_to (under_subject t m)) found (λ k d h. none)))
-unsaid_after zs subs publisher m word before (TooLong row ∷ vs) none all = unsaid_after zs subs publisher m word before vs none all
+unsaid_by : (t : Tables) (p : Publication) (a : Addressing) (v : ViewItem) → p.message.reply ≡ None →
+    All (λ (d : Addressed). d.delivery.message.reply ≡ None) a.deliveries →
+    All (λ (d : Addressed). d.delivery.message.reply ≡ None) (with_effect t p a (effect_of t p a v)).deliveries
+unsaid_by t p a v none all = by_view v
+  where
+    Unsaid : List Addressed → Type 0
+    Unsaid ds = All (λ (d : Addressed). d.delivery.message.reply ≡ None) ds
+
+    more : (account : List ℕ) (as_seen : Message) (os : List Opening) → as_seen.reply ≡ None → Unsaid (with_effect t p a (seen account as_seen os)).deliveries
+    more account as_seen os unsaid =
+        let found : List Subscription = served p.word (standing_among t.sessions t.subscriptions a.deliveries p.publisher account as_seen.subject) in
+        All-append (λ (d : Addressed). d.delivery.message.reply ≡ None) a.deliveries (map (addressed_to as_seen) found) all
+        (All-map (λ (d : Addressed). d.delivery.message.reply ≡ None) (addressed_to as_seen) found (λ k d h. unsaid))
+
+    request : (account : List ℕ) (s : List Token) (row : Row) (o : Option (List Token)) → o ≡ None → Unsaid (with_effect t p a (request_in t p a account s row o)).deliveries
+    request account s row None is = more account (under_subject s p.message) [] none
+    request account s row (Some reply) is = absurd (cc)
+
+    by_view : (v : ViewItem) → Unsaid (with_effect t p a (effect_of t p a v)).deliveries
+    by_view (At account s Own) = more account (under_subject s p.message) [] none
+    by_view (At account s (Stream row)) = more account (under_subject s p.message) [] none
+    by_view (At account s (Service row)) = request account s row p.message.reply none
+    by_view (At account s (Response row)) = more account (seen_with s None p.message) [] refl
+    by_view (TooLong row) = all
+
+pub unsaid_after : (t : Tables) (p : Publication) (a : Addressing) (vs : List ViewItem) → p.message.reply ≡ None →
+    All (λ (d : Addressed). d.delivery.message.reply ≡ None) a.deliveries →
+    All (λ (d : Addressed). d.delivery.message.reply ≡ None) (addressed_after t p a vs).deliveries
+unsaid_after t p a [] none all = all
+unsaid_after t p a (v ∷ vs) none all = unsaid_after t p (with_effect t p a (effect_of t p a v)) vs none (unsaid_by t p a v none all)
 
 -- ---- known views
 
--- in views that are known the deliveries are those of the views, and no row is reported
-pub known_after : (zs : List Session) (subs : List Subscription) (publisher : Session) (m : Message) (word : ℕ) (before : List Addressed) (known : List KnownView) (vs : List ViewItem) →
-    AreSeen zs subs publisher known vs → addressed_in_each m word before known ≡ addressed_after zs subs publisher m word before vs
-known_after zs subs publisher m word before [] [] seen = refl
-known_after zs subs publisher m word before [] (v ∷ vs) seen = absurd seen
-known_after zs subs publisher m word before (k ∷ known) [] seen = absurd seen
-known_after zs subs publisher m word before (k ∷ known) (TooLong row ∷ vs) seen = absurd seen
-known_after zs subs publisher m word before (k ∷ known) (At account t way ∷ vs) seen =
-    ap (λ (ds : List Addressed). addressed_in_each m word ds known) (view_told zs before publisher account t subs k m word seen.0)
-    ∙ known_after zs subs publisher m word (before ++ addressed_behind_in zs subs before publisher m word account t) known vs seen.1
+-- in views that are known the deliveries are those of the views, no row is reported, and no route is opened
+known_step : (t : Tables) (p : Publication) (a : Addressing) (k : KnownView) (account : List ℕ) (s : List Token) → IsSeen t.sessions t.subscriptions p.publisher k account s →
+    addressing (addressed_in p.message p.word a.deliveries k) a.openings ≡ with_effect t p a (seen account (under_subject s p.message) [])
+known_step t p a k account s is =
+    ap (λ (ds : List Addressed). addressing ds a.openings) (view_told t.sessions a.deliveries p.publisher account s t.subscriptions k p.message p.word is)
+    ∙ ap (λ (os : List Opening). addressing (a.deliveries ++ addressed_behind_in t.sessions t.subscriptions a.deliveries p.publisher (under_subject s p.message) p.word account) os) (sym (append-nil a.openings))
 
-pub known_reports : (zs : List Session) (subs : List Subscription) (publisher : Session) (m : Message) (word : ℕ) (before : List Addressed) (known : List KnownView) (vs : List ViewItem) →
-    AreSeen zs subs publisher known vs → reports_after zs subs publisher m word before vs ≡ []
-known_reports zs subs publisher m word before [] [] seen = refl
-known_reports zs subs publisher m word before [] (v ∷ vs) seen = absurd seen
-known_reports zs subs publisher m word before (k ∷ known) [] seen = absurd seen
-known_reports zs subs publisher m word before (k ∷ known) (TooLong row ∷ vs) seen = absurd seen
-known_reports zs subs publisher m word before (k ∷ known) (At account t way ∷ vs) seen =
-    known_reports zs subs publisher m word (before ++ addressed_behind_in zs subs before publisher m word account t) known vs seen.1
+pub known_after : (t : Tables) (p : Publication) (a : Addressing) (known : List KnownView) (vs : List ViewItem) → AreSeen t.sessions t.subscriptions p.publisher known vs →
+    addressing (addressed_in_each p.message p.word a.deliveries known) a.openings ≡ addressed_after t p a vs
+known_after t p a [] [] is = refl
+known_after t p a [] (v ∷ vs) is = absurd is
+known_after t p a (k ∷ known) [] is = absurd is
+known_after t p a (k ∷ known) (TooLong row ∷ vs) is = absurd is
+known_after t p a (k ∷ known) (At account s Own ∷ vs) is = absurd is
+known_after t p a (k ∷ known) (At account s (Service row) ∷ vs) is = absurd is
+known_after t p a (k ∷ known) (At account s (Response row) ∷ vs) is = absurd is
+known_after t p a (k ∷ known) (At account s (Stream row) ∷ vs) is =
+    known_after t p (addressing (addressed_in p.message p.word a.deliveries k) a.openings) known vs is.1
+    ∙ ap (λ (b : Addressing). addressed_after t p b vs) (known_step t p a k account s is.0)
+
+pub known_reports : (t : Tables) (p : Publication) (a : Addressing) (known : List KnownView) (vs : List ViewItem) → AreSeen t.sessions t.subscriptions p.publisher known vs →
+    reports_after t p a vs ≡ []
+known_reports t p a [] [] is = refl
+known_reports t p a [] (v ∷ vs) is = absurd is
+known_reports t p a (k ∷ known) [] is = absurd is
+known_reports t p a (k ∷ known) (TooLong row ∷ vs) is = absurd is
+known_reports t p a (k ∷ known) (At account s Own ∷ vs) is = absurd is
+known_reports t p a (k ∷ known) (At account s (Service row) ∷ vs) is = absurd is
+known_reports t p a (k ∷ known) (At account s (Response row) ∷ vs) is = absurd is
+known_reports t p a (k ∷ known) (At account s (Stream row) ∷ vs) is = known_reports t p (with_effect t p a (seen account (under_subject s p.message) [])) known vs is.1
 
 -- so it is with what the cache tells of the views behind the publisher's own
-module _ (rows : List ImportRow) (zs : List Session) (subs : List Subscription) (publisher : Session) (m : Message) (word : ℕ) (before all : List Addressed) where
-  pub others_told : (o : Option (Vec KnownView)) → KnowsOthers o rows zs subs publisher m.subject → TellsOthers o m word before all →
-      all ≡ addressed_after zs subs publisher m word before (others_in rows publisher.user.account m.subject)
-  others_told None known tells = absurd tells
-  others_told (Some views) known tells = tells ∙ known_after zs subs publisher m word before views.items (others_in rows publisher.user.account m.subject) known
+module _ (rows : List ImportRow) (t : Tables) (p : Publication) (a : Addressing) where
+  pub others_told : (o : Option (Vec KnownView)) (all : List Addressed) → KnowsOthers o rows t.sessions t.subscriptions p.publisher p.message.subject → TellsOthers o p.message p.word a.deliveries all →
+      addressing all a.openings ≡ addressed_after t p a (others_in rows p.publisher.user.account p.message.subject)
+  others_told None all known tells = absurd tells
+  others_told (Some views) all known tells =
+      ap (λ (ds : List Addressed). addressing ds a.openings) tells ∙ known_after t p a views.items (others_in rows p.publisher.user.account p.message.subject) known
 
-  pub others_unreported : (o : Option (Vec KnownView)) (behind : List Addressed) → KnowsOthers o rows zs subs publisher m.subject → TellsOthers o m word before all →
-      reports_after zs subs publisher m word behind (others_in rows publisher.user.account m.subject) ≡ []
-  others_unreported None behind known tells = absurd tells
-  others_unreported (Some views) behind known tells = known_reports zs subs publisher m word behind views.items (others_in rows publisher.user.account m.subject) known
+  pub others_unreported : (o : Option (Vec KnownView)) (all : List Addressed) → KnowsOthers o rows t.sessions t.subscriptions p.publisher p.message.subject → TellsOthers o p.message p.word a.deliveries all →
+      reports_after t p a (others_in rows p.publisher.user.account p.message.subject) ≡ []
+  others_unreported None all known tells = absurd tells
+  others_unreported (Some views) all known tells = known_reports t p a views.items (others_in rows p.publisher.user.account p.message.subject) known

@@ -1,11 +1,7 @@
--- The views of a message, one after the other, are one list of deliveries, handed over and counted once.
+-- One view of a message is its deliveries, handed over behind those before and counted.
 use Rattle.std.proofs.Common.{◌≡◌, ◌∙◌, ◌&&◌, ℕ, List, [], ◌∷◌, ◌++◌, map, ap, sym, refl, subst}
-use Rattle.events.specs.Messages.{Message}
 use Rattle.events.specs.declared.answer.Addressed.{Addressed}
 use Rattle.events.specs.declared.answer.Item.{Item}
-use Rattle.events.specs.declared.answer.Item.TheVariants.{MapTooLong}
-use Rattle.imports.specs.declared.view.ViewItem.{ViewItem}
-use Rattle.imports.specs.declared.view.ViewItem.TheVariants.{At, TooLong}
 use Rattle.world_deliveries.specs.Delivered.{delivered}
 use Rattle.world_deliveries.specs.Replying.{noted_for}
 use Rattle.world_deliveries.specs.declared.session.Session.{Session}
@@ -17,8 +13,8 @@ use Rattle.world_rows.specs.declared.subscription.Subscription.{Subscription}
 use Rattle.world_receivers.proofs.Tests.{both}
 use Rattle.world_groups.specs.Served.{is_served}
 use Rattle.world_routing.specs.World.{World}
-use Rattle.world_routing.specs.Routing.{View, view_of, is_admitted, admitted, deliveries, routed, in_views}
-use Rattle.world_routing.specs.Handing.{met, left_by, addressed_behind}
+use Rattle.world_routing.specs.Routing.{View, is_admitted, admitted, deliveries, routed}
+use Rattle.world_routing.specs.Handing.{met, left_by}
 use Rattle.world_routing.proofs.Delivering.{tell_each, delivered_append, entered_append, in_turn_append, apart_left, going_left, counted_left}
 
 -- the world once deliveries are handed over that are no answer
@@ -29,15 +25,7 @@ sent w all = record w { sessions = (delivered w.moment all w.sessions).0; subscr
 abbrev pub met_behind : World → List Addressed → List Addressed → List Item
 met_behind w before more = (delivered w.moment more (sent w before).sessions).1
 
-module _ (zs : List Session) (publisher : Session) (m : Message) (word : ℕ) where
-  -- what views tell behind deliveries
-  abbrev pub items_behind : World → List Addressed → List ViewItem → List Item
-  items_behind w before [] = []
-  items_behind w before (At account s way ∷ vs) =
-      let ds = deliveries zs (sent w before) publisher (view_of account s m) word in
-      met_behind w before ds ++ items_behind w (before ++ ds) vs
-  items_behind w before (TooLong row ∷ vs) = MapTooLong row ∷ items_behind w before vs
-
+module _ (zs : List Session) (publisher : Session) (word : ℕ) where
   -- each whom the deliveries of a view have entered for counts it
   view_counted : (v : View) (w : World) (items : List Item) → Apart w.subscriptions → unended w.subscriptions ≡ w.subscriptions →
       TellEach (deliveries zs w publisher v word) items →
@@ -58,7 +46,7 @@ module _ (zs : List Session) (publisher : Session) (m : Message) (word : ℕ) wh
         ∙ in_turn_append (entered_ids before (met w before)) (entered_ids more later) w.subscriptions
 
     -- one view more is its deliveries behind those before
-    view_behind : (before : List Addressed) (v : View) →
+    pub view_behind : (before : List Addressed) (v : View) →
         (routed zs (sent w before) publisher v word).1 ≡ sent w (before ++ deliveries zs (sent w before) publisher v word)
     view_behind before v =
         let ds : List Addressed = deliveries zs (sent w before) publisher v word in
@@ -71,22 +59,3 @@ module _ (zs : List Session) (publisher : Session) (m : Message) (word : ℕ) wh
         let by_subs : List Subscription → World = λ ss. record w { sessions = after.0; subscriptions = ss } in
         let by_sessions : List Session × List Item → World = λ b. record w { sessions = b.0; subscriptions = left_by w (before ++ ds) } in
         ap by_subs subs ∙ ap by_sessions (sym (delivered_append w.moment before ds w.sessions))
-
-    -- What the views make of a world, one after the other, is what one list makes of it that has the deliveries of all of them,
-    -- behind those that were handed over before.
-    pub views_behind : (before : List Addressed) (vs : List ViewItem) →
-        in_views zs (sent w before) publisher m word vs ≡ (items_behind w before vs, sent w (addressed_behind zs w publisher m word before vs))
-    views_behind before [] = refl
-    views_behind before (At account s way ∷ vs) =
-        let v : View = view_of account s m in
-        let ds : List Addressed = deliveries zs (sent w before) publisher v word in
-        let rest : World → List Item × World = λ x. in_views zs x publisher m word vs in
-        let behind : List Item × World → List Item × World = λ r. (met_behind w before ds ++ r.0, r.1) in
-        ap (λ x. behind (rest x)) (view_behind before v) ∙ ap behind (views_behind (before ++ ds) vs)
-    views_behind before (TooLong row ∷ vs) =
-        let reported : List Item × World → List Item × World = λ r. (MapTooLong row ∷ r.0, r.1) in
-        ap reported (views_behind before vs)
-
-    -- So it is of all views of a message.
-    pub views_are : (vs : List ViewItem) → in_views zs w publisher m word vs ≡ (items_behind w [] vs, sent w (addressed_behind zs w publisher m word [] vs))
-    views_are vs = views_behind [] vs

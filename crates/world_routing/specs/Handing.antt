@@ -1,13 +1,11 @@
 -- Deliveries handed over, of a message in all its views (docs/ARCHITECTURE.md, "Decide, then do").
-use Rattle.std.specs.Prelude.{◌++◌, ℕ, Bool, true, false, List, [], ◌∷◌, Option, Some, None, filter}
+use Rattle.std.specs.Prelude.{ℕ, Bool, true, false, List, Option, Some, None, filter}
 use Rattle.permissions.specs.declared.verdict.By.{By}
 use Rattle.permissions.specs.declared.verdict.By.TheVariants.{All as AllowsAll, Index, Grant}
 use Rattle.events.specs.Messages.{Message}
 use Rattle.events.specs.declared.answer.Addressed.{Addressed}
 use Rattle.events.specs.declared.answer.Item.{Item}
-use Rattle.events.specs.declared.answer.Item.TheVariants.{Entered, Full, MapTooLong}
-use Rattle.imports.specs.declared.view.ViewItem.{ViewItem}
-use Rattle.imports.specs.declared.view.ViewItem.TheVariants.{At, TooLong}
+use Rattle.events.specs.declared.answer.Item.TheVariants.{Entered, Full, RouteFull, MapTooLong}
 use Rattle.world_deliveries.specs.Sessions.{with_session}
 use Rattle.world_deliveries.specs.Delivered.{delivered}
 use Rattle.world_deliveries.specs.Replying.{answering, ending}
@@ -15,7 +13,6 @@ use Rattle.world_deliveries.specs.declared.session.Session.{Session}
 use Rattle.world_subscriptions.specs.Counting.{entered_ids, in_turn}
 use Rattle.world_rows.specs.declared.subscription.Subscription.{Subscription}
 use Rattle.world_routing.specs.World.{World}
-use Rattle.world_routing.specs.Routing.{view_of, deliveries}
 use Rattle.world_routing.specs.declared.answered.Answered.{Answered}
 
 -- what deliveries meet, handed over in turn
@@ -26,6 +23,7 @@ met w all = (delivered w.moment all w.sessions).1
 abbrev pub is_of_delivery : Item → Bool
 is_of_delivery (Entered conn sid) = true
 is_of_delivery (Full conn sid) = true
+is_of_delivery (RouteFull row) = false
 is_of_delivery (MapTooLong row) = false
 
 abbrev pub of_deliveries : List Item → List Item
@@ -34,14 +32,6 @@ of_deliveries items = filter is_of_delivery items
 -- the subscriptions that still stand, once those that deliveries have entered for have counted them
 abbrev pub left_by : World → List Addressed → List Subscription
 left_by w all = in_turn (entered_ids all (met w all)) w.subscriptions
-
--- The deliveries of views behind others of the same message: those of each are for the subscriptions that still stand, once
--- all deliveries before them are counted. So the views' deliveries come to one list.
-abbrev pub addressed_behind : List Session → World → Session → Message → ℕ → List Addressed → List ViewItem → List Addressed
-addressed_behind zs w publisher m word before [] = before
-addressed_behind zs w publisher m word before (At account s way ∷ vs) =
-    addressed_behind zs w publisher m word (before ++ deliveries zs (record w { subscriptions = left_by w before }) publisher (view_of account s m) word) vs
-addressed_behind zs w publisher m word before (TooLong row ∷ vs) = addressed_behind zs w publisher m word before vs
 
 -- a publish that is to be counted, if a grant has allowed it
 abbrev pub answered_by : By → ℕ → Message → Option Answered

@@ -4,3 +4,4 @@ pub mod Granting
 pub mod Handing
 pub mod Publishing
 pub mod Viewing
+pub mod Changing

@@ -1,12 +1,24 @@
 -- Whom a message reaches (docs/GUARANTEE.md, "Delivery").
-use Rattle.std.specs.Prelude.{◌&&◌, ◌∷◌, ◌++◌, ℕ, List, [], Bool, filter, map}
+use Rattle.std.specs.Prelude.{◌&&◌, ◌∷◌, ◌++◌, ◌+◌, ℕ, List, [], Bool, true, false, Option, Some, None, filter, map, if◌then◌else◌}
+use Rattle.std.specs.List.{cons_option}
+use Rattle.std.specs.Option.{option_map}
 use Rattle.subjects.specs.Subject.{Token}
 use Rattle.events.specs.Messages.{Message}
 use Rattle.events.specs.declared.answer.Addressed.{Addressed}
 use Rattle.events.specs.declared.answer.Item.{Item}
-use Rattle.events.specs.declared.answer.Item.TheVariants.{MapTooLong}
+use Rattle.events.specs.declared.answer.Item.TheVariants.{RouteFull, MapTooLong}
+use Rattle.exports.specs.declared.document.Row.{Row}
 use Rattle.imports.specs.declared.view.ViewItem.{ViewItem}
 use Rattle.imports.specs.declared.view.ViewItem.TheVariants.{At, TooLong}
+use Rattle.imports.specs.declared.view.Way.{Way}
+use Rattle.imports.specs.declared.view.Way.TheVariants.{Own, Stream, Service, Response}
+use Rattle.policy_doc.specs.declared.document.PolicyDoc.{PolicyDoc}
+use Rattle.service_subjects.specs.Names.{route_subject}
+use Rattle.service_exporter.specs.Limit.{is_full}
+use Rattle.service_exporter.specs.Routes.{Exporter, route_on}
+use Rattle.service_exporter.specs.declared.route.Route.{Route}
+use Rattle.service_routes.specs.Routes.{Name, exporter_of, opened}
+use Rattle.service_rows.specs.Rows.{terms_of}
 use Rattle.world_deliveries.specs.Delivered.{delivered}
 use Rattle.world_deliveries.specs.Replying.{noted_for}
 use Rattle.world_deliveries.specs.declared.session.Session.{Session}
@@ -16,7 +28,7 @@ use Rattle.world_subscriptions.specs.Limit.{unended, counted}
 use Rattle.world_rows.specs.declared.subscription.Subscription.{Subscription}
 use Rattle.world_groups.specs.Served.{served}
 pub use Rattle.world_receivers.specs.Open.{lets_through, may_hear, is_open_to, is_open}
-pub use Rattle.world_receivers.specs.Standing.{under_subject}
+pub use Rattle.world_receivers.specs.Standing.{under_subject, is_nil}
 use Rattle.world_routing.specs.World.{World}
 
 -- A message as an account sees it, under the subject that it has there.
@@ -26,6 +38,10 @@ pub record View : Type 0 where
 
 abbrev pub view_of : List ℕ → List Token → Message → View
 view_of account s m = record { account = account; message = under_subject s m }
+
+-- a message with another reply, or with none, as an account sees it
+abbrev pub view_with : List ℕ → List Token → Option (List Token) → Message → View
+view_with account s reply m = record { account = account; message = record m { subject = s; reply = reply } }
 
 -- a subscription is admitted where it is of the account and has the subject, may hear the publisher, and its session's
 -- permissions let the message through
@@ -51,13 +67,56 @@ abbrev pub routed : List Session → World → Session → View → ℕ → List
 routed zs w publisher v word = let after = delivered w.moment (deliveries zs w publisher v word) w.sessions in
     (after.1, record w { sessions = after.0; subscriptions = unended (map (counted after.1) w.subscriptions) })
 
+-- ---- requests and responses (docs/GUARANTEE.md, "Response routes")
+
+-- the response that an account's message on this subject is, as the account that has asked sees it: on the reply of its request
+abbrev pub response_by : Route → ViewItem
+response_by r = At r.row.importer r.reply (Response r.row)
+
+-- it is one where the account has a route on the subject
+abbrev pub responses_on : List (Name × Exporter) → List ℕ → List Token → List ViewItem
+responses_on routes account s = cons_option (option_map response_by (route_on s (exporter_of account routes).routes)) []
+
+-- the route of a request across a row, on the terms that the row has
+abbrev pub route_for : PolicyDoc → Row → List Token → ℕ → ℕ → Route
+route_for doc row reply word now = record { word = word; row = row; reply = reply; noted = now; terms = terms_of doc row }
+
+-- the subject of an exporter's next route
+abbrev pub next_subject : ℕ → Exporter → List Token
+next_subject word e = route_subject word (e.last + 1)
+
+-- A request that an account may see, which wants a response on this reply. Where nobody may be sent it, nothing comes of it. Where
+-- the exporter has as many routes as it may have, the row is reported. Else a route is opened for its response, and the request
+-- is seen with the route's subject in place of its reply.
+abbrev pub requested_by : Bool → Bool → List Session → World → Session → Message → ℕ → List ℕ → List Token → Row → List Token → List Item × World
+requested_by true full zs w publisher m word account s row reply = ([], w)
+requested_by false true zs w publisher m word account s row reply = (RouteFull row ∷ [], w)
+requested_by false false zs w publisher m word account s row reply =
+    routed zs (record w { routes = opened account (route_for w.policy row reply word w.moment) w.routes }) publisher
+    (view_with account s (Some (next_subject word (exporter_of account w.routes))) m) word
+
+-- A request that wants no response is seen as it was published.
+abbrev pub requested : List Session → World → Session → Message → ℕ → List ℕ → List Token → Row → Option (List Token) → List Item × World
+requested zs w publisher m word account s row None = routed zs w publisher (view_of account s m) word
+requested zs w publisher m word account s row (Some reply) =
+    requested_by (is_nil (admitted zs w publisher (view_of account s m))) (is_full 1 w.moment (exporter_of account w.routes)) zs w publisher m word account s row reply
+
+-- ---- views
+
+-- What a message gives in an account, by the way on which it comes there. A response has no reply.
+abbrev pub in_account : List Session → World → Session → Message → ℕ → List ℕ → List Token → Way → List Item × World
+in_account zs w publisher m word account s Own = routed zs w publisher (view_of account s m) word
+in_account zs w publisher m word account s (Stream row) = routed zs w publisher (view_of account s m) word
+in_account zs w publisher m word account s (Service row) = requested zs w publisher m word account s row m.reply
+in_account zs w publisher m word account s (Response row) = routed zs w publisher (view_with account s None m) word
+
 -- What a view gives: the message to those that it is for there; or the row that it doesn't cross is reported.
 abbrev pub in_view : List Session → World → Session → Message → ℕ → ViewItem → List Item × World
-in_view zs w publisher m word (At account s way) = routed zs w publisher (view_of account s m) word
+in_view zs w publisher m word (At account s way) = in_account zs w publisher m word account s way
 in_view zs w publisher m word (TooLong row) = (MapTooLong row ∷ [], w)
 
--- The views of a message one after the other: what ended in one stands no more in the next, and rooms are those that are
--- left. Who may be sent it, and what is noted, goes by the sessions before the message.
+-- The views of a message one after the other: what ended in one stands no more in the next, rooms are those that are left, and
+-- routes those that stand then. Who may be sent it, and what is noted, goes by the sessions before the message.
 abbrev pub in_views : List Session → World → Session → Message → ℕ → List ViewItem → List Item × World
 in_views zs w publisher m word [] = ([], w)
 in_views zs w publisher m word (v ∷ vs) =

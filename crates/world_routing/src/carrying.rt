@@ -6,6 +6,7 @@ ghost use Rattle.world_subscriptions.specs.Counting.{entered_ids, in_turn};
 ghost use Rattle.world_routing.specs.Handing.{handed_over};
 
 use crate::answered::Answered;
+use crate::changing::RouteChange;
 use base::Items;
 use events::{Addressed, Item};
 use world_receivers::Receivers;
@@ -20,6 +21,15 @@ pub struct Deliveries {
     pub all: Items<Addressed>,
     /// The publish, where a grant has allowed it.
     pub answered: Option<Answered>,
+}
+
+/// Deliveries of a message by which response routes may change.
+#[derive(Drop)]
+pub struct Routing {
+    /// What is to be handed over.
+    pub deliveries: Deliveries,
+    /// The routes that are opened, or the one that is ended.
+    pub routes: RouteChange,
 }
 
 /// Clears the cache of receivers where fewer subscriptions are left than there were before.

@@ -4,10 +4,13 @@
 mod across;
 mod answered;
 mod carrying;
+mod changing;
 mod planning;
+mod request;
 mod verdict;
 mod viewing;
 
 pub use answered::Answered;
-pub use carrying::{Deliveries, carry_publish};
+pub use carrying::{Deliveries, Routing, carry_publish};
+pub use changing::{Opening, RouteChange, change_routes};
 pub use planning::{Plan, Publish, plan_publish};

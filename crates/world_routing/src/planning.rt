@@ -8,18 +8,21 @@ ghost use Rattle.world_deliveries.specs.Replying.{noted_for};
 ghost use Rattle.world_deliveries.specs.declared.session.Session.{Session as SessionModel};
 ghost use Rattle.world_receivers.specs.Cached.{IsCurrent};
 ghost use Rattle.world_routing.specs.World.{World};
-ghost use Rattle.world_routing.specs.Viewing.{reports_in};
-ghost use Rattle.world_routing.specs.Publishing.{IsOf, IsPlanned, published_by};
+ghost use Rattle.world_routing.specs.Viewing.{tables_at};
+ghost use Rattle.world_routing.specs.Publishing.{IsPlanned, IsPlanOf, published_by, tables_of};
+ghost use Rattle.imports.specs.Views.{rows_of};
 
-use crate::across::address_all;
+use crate::across::{Publishing, Told, address_all};
 use crate::answered::{Answered, answered_by};
-use crate::carrying::Deliveries;
+use crate::carrying::{Deliveries, Routing};
 use crate::verdict::on_publish;
-use crate::viewing::{Report, with_reports};
-use base::{Items, NoMemory};
+use crate::viewing::with_reports;
+use base::{Boxed, Items, NoMemory};
 use events::{Addressed, HubRefusal, Message, Met};
-use imports::Rows;
 use permissions::{By, Verdict};
+use policy_ready::Ready;
+use service_routes::Routes;
+use std::alloc::Global;
 use std::hash::RandomState;
 use world_receivers::{Receivers, Sending};
 use world_sessions::{Session, Sessions};
@@ -47,6 +50,8 @@ pub enum Plan {
     ToNobody(By),
     /// It is allowed: what each delivery meets, and the deliveries to be handed over.
     ToSome(By, Met, Deliveries),
+    /// It is allowed, and response routes may change by it. Apart, since few messages are so.
+    OnRoutes(By, Met, Boxed<Routing>),
 }
 
 /// Returns whether a message has no delivery and is no answer.
@@ -62,11 +67,11 @@ fn is_for_nobody(all: &[Addressed], answered: &Option<Answered>) -> bool
     }
 }
 
-/// Returns whether a message has no delivery, is no answer, and no row is reported.
-fn is_silent(all: &[Addressed], reports: &Option<Vec<Report>>, answered: &Option<Answered>) -> bool
-    ensures { IsTrue result → (all.now ≡ []) × (reports_in reports.now ≡ []) × (answered.now ≡ None) }
+/// Returns whether a message has no delivery, is no answer, and nothing more is told of it.
+fn is_silent(all: &[Addressed], told: &Option<Boxed<Told>>, answered: &Option<Answered>) -> bool
+    ensures { IsTrue result → (all.now ≡ []) × (told.now ≡ None) × (answered.now ≡ None) }
 {
-    match reports {
+    match told {
         None => is_for_nobody(all, answered),
         Some(_) => false,
     }
@@ -91,46 +96,86 @@ fn plan_all(
     Ok(items)
 }
 
-/// Returns what a publish comes to: the verdict of the user's permissions and grants, and where they allow it, the deliveries
-/// to those that the message is for in each of its views across these rows, with what each will meet. Nothing changes but what
-/// is cached, and all memory is taken that handing over needs. `NoSession` where the connection has no session, `NoMemory`
-/// where memory could not be had.
+/// Returns the plan of a publish, by what its deliveries have met.
 #[inline(always)]
-pub fn plan_publish(
+fn plan_of(
+    alloc: Global,
+    by: By,
+    met: Met,
+    deliveries: Deliveries,
+    told: Option<Boxed<Told>>,
+) -> Result<Plan, NoMemory>
+    ensures { IfOk result (λ plan. IsPlanOf by met deliveries told plan) }
+{
+    match told {
+        None => Ok(Plan::ToSome(by, met, deliveries)),
+        Some(told) => {
+            let plan = on_routes(alloc, by, met, deliveries, told.into_inner())?;
+            Ok(plan)
+        }
+    }
+}
+
+/// Returns the plan of a publish that reports rows or changes routes. Apart, since few messages do.
+#[inline(never)]
+fn on_routes(
+    alloc: Global,
+    by: By,
+    met: Met,
+    deliveries: Deliveries,
+    told: Told,
+) -> Result<Plan, NoMemory>
+    ensures { IfOk result (λ plan. IsPlanOf by met deliveries (Some told) plan) }
+{
+    let Told { reports, routes } = told;
+    let items = with_reports(alloc, met.as_slice(), reports.as_slice())?;
+    let routing = Boxed::new(alloc, Routing { deliveries, routes })?;
+    Ok(Plan::OnRoutes(by, Met::from_vec(items), routing))
+}
+
+/// Returns what a publish comes to: the verdict of the user's permissions and grants, and where they allow it, the deliveries
+/// to those that the message is for in each of its views, with what each will meet. Nothing changes but what is cached, and all
+/// memory is taken that handing over needs. `NoSession` where the connection has no session, `NoMemory` where memory could not be
+/// had.
+#[inline(always)]
+pub fn plan_publish<'p>(
     sessions: &mut Sessions,
     subscriptions: &mut Subscriptions,
     receivers: &mut Receivers,
-    rows: &Rows,
-    keys: RandomState,
-    publish: Publish<'_>,
+    routes: &mut Routes,
+    ready: &'p Ready,
+    publish: Publish<'p>,
 ) -> Result<Plan, HubRefusal>
-    requires cached { IsCurrent rows.now sessions.old subscriptions.old receivers.old.cache }
-    ensures planned { (w : World) → IsOf w rows.now publish.entry.now sessions.old subscriptions.old
+    requires cached { IsCurrent (rows_of ready.now) sessions.old subscriptions.old receivers.old.cache }
+    ensures planned { (w : World) → tables_of w ≡ tables_at ready.now publish.entry.now sessions.old subscriptions.old routes.old.exporters
         → IsPlanned w (published_by w publish.entry.conn publish.entry.message.now publish.entry.word) result }
     ensures reason { IfOk result (λ plan. IfSome (session_of sessions.old publish.entry.conn) (λ (z : SessionModel).
         IsJustifiedPublish publish.entry.message.now.subject z.user.rules.publish (publish_verdict z.user.rules publish.entry.message.now.subject))) }
     ensures sessions { sessions.new ≡ sessions.old }
     ensures subscriptions { subscriptions.new ≡ subscriptions.old }
-    ensures cached { IsCurrent rows.now sessions.new subscriptions.new receivers.new.cache }
+    ensures routes { routes.new.exporters ≡ routes.old.exporters }
+    ensures cached { IsCurrent (rows_of ready.now) sessions.new subscriptions.new receivers.new.cache }
 {
     subscriptions.known();
-    let alloc = receivers.allocator();
-    let (by, answered, reports) = match sessions.find(publish.conn) {
+    let (by, answered, told) = match sessions.find(publish.conn) {
         None => return Err(HubRefusal::NoSession),
         Some(session) => match on_publish(session, &publish.message.subject(), publish.now) {
             Verdict::Allowed(by) => (
                 by,
                 answered_by(by, session.conn, publish.message)?,
                 address_all(
-                    alloc,
                     sessions,
                     subscriptions,
                     receivers,
-                    rows,
-                    Sending {
-                        publisher: session,
-                        message: publish.message,
-                        word: publish.word,
+                    routes,
+                    Publishing {
+                        ready,
+                        sending: Sending {
+                            publisher: session,
+                            message: publish.message,
+                            word: publish.word,
+                        },
+                        now: publish.now,
                     },
                 )?,
             ),
@@ -139,18 +184,15 @@ pub fn plan_publish(
             Verdict::NoQueueAllow(index) => return Ok(Plan::Refused(Verdict::NoQueueAllow(index))),
         },
     };
-    if is_silent(receivers.deliveries(), &reports, &answered) {
+    if is_silent(receivers.deliveries(), &told, &answered) {
         return Ok(Plan::ToNobody(by));
     }
     let mut all = receivers.take_deliveries();
-    let met = plan_all(sessions, keys, publish.message, &mut all)?;
-    let items = with_reports(alloc, met, &reports)?;
-    Ok(Plan::ToSome(
-        by,
-        items,
-        Deliveries {
-            all: Items::from_vec(all),
-            answered,
-        },
-    ))
+    let met = plan_all(sessions, receivers.keys(), publish.message, &mut all)?;
+    let deliveries = Deliveries {
+        all: Items::from_vec(all),
+        answered,
+    };
+    let plan = plan_of(receivers.allocator(), by, met, deliveries, told)?;
+    Ok(plan)
 }

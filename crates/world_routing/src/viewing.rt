@@ -1,80 +1,184 @@
 //! A message addressed in its views one after the other, and the import rows that are reported between its deliveries.
-ghost use Rattle.std.specs.Prelude.{◌≡◌, ◌++◌, ◌∷◌, ◌-◌, [], IfOk, OnOk, take, drop};
-ghost use Rattle.world_routing.specs.Viewing.{addressed_after, reports_after, reports_in, with_reports};
+ghost use Rattle.std.specs.Prelude.{◌≡◌, ◌++◌, ◌-◌, None, All, IfOk, OnOk, take, drop};
+ghost use Rattle.world_receivers.specs.Standing.{addressed_behind_in, under_subject};
+ghost use Rattle.world_routing.specs.Changing.{IsNotedAt};
+ghost use Rattle.world_routing.specs.Viewing.{addressed_after, addressing, effect_of, item_of, publication, reports_after, reports_by, seen_with, tables_at, with_effect, with_reports};
 
+use crate::changing::Opening;
+use crate::request::{Request, address_request};
 use base::{NoMemory, Shared};
-use events::{Item, Met};
-use exports::Row;
-use imports::ViewItem;
+use bytes::Bytes;
+use events::{Item, Said};
+use imports::{ViewItem, Way};
+use policy_ready::Ready;
+use service_routes::{Routes, Row};
 use std::alloc::Global;
+use subjects::Subject;
 use world_receivers::{Receivers, Seen, Sending};
 use world_sessions::Sessions;
 use world_subscriptions::Subscriptions;
 
-/// An import row that a message doesn't cross, since its subject there would be too long.
+/// Why a message isn't seen across an import row.
+#[derive(Clone, Copy, Debug, PartialEq, Eq)]
+pub(crate) enum Cause {
+    /// Its subject there would be too long.
+    TooLong,
+    /// It is a request, and the exporter has as many response routes as it may have.
+    RouteFull,
+}
+
+/// An import row across which a message isn't seen.
 #[derive(Drop)]
 pub(crate) struct Report {
     /// How many deliveries are before it.
     pub at: usize,
+    /// Why it isn't.
+    pub cause: Cause,
     /// The row.
     pub row: Shared<Row>,
 }
 
-/// Appends the deliveries of a message in one more view to those of the receivers, or the report of the row that it doesn't
-/// cross. `NoMemory` where memory could not be had: then some may be appended.
+/// What is found beside deliveries, where a message is addressed in its views.
+#[derive(Drop)]
+pub(crate) struct Found {
+    /// The rows across which it isn't seen.
+    pub reports: Vec<Report>,
+    /// The response routes that are to be opened.
+    pub openings: Vec<Opening>,
+}
+
+/// A message, and the tables in which it is addressed at a moment.
+#[derive(Clone, Copy)]
+pub(crate) struct Among<'a> {
+    pub alloc: Global,
+    pub sessions: &'a Sessions,
+    pub subscriptions: &'a Subscriptions,
+    pub ready: &'a Ready,
+    pub sending: Sending<'a>,
+    pub now: u64,
+}
+
+/// Appends the deliveries of a message in one more view to those of the receivers, and what is found beside them. `NoMemory` where
+/// memory could not be had: then some may be appended.
 fn address_one(
-    sessions: &Sessions,
-    subscriptions: &Subscriptions,
+    among: Among<'_>,
     receivers: &mut Receivers,
-    sending: Sending<'_>,
+    routes: &mut Routes,
     view: &ViewItem,
-    reports: &mut Vec<Report>,
+    found: &mut Found,
 ) -> Result<(), NoMemory>
-    ensures all { OnOk result (receivers.new.deliveries.items ≡ addressed_after sessions.now subscriptions.now sending.entry.publisher.now sending.entry.message.now sending.entry.word
-        receivers.old.deliveries.items (view.now ∷ [])) }
-    ensures reports { OnOk result (reports.new.items ≡ reports.old.items ++ reports_after sessions.now subscriptions.now sending.entry.publisher.now sending.entry.message.now
-        sending.entry.word receivers.old.deliveries.items (view.now ∷ [])) }
+    requires noted { All (IsNotedAt among.now) found.old.openings.items }
+    ensures all { OnOk result (addressing receivers.new.deliveries.items found.new.openings.items
+        ≡ with_effect (tables_at among.entry.ready.now among.entry.now among.entry.sessions.now among.entry.subscriptions.now routes.old.exporters) (publication among.entry.sending.publisher.now among.entry.sending.message.now among.entry.sending.word) (addressing receivers.old.deliveries.items found.old.openings.items) (effect_of (tables_at among.entry.ready.now among.entry.now among.entry.sessions.now among.entry.subscriptions.now routes.old.exporters) (publication among.entry.sending.publisher.now among.entry.sending.message.now among.entry.sending.word) (addressing receivers.old.deliveries.items found.old.openings.items) view.now)) }
+    ensures reports { OnOk result (found.new.reports.items ≡ found.old.reports.items ++ reports_by (addressing receivers.old.deliveries.items found.old.openings.items) (effect_of (tables_at among.entry.ready.now among.entry.now among.entry.sessions.now among.entry.subscriptions.now routes.old.exporters) (publication among.entry.sending.publisher.now among.entry.sending.message.now among.entry.sending.word) (addressing receivers.old.deliveries.items found.old.openings.items) view.now)) }
+    ensures noted { OnOk result (All (IsNotedAt among.entry.now) found.new.openings.items) }
     ensures cached { receivers.new.cache ≡ receivers.old.cache }
+    ensures routes { routes.new.exporters ≡ routes.old.exporters }
 {
     match view {
         ViewItem::At {
             account,
             subject,
-            way: _,
-        } => {
-            let seen = Seen { account, subject };
-            receivers.address_seen(sessions, subscriptions, sending, seen)?;
-            Ok(())
-        }
+            way: Way::Own,
+        } => address_plain(among, receivers, account, subject),
+        ViewItem::At {
+            account,
+            subject,
+            way: Way::Stream(_),
+        } => address_plain(among, receivers, account, subject),
+        ViewItem::At {
+            account,
+            subject,
+            way: Way::Response(_),
+        } => address_response(among, receivers, account, subject),
+        ViewItem::At {
+            account,
+            subject,
+            way: Way::Service(row),
+        } => match among.sending.message.reply() {
+            None => address_plain(among, receivers, account, subject),
+            Some(reply) => {
+                let request = Request {
+                    exporter: account,
+                    subject,
+                    row,
+                    reply: &reply,
+                };
+                address_request(among, receivers, routes, request, found)?;
+                Ok(())
+            }
+        },
         ViewItem::TooLong(row) => {
             let report = Report {
                 at: receivers.deliveries().len(),
+                cause: Cause::TooLong,
                 row: row.again()?,
             };
-            reports.push(report)?;
+            found.reports.push(report)?;
             Ok(())
         }
     }
 }
 
-/// Appends the deliveries of a message in more views to those of the receivers, and the reports between them. `NoMemory` where
-/// memory could not be had: then some may be appended.
-pub(crate) fn address_each(
-    sessions: &Sessions,
-    subscriptions: &Subscriptions,
+/// Appends the deliveries of a message in an account, with the reply that was published.
+fn address_plain(
+    among: Among<'_>,
     receivers: &mut Receivers,
-    sending: Sending<'_>,
-    views: &[ViewItem],
-    reports: &mut Vec<Report>,
+    account: &Bytes,
+    subject: &Subject,
 ) -> Result<(), NoMemory>
-    ensures all { OnOk result (receivers.new.deliveries.items ≡ addressed_after sessions.now subscriptions.now sending.entry.publisher.now sending.entry.message.now sending.entry.word
-        receivers.old.deliveries.items views.now) }
-    ensures reports { OnOk result (reports.new.items ≡ reports.old.items ++ reports_after sessions.now subscriptions.now sending.entry.publisher.now sending.entry.message.now
-        sending.entry.word receivers.old.deliveries.items views.now) }
+    ensures all { OnOk result (receivers.new.deliveries.items ≡ receivers.old.deliveries.items ++ addressed_behind_in among.entry.sessions.now among.entry.subscriptions.now receivers.old.deliveries.items
+        among.entry.sending.publisher.now (under_subject subject.now among.entry.sending.message.now) among.entry.sending.word account.now) }
     ensures cached { receivers.new.cache ≡ receivers.old.cache }
 {
+    let seen = Seen {
+        account,
+        subject,
+        reply: Said::AsPublished,
+    };
+    receivers.address_seen(among.sessions, among.subscriptions, among.sending, seen)?;
+    Ok(())
+}
+
+/// Appends the deliveries of a response in the account that has asked.
+pub(crate) fn address_response(
+    among: Among<'_>,
+    receivers: &mut Receivers,
+    account: &Bytes,
+    subject: &Subject,
+) -> Result<(), NoMemory>
+    ensures all { OnOk result (receivers.new.deliveries.items ≡ receivers.old.deliveries.items ++ addressed_behind_in among.entry.sessions.now among.entry.subscriptions.now receivers.old.deliveries.items
+        among.entry.sending.publisher.now (seen_with subject.now None among.entry.sending.message.now) among.entry.sending.word account.now) }
+    ensures cached { receivers.new.cache ≡ receivers.old.cache }
+{
+    let seen = Seen {
+        account,
+        subject,
+        reply: Said::Nothing,
+    };
+    receivers.address_seen(among.sessions, among.subscriptions, among.sending, seen)?;
+    Ok(())
+}
+
+/// Appends the deliveries of a message in more views to those of the receivers, and what is found beside them. `NoMemory` where
+/// memory could not be had: then some may be appended.
+pub(crate) fn address_each(
+    among: Among<'_>,
+    receivers: &mut Receivers,
+    routes: &mut Routes,
+    views: &[ViewItem],
+    found: &mut Found,
+) -> Result<(), NoMemory>
+    requires noted { All (IsNotedAt among.now) found.old.openings.items }
+    ensures all { OnOk result (addressing receivers.new.deliveries.items found.new.openings.items
+        ≡ addressed_after (tables_at among.entry.ready.now among.entry.now among.entry.sessions.now among.entry.subscriptions.now routes.old.exporters) (publication among.entry.sending.publisher.now among.entry.sending.message.now among.entry.sending.word) (addressing receivers.old.deliveries.items found.old.openings.items) views.now) }
+    ensures reports { OnOk result (found.new.reports.items ≡ found.old.reports.items ++ reports_after (tables_at among.entry.ready.now among.entry.now among.entry.sessions.now among.entry.subscriptions.now routes.old.exporters) (publication among.entry.sending.publisher.now among.entry.sending.message.now among.entry.sending.word) (addressing receivers.old.deliveries.items found.old.openings.items) views.now) }
+    ensures noted { OnOk result (All (IsNotedAt among.entry.now) found.new.openings.items) }
+    ensures cached { receivers.new.cache ≡ receivers.old.cache }
+    ensures routes { routes.new.exporters ≡ routes.old.exporters }
+{
     for view in views {
-        address_one(sessions, subscriptions, receivers, sending, view, reports)?;
+        address_one(among, receivers, routes, view, found)?;
     }
     Ok(())
 }
@@ -92,7 +196,19 @@ fn item_again(item: &Item) -> Result<Item, NoMemory>
             conn: *conn,
             sid: sid.again()?,
         }),
+        Item::RouteFull(row) => Ok(Item::RouteFull(row.again()?)),
         Item::MapTooLong(row) => Ok(Item::MapTooLong(row.again()?)),
+    }
+}
+
+/// Returns what is told of a row across which a message isn't seen.
+fn reported(report: &Report) -> Result<Item, NoMemory>
+    ensures { IfOk result (λ item. item ≡ item_of report.now.cause report.now.row) }
+{
+    let row = report.row.again()?;
+    match report.cause {
+        Cause::TooLong => Ok(Item::MapTooLong(row)),
+        Cause::RouteFull => Ok(Item::RouteFull(row)),
     }
 }
 
@@ -119,34 +235,20 @@ fn add_between(items: &[Item], from: usize, to: usize, all: &mut Vec<Item>) -> R
 }
 
 /// Returns what deliveries met, with the reports in their places between them.
-fn merged(alloc: Global, items: &[Item], reports: &[Report]) -> Result<Vec<Item>, NoMemory>
+pub(crate) fn with_reports(
+    alloc: Global,
+    items: &[Item],
+    reports: &[Report],
+) -> Result<Vec<Item>, NoMemory>
     ensures { IfOk result (λ all. all.items ≡ with_reports 0 items.now reports.now) }
 {
     let mut all = Vec::new(alloc);
     let mut next = 0;
     for report in reports {
         add_between(items, next, report.at, &mut all)?;
-        all.push(Item::MapTooLong(report.row.again()?))?;
+        all.push(reported(report)?)?;
         next = report.at;
     }
     add_between(items, next, items.len(), &mut all)?;
     Ok(all)
-}
-
-/// Returns what deliveries met, with the reports in their places between them, if there are any.
-#[inline(always)]
-pub(crate) fn with_reports(
-    alloc: Global,
-    met: Met,
-    reports: &Option<Vec<Report>>,
-) -> Result<Met, NoMemory>
-    ensures { IfOk result (λ told. told ≡ with_reports 0 met (reports_in reports.now)) }
-{
-    match reports {
-        None => Ok(met),
-        Some(reports) => {
-            let all = merged(alloc, met.as_slice(), reports.as_slice())?;
-            Ok(Met::from_vec(all))
-        }
-    }
 }

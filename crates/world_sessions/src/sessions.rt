@@ -225,7 +225,9 @@ impl Sessions {
     }
 
     /// Returns the oldest deliveries of a connection's outbox, `most` at most, to be owned by others too. They stay
-    /// there. Without a session there are none. `NoMemory` where memory could not be had.
+    /// there. Without a session there are none. `NoMemory` where memory could not be had. Apart, so that a publish doesn't need its
+    /// locals.
+    #[inline(never)]
     pub fn share(&mut self, conn: u64, most: usize) -> Result<Batch<Delivery>, NoMemory>
         ensures front { IfOk result (λ front. front ≡ front_of most (session_of self.old conn)) }
         ensures same { self.new ≡ self.old }

@@ -11,7 +11,7 @@ use Rattle.events.specs.Messages.{Message}
 use Rattle.events.specs.declared.answer.Addressed.{Addressed}
 use Rattle.world_subscriptions.specs.Addressing.{addressed_to}
 use Rattle.events.specs.declared.answer.Item.{Item}
-use Rattle.events.specs.declared.answer.Item.TheVariants.{Entered, Full, MapTooLong}
+use Rattle.events.specs.declared.answer.Item.TheVariants.{Entered, Full, RouteFull, MapTooLong}
 use Rattle.world_subscriptions.specs.Counting.{in_turn, entered_ids, TellEach}
 use Rattle.world_subscriptions.specs.Kept.{NoneLike, Apart}
 use Rattle.world_subscriptions.specs.Changes.{only, bumped, capped}
@@ -92,6 +92,7 @@ no_id m s (r ∷ rs) [] none = refl
 no_id m s (r ∷ rs) (Entered conn sid ∷ items) none =
     ap (λ b. b || list_any (λ other. s.id == other) (entered_ids (map (addressed_to m) rs) items)) (ne_eqb s.id r.id (λ e. let h = none.0 in absurd (omega arith))) ∙ no_id m s rs items none.2
 no_id m s (r ∷ rs) (Full conn sid ∷ items) none = no_id m s rs items none.2
+no_id m s (r ∷ rs) (RouteFull row ∷ items) none = no_id m s (r ∷ rs) items none
 no_id m s (r ∷ rs) (MapTooLong row ∷ items) none = no_id m s (r ∷ rs) items none
 
 pub ids_apart : (m : Message) (rs : List Subscription) (items : List Item) → Apart rs → AreApart (entered_ids (map (addressed_to m) rs) items)
@@ -100,6 +101,7 @@ ids_apart m [] items apart = tt
 ids_apart m (r ∷ rs) [] apart = tt
 ids_apart m (r ∷ rs) (Entered conn sid ∷ items) apart = (no_id m r rs items apart.0, ids_apart m rs items apart.1)
 ids_apart m (r ∷ rs) (Full conn sid ∷ items) apart = ids_apart m rs items apart.1
+ids_apart m (r ∷ rs) (RouteFull row ∷ items) apart = ids_apart m (r ∷ rs) items apart
 ids_apart m (r ∷ rs) (MapTooLong row ∷ items) apart = ids_apart m (r ∷ rs) items apart
 
 -- What items count is counted by the ids of those that they tell have entered, one after the other.

@@ -10,7 +10,7 @@ use Rattle.events.specs.Messages.{Message}
 use Rattle.events.specs.declared.answer.Addressed.{Addressed}
 use Rattle.world_subscriptions.specs.Addressing.{addressed_to}
 use Rattle.events.specs.declared.answer.Item.{Item}
-use Rattle.events.specs.declared.answer.Item.TheVariants.{Entered, Full, MapTooLong}
+use Rattle.events.specs.declared.answer.Item.TheVariants.{Entered, Full, RouteFull, MapTooLong}
 use Rattle.world_subscriptions.specs.Changes.{only, bumped}
 use Rattle.world_subscriptions.specs.Counting.{in_turn, entered_ids, TellEach, is_one_of, counted_by}
 use Rattle.std.proofs.lemmas.List.{map-id}
@@ -107,6 +107,7 @@ entered-is m s (r ∷ rs) (Entered conn sid ∷ items) tell names =
     ∙ ap (λ b. b || has_entered items s) names.0
     ∙ ap (λ b. (s.id == r.id) || b) (entered-is m s rs items tell.1 names.1)
 entered-is m s (r ∷ rs) (Full conn sid ∷ items) tell names = entered-is m s rs items tell.1 names.1
+entered-is m s (r ∷ rs) (RouteFull row ∷ items) tell names = absurd tell.0
 entered-is m s (r ∷ rs) (MapTooLong row ∷ items) tell names = absurd tell.0
 
 counted-is : (items : List Item) (ids : List ℕ) (s : Subscription) → has_entered items s ≡ is_one_of ids s → counted items s ≡ counted_by ids s

@@ -5,7 +5,7 @@ use Rattle.std.specs.List.{list_any}
 use Rattle.world_rows.specs.declared.subscription.Subscription.{Subscription}
 use Rattle.world_subscriptions.specs.Subscriptions.{is_under}
 use Rattle.events.specs.declared.answer.Item.{Item}
-use Rattle.events.specs.declared.answer.Item.TheVariants.{Entered, Full, MapTooLong}
+use Rattle.events.specs.declared.answer.Item.TheVariants.{Entered, Full, RouteFull, MapTooLong}
 pub use Rattle.world_rows.specs.Limit.{is_reached, has_ended, limit_of}
 
 -- those that have not ended
@@ -16,6 +16,7 @@ unended subs = filter (λ (sub : Subscription). not (has_ended sub)) subs
 abbrev pub is_entry_for : Subscription → Item → Bool
 is_entry_for sub (Entered conn sid) = is_under conn sid sub
 is_entry_for sub (Full conn sid) = false
+is_entry_for sub (RouteFull row) = false
 is_entry_for sub (MapTooLong row) = false
 
 abbrev pub has_entered : List Item → Subscription → Bool

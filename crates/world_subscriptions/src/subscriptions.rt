@@ -242,6 +242,7 @@ impl Subscriptions {
                     next + 1
                 }
                 Item::Full { .. } => next + 1,
+                Item::RouteFull(_) => next,
                 Item::MapTooLong(_) => next,
             },
         }

@@ -4,9 +4,9 @@ use Rattle.outbox.proofs.batch.move_front.Given as goal
 
 abbrev pub invariant-moving : goal.invariant-moving
 invariant-moving g l = record {
-  taken : l.room.items ≡ take l.counter l.initial.ring.items;
+  taken : l.moved.items ≡ take l.counter l.initial.ring.items;
   rest : l.ring.items ≡ drop l.counter l.initial.ring.items;
   capacity : l.ring.capacity ≡ l.initial.ring.capacity;
-  moved : vec_len l.room ≡ l.counter;
-  reserved : l.count ≤ vec_capacity l.room;
+  moved : vec_len l.moved ≡ l.counter;
+  reserved : l.count ≤ vec_capacity l.moved;
 }

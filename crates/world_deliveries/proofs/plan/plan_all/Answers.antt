@@ -1,13 +1,18 @@
 -- where all have room, each enters, and where none has a reply nothing is to be noted
-use Rattle.std.proofs.Common.{◌∙◌}
+use Rattle.std.proofs.Common.{◌≡◌, ◌∙◌, Option, map, subst}
+use Rattle.std.specs.Global.{Vec}
+use Rattle.std.specs.Prelude.{IfSome}
+use Rattle.events.specs.declared.answer.Item.{Item}
+use Rattle.world_deliveries.specs.Planned.{entered, rooms_of, AreRoomy}
 use Rattle.world_deliveries.proofs.Plans.{roomy-delivered, roomy-noted}
 use Rattle.world_deliveries.proofs.plan.plan_all.Goals as goal
 
-pub returns-then-have_room-clause-items : goal.returns-then-have_room-clause-items
-returns-then-have_room-clause-items c now =
-    c.in_ok-items.ensures
-    ∙ roomy-delivered now c.args.all.now c.args.by.list.now (c.have_room.ensures c.if-have_room.true)
+pub returns-in-Some-clause-items : goal.returns-in-Some-clause-items
+returns-in-Some-clause-items c now =
+    let enters = subst (λ (o : Option (Vec Item)). IfSome o (λ items. AreRoomy c.args.all.now (rooms_of c.args.by.list.now) × (items.items ≡ map entered c.args.all.now))) c.in-Some.is c.in_ok-enter_all.ensures in
+    enters.1 ∙ roomy-delivered now c.args.all.now c.args.by.list.now enters.0
 
-pub returns-then-have_room-clause-noted : goal.returns-then-have_room-clause-noted
-returns-then-have_room-clause-noted c =
-    roomy-noted c.args.all.now c.args.by.list.now (λ k d h. (c.have_room.ensures c.if-have_room.true k d h).0) (c.requires.none c.if-not-has_reply.true)
+pub returns-in-Some-clause-noted : goal.returns-in-Some-clause-noted
+returns-in-Some-clause-noted c =
+    let enters = subst (λ (o : Option (Vec Item)). IfSome o (λ items. AreRoomy c.args.all.now (rooms_of c.args.by.list.now) × (items.items ≡ map entered c.args.all.now))) c.in-Some.is c.in_ok-enter_all.ensures in
+    roomy-noted c.args.all.now c.args.by.list.now (λ k d h. (enters.0 k d h).0) (c.requires.none c.if-not-has_reply.true)

@@ -1,10 +1,6 @@
 -- the views behind the publisher's own are the others
-use Rattle.std.proofs.Common.{◌≡◌, ◌∙◌, ◌∷◌, ℕ, List, [], Option, ap, subst}
-use Rattle.std.specs.Prelude.{IfSome}
-use Rattle.std.specs.Global.{Vec}
-use Rattle.imports.specs.declared.view.ViewItem.{ViewItem}
-use Rattle.world_receivers.specs.Known.{AreSeen, others_in}
-use Rattle.world_receivers.specs.declared.known.KnownView.{KnownView}
+use Rattle.std.proofs.Common.{◌∙◌, ℕ, List, ap}
+use Rattle.world_receivers.specs.Known.{others_in}
 use Rattle.world_receivers.proofs.Behind.{known_if, tail_of}
 use Rattle.world_receivers.proofs.receivers.find_others.Goals as goal
 

@@ -3,17 +3,19 @@ use Rattle.std.proofs.Common.{◌≡◌, ◌∙◌, ◌==◌, ◌∷◌, List, [
 use Rattle.std.proofs.lemmas.Bool.{eqb-true}
 use Rattle.std.proofs.lemmas.List.Elements.{All-nil}
 use Rattle.events.specs.declared.answer.Addressed.{Addressed}
-use Rattle.events.specs.declared.answer.Item.{Item}
-use Rattle.imports.specs.Views.{views_in}
+use Rattle.imports.specs.Across.{views}
+use Rattle.imports.specs.declared.view.ViewItem.{ViewItem}
 use Rattle.world_deliveries.specs.Sessions.{session_of}
 use Rattle.world_deliveries.specs.Delivered.{delivered}
 use Rattle.world_deliveries.specs.Replying.{noted_for}
 use Rattle.world_deliveries.specs.declared.session.Session.{Session}
 use Rattle.world_receivers.proofs.Tests.{find-passes}
-use Rattle.world_routing.specs.Viewing.{reports_in}
-use Rattle.world_routing.specs.declared.viewing.Report.{Report}
+use Rattle.world_routing.specs.Publishing.{IsPlanOf}
+use Rattle.world_routing.specs.Routing.{responses_on}
+use Rattle.world_routing.specs.Viewing.{Tables, Publication, addressing, publication, tables_at}
+use Rattle.world_routing.specs.declared.carrying.Deliveries.{Deliveries}
 use Rattle.world_routing.proofs.Together.{unsaid_after}
-use Rattle.world_routing.proofs.Publishing.{planned_to_some, planned_to_nobody, publish_reason}
+use Rattle.world_routing.proofs.Publishing.{planned_by, planned_nobody, publish_reason}
 use Rattle.world_routing.proofs.planning.plan_publish.Goals as goal
 
 pub address_all-requires-clause-publisher : goal.address_all-requires-clause-publisher
@@ -27,27 +29,25 @@ plan_all-requires c = λ none.
     let reply : Addressed → Type 0 = λ a. a.delivery.message.reply ≡ None in
     let z = c.in-Some.session.now in
     let m = c.args.publish.message.now in
+    let t : Tables = tables_at c.args.ready.now c.args.publish.now c.args.sessions.now c.args.subscriptions.now c.args.routes.now.exporters in
+    let vs : List ViewItem = views t.policy z.user.account m.subject (responses_on t.routes z.user.account m.subject) in
     subst (All reply) (sym (c.take_deliveries-all.ensures.all ∙ c.in_ok-address_all-in-Allowed.ensures.all))
-    (unsaid_after c.args.sessions.now c.args.subscriptions.now z m c.args.publish.word [] (views_in c.args.rows.now z.user.account m.subject) none (All-nil reply))
+    (unsaid_after t (publication z m c.args.publish.word) (addressing [] []) vs none (All-nil reply))
 
 pub returns-then-is_silent-clause-planned : goal.returns-then-is_silent-clause-planned
 returns-then-is_silent-clause-planned c = λ w of.
     let m = c.args.publish.message.now in
     let zs = c.args.sessions.now in
-    let subs = c.args.subscriptions.now in
     let z = c.in-Some.session.now in
-    let reports : List Report = reports_in c.in_ok-address_all-in-Allowed.field-0 in
+    let t : Tables = tables_at c.args.ready.now c.args.publish.now zs c.args.subscriptions.now c.args.routes.now.exporters in
     let noted : List Addressed → List Addressed = map (noted_for zs) in
     let silent = c.is_silent.ensures c.if-is_silent.true in
-    planned_to_nobody w c.args.publish.conn m c.args.publish.word c.args.publish.now c.args.rows.now zs subs of z c.subject.result c.in-Some.ensures c.subject.ensures
-    c.in-Allowed.by c.in_ok-answered_by-in-Allowed.field-0 (views_in c.args.rows.now z.user.account m.subject) (noted c.deliveries.result.now) reports
-    c.in-Allowed.ensures.verdict
-    c.in_ok-answered_by-in-Allowed.ensures
-    c.known.ensures.apart
-    c.known.ensures.going
-    refl
+    planned_nobody t c.args.publish.conn m c.args.publish.word z c.subject.result c.in-Some.ensures c.subject.ensures
+    c.in-Allowed.by c.in-Allowed.ensures.verdict c.known.ensures.apart c.known.ensures.going
+    c.in_ok-answered_by-in-Allowed.field-0 c.in_ok-answered_by-in-Allowed.ensures
+    c.in_ok-address_all-in-Allowed.field-0 c.in_ok-address_all-in-Allowed.ensures.reports c.in_ok-address_all-in-Allowed.ensures.changed c.in_ok-address_all-in-Allowed.ensures.noted
+    w of (noted c.deliveries.result.now)
     (ap noted (c.deliveries.ensures ∙ c.in_ok-address_all-in-Allowed.ensures.all))
-    c.in_ok-address_all-in-Allowed.ensures.reports
     (ap noted silent.0)
     silent.1
     silent.2
@@ -59,21 +59,16 @@ pub returns-clause-planned : goal.returns-clause-planned
 returns-clause-planned c = λ w of.
     let m = c.args.publish.message.now in
     let zs = c.args.sessions.now in
-    let subs = c.args.subscriptions.now in
     let z = c.in-Some.session.now in
-    let reports : List Report = reports_in c.in_ok-address_all-in-Allowed.field-0 in
-    planned_to_some w c.args.publish.conn m c.args.publish.word c.args.publish.now c.args.rows.now zs subs of z c.subject.result c.in-Some.ensures c.subject.ensures
-    c.in-Allowed.by c.in_ok-answered_by-in-Allowed.field-0 (views_in c.args.rows.now z.user.account m.subject) c.from_vec.result reports
-    c.in-Allowed.ensures.verdict
-    c.in_ok-answered_by-in-Allowed.ensures
-    c.known.ensures.apart
-    c.known.ensures.going
-    refl
+    let t : Tables = tables_at c.args.ready.now c.args.publish.now zs c.args.subscriptions.now c.args.routes.now.exporters in
+    planned_by t c.args.publish.conn m c.args.publish.word z c.subject.result c.in-Some.ensures c.subject.ensures
+    c.in-Allowed.by c.in-Allowed.ensures.verdict c.known.ensures.apart c.known.ensures.going
+    c.in_ok-answered_by-in-Allowed.field-0 c.in_ok-answered_by-in-Allowed.ensures
+    c.in_ok-address_all-in-Allowed.field-0 c.in_ok-address_all-in-Allowed.ensures.reports c.in_ok-address_all-in-Allowed.ensures.changed c.in_ok-address_all-in-Allowed.ensures.noted
+    w of c.from_vec.result c.in_ok-met.met c.in_ok-plan.plan
     (c.from_vec.ensures ∙ c.in_ok-met.ensures.noted ∙ ap (map (noted_for zs)) (c.take_deliveries-all.ensures.all ∙ c.in_ok-address_all-in-Allowed.ensures.all))
-    c.in_ok-address_all-in-Allowed.ensures.reports
-    c.in_ok-met.met c.in_ok-items.items
     (λ n. c.in_ok-met.ensures.items n ∙ ap (λ (all : List Addressed). (delivered n all zs).1) (sym c.from_vec.ensures))
-    c.in_ok-items.ensures
+    c.in_ok-plan.ensures
 
 pub returns-clause-reason : goal.returns-clause-reason
 returns-clause-reason c = publish_reason _ _ _ _ _ c.in-Some.ensures c.subject.ensures refl c.on_publish.ensures.justified

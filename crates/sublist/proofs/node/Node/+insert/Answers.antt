@@ -1,29 +1,31 @@
-use Rattle.std.proofs.Common.{◌≡◌, ℕ, List, [], ◌∷◌, ◌++◌, refl, sym, rules}
+use Rattle.std.proofs.Common.{◌≡◌, ℕ, List, [], ◌∷◌, refl, sym, rules}
+use Rattle.std.specs.BTreeSet.{insert_key}
 use Rattle.std.specs.Box.{with_value}
+use Rattle.std.specs.Ordering.{nat_cmp}
 use Rattle.sublist.proofs.Levels.{same-ids, same-tail, same-star, same-children, changed-ids, changed-tail, changed-star, changed-child, below_changed, below_put, nothing_behind, at_child, same_below}
 use Rattle.sublist.specs.declared.node.Node.TheViews.{out-Node, out-roll-Node}
 use Rattle.sublist.proofs.node.Node.+insert.Goals as goal
 
 -- the ids at a path, and one more
 abbrev one_more : ℕ → List ℕ → List ℕ
-one_more id ids = ids ++ (id ∷ [])
+one_more id ids = insert_key nat_cmp ids id
 
 pub insert-returns-in-Ok-clause-ok : goal.insert-returns-in-Ok-clause-ok
 insert-returns-in-Ok-clause-ok t c =
     let path = c.in-End.ensures in
-    rw path (changed-ids (one_more c.args.id) c.args.self.now c.push.new.self c.in-Ok.ensures.items)
+    rw path (changed-ids (one_more c.args.id) c.args.self.now c.add.new.ids c.in-Ok.ensures.ok)
 
 pub insert-returns-in-End-clause-err : goal.insert-returns-in-End-clause-err
-insert-returns-in-End-clause-err t c = same-ids c.args.self.now c.push.new.self c.in-Err.ensures.items
+insert-returns-in-End-clause-err t c = same-ids c.args.self.now c.add.new.ids c.in-Err.ensures.err
 
-pub insert-returns-in-Ok-push-clause-ok : goal.insert-returns-in-Ok-push-clause-ok
-insert-returns-in-Ok-push-clause-ok t c =
+pub insert-returns-in-Ok-add-clause-ok : goal.insert-returns-in-Ok-add-clause-ok
+insert-returns-in-Ok-add-clause-ok t c =
     let path = c.in-Tail.ensures in
     let last = nothing_behind (62 ∷ []) c.next_branch.new.path (rw path at c.requires) refl in
-    rw (path, last) (changed-tail (one_more c.args.id) c.args.self.now c.push-in-Tail.new.self (62 ∷ []) refl c.in-Ok-push.ensures.items)
+    rw (path, last) (changed-tail (one_more c.args.id) c.args.self.now c.add-in-Tail.new.ids (62 ∷ []) refl c.in-Ok-add.ensures.ok)
 
 pub insert-returns-in-Tail-clause-err : goal.insert-returns-in-Tail-clause-err
-insert-returns-in-Tail-clause-err t c = same-tail c.args.self.now c.push-in-Tail.new.self c.in-Err-push.ensures.items
+insert-returns-in-Tail-clause-err t c = same-tail c.args.self.now c.add-in-Tail.new.ids c.in-Err-add.ensures.err
 
 pub insert-returns-in-Ok-insert-clause-ok : goal.insert-returns-in-Ok-insert-clause-ok
 insert-returns-in-Ok-insert-clause-ok t c =

@@ -1,31 +1,47 @@
 -- those that are found are those that may be sent it and still stand, and of each queue group one is left
-use Rattle.std.proofs.Common.{◌∙◌, ◌&&◌, ◌++◌, Bool, ℕ, List, map, filter, ap}
+use Rattle.std.proofs.Common.{◌≡◌, ◌∙◌, ◌&&◌, ◌++◌, Bool, ℕ, List, map, filter, ap}
 use Rattle.subjects.specs.Subject.{Token}
+use Rattle.events.specs.Messages.{Message}
+use Rattle.events.specs.Sendings.{named}
 use Rattle.events.specs.declared.answer.Addressed.{Addressed}
+use Rattle.world_deliveries.specs.declared.session.Session.{Session}
 use Rattle.world_subscriptions.specs.Addressing.{addressed_to}
 use Rattle.world_subscriptions.specs.Subscriptions.{has_subject, having}
 use Rattle.world_rows.specs.declared.subscription.Subscription.{Subscription}
 use Rattle.world_groups.specs.Served.{served}
 use Rattle.world_receivers.specs.Open.{is_open}
-use Rattle.world_receivers.specs.Standing.{under_subject, stands_behind}
+use Rattle.world_receivers.specs.Standing.{is_nil, stands_behind, standing_among}
 use Rattle.world_receivers.proofs.Tests.{both}
 use Rattle.world_receivers.proofs.receivers.Receivers.address_seen.Goals as goal
 
+module _ (zs : List Session) (subs : List Subscription) (z : Session) (account : List ℕ) (s : List Token) (before : List Addressed) where
+  abbrev keeps : List Token → List Addressed → Subscription → Bool
+  keeps t all sub = is_open zs z t sub && stands_behind zs all sub
+
+  -- those that are found, by whatever names
+  standing : (found : List Subscription) (t : List Token) (all : List Addressed) (a : List ℕ) → found ≡ filter (keeps t all) (having a t subs) → t ≡ s → all ≡ before → a ≡ account →
+      found ≡ standing_among zs subs before z account s
+  standing found t all a is same behind own =
+      is
+      ∙ ap (λ (x : List Token). filter (keeps x all) (having a x subs)) same
+      ∙ ap (λ (ds : List Addressed). filter (keeps s ds) (having a s subs)) behind
+      ∙ ap (λ (x : List ℕ). filter (keeps s before) (having x s subs)) own
+      ∙ both (keeps s before) (has_subject account s) subs
+
 pub returns-clause-all : goal.returns-clause-all
 returns-clause-all c =
-    let zs = c.args.sessions.now in
-    let subs = c.args.subscriptions.now in
-    let z = c.args.sending.publisher.now in
     let m = c.args.sending.message.now in
     let before = c.args.self.now.deliveries.items in
-    let account = c.args.seen.account.now in
     let s = c.args.seen.subject.now in
-    let keeps : List Token → List Addressed → Subscription → Bool = λ t all sub. is_open zs z t sub && stands_behind zs all sub in
-    let all : List Subscription → List Addressed = λ found. before ++ map (addressed_to (under_subject s m)) found in
+    let seen : Message = named (record { subject = s; reply = c.args.seen.reply }) m in
+    let all : List Subscription → List Addressed = λ found. before ++ map (addressed_to seen) found in
     c.in_ok-address_under.ensures
-    ∙ ap (λ xs. before ++ map (addressed_to (under_subject s m)) (map (λ x. x.now) xs)) c.as_slice-3.ensures.value
-    ∙ ap all (c.in_ok-keep_chosen.ensures c.in_ok-found.ensures.rising ∙ ap (served c.args.sending.word) (c.in_ok-found.ensures.found
-    ∙ ap (λ (t : List Token). filter (keeps t c.as_slice.result.now) (having c.as_slice-2.result.now t subs)) c.lend-subject.ensures
-    ∙ ap (λ (ds : List Addressed). filter (keeps s ds) (having c.as_slice-2.result.now s subs)) c.as_slice.ensures.value
-    ∙ ap (λ (a : List ℕ). filter (keeps s before) (having a s subs)) c.as_slice-2.ensures
-    ∙ both (keeps s before) (has_subject account s) subs))
+    ∙ ap (λ xs. all (map (λ x. x.now) xs)) c.as_slice-4.ensures.value
+    ∙ ap all (c.in_ok-keep_chosen.ensures c.in_ok-found.ensures.rising ∙ ap (served c.args.sending.word)
+    (standing c.args.sessions.now c.args.subscriptions.now c.args.sending.publisher.now c.args.seen.account.now s before _ _ _ _ c.in_ok-found.ensures.found c.lend-subject.ensures c.as_slice.ensures.value c.as_slice-2.ensures))
+
+pub returns-clause-nobody : goal.returns-clause-nobody
+returns-clause-nobody c =
+    c.is_nil-nobody.ensures
+    ∙ ap (λ xs. is_nil (map (λ x. x.now) xs)) c.as_slice-3.ensures.value
+    ∙ ap is_nil (standing c.args.sessions.now c.args.subscriptions.now c.args.sending.publisher.now c.args.seen.account.now c.args.seen.subject.now c.args.self.now.deliveries.items _ _ _ _ c.in_ok-found.ensures.found c.lend-subject.ensures c.as_slice.ensures.value c.as_slice-2.ensures)

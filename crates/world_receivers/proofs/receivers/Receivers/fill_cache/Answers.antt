@@ -1,5 +1,5 @@
 -- what is cached of a publisher and a subject is of those that may be sent its messages
-use Rattle.std.proofs.Common.{◌≡◌, ◌∙◌, ℕ, List, Option, map, filter, ap, sym, refl, subst}
+use Rattle.std.proofs.Common.{◌∙◌, List, Option, map, filter, ap, sym, refl, subst}
 use Rattle.std.specs.Global.{Vec}
 use Rattle.subjects.specs.Subject.{Token, tokens_of}
 use Rattle.subjects.proofs.Text.{again}
