@@ -1,6 +1,6 @@
-pub mod Messages
 pub mod Met
 pub mod Offers
 pub mod Refusals
 pub mod Runs
 pub mod Sendings
+pub use Rattle.messages.specs.Messages

@@ -10,6 +10,7 @@ use reply_grants::Note;
 use std::alloc::Global;
 use std::marker::Model;
 use std::slice;
+use subjects::{Pattern, Subject};
 
 /// A message on its way to one subscription. All deliveries of a message share it.
 #[derive(Debug)]
@@ -56,6 +57,8 @@ pub enum Item {
     Entered { conn: u64, sid: Sid },
     /// The outbox had no room left, and the message is not in it.
     Full { conn: u64, sid: Sid },
+    /// It is a request, and the exporter of this import row has as many response routes as it may have: nobody is sent it there.
+    RouteFull(Shared<Row>),
     /// It doesn't cross this import row, since its subject there would have more than 512 tokens.
     MapTooLong(Shared<Row>),
 }
@@ -129,6 +132,10 @@ pub struct Removed {
     pub id: u64,
     /// The connection whose session had it.
     pub conn: u64,
+    /// What it asked for.
+    pub subject: Shared<Pattern>,
+    /// The queue group that it was a member of, if it was of one.
+    pub queue: Option<Subject>,
     /// The client's own id for it.
     pub sid: Sid,
     /// The verdict of the new policy, which refuses it.
@@ -141,6 +148,8 @@ impl Drop for Removed {
         let Self {
             id: _,
             conn: _,
+            subject: _,
+            queue: _,
             sid: _,
             verdict: _,
         } = self;

@@ -11,15 +11,6 @@ use permissions::By;
 use policy_ready::Ready;
 use subjects::{Pattern, Subject};
 
-impl Alike for Message {
-    fn is_like(&self, other: &Message) -> bool {
-        self.subject().is_like(&other.subject())
-            && self.reply().is_like(&other.reply())
-            && are_same_bytes(self.head(), other.head())
-            && are_same_bytes(self.payload(), other.payload())
-    }
-}
-
 impl Alike for Sent {
     fn is_like(&self, other: &Sent) -> bool {
         self.subject().is_like(&other.subject())
@@ -58,6 +49,10 @@ impl Alike for Item {
                 } => *conn == *number && sid.is_like(name),
                 _ => false,
             },
+            Item::RouteFull(row) => match other {
+                Item::RouteFull(same) => row.is_like(same),
+                _ => false,
+            },
             Item::MapTooLong(row) => match other {
                 Item::MapTooLong(same) => row.is_like(same),
                 _ => false,
@@ -70,6 +65,8 @@ impl Alike for Removed {
     fn is_like(&self, other: &Removed) -> bool {
         self.id == other.id
             && self.conn == other.conn
+            && self.subject.is_like(&other.subject)
+            && self.queue.is_like(&other.queue)
             && self.sid.is_like(&other.sid)
             && self.verdict.is_like(&other.verdict)
     }

@@ -1,8 +1,8 @@
 ghost use Rattle.std.specs.Prelude.{◌≡◌, IfOk};
 ghost use Rattle.events.specs.declared.event.Command.TheVariants.{Connect, Sub};
 
-use crate::message::Message;
 use base::{Copying, NoMemory, Shared, SharedText};
+use messages::Message;
 use policy_ready::Ready;
 use std::alloc::Global;
 use subjects::{Pattern, Subject};

@@ -5,7 +5,6 @@
 mod answer;
 mod equality;
 mod event;
-mod message;
 mod port;
 mod refusal;
 mod run;
@@ -14,8 +13,8 @@ mod words;
 
 pub use answer::{Addressed, Answer, Delivery, Entry, Item, Met, Outcome, Removed};
 pub use event::{Command, Event, Sid};
-pub use message::Message;
-pub use port::Port;
+pub use messages::Message;
+pub use port::{InvalidFrame, Port};
 pub use refusal::{HubRefusal, PublishRefusal};
 pub use run::RunEnd;
 pub use sent::{Names, Said, Sent};

@@ -9,6 +9,20 @@ use crate::run::was_published;
 use crate::{Answer, Command, Event, HubRefusal, Message, PublishRefusal, RunEnd, Words};
 use std::collections::VecDeque;
 
+/// A frame of which nothing is submitted, since its subject is none, or its queue or reply: its client is answered
+/// `Invalid Subject`.
+#[derive(Clone, Copy, Debug)]
+pub struct InvalidFrame<'a> {
+    /// Its operation: `PUB`, `HPUB` or `SUB`.
+    pub command: &'static str,
+    /// The text of its subject.
+    pub subject: &'a [u8],
+    /// The text of a SUB's queue, if it names one.
+    pub queue: Option<&'a [u8]>,
+    /// The text of a message's reply, if it names one.
+    pub reply: Option<&'a [u8]>,
+}
+
 /// Where a connection's events go. Others may submit events of their own between two of this one, so what an
 /// answer and the state after it are is a relation.
 pub trait Port {
@@ -78,4 +92,7 @@ pub trait Port {
     {
         false
     }
+
+    /// Hears of a frame of which nothing is submitted. A port that tells nobody does nothing.
+    fn hear_invalid(&self, _frame: &InvalidFrame<'_>) {}
 }

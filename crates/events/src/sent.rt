@@ -2,8 +2,8 @@
 ghost use Rattle.std.specs.Prelude.{◌≡◌};
 ghost use Rattle.events.specs.Sendings.{said};
 
-use crate::message::Message;
 use base::{Copying, NoMemory, Shared};
+use messages::Message;
 use std::alloc::Global;
 use std::marker::Model;
 use subjects::{Subject, SubjectRef};
@@ -67,7 +67,7 @@ impl Model for Sent {
 }
 
 impl Sent {
-    ghost use Rattle.std.specs.Prelude.{◌≡◌, IfOk, None, Some};
+    ghost use Rattle.std.specs.Prelude.{◌≡◌, IfOk, IfSome, None, Some};
     ghost use Rattle.events.specs.Sendings.{under};
 
     /// The message as it was published.
@@ -88,6 +88,17 @@ impl Sent {
         Sent {
             message,
             names: Some(names),
+        }
+    }
+
+    /// The message as it was published, where it is sent under no other names.
+    #[inline(always)]
+    pub fn published(&self) -> Option<&Message>
+        ensures { IfSome result (λ message. message.now ≡ self.now) }
+    {
+        match &self.names {
+            None => Some(&self.message),
+            Some(_) => None,
         }
     }
 

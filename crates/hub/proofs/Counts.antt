@@ -20,7 +20,7 @@ use Rattle.events.specs.Messages.{Message}
 use Rattle.events.specs.declared.event.Command.{Command}
 use Rattle.events.specs.declared.event.Command.TheVariants.{Connect, Sub, Unsub, Pub, Take, Close, Reload}
 use Rattle.events.specs.declared.answer.Item.{Item}
-use Rattle.events.specs.declared.answer.Item.TheVariants.{Entered, Full, MapTooLong}
+use Rattle.events.specs.declared.answer.Item.TheVariants.{Entered, Full, RouteFull, MapTooLong}
 use Rattle.events.specs.declared.answer.Entry.{Entry}
 use Rattle.events.specs.declared.answer.Outcome.{Outcome}
 use Rattle.events.specs.declared.answer.Outcome.TheVariants.{Connected, AuthViolation, Subscribed, SameSid, SubLimit, Denied, Published, Taken}
@@ -32,7 +32,8 @@ use Rattle.world_subscriptions.specs.Subscriptions.{is_under, stands, has_all, s
 use Rattle.world_subscriptions.specs.Limit.{is_entry_for, limit_of, limited}
 use Rattle.world_rows.specs.declared.subscription.Subscription.{Subscription}
 use Rattle.world.specs.World.{World, opening_world, advanced}
-use Rattle.world.specs.Granting.{verdict_on, counted_on, ended_on}
+use Rattle.service_routes.specs.Routes.{spent}
+use Rattle.world.specs.Granting.{verdict_on, ended_on}
 use Rattle.world.specs.Routing.{view_of, is_admitted}
 use Rattle.world.specs.Reload.{stands_on}
 use Rattle.world.specs.Changes.{items_in}
@@ -45,7 +46,7 @@ use Rattle.hub.proofs.Finds.{any-none, AllPairs-map}
 use Rattle.hub.proofs.Soundness.{KeepsSubscription, HasCount, IsStillToReceive, either, apart-again, unended-same}
 use Rattle.hub.proofs.Entering.{received-keeps}
 use Rattle.hub.proofs.Guaranteed.{limited-keeps}
-use Rattle.hub.proofs.Views.{Setting, standing, sessions_in, views_of, told_of, standing-first, published-is}
+use Rattle.hub.proofs.Views.{Setting, standing, last_stage, told_of, standing-first, published-is}
 
 -- ---- one entry
 
@@ -92,6 +93,7 @@ counts-more es a s t counts is = record {
 same-item : (s : Subscription) (item : Item) → is_entered_for s.conn s.sid item ≡ is_entry_for s item
 same-item s (Entered conn sid) = refl
 same-item s (Full conn sid) = refl
+same-item s (RouteFull row) = refl
 same-item s (MapTooLong row) = refl
 
 told-times : (a : Entry) (s : Subscription) → told s.conn s.sid a ≡ times_entered (items_told a) s
@@ -263,8 +265,9 @@ pub-told es w now conn m word = by_session (session_of w.sessions conn)
 
     after : By → Session → World
     after by z = record (advanced w now) {
-      sessions = ended_on by z.conn m.subject (sessions_in (setting z) [] (counted_on by z.conn m.subject w.sessions) (views_of (setting z)));
+      sessions = ended_on by z.conn m.subject (last_stage (setting z) by).sessions;
       subscriptions = standing (setting z) (told_of (setting z) by);
+      routes = spent z.user.account m.subject (last_stage (setting z) by).routes;
     }
 
     sent-is : (by : By) (z : Session) → Told es w.subscriptions → published (advanced w now) z m word (Allowed by) ≡ (Published by (told_of (setting z) by), after by z)

@@ -8,7 +8,7 @@ use Rattle.std.proofs.Math.Bool.{or-true, or-false}
 use Rattle.std.proofs.lemmas.List.Folds.{map_fixed}
 use Rattle.std.proofs.lemmas.Bool.{eq-eqb, eqb-true, ne_eqb, ltb-true, ltb-false, lt-ltb, le-ltb, cases_eq}
 use Rattle.subjects.specs.Subject.{Token}
-use Rattle.policy_doc.specs.declared.document.Terms.{Terms}
+use Rattle.permission_doc.specs.declared.document.Terms.{Terms}
 use Rattle.permissions.specs.declared.verdict.By.{By}
 use Rattle.permissions.specs.declared.verdict.By.TheVariants.{All as AllowsAll, Index, Grant}
 use Rattle.reply_grants.specs.Replies.{Table, noted, answered_in, ended_in}

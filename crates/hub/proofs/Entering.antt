@@ -8,7 +8,7 @@ use Rattle.std.proofs.lemmas.List.{length-append}
 use Rattle.std.proofs.lemmas.List.Elements.{All-head, All-tail, filter-append}
 use Rattle.std.proofs.lemmas.Slice.Eq.{bytes_eq-Decides}
 use Rattle.events.specs.declared.answer.Item.{Item}
-use Rattle.events.specs.declared.answer.Item.TheVariants.{Entered, Full, MapTooLong}
+use Rattle.events.specs.declared.answer.Item.TheVariants.{Entered, Full, RouteFull, MapTooLong}
 use Rattle.world_subscriptions.specs.Limit.{is_entry_for, has_entered, counted}
 use Rattle.world_rows.specs.declared.subscription.Subscription.{Subscription}
 use Rattle.hub.specs.Sound.{has_same_sid, is_below, is_to_receive}
@@ -52,6 +52,7 @@ none-of s conn sid (Entered c b) t same_conn same_sid names apart =
     ∙ ap (λ (n : ℕ × List ℕ). (conn == n.0) && pointwise nat_eq sid n.1) same
     ∙ apart
 none-of s conn sid (Full c b) t same_conn same_sid names apart = refl
+none-of s conn sid (RouteFull row) t same_conn same_sid names apart = refl
 none-of s conn sid (MapTooLong row) t same_conn same_sid names apart = refl
 
 and-both : (a b : Bool) → (a && b) ≡ true → (a ≡ true) × (b ≡ true)
@@ -67,6 +68,7 @@ is-of s (Entered c b) t names is =
       (bytes_eq-Decides s.sid b).0 both.1 ∙ ap (λ (n : ℕ × List ℕ). n.1) same,
     )
 is-of s (Full c b) t names is = absurd (cc)
+is-of s (RouteFull row) t names is = absurd (cc)
 is-of s (MapTooLong row) t names is = absurd (cc)
 
 -- the subscriptions that items name
@@ -123,6 +125,7 @@ received-none s few = ap (λ n. record s { received = n }) (min-eq_right (omega 
 entry-again : (told : List Item) (s : Subscription) (item : Item) → is_entry_for (received_more told s) item ≡ is_entry_for s item
 entry-again told s (Entered conn sid) = refl
 entry-again told s (Full conn sid) = refl
+entry-again told s (RouteFull row) = refl
 entry-again told s (MapTooLong row) = refl
 
 entered-again : (told items : List Item) (s : Subscription) → has_entered items (received_more told s) ≡ has_entered items s

@@ -22,6 +22,8 @@ use Rattle.events.specs.declared.answer.Outcome.{Outcome}
 use Rattle.events.specs.declared.answer.Outcome.TheVariants.{Connected, AuthViolation, Subscribed, SameSid, SubLimit, Denied, Unsubscribed, Published, Taken, Closed}
 use Rattle.events.specs.declared.refusal.HubRefusal.{HubRefusal}
 use Rattle.events.specs.declared.refusal.HubRefusal.TheVariants.{HistoryFull, NoSession, SessionTaken, SessionLimit, NoMemory}
+use Rattle.service_exporter.specs.Routes.{Exporter}
+use Rattle.service_routes.specs.Routes.{Name, pruned, spent}
 use Rattle.world_deliveries.specs.Sessions.{session_of, with_session, new_session, drained}
 use Rattle.reply_grants.specs.Replies.{grants_of}
 use Rattle.events.specs.declared.answer.Addressed.{Addressed}
@@ -39,20 +41,23 @@ use Rattle.world.specs.Transition.{IsReasoned, IsRefusal, connected, subscribed,
 use Rattle.hub.specs.Sound.{IsSound, user_at, account_of, may_subscribe, HasAllowance}
 use Rattle.hub.specs.InForce.{policy_after, epoch_after}
 use Rattle.hub.specs.History.{State, is_history_full, remembered, stepped, IsStep}
+use Rattle.hub.specs.Routes.{EachRoute, IsOfRow}
 use Rattle.hub.specs.Replies.{terms_in, grants_at, has_grant, may_respond}
-use Rattle.hub.specs.Guarantee.{items_of, received_more, Sending, sendings, IsPart, IsSent, IsAllowance, accepts, allows, may_publish, IsDenial, HasReason, IsUntouched, IsEffect, is_connect, is_nobodys, has_session, is_fit, is_in_order, is_due, is_at_limit, IsRouted, KeepsGuarantee, IsGuarded}
+use Rattle.hub.specs.Guarantee.{items_of, received_more, Sending, sendings, routes_behind, IsPart, IsSent, IsAllowance, accepts, allows, may_publish, IsDenial, HasReason, IsUntouched, IsEffect, is_connect, is_nobodys, has_session, is_fit, is_in_order, is_due, is_at_limit, IsRouted, KeepsGuarantee, IsGuarded}
 use Rattle.std.proofs.Math.Bool.{or-true}
 use Rattle.std.proofs.lemmas.Bool.{eqb-true}
 use Rattle.hub.proofs.Finds.{find-passes}
 use Rattle.hub.proofs.Naming.{user_named-again}
 use Rattle.hub.proofs.Grants.{granted_is}
-use Rattle.hub.proofs.Soundness.{next, HasTable, KeepsSession, KeepsSubscription, either, keeps-where, user_at-session, sound-same, sound-map, unended-same, sound-limits, sound-open, sound-add, sound-close}
+use Rattle.hub.proofs.Soundness.{next, next_with, HasTable, KeepsSession, KeepsSubscription, either, keeps-where, user_at-session, sound-same, sound-routes, sound-map, unended-same, sound-limits, sound-open, sound-add, sound-close}
 use Rattle.hub.proofs.Reloads.{in_force, sound-reload}
-use Rattle.hub.proofs.Sent.{receives-keeps, setting_of, is_setting, is_part}
+use Rattle.hub.proofs.Sent.{receives-keeps, setting_of, is_setting, is_part, stages-routed, stages-rows}
+use Rattle.hub.proofs.Routes.{EachRouted, routed-pruned, routed-spent}
+use Rattle.hub.proofs.Rows.{each-pruned, each-spent, views-by_rows}
 use Rattle.world_deliveries.proofs.Changes.{only, with_session-map}
 use Rattle.hub.proofs.Deliveries.{sent, receives_of, outboxes, with_room}
 use Rattle.hub.proofs.Entering.{received-keeps}
-use Rattle.hub.proofs.Views.{Setting, standing, views_of, parts_of, told_of, standing-first, published-is, sessions-are, items-are, items-of, parts-views, each-part, each-in}
+use Rattle.hub.proofs.Views.{Setting, Stage, standing, views_of, first_stage, last_stage, parts_of, told_of, standing-first, published-is, sessions-are, items-are, items-of, routes-are, parts-views, each-part, each-in}
 
 -- where the tables turn a command away
 abbrev turns_away : World → Command → HubRefusal → Bool
@@ -67,7 +72,7 @@ pub record IsMoved (w : World) (e : Event) (o : Outcome) (after : World) : Type 
   pub accepted : accepts o ≡ allows w (max w.moment e.now) e.what
   pub reason : HasReason w (max w.moment e.now) e.what o
   pub effect : IsEffect w (max w.moment e.now) e.what o after
-  pub others : (after ≡ record w { policy = policy_after w e.what; epoch = epoch_after w e.what; moment = max w.moment e.now; number = w.number + 1; sessions = after.sessions; subscriptions = after.subscriptions })
+  pub others : (after ≡ record w { policy = policy_after w e.what; epoch = epoch_after w e.what; moment = max w.moment e.now; number = w.number + 1; sessions = after.sessions; subscriptions = after.subscriptions; routes = after.routes })
   pub sound : IsSound after
 
 -- the guarantee of what the transition gives
@@ -79,23 +84,29 @@ abbrev event : ℕ → Command → Event
 event now c = record { now = now; what = c }
 
 -- a command other than a reload
-answered : (w : World) (now : ℕ) (c : Command) (o : Outcome) (zs : List Session) (subs : List Subscription) →
-    (policy_after w c ≡ w.policy) × (epoch_after w c ≡ w.epoch) → is_fit w c ≡ true → accepts o ≡ allows w (max w.moment now) c → (IsReasoned w c o → HasReason w (max w.moment now) c o) → IsEffect w (max w.moment now) c o (next w now zs subs) → (IsReasoned w c o → IsSound (next w now zs subs)) →
-    Keeps w (event now c) (Ok (o, next w now zs subs))
-answered w now c o zs subs stay fit accepted reason effect sound = (
+answered_with : (w : World) (now : ℕ) (c : Command) (o : Outcome) (zs : List Session) (subs : List Subscription) (routes : List (Name × Exporter)) →
+    (policy_after w c ≡ w.policy) × (epoch_after w c ≡ w.epoch) → is_fit w c ≡ true → accepts o ≡ allows w (max w.moment now) c → (IsReasoned w c o → HasReason w (max w.moment now) c o) → IsEffect w (max w.moment now) c o (next_with w now zs subs routes) → (IsReasoned w c o → IsSound (next_with w now zs subs routes)) →
+    Keeps w (event now c) (Ok (o, next_with w now zs subs routes))
+answered_with w now c o zs subs routes stay fit accepted reason effect sound = (
   fit,
   λ reasoned. record {
     accepted = accepted;
     reason = reason reasoned;
     effect = effect;
-    others = ap (λ doc. record (next w now zs subs) { policy = doc }) (sym stay.0)
-        ∙ ap (λ n. record (next w now zs subs) { policy = policy_after w c; epoch = n }) (sym stay.1);
+    others = ap (λ doc. record (next_with w now zs subs routes) { policy = doc }) (sym stay.0)
+        ∙ ap (λ n. record (next_with w now zs subs routes) { policy = policy_after w c; epoch = n }) (sym stay.1);
     sound = sound reasoned;
   },
 )
 
-untouched : (w : World) (now : ℕ) → IsUntouched w (next w now w.sessions w.subscriptions)
-untouched w now = record { sessions = refl; subscriptions = refl }
+-- and other than a publish
+answered : (w : World) (now : ℕ) (c : Command) (o : Outcome) (zs : List Session) (subs : List Subscription) →
+    (policy_after w c ≡ w.policy) × (epoch_after w c ≡ w.epoch) → is_fit w c ≡ true → accepts o ≡ allows w (max w.moment now) c → (IsReasoned w c o → HasReason w (max w.moment now) c o) → IsEffect w (max w.moment now) c o (next w now zs subs) → (IsReasoned w c o → IsSound (next w now zs subs)) →
+    Keeps w (event now c) (Ok (o, next w now zs subs))
+answered w now c o zs subs = answered_with w now c o zs subs (pruned (max w.moment now) w.routes)
+
+untouched : (w : World) (now : ℕ) → IsUntouched w (max w.moment now) (next w now w.sessions w.subscriptions)
+untouched w now = record { sessions = refl; subscriptions = refl; routes = refl }
 
 -- ---- when a refusal is due
 
@@ -123,7 +134,7 @@ connect-keeps w now conn name password echo sound = by_session (session_of w.ses
     by_user (Some user) u e room fit =
         let zs : List Session = w.sessions ++ new_session conn user echo w.capacity ∷ [] in
         answered w now (Connect conn name password echo) Connected zs w.subscriptions (refl, refl) fit (sym (ap is_some u)) (λ _. tt)
-        (subst (λ o. IsSomeAnd o (λ (v : User). zs ≡ w.sessions ++ new_session conn v echo w.capacity ∷ [])) (sym u) refl, refl)
+        (subst (λ o. IsSomeAnd o (λ (v : User). zs ≡ w.sessions ++ new_session conn v echo w.capacity ∷ [])) (sym u) refl, refl, refl)
         (λ _. sound-open w now conn user echo e room (user_named-again w.policy name password user sound.policy u) sound)
 
     by_limit : (l : Bool) → nat_le 4096 (length w.sessions) ≡ l → session_of w.sessions conn ≡ None →
@@ -170,7 +181,7 @@ sub-keeps w now conn p queue sid sound = by_session (session_of w.sessions conn)
     by_limit true z limit taken u may has fit = answered w now (Sub conn p queue sid) SubLimit w.sessions w.subscriptions (refl, refl) fit (sym may) has (taken, limit, untouched w now) (λ _. sound-same w now sound)
     by_limit false z limit taken u may has fit =
         answered w now (Sub conn p queue sid) Subscribed w.sessions (added z) (refl, refl) fit (sym may) has
-        (taken, limit, refl, subst (λ o. IsSomeAnd o (λ (user : User). added z ≡ w.subscriptions ++ subscription_of (w.number + 1) conn user.account p queue sid ∷ [])) (sym u) refl)
+        (taken, limit, refl, subst (λ o. IsSomeAnd o (λ (user : User). added z ≡ w.subscriptions ++ subscription_of (w.number + 1) conn user.account p queue sid ∷ [])) (sym u) refl, refl)
         (λ reasoned. sound-add w now conn z.user.account p queue sid may (has reasoned) (ap account_of u) taken limit sound)
 
     by_sid : (t : Bool) (z : Session) → stands w.subscriptions conn sid ≡ t → user_at w conn ≡ Some z.user → may_subscribe (user_at w conn) p queue ≡ true → (Reasoned → HasAllowance (user_at w conn) p queue) → is_fit w (Sub conn p queue sid) ≡ true →
@@ -250,40 +261,57 @@ pub-keeps w now conn m word sound = by_session (session_of w.sessions conn) refl
     items : By → Session → List Item
     items by z = told_of (setting z) by
 
+    routes : By → Session → List (Name × Exporter)
+    routes by z = spent z.user.account m.subject (routes_behind (pruned later w.routes) (parts_of (setting z) by))
+
     after : By → Session → World
-    after by z = next w now (map (receives_of later by conn m.subject (ss by z)) w.sessions) (standing (setting z) (items by z))
+    after by z = next_with w now (map (receives_of later by conn m.subject (ss by z)) w.sessions) (standing (setting z) (items by z)) (routes by z)
 
     -- it is what the transition makes of it
     sent-is : (by : By) (z : Session) → session_of w.sessions conn ≡ Some z →
         numbered (w.number + 1) (Ok (published (advanced w now) z m word (Allowed by))) ≡ Ok (Published by (items by z), after by z)
     sent-is by z at =
         let own : z.conn ≡ conn = eqb-true z.conn conn (find-passes (λ (y : Session). y.conn == conn) w.sessions z at) in
-        let ys : List Session = counted_on by z.conn m.subject w.sessions in
         let all : List Addressed = map (sent w.sessions) (ss by z) in
         ap (λ (r : Outcome × World). numbered (w.number + 1) (Ok r)) (published-is (setting z) (is_setting w now conn z m word sound at) (standing-first (setting z) sound.counts sound.limits) by)
-        ∙ ap (λ (zs : List Session). Ok (Published by (items by z), next w now (ended_on by z.conn m.subject zs) (standing (setting z) (items by z)))) (sym (sessions-are (setting z) [] ys (views_of (setting z))))
-        ∙ ap (λ (zs : List Session). Ok (Published by (items by z), next w now zs (standing (setting z) (items by z))))
+        ∙ ap (λ (zs : List Session). Ok (Published by (items by z), next_with w now (ended_on by z.conn m.subject zs) (standing (setting z) (items by z)) (spent z.user.account m.subject (last_stage (setting z) by).routes))) (sym (sessions-are (setting z) (first_stage (setting z) by) (views_of (setting z))))
+        ∙ ap (λ (zs : List Session). Ok (Published by (items by z), next_with w now zs (standing (setting z) (items by z)) (spent z.user.account m.subject (last_stage (setting z) by).routes)))
         (ap (λ n. ended_on by n m.subject (delivered later all (counted_on by n m.subject w.sessions)).0) own
         ∙ outboxes later conn m.subject (ss by z) w.sessions by sound.connections)
+        ∙ ap (λ (left : List (Name × Exporter)). Ok (Published by (items by z), next_with w now (after by z).sessions (standing (setting z) (items by z)) (spent z.user.account m.subject left))) (routes-are (setting z) (first_stage (setting z) by) (views_of (setting z)))
 
     -- and what the guarantee says of it
-    is_sent : (by : By) (z : Session) → session_of w.sessions conn ≡ Some z → IsSent w later by conn m word z.user.account (items by z) (after by z).sessions
+    is_sent : (by : By) (z : Session) → session_of w.sessions conn ≡ Some z → IsSent w later by conn m word z.user.account (items by z) (after by z)
     is_sent by z at =
-        let ys : List Session = counted_on by z.conn m.subject w.sessions in
+        let first : Stage = first_stage (setting z) by in
         let vs : List ViewItem = views_of (setting z) in
         record {
           parts = parts_of (setting z) by;
-          in_views = parts-views (setting z) [] ys vs;
-          each = each-part (IsPart w conn m word) [] (parts_of (setting z) by) (each-in (IsPart w conn m word) (setting z) (is_part w now conn z m word sound) [] [] ys vs refl);
+          in_views = parts-views (setting z) first vs;
+          each = each-part (IsPart w later conn m word) [] (parts_of (setting z) by) (each-in (IsPart w later conn m word) (setting z) (λ done at v is. is_part w now conn z m word sound done at is v) [] first vs record { told = refl; routes = refl });
           items_are = refl;
           delivered = record {
             with_room = λ c.
                 items-of c (items by z)
-                ∙ ap (items_of c) (sym (items-are (setting z) [] ys vs) ∙ same_met by z.conn m.subject later (map (sent w.sessions) (ss by z)) w.sessions)
+                ∙ ap (items_of c) (sym (items-are (setting z) first vs) ∙ same_met by z.conn m.subject later (map (sent w.sessions) (ss by z)) w.sessions)
                 ∙ with_room w.sessions later (ss by z) w.sessions c;
             outboxes = refl;
           };
+          routes = refl;
         }
+
+    routed : (by : By) (z : Session) → EachRouted later (routes by z)
+    routed by z =
+        routed-spent later z.user.account m.subject (routes_behind (pruned later w.routes) (parts_of (setting z) by))
+        (subst (EachRouted later) (routes-are (setting z) (first_stage (setting z) by) (views_of (setting z)))
+        (stages-routed (setting z) (first_stage (setting z) by) (views_of (setting z)) (routed-pruned w.moment later w.routes (omega arith) sound.routes)))
+
+    of_rows : (by : By) (z : Session) → EachRoute (IsOfRow w.policy) (routes by z)
+    of_rows by z =
+        each-spent (IsOfRow w.policy) z.user.account m.subject (routes_behind (pruned later w.routes) (parts_of (setting z) by))
+        (subst (EachRoute (IsOfRow w.policy)) (routes-are (setting z) (first_stage (setting z) by) (views_of (setting z)))
+        (stages-rows (setting z) (first_stage (setting z) by) (views_of (setting z)) (views-by_rows w.policy sound.names (pruned later w.routes) z.user.account m.subject)
+        (each-pruned (IsOfRow w.policy) later w.routes sound.rows)))
 
     -- the message goes to whom it is for
     sends : (by : By) (z : Session) → session_of w.sessions conn ≡ Some z → user_at w conn ≡ Some z.user → (may_publish (user_at w conn) m.subject || may_respond w later conn m.subject) ≡ true → (Reasoned → Allows by) → is_fit w command ≡ true →
@@ -292,11 +320,12 @@ pub-keeps w now conn m word sound = by_session (session_of w.sessions conn) refl
         let zs : List Session = (after by z).sessions in
         let subs : List Subscription = (after by z).subscriptions in
         subst (Keeps w (event now command)) (sym (sent-is by z at))
-        (answered w now command (Published by (items by z)) zs subs (refl, refl) fit (sym may) reason
-        (subst (λ o. IsSomeAnd o (λ (user : User). IsSent w later by conn m word user.account (items by z) zs)) (sym u) (is_sent by z at), refl)
-        (λ _. subst (λ (l : List Subscription). IsSound (next w now zs l)) (unended-same (map (received_more (items by z)) w.subscriptions))
+        (answered_with w now command (Published by (items by z)) zs subs (routes by z) (refl, refl) fit (sym may) reason
+        (subst (λ o. IsSomeAnd o (λ (user : User). IsSent w later by conn m word user.account (items by z) (after by z))) (sym u) (is_sent by z at), refl)
+        (λ _. sound-routes (next w now zs subs) (routes by z) (routed by z) (of_rows by z)
+        (subst (λ (l : List Subscription). IsSound (next w now zs l)) (unended-same (map (received_more (items by z)) w.subscriptions))
         (sound-limits (next w now zs w.subscriptions) (received_more (items by z)) (received-keeps (items by z))
-        (sound-map w now (receives_of later by conn m.subject (ss by z)) (receives-keeps w.capacity later by conn m.subject (ss by z)) sound))))
+        (sound-map w now (receives_of later by conn m.subject (ss by z)) (receives-keeps w.capacity later by conn m.subject (ss by z)) sound)))))
 
     refused : (v : Verdict) (z : Session) → publish_verdict z.user.rules m.subject ≡ v → is_allowed v ≡ false → is_granted later m.subject z ≡ false → session_of w.sessions conn ≡ Some z → user_at w conn ≡ Some z.user → is_fit w command ≡ true →
         Keeps w (event now command) (Ok (Denied v, next w now w.sessions w.subscriptions))
@@ -345,7 +374,7 @@ unsub-keeps w now conn sid most sound = by_session (session_of w.sessions conn) 
     by_session None e = none-due (session_of w.sessions conn) e
     by_session (Some z) e =
         answered w now (Unsub conn sid most) Unsubscribed w.sessions (unended (map (limited conn sid most) w.subscriptions)) (refl, refl)
-        (is_there (session_of w.sessions conn) z e) refl (λ _. tt) (refl, unended-same (map (limited conn sid most) w.subscriptions))
+        (is_there (session_of w.sessions conn) z e) refl (λ _. tt) (refl, unended-same (map (limited conn sid most) w.subscriptions), refl)
         (λ _. sound-limits (next w now w.sessions w.subscriptions) (limited conn sid most) (limited-keeps conn sid most) (sound-same w now sound))
 
 -- ---- Take and Close
@@ -381,7 +410,7 @@ take-keeps w now conn most sound = by_session (session_of w.sessions conn) refl
         let changed = with_session-map (drained most) conn w.sessions sound.connections in
         answered w now (Take conn most) (Taken ds z.missed) (with_session (drained most) conn w.sessions) w.subscriptions (refl, refl)
         (is_there (session_of w.sessions conn) z e) refl (λ _. tt)
-        (subst (λ o. IsSomeAnd o (λ (y : Session). (ds ≡ take most y.outbox.waiting) × (z.missed ≡ y.missed))) (sym e) (refl, refl), changed, refl)
+        (subst (λ o. IsSomeAnd o (λ (y : Session). (ds ≡ take most y.outbox.waiting) × (z.missed ≡ y.missed))) (sym e) (refl, refl), changed, refl, refl)
         (λ _. subst (λ zs. IsSound (next w now zs w.subscriptions)) (sym changed) (sound-map w now (only (drained most) conn) (drained-keeps w.capacity (max w.moment now) most conn) sound))
 
 close-keeps : (w : World) (now conn : ℕ) → IsSound w →
@@ -393,7 +422,7 @@ close-keeps w now conn sound = by_session (session_of w.sessions conn) refl
     by_session None e = none-due (session_of w.sessions conn) e
     by_session (Some z) e =
         answered w now (Close conn) Closed (filter (λ (y : Session). not (y.conn == conn)) w.sessions) (filter (λ (sub : Subscription). not (sub.conn == conn)) w.subscriptions) (refl, refl)
-        (is_there (session_of w.sessions conn) z e) refl (λ _. tt) (refl, refl) (λ _. sound-close w now conn sound)
+        (is_there (session_of w.sessions conn) z e) refl (λ _. tt) (refl, refl, refl) (λ _. sound-close w now conn sound)
 
 -- ---- Reload
 
@@ -455,6 +484,7 @@ keeps s e sound = by_room (is_history_full s) refl
         epoch = ap (λ (w : World). w.epoch) m.others;
         event = refl;
         history = refl;
+        before = sound;
         sound = m.sound;
       },
     )

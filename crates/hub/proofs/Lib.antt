@@ -4,6 +4,8 @@ pub mod Finds
 pub mod Naming
 pub mod Reasons
 pub mod Grants
+pub mod Routes
+pub mod Rows
 pub mod Soundness
 pub mod Deliveries
 pub mod Entering

@@ -19,6 +19,8 @@ use Rattle.permissions.specs.declared.verdict.Verdict.{Verdict}
 use Rattle.permissions.specs.declared.verdict.Verdict.TheVariants.{Allowed, DeniedBy, NoAllow, NoQueueAllow}
 use Rattle.policy_ready.specs.Users.{users_of, user_named, is_same_user, user_again}
 use Rattle.policy_ready.specs.declared.ready.User.{User}
+use Rattle.service_routes.specs.Routes.{kept, pruned}
+use Rattle.service_rows.specs.Rows.{again}
 use Rattle.world_deliveries.specs.Sessions.{session_of}
 use Rattle.world_sessions.specs.Renewal.{user_again_of, stays, goes, with_user, renewed, remaining, connection_of, closed_conns}
 use Rattle.world_deliveries.specs.declared.session.Session.{Session}
@@ -26,11 +28,14 @@ use Rattle.world_rows.specs.declared.subscription.Subscription.{Subscription}
 use Rattle.world.specs.World.{World}
 use Rattle.world.specs.Reload.{user_after, verdict_for, may_stand, stands_on, removal, removal_after, IsReasonedVerdict, IsReasonedReload}
 use Rattle.hub.specs.Sound.{IsSound, has_same_sid, user_behind, account_of, may_subscribe, HasAllowance}
+use Rattle.hub.specs.Routes.{IsOfRow}
 use Rattle.hub.specs.InForce.{goes_on_for, goes_on, under, removal_for, IsInForce}
 use Rattle.hub.proofs.Finds.{find-map, find-passes, find-All, find-nothing, AllPairs-head, AllPairs-tail, AllPairs-map}
 use Rattle.hub.proofs.Naming.{name_of, are_named_once, unlike, named_again}
 use Rattle.world_sessions.proofs.Ascending.{AreApart, among-ascending, ascending-rises}
 use Rattle.hub.proofs.Grants.{kept_judged}
+use Rattle.hub.proofs.Routes.{routed-kept, routed-pruned}
+use Rattle.hub.proofs.Rows.{each-pruned, rows-kept}
 use Rattle.hub.proofs.Soundness.{IsOfPolicy, HasBound, HasTable, IsApart, IsOwned, IsStillToReceive, HasCount, quotas-filter, tables-next}
 
 -- ---- the same user, found by its name
@@ -217,6 +222,7 @@ after_reload w now doc = record w {
   number = w.number + 1;
   sessions = remaining (max w.moment now) doc w.sessions;
   subscriptions = filter (stands_on doc w.sessions) w.subscriptions;
+  routes = pruned (max w.moment now) (kept (again w.policy doc) (pruned (max w.moment now) w.routes));
 }
 
 -- whom the new policy has behind a connection
@@ -270,6 +276,7 @@ allowed-after now doc zs sub valid apart reasoned stand =
 pub sound-reload : (w : World) (now : ℕ) (doc : PolicyDoc) → IsSound w → IsReasonedReload doc w.sessions w.subscriptions → IsSound (after_reload w now doc)
 sound-reload w now doc sound reasoned = let valid = reasoned.0 in record {
   policy = valid;
+  names = reasoned.1;
   limit = omega (arith, length-map (filter (stays doc) w.sessions) (renewed (max w.moment now) doc), length-filter_both (stays doc) (goes doc) (λ z. refl) w.sessions, sound.limit);
   connections = AllPairs-map IsApart (renewed (max w.moment now) doc) (filter (stays doc) w.sessions)
       (λ y z apart same. apart (sym (with_user-conn (max w.moment now) y (user_again_of doc y)) ∙ same ∙ with_user-conn (max w.moment now) z (user_again_of doc z)))
@@ -283,7 +290,7 @@ sound-reload w now doc sound reasoned = let valid = reasoned.0 in record {
   subscriptions = λ k d h. sym (stands-same (max w.moment now) doc w.sessions (get_or (filter (stands_on doc w.sessions) w.subscriptions) k d) valid sound.connections)
       ∙ filter_passes (stands_on doc w.sessions) w.subscriptions k d h;
   reasons = λ k d h. allowed-after (max w.moment now) doc w.sessions (get_or (filter (stands_on doc w.sessions) w.subscriptions) k d) valid sound.connections
-      (All-filter (stands_on doc w.sessions) (IsReasonedVerdict doc w.sessions) w.subscriptions reasoned.1 k d h) (filter_passes (stands_on doc w.sessions) w.subscriptions k d h);
+      (All-filter (stands_on doc w.sessions) (IsReasonedVerdict doc w.sessions) w.subscriptions reasoned.2 k d h) (filter_passes (stands_on doc w.sessions) w.subscriptions k d h);
   accounts = λ k d h. owned-after (max w.moment now) w.policy doc w.sessions (get_or (filter (stands_on doc w.sessions) w.subscriptions) k d) valid sound.connections sound.users
       (All-filter (stands_on doc w.sessions) (IsOwned w.policy w.sessions) w.subscriptions sound.accounts k d h) (filter_passes (stands_on doc w.sessions) w.subscriptions k d h);
   limits = All-filter (stands_on doc w.sessions) IsStillToReceive w.subscriptions sound.limits;
@@ -292,6 +299,9 @@ sound-reload w now doc sound reasoned = let valid = reasoned.0 in record {
   quotas = quotas-filter (stands_on doc w.sessions) w.subscriptions sound.quotas;
   ids = AllPairs-filter (λ (s t : Subscription). s.id < t.id) (stands_on doc w.sessions) w.subscriptions sound.ids;
   numbers = All-filter (stands_on doc w.sessions) (λ (s : Subscription). s.id ≤ w.number + 1) w.subscriptions (λ k d h. let n = sound.numbers k d h in omega arith);
+  routes = routed-kept (max w.moment now) (again w.policy doc) (pruned (max w.moment now) w.routes) (routed-pruned w.moment (max w.moment now) w.routes (omega arith) sound.routes);
+  rows = each-pruned (IsOfRow doc) (max w.moment now) (kept (again w.policy doc) (pruned (max w.moment now) w.routes))
+      (rows-kept w.policy doc (pruned (max w.moment now) w.routes) (each-pruned (IsOfRow w.policy) (max w.moment now) w.routes sound.rows));
   epoch = let h = sound.epoch in omega arith;
 }
 
@@ -306,8 +316,9 @@ in_force w now doc sound reasoned =
       gone = λ conn. gone-same (max w.moment now) doc conn w.sessions sound.connections;
       standing = filter_agree (stands_on doc w.sessions) (λ (sub : Subscription). may_subscribe (user_now (max w.moment now) doc w.sessions sub) sub.subject sub.queue)
           (λ sub. stands-same (max w.moment now) doc w.sessions sub valid sound.connections) w.subscriptions;
+      routes = refl;
       removed = filter_map_agree (removal_after doc w.sessions) (λ (sub : Subscription). removal_for sub (user_now (max w.moment now) doc w.sessions sub))
           (λ sub. removal-same (user_after doc (session_of w.sessions sub.conn)) sub ∙ ap (removal_for sub) (sym (whom sub))) w.subscriptions;
       reasons = All-weaker (IsReasonedVerdict doc w.sessions) (λ (sub : Subscription). IfSome (user_now (max w.moment now) doc w.sessions sub) (λ (u : User). IsJustifiedSubscribe sub.subject sub.queue u.rules.subscribe (subscribe_verdict u.rules sub.subject sub.queue)))
-          (λ sub has. subst (λ o. IfSome o (λ (u : User). IsJustifiedSubscribe sub.subject sub.queue u.rules.subscribe (subscribe_verdict u.rules sub.subject sub.queue))) (sym (whom sub)) has) w.subscriptions reasoned.1;
+          (λ sub has. subst (λ o. IfSome o (λ (u : User). IsJustifiedSubscribe sub.subject sub.queue u.rules.subscribe (subscribe_verdict u.rules sub.subject sub.queue))) (sym (whom sub)) has) w.subscriptions reasoned.2;
     }

@@ -15,6 +15,8 @@ use Rattle.subjects.specs.Subject.{Token}
 use Rattle.policy_doc.specs.declared.document.PolicyDoc.{PolicyDoc}
 use Rattle.policy_ready.specs.Users.{user_named}
 use Rattle.policy_ready.specs.declared.ready.User.{User}
+use Rattle.service_exporter.specs.Routes.{Exporter}
+use Rattle.service_routes.specs.Routes.{Name, pruned}
 use Rattle.world_deliveries.specs.Sessions.{session_of, new_session}
 use Rattle.world_sessions.specs.Renewal.{HaveOneUser}
 use Rattle.world_deliveries.specs.declared.session.Session.{Session}
@@ -24,14 +26,21 @@ use Rattle.world_rows.specs.declared.subscription.Subscription.{Subscription}
 use Rattle.world.specs.World.{World}
 use Rattle.world.specs.Reload.{user_before, verdict_for, may_stand, AreEntitled}
 use Rattle.hub.specs.Kept.{IsKeptTable}
+use Rattle.hub.specs.Routes.{EachRoute, IsOfRow}
 use Rattle.hub.specs.Sound.{IsSound, has_same_sid, user_behind, user_at, account_of, may_subscribe, HasAllowance, is_below, is_to_receive}
 use Rattle.hub.proofs.Lists.{length-filter_twice, length-filter_map}
 use Rattle.hub.proofs.Grants.{kept_none, kept_later}
+use Rattle.hub.proofs.Routes.{EachRouted, routed-pruned}
+use Rattle.hub.proofs.Rows.{each-pruned}
 use Rattle.hub.proofs.Finds.{find-All, find-none, find-filter, find-map, any-none, AllPairs-map}
 
--- the world after an answered step that left these sessions and subscriptions
+-- the world after an answered step that left these sessions, subscriptions and response routes; by most steps those routes stand
+-- that live
+abbrev pub next_with : World → ℕ → List Session → List Subscription → List (Name × Exporter) → World
+next_with w now zs subs routes = record w { moment = max w.moment now; number = w.number + 1; sessions = zs; subscriptions = subs; routes = routes }
+
 abbrev pub next : World → ℕ → List Session → List Subscription → World
-next w now zs subs = record w { moment = max w.moment now; number = w.number + 1; sessions = zs; subscriptions = subs }
+next w now zs subs = next_with w now zs subs (pruned (max w.moment now) w.routes)
 
 -- the facts of a session by itself, under a policy and a capacity
 abbrev pub IsOfPolicy : PolicyDoc → Session → Type 0
@@ -100,15 +109,25 @@ pub tables-next : (w : World) (now : ℕ) → IsSound w → All (HasTable (max w
 tables-next w now sound k d h =
     let z = get_or w.sessions k d in kept_later w.moment (max w.moment now) z.user.rules.allow_responses z.replies (omega arith) (sound.grants k d h)
 
--- nothing has changed
-pub sound-same : (w : World) (now : ℕ) → IsSound w → IsSound (next w now w.sessions w.subscriptions)
-sound-same w now sound = record {
+-- and the response routes that live then
+routes-next : (w : World) (now : ℕ) → IsSound w → EachRouted (max w.moment now) (pruned (max w.moment now) w.routes)
+routes-next w now sound = routed-pruned w.moment (max w.moment now) w.routes (omega arith) sound.routes
+
+-- each for a row of the policy
+rows-next : (w : World) (now : ℕ) → IsSound w → EachRoute (IsOfRow w.policy) (pruned (max w.moment now) w.routes)
+rows-next w now sound = each-pruned (IsOfRow w.policy) (max w.moment now) w.routes sound.rows
+
+-- at another moment, with another number and other response routes
+sound-at : (w : World) (moment number : ℕ) (routes : List (Name × Exporter)) → All (HasTable moment) w.sessions → All (λ (s : Subscription). s.id ≤ number) w.subscriptions → EachRouted moment routes → EachRoute (IsOfRow w.policy) routes → w.epoch ≤ number + 1 → IsSound w →
+    IsSound (record w { moment = moment; number = number; routes = routes })
+sound-at w moment number routes tables numbers routed rows epoch sound = record {
   policy = sound.policy;
+  names = sound.names;
   limit = sound.limit;
   connections = sound.connections;
   users = sound.users;
   outboxes = sound.outboxes;
-  grants = tables-next w now sound;
+  grants = tables;
   subscriptions = sound.subscriptions;
   reasons = sound.reasons;
   accounts = sound.accounts;
@@ -117,9 +136,20 @@ sound-same w now sound = record {
   sids = sound.sids;
   quotas = sound.quotas;
   ids = sound.ids;
-  numbers = numbers-next w sound;
-  epoch = epoch-next w sound;
+  numbers = numbers;
+  routes = routed;
+  rows = rows;
+  epoch = epoch;
 }
+
+-- nothing has changed
+pub sound-same : (w : World) (now : ℕ) → IsSound w → IsSound (next w now w.sessions w.subscriptions)
+sound-same w now sound =
+    sound-at w (max w.moment now) (w.number + 1) (pruned (max w.moment now) w.routes) (tables-next w now sound) (numbers-next w sound) (routes-next w now sound) (rows-next w now sound) (epoch-next w sound) sound
+
+-- other response routes stand
+pub sound-routes : (w : World) (routes : List (Name × Exporter)) → EachRouted w.moment routes → EachRoute (IsOfRow w.policy) routes → IsSound w → IsSound (record w { routes = routes })
+sound-routes w routes routed rows sound = sound-at w w.moment w.number routes sound.grants sound.numbers routed rows sound.epoch sound
 
 -- outboxes and grants have changed
 pub record KeepsSession (capacity now : ℕ) (f : Session → Session) : Type 0 where
@@ -141,6 +171,7 @@ user-map doc f zs same_conn same_user conn =
 pub sound-map : (w : World) (now : ℕ) (f : Session → Session) → KeepsSession w.capacity (max w.moment now) f → IsSound w → IsSound (next w now (map f w.sessions) w.subscriptions)
 sound-map w now f keeps sound = record {
   policy = sound.policy;
+  names = sound.names;
   limit = omega (arith, length-map w.sessions f, sound.limit);
   connections = AllPairs-map IsApart f w.sessions (λ y z apart same. apart (sym (keeps.conn y) ∙ same ∙ keeps.conn z)) sound.connections;
   users = All-map (IsOfPolicy w.policy) f w.sessions (λ k d h. of_policy (get_or w.sessions k d) (sound.users k d h));
@@ -155,6 +186,8 @@ sound-map w now f keeps sound = record {
   quotas = sound.quotas;
   ids = sound.ids;
   numbers = numbers-next w sound;
+  routes = routes-next w now sound;
+  rows = rows-next w now sound;
   epoch = epoch-next w sound;
 }
   where
@@ -183,6 +216,7 @@ known-open P never doc zs y conn is = by_session (session_of zs conn) refl is
 pub sound-open : (w : World) (now conn : ℕ) (u : User) (echo : Bool) → session_of w.sessions conn ≡ None → nat_le 4096 (length w.sessions) ≡ false → user_named w.policy u.user ≡ Some u → IsSound w → IsSound (next w now (w.sessions ++ new_session conn u echo w.capacity ∷ []) w.subscriptions)
 sound-open w now conn u echo free room is sound = record {
   policy = sound.policy;
+  names = sound.names;
   limit = omega (arith, length-append w.sessions (new_session conn u echo w.capacity ∷ []), leb-false 4096 (length w.sessions) room);
   connections = all_pairs_push IsApart w.sessions (new_session conn u echo w.capacity) sound.connections (λ k d h same. eqb-false _ _ (find-none (λ (z : Session). z.conn == conn) w.sessions free k d h) same);
   users = All-push (IsOfPolicy w.policy) w.sessions (new_session conn u echo w.capacity) sound.users is;
@@ -197,6 +231,8 @@ sound-open w now conn u echo free room is sound = record {
   quotas = sound.quotas;
   ids = sound.ids;
   numbers = numbers-next w sound;
+  routes = routes-next w now sound;
+  rows = rows-next w now sound;
   epoch = epoch-next w sound;
 }
 
@@ -213,6 +249,7 @@ pub sound-add : (w : World) (now conn : ℕ) (account : List ℕ) (p : List Toke
     IsSound (next w now w.sessions (w.subscriptions ++ subscription_of (w.number + 1) conn account p queue sid ∷ []))
 sound-add w now conn account p queue sid may reason owned free room sound = record {
   policy = sound.policy;
+  names = sound.names;
   limit = sound.limit;
   connections = sound.connections;
   users = sound.users;
@@ -227,6 +264,8 @@ sound-add w now conn account p queue sid may reason owned free room sound = reco
   quotas = quotas-add w.subscriptions added room sound.quotas;
   ids = all_pairs_push (λ (s t : Subscription). s.id < t.id) w.subscriptions added sound.ids (λ k d h. let n = sound.numbers k d h in omega arith);
   numbers = All-push (λ (s : Subscription). s.id ≤ w.number + 1) w.subscriptions added (numbers-next w sound) (omega arith);
+  routes = routes-next w now sound;
+  rows = rows-next w now sound;
   epoch = epoch-next w sound;
 }
   where
@@ -249,6 +288,7 @@ pub sound-close : (w : World) (now conn : ℕ) → IsSound w →
     IsSound (next w now (filter (λ (z : Session). not (z.conn == conn)) w.sessions) (filter (λ (s : Subscription). not (s.conn == conn)) w.subscriptions))
 sound-close w now conn sound = record {
   policy = sound.policy;
+  names = sound.names;
   limit = omega (arith, length-filter_both (λ (z : Session). not (z.conn == conn)) (λ (z : Session). z.conn == conn) (λ z. sym (not-not (z.conn == conn))) w.sessions, sound.limit);
   connections = AllPairs-filter IsApart (λ (z : Session). not (z.conn == conn)) w.sessions sound.connections;
   users = All-filter (λ (z : Session). not (z.conn == conn)) (IsOfPolicy w.policy) w.sessions sound.users;
@@ -263,6 +303,8 @@ sound-close w now conn sound = record {
   quotas = quotas-filter stay w.subscriptions sound.quotas;
   ids = AllPairs-filter (λ (s t : Subscription). s.id < t.id) stay w.subscriptions sound.ids;
   numbers = All-filter stay (λ (s : Subscription). s.id ≤ w.number + 1) w.subscriptions (numbers-next w sound);
+  routes = routes-next w now sound;
+  rows = rows-next w now sound;
   epoch = epoch-next w sound;
 }
   where
@@ -357,6 +399,7 @@ unended-same subs = filter_agree (λ (s : Subscription). not (has_ended s)) is_t
 pub sound-limits : (w : World) (f : Subscription → Subscription) → KeepsSubscription f → IsSound w → IsSound (record w { subscriptions = unended (map f w.subscriptions) })
 sound-limits w f keeps sound = record {
   policy = sound.policy;
+  names = sound.names;
   limit = sound.limit;
   connections = sound.connections;
   users = sound.users;
@@ -371,6 +414,8 @@ sound-limits w f keeps sound = record {
   quotas = quotas-filter IsOpen subs (quotas-again f keeps w.subscriptions sound.quotas);
   ids = AllPairs-filter (λ (s t : Subscription). s.id < t.id) IsOpen subs (AllPairs-map (λ (s t : Subscription). s.id < t.id) f w.subscriptions (rising-again f keeps) sound.ids);
   numbers = All-filter IsOpen (λ (s : Subscription). s.id ≤ w.number) subs (All-map (λ (s : Subscription). s.id ≤ w.number) f w.subscriptions (λ k d h. below-again w.number f keeps (get_or w.subscriptions k d) (sound.numbers k d h)));
+  routes = sound.routes;
+  rows = sound.rows;
   epoch = sound.epoch;
 }
   where

@@ -18,14 +18,18 @@ use Rattle.permissions.specs.declared.verdict.Verdict.TheVariants.{Allowed}
 use Rattle.events.specs.Messages.{Message}
 use Rattle.events.specs.declared.answer.Addressed.{Addressed}
 use Rattle.events.specs.declared.answer.Item.{Item}
-use Rattle.events.specs.declared.answer.Item.TheVariants.{Entered, Full, MapTooLong}
+use Rattle.events.specs.declared.answer.Item.TheVariants.{Entered, Full, RouteFull, MapTooLong}
 use Rattle.events.specs.declared.answer.Outcome.{Outcome}
 use Rattle.events.specs.declared.answer.Outcome.TheVariants.{Published}
 use Rattle.exports.specs.declared.document.Row.{Row}
-use Rattle.imports.specs.Views.{views}
+use Rattle.imports.specs.Across.{views}
 use Rattle.imports.specs.declared.view.ViewItem.{ViewItem}
 use Rattle.imports.specs.declared.view.ViewItem.TheVariants.{At, TooLong}
 use Rattle.imports.specs.declared.view.Way.{Way}
+use Rattle.imports.specs.declared.view.Way.TheVariants.{Own, Stream, Service, Response}
+use Rattle.service_exporter.specs.Limit.{is_full}
+use Rattle.service_exporter.specs.Routes.{Exporter}
+use Rattle.service_routes.specs.Routes.{Name, exporter_of, spent}
 use Rattle.world_deliveries.specs.Sessions.{session_of}
 use Rattle.world_deliveries.specs.Delivered.{delivered, after_offer, item_of, has_room}
 use Rattle.world_deliveries.specs.Replying.{noted_for}
@@ -41,10 +45,11 @@ use Rattle.world_groups.proofs.Chosen.{filter-map}
 use Rattle.world.specs.World.{World}
 use Rattle.world.specs.Granting.{counted_on, ended_on}
 use Rattle.world_routing.specs.Handing.{is_of_delivery, of_deliveries}
-use Rattle.world.specs.Routing.{View, under_subject, view_of, is_admitted, routed, in_view, in_views}
+use Rattle.world.specs.Routing.{View, view_of, view_with, is_admitted, routed, responses_on, route_for, next_subject, in_view, in_views}
+use Rattle.world_routing.specs.Routing.{is_nil, requested, requested_by}
 use Rattle.world.specs.Transition.{published}
 use Rattle.hub.specs.Sound.{is_to_receive}
-use Rattle.hub.specs.Guarantee.{Part, Sending, told_by, sendings, item_names, names_of, items_of, received_more}
+use Rattle.hub.specs.Guarantee.{Opening, Part, Sending, told_by, sendings, item_names, names_of, items_of, received_more, times_entered, with_opening, routes_behind}
 use Rattle.hub.proofs.Lists.{filter_same_on}
 use Rattle.hub.proofs.Grants.{all_pass}
 use Rattle.hub.proofs.Soundness.{HasCount, IsStillToReceive, unended-same}
@@ -132,47 +137,104 @@ standing c told = filter is_to_receive (map (received_more told) c.world.subscri
 abbrev pub able : Setting → List Item → List ℕ → List Token → List Subscription
 able c told account subject = filter (λ (s : Subscription). c.may account subject s && is_to_receive (received_more told s)) c.world.subscriptions
 
--- whom a view is for, and what it sends them
-abbrev pub whom : Setting → List Item → ViewItem → List Subscription
-whom c told (At account subject way) = served c.word (able c told account subject)
-whom c told (TooLong row) = []
+-- what of a message has been handled: what was told of it, the sessions, and the response routes
+pub record Stage : Type 0 where
+  pub told : List Item
+  pub sessions : List Session
+  pub routes : List (Name × Exporter)
+
+-- What becomes of a view: the message is seen so and goes to those that it is for, once this route is opened; or it goes to
+-- nobody, and nothing is told, or a row is reported that no route can be opened for, or that isn't crossed.
+pub data Fate : Type 0 where
+  Delivered : View → Option Opening → Fate
+  ForNobody : Fate
+  WithoutRoute : Row → Fate
+  NotCrossed : Row → Fate
+
+-- a request that wants a response, where nobody may be sent it or somebody, and its exporter is full or isn't
+abbrev pub of_reply : Bool → Bool → Setting → List (Name × Exporter) → List ℕ → List Token → Row → List Token → Fate
+of_reply true full c routes account subject row reply = ForNobody
+of_reply false true c routes account subject row reply = WithoutRoute row
+of_reply false false c routes account subject row reply =
+    Delivered (view_with account subject (Some (next_subject c.word (exporter_of account routes))) c.message)
+    (Some record { exporter = account; route = route_for c.world.policy row reply c.word c.world.moment })
+
+abbrev pub of_request : Setting → Stage → List ℕ → List Token → Row → Option (List Token) → Fate
+of_request c now account subject row None = Delivered (view_of account subject c.message) None
+of_request c now account subject row (Some reply) =
+    of_reply (is_nil (able c now.told account subject)) (is_full 1 c.world.moment (exporter_of account now.routes)) c now.routes account subject row reply
+
+abbrev pub of_way : Setting → Stage → List ℕ → List Token → Way → Fate
+of_way c now account subject Own = Delivered (view_of account subject c.message) None
+of_way c now account subject (Stream row) = Delivered (view_of account subject c.message) None
+of_way c now account subject (Service row) = of_request c now account subject row c.message.reply
+of_way c now account subject (Response row) = Delivered (view_with account subject None c.message) None
+
+abbrev pub fate : Setting → Stage → ViewItem → Fate
+fate c now (At account subject way) = of_way c now account subject way
+fate c now (TooLong row) = NotCrossed row
+
+-- the message as it is seen; what goes to nobody is seen by nobody
+abbrev pub seen_by : Message → Fate → View
+seen_by m (Delivered seen opens) = seen
+seen_by m ForNobody = record { account = []; message = m }
+seen_by m (WithoutRoute row) = record { account = []; message = m }
+seen_by m (NotCrossed row) = record { account = []; message = m }
+
+-- those that it goes to, and what they are sent
+abbrev pub whom : Setting → List Item → Fate → List Subscription
+whom c told (Delivered seen opens) = served c.word (able c told seen.account seen.message.subject)
+whom c told ForNobody = []
+whom c told (WithoutRoute row) = []
+whom c told (NotCrossed row) = []
 
 abbrev pub to_each : Message → List Subscription → List Sending
 to_each m subs = map (λ (s : Subscription). record { message = m; to = s }) subs
 
--- the message as it is seen in a view; a row that is reported shows it to nobody
-abbrev pub seen_in : Message → ViewItem → View
-seen_in m (At account subject way) = view_of account subject m
-seen_in m (TooLong row) = record { account = []; message = m }
+abbrev pub sent_in : Setting → List Item → Fate → List Sending
+sent_in c told f = to_each (seen_by c.message f).message (whom c told f)
 
-abbrev pub sent_in : Setting → List Item → ViewItem → List Sending
-sent_in c told v = to_each (seen_in c.message v).message (whom c told v)
+-- what is told of it, the route that it opens, and the sessions after it
+abbrev pub told_in : Setting → Stage → Fate → List Item
+told_in c now (Delivered seen opens) = items_after c.world.sessions c.world.moment (sent_in c now.told (Delivered seen opens)) now.sessions
+told_in c now ForNobody = []
+told_in c now (WithoutRoute row) = RouteFull row ∷ []
+told_in c now (NotCrossed row) = MapTooLong row ∷ []
 
--- what a view gives, where this was told and these are the sessions, and what each of some views gives
-abbrev pub told_in : Setting → List Item → List Session → ViewItem → List Item
-told_in c told ys (At account subject way) = items_after c.world.sessions c.world.moment (sent_in c told (At account subject way)) ys
-told_in c told ys (TooLong row) = MapTooLong row ∷ []
+abbrev pub opens_in : Fate → Option Opening
+opens_in (Delivered seen opens) = opens
+opens_in ForNobody = None
+opens_in (WithoutRoute row) = None
+opens_in (NotCrossed row) = None
 
-abbrev pub part_in : Setting → List Item → List Session → ViewItem → Part
-part_in c told ys v = record { view = v; seen = seen_in c.message v; subs = whom c told v; items = told_in c told ys v }
+abbrev pub sessions_after : Setting → Stage → Fate → List Session
+sessions_after c now f = (delivered c.world.moment (map (sent c.world.sessions) (sent_in c now.told f)) now.sessions).0
 
-abbrev pub sessions_after : Setting → List Item → List Session → ViewItem → List Session
-sessions_after c told ys v = (delivered c.world.moment (map (sent c.world.sessions) (sent_in c told v)) ys).0
+-- what a view gives, and what is left after it
+abbrev pub part_by : Setting → Stage → ViewItem → Fate → Part
+part_by c now v f = record { view = v; seen = seen_by c.message f; subs = whom c now.told f; items = told_in c now f; opens = opens_in f }
+
+abbrev pub part_in : Setting → Stage → ViewItem → Part
+part_in c now v = part_by c now v (fate c now v)
+
+abbrev pub behind : Setting → Stage → Fate → Stage
+behind c now f = record { told = now.told ++ told_in c now f; sessions = sessions_after c now f; routes = with_opening (opens_in f) now.routes }
 
 abbrev pub items_in : Part → List Item
 items_in p = p.items
 
-abbrev pub parts_in : Setting → List Item → List Session → List ViewItem → List Part
-parts_in c told ys [] = []
-parts_in c told ys (v ∷ vs) = part_in c told ys v ∷ parts_in c (told ++ told_in c told ys v) (sessions_after c told ys v) vs
+-- what each of some views gives, and what is left after all
+abbrev pub parts_in : Setting → Stage → List ViewItem → List Part
+parts_in c now [] = []
+parts_in c now (v ∷ vs) = part_in c now v ∷ parts_in c (behind c now (fate c now v)) vs
 
-abbrev pub sessions_in : Setting → List Item → List Session → List ViewItem → List Session
-sessions_in c told ys [] = ys
-sessions_in c told ys (v ∷ vs) = sessions_in c (told ++ told_in c told ys v) (sessions_after c told ys v) vs
+abbrev pub stage_in : Setting → Stage → List ViewItem → Stage
+stage_in c now [] = now
+stage_in c now (v ∷ vs) = stage_in c (behind c now (fate c now v)) vs
 
--- the world once this was told, with these sessions
-abbrev pub world_at : Setting → List Item → List Session → World
-world_at c told ys = record c.world { sessions = ys; subscriptions = standing c told }
+-- the world at a stage
+abbrev pub world_at : Setting → Stage → World
+world_at c now = record c.world { sessions = now.sessions; subscriptions = standing c now.told; routes = now.routes }
 
 -- ---- one view
 
@@ -199,19 +261,19 @@ addressed-alike : (zs : List Session) (told : List Item) (m : Message) (subs : L
 addressed-alike zs told m [] = refl
 addressed-alike zs told m (s ∷ subs) = ap (λ rest. sent zs record { message = m; to = s } ∷ rest) (addressed-alike zs told m subs)
 
-deliveries-are : (c : Setting) → IsSetting c → (told : List Item) (account : List ℕ) (subject : List Token) →
-    map (noted_for c.world.sessions) (map (addressed_to (under_subject subject c.message)) (served c.word (filter (is_admitted c.world.sessions c.publisher (view_of account subject c.message)) (standing c told))))
-    ≡ map (sent c.world.sessions) (to_each (under_subject subject c.message) (served c.word (able c told account subject)))
-deliveries-are c is told account subject =
-    ap (λ subs. map (noted_for c.world.sessions) (map (addressed_to (under_subject subject c.message)) subs)) (ap (served c.word) (admitted-are c is told account subject) ∙ served-more told c.word (able c told account subject))
-    ∙ addressed-alike c.world.sessions told (under_subject subject c.message) (served c.word (able c told account subject))
+deliveries-are : (c : Setting) → IsSetting c → (told : List Item) (seen : View) →
+    map (noted_for c.world.sessions) (map (addressed_to seen.message) (served c.word (filter (is_admitted c.world.sessions c.publisher seen) (standing c told))))
+    ≡ map (sent c.world.sessions) (to_each seen.message (served c.word (able c told seen.account seen.message.subject)))
+deliveries-are c is told seen =
+    ap (λ subs. map (noted_for c.world.sessions) (map (addressed_to seen.message) subs)) (ap (served c.word) (admitted-are c is told seen.account seen.message.subject) ∙ served-more told c.word (able c told seen.account seen.message.subject))
+    ∙ addressed-alike c.world.sessions told seen.message (served c.word (able c told seen.account seen.message.subject))
 
 -- each of those that it is for has one item
-pub named-each : (c : Setting) (told : List Item) (ys : List Session) (account : List ℕ) (subject : List Token) (way : Way) →
-    map item_names (told_in c told ys (At account subject way)) ≡ map (λ (s : Subscription). Some (names_of s)) (whom c told (At account subject way))
-named-each c told ys account subject way =
-    one_each c.world.sessions c.world.moment (sent_in c told (At account subject way)) ys
-    ∙ map-map (λ (s : Sending). Some (names_of s.to)) (λ (s : Subscription). record { message = under_subject subject c.message; to = s }) (whom c told (At account subject way))
+pub named-each : (c : Setting) (now : Stage) (seen : View) (opens : Option Opening) →
+    map item_names (told_in c now (Delivered seen opens)) ≡ map (λ (s : Subscription). Some (names_of s)) (whom c now.told (Delivered seen opens))
+named-each c now seen opens =
+    one_each c.world.sessions c.world.moment (sent_in c now.told (Delivered seen opens)) now.sessions
+    ∙ map-map (λ (s : Sending). Some (names_of s.to)) (λ (s : Subscription). record { message = seen.message; to = s }) (whom c now.told (Delivered seen opens))
 
 whom-apart : (c : Setting) → IsSetting c → (told : List Item) (account : List ℕ) (subject : List Token) → AllPairs (λ s t. has_same_sid s t ≡ false) (served c.word (able c told account subject))
 whom-apart c is told account subject =
@@ -219,58 +281,95 @@ whom-apart c is told account subject =
     (AllPairs-filter (λ s t. has_same_sid s t ≡ false) (λ (s : Subscription). c.may account subject s && is_to_receive (received_more told s)) c.world.subscriptions is.apart)
 
 -- what has been told is counted
-standing-more : (c : Setting) → IsSetting c → (told : List Item) (ys : List Session) (account : List ℕ) (subject : List Token) (way : Way) →
-    unended (map (counted (told_in c told ys (At account subject way))) (standing c told)) ≡ standing c (told ++ told_in c told ys (At account subject way))
-standing-more c is told ys account subject way =
-    unended-same (map (counted items) (standing c told))
-    ∙ filter-again is_to_receive (received_more told) (counted items) (received_more (told ++ items)) c.world.subscriptions
-    (λ s. counted-more told items s (once s (whom c told (At account subject way)) items (named-each c told ys account subject way) (whom-apart c is told account subject)))
-    (λ s. ended-more told items s)
+standing-more : (c : Setting) → IsSetting c → (now : Stage) (seen : View) (opens : Option Opening) →
+    unended (map (counted (told_in c now (Delivered seen opens))) (standing c now.told)) ≡ standing c (now.told ++ told_in c now (Delivered seen opens))
+standing-more c is now seen opens =
+    unended-same (map (counted items) (standing c now.told))
+    ∙ filter-again is_to_receive (received_more now.told) (counted items) (received_more (now.told ++ items)) c.world.subscriptions
+    (λ s. counted-more now.told items s (once s (whom c now.told (Delivered seen opens)) items (named-each c now seen opens) (whom-apart c is now.told seen.account seen.message.subject)))
+    (λ s. ended-more now.told items s)
   where
     items : List Item
-    items = told_in c told ys (At account subject way)
+    items = told_in c now (Delivered seen opens)
 
-routed-is : (c : Setting) → IsSetting c → (told : List Item) (ys : List Session) (account : List ℕ) (subject : List Token) (way : Way) →
-    routed c.world.sessions (world_at c told ys) c.publisher (view_of account subject c.message) c.word
-    ≡ (told_in c told ys (At account subject way), world_at c (told ++ told_in c told ys (At account subject way)) (sessions_after c told ys (At account subject way)))
-routed-is c is told ys account subject way =
-    ap (λ (all : List Addressed). ((delivered c.world.moment all ys).1, record c.world { sessions = (delivered c.world.moment all ys).0; subscriptions = unended (map (counted (delivered c.world.moment all ys).1) (standing c told)) })) (deliveries-are c is told account subject)
-    ∙ ap (λ (subs : List Subscription). (told_in c told ys v, record c.world { sessions = sessions_after c told ys v; subscriptions = subs })) (standing-more c is told ys account subject way)
+-- the message goes to those that it is for, once a route is opened
+routed-is : (c : Setting) → IsSetting c → (now : Stage) (seen : View) (opens : Option Opening) →
+    routed c.world.sessions (record (world_at c now) { routes = with_opening opens now.routes }) c.publisher seen c.word
+    ≡ (told_in c now (Delivered seen opens), world_at c (behind c now (Delivered seen opens)))
+routed-is c is now seen opens =
+    ap (λ (all : List Addressed). ((delivered c.world.moment all now.sessions).1, record c.world { sessions = (delivered c.world.moment all now.sessions).0; subscriptions = unended (map (counted (delivered c.world.moment all now.sessions).1) (standing c now.told)); routes = with_opening opens now.routes })) (deliveries-are c is now.told seen)
+    ∙ ap (λ (subs : List Subscription). (told_in c now f, record c.world { sessions = sessions_after c now f; subscriptions = subs; routes = with_opening opens now.routes })) (standing-more c is now seen opens)
   where
-    v : ViewItem
-    v = At account subject way
+    f : Fate
+    f = Delivered seen opens
 
--- a row that is reported is counted by nobody
-same-row : (told : List Item) (row : Row) (s : Subscription) → received_more told s ≡ received_more (told ++ MapTooLong row ∷ []) s
-same-row told row s = ap (λ n. record s { received = min 18446744073709551615 (s.received + n) }) (let e = times-append told (MapTooLong row ∷ []) s in omega (arith, e))
+-- what tells of no delivery is counted by nobody
+same-count : (told items : List Item) (s : Subscription) → times_entered items s ≡ 0 → received_more told s ≡ received_more (told ++ items) s
+same-count told items s none = ap (λ n. record s { received = min 18446744073709551615 (s.received + n) }) (let e = times-append told items s in omega (arith, e, none))
 
-standing-row : (c : Setting) (told : List Item) (row : Row) → standing c told ≡ standing c (told ++ MapTooLong row ∷ [])
-standing-row c told row =
-    ap (filter is_to_receive) (map_same_on (received_more told) (received_more (told ++ MapTooLong row ∷ [])) c.world.subscriptions (λ k d h. same-row told row (get_or c.world.subscriptions k d)))
+standing-same : (c : Setting) (told items : List Item) → ((s : Subscription) → times_entered items s ≡ 0) → standing c told ≡ standing c (told ++ items)
+standing-same c told items none =
+    ap (filter is_to_receive) (map_same_on (received_more told) (received_more (told ++ items)) c.world.subscriptions (λ k d h. same-count told items (get_or c.world.subscriptions k d) (none (get_or c.world.subscriptions k d))))
+
+-- and nothing else changes
+reported-is : (c : Setting) (now : Stage) (items : List Item) → ((s : Subscription) → times_entered items s ≡ 0) →
+    ◌≡◌ {A = List Item × World} (items, world_at c now) (items, world_at c record { told = now.told ++ items; sessions = now.sessions; routes = now.routes })
+reported-is c now items none =
+    ap (λ (subs : List Subscription). (items, record c.world { sessions = now.sessions; subscriptions = subs; routes = now.routes })) (standing-same c now.told items none)
+
+-- ---- requests
+
+nil-map : {X Y : Type 0} (f : X → Y) (xs : List X) → is_nil (map f xs) ≡ is_nil xs
+nil-map f [] = refl
+nil-map f (x ∷ xs) = refl
+
+request-is : (c : Setting) → IsSetting c → (now : Stage) (account : List ℕ) (subject : List Token) (row : Row) (reply : Option (List Token)) →
+    requested c.world.sessions (world_at c now) c.publisher c.message c.word account subject row reply
+    ≡ (told_in c now (of_request c now account subject row reply), world_at c (behind c now (of_request c now account subject row reply)))
+request-is c is now account subject row None = routed-is c is now (view_of account subject c.message) None
+request-is c is now account subject row (Some reply) =
+    ap (λ nobody. requested_by nobody full c.world.sessions (world_at c now) c.publisher c.message c.word account subject row reply)
+    (ap is_nil (admitted-are c is now.told account subject) ∙ nil-map (received_more now.told) (able c now.told account subject))
+    ∙ here (is_nil (able c now.told account subject)) full
+  where
+    full : Bool
+    full = is_full 1 c.world.moment (exporter_of account now.routes)
+
+    here : (b f : Bool) →
+        requested_by b f c.world.sessions (world_at c now) c.publisher c.message c.word account subject row reply
+        ≡ (told_in c now (of_reply b f c now.routes account subject row reply), world_at c (behind c now (of_reply b f c now.routes account subject row reply)))
+    here true f = reported-is c now [] (λ s. refl)
+    here false true = reported-is c now (RouteFull row ∷ []) (λ s. refl)
+    here false false =
+        routed-is c is now (view_with account subject (Some (next_subject c.word (exporter_of account now.routes))) c.message)
+        (Some record { exporter = account; route = route_for c.world.policy row reply c.word c.world.moment })
 
 -- what a view gives, and what it leaves
-view-is : (c : Setting) → IsSetting c → (told : List Item) (ys : List Session) (v : ViewItem) →
-    in_view c.world.sessions (world_at c told ys) c.publisher c.message c.word v ≡ (told_in c told ys v, world_at c (told ++ told_in c told ys v) (sessions_after c told ys v))
-view-is c is told ys (At account subject way) = routed-is c is told ys account subject way
-view-is c is told ys (TooLong row) =
-    ap (λ (subs : List Subscription). (MapTooLong row ∷ [], record c.world { sessions = ys; subscriptions = subs })) (standing-row c told row)
+view-is : (c : Setting) → IsSetting c → (now : Stage) (v : ViewItem) →
+    in_view c.world.sessions (world_at c now) c.publisher c.message c.word v ≡ (told_in c now (fate c now v), world_at c (behind c now (fate c now v)))
+view-is c is now (At account subject Own) = routed-is c is now (view_of account subject c.message) None
+view-is c is now (At account subject (Stream row)) = routed-is c is now (view_of account subject c.message) None
+view-is c is now (At account subject (Service row)) = request-is c is now account subject row c.message.reply
+view-is c is now (At account subject (Response row)) = routed-is c is now (view_with account subject None c.message) None
+view-is c is now (TooLong row) = reported-is c now (MapTooLong row ∷ []) (λ s. refl)
 
 -- ---- all of them
 
-pub views-are : (c : Setting) → IsSetting c → (told : List Item) (ys : List Session) (vs : List ViewItem) →
-    in_views c.world.sessions (world_at c told ys) c.publisher c.message c.word vs
-    ≡ (flat_map items_in (parts_in c told ys vs), world_at c (told ++ flat_map items_in (parts_in c told ys vs)) (sessions_in c told ys vs))
-views-are c is told ys [] = ap (λ (l : List Item). ([], world_at c l ys)) (sym (append-nil told))
-views-are c is told ys (v ∷ vs) =
-    ap (λ (first : List Item × World). (first.0 ++ (in_views c.world.sessions first.1 c.publisher c.message c.word vs).0, (in_views c.world.sessions first.1 c.publisher c.message c.word vs).1)) (view-is c is told ys v)
-    ∙ ap (λ (rest : List Item × World). (items ++ rest.0, rest.1)) (views-are c is (told ++ items) (sessions_after c told ys v) vs)
-    ∙ ap (λ (l : List Item). (items ++ later, world_at c l (sessions_in c told ys (v ∷ vs)))) (append_assoc told items later)
-  where
-    items : List Item
-    items = told_in c told ys v
+pub views-are : (c : Setting) → IsSetting c → (now : Stage) (vs : List ViewItem) →
+    in_views c.world.sessions (world_at c now) c.publisher c.message c.word vs ≡ (flat_map items_in (parts_in c now vs), world_at c (stage_in c now vs))
+views-are c is now [] = refl
+views-are c is now (v ∷ vs) =
+    ap (λ (first : List Item × World). (first.0 ++ (in_views c.world.sessions first.1 c.publisher c.message c.word vs).0, (in_views c.world.sessions first.1 c.publisher c.message c.word vs).1)) (view-is c is now v)
+    ∙ ap (λ (rest : List Item × World). (told_in c now (fate c now v) ++ rest.0, rest.1)) (views-are c is (behind c now (fate c now v)) vs)
 
-    later : List Item
-    later = flat_map items_in (parts_in c (told ++ items) (sessions_after c told ys v) vs)
+-- what was told at the end, and the routes then
+told-are : (c : Setting) (now : Stage) (vs : List ViewItem) → (stage_in c now vs).told ≡ now.told ++ flat_map items_in (parts_in c now vs)
+told-are c now [] = sym (append-nil now.told)
+told-are c now (v ∷ vs) = told-are c (behind c now (fate c now v)) vs ∙ append_assoc now.told (told_in c now (fate c now v)) (flat_map items_in (parts_in c (behind c now (fate c now v)) vs))
+
+pub routes-are : (c : Setting) (now : Stage) (vs : List ViewItem) → (stage_in c now vs).routes ≡ routes_behind now.routes (parts_in c now vs)
+routes-are c now [] = refl
+routes-are c now (v ∷ vs) = routes-are c (behind c now (fate c now v)) vs
 
 -- before anything is told all stand
 pub standing-first : (c : Setting) → All HasCount c.world.subscriptions → All IsStillToReceive c.world.subscriptions → standing c [] ≡ c.world.subscriptions
@@ -280,10 +379,16 @@ standing-first c counts limits =
 
 -- the views of the message that is published, what they give, and what is told of it
 abbrev pub views_of : Setting → List ViewItem
-views_of c = views c.world.policy c.publisher.user.account c.message.subject
+views_of c = views c.world.policy c.publisher.user.account c.message.subject (responses_on c.world.routes c.publisher.user.account c.message.subject)
+
+abbrev pub first_stage : Setting → By → Stage
+first_stage c by = record { told = []; sessions = counted_on by c.publisher.conn c.message.subject c.world.sessions; routes = c.world.routes }
+
+abbrev pub last_stage : Setting → By → Stage
+last_stage c by = stage_in c (first_stage c by) (views_of c)
 
 abbrev pub parts_of : Setting → By → List Part
-parts_of c by = parts_in c [] (counted_on by c.publisher.conn c.message.subject c.world.sessions) (views_of c)
+parts_of c by = parts_in c (first_stage c by) (views_of c)
 
 abbrev pub told_of : Setting → By → List Item
 told_of c by = flat_map items_in (parts_of c by)
@@ -291,31 +396,36 @@ told_of c by = flat_map items_in (parts_of c by)
 -- it is what the transition makes of it
 pub published-is : (c : Setting) → IsSetting c → standing c [] ≡ c.world.subscriptions → (by : By) →
     published c.world c.publisher c.message c.word (Allowed by)
-    ≡ (Published by (told_of c by), record c.world { sessions = ended_on by c.publisher.conn c.message.subject (sessions_in c [] (counted_on by c.publisher.conn c.message.subject c.world.sessions) (views_of c)); subscriptions = standing c (told_of c by) })
+    ≡ (
+      Published by (told_of c by),
+      record c.world {
+        sessions = ended_on by c.publisher.conn c.message.subject (last_stage c by).sessions;
+        subscriptions = standing c (told_of c by);
+        routes = spent c.publisher.user.account c.message.subject (last_stage c by).routes;
+      },
+    )
 published-is c is first by =
-    ap (λ (subs : List Subscription). finished (in_views c.world.sessions (record c.world { sessions = ys; subscriptions = subs }) c.publisher c.message c.word (views_of c))) (sym first)
-    ∙ ap finished (views-are c is [] ys (views_of c))
+    ap (λ (subs : List Subscription). finished (in_views c.world.sessions (record c.world { sessions = (first_stage c by).sessions; subscriptions = subs }) c.publisher c.message c.word (views_of c))) (sym first)
+    ∙ ap finished (views-are c is (first_stage c by) (views_of c))
+    ∙ ap (λ (told : List Item). finished (told_of c by, record c.world { sessions = (last_stage c by).sessions; subscriptions = standing c told; routes = (last_stage c by).routes })) (told-are c (first_stage c by) (views_of c))
   where
-    ys : List Session
-    ys = counted_on by c.publisher.conn c.message.subject c.world.sessions
-
     finished : List Item × World → Outcome × World
-    finished r = (Published by r.0, record r.1 { sessions = ended_on by c.publisher.conn c.message.subject r.1.sessions })
+    finished r = (Published by r.0, record r.1 { sessions = ended_on by c.publisher.conn c.message.subject r.1.sessions; routes = spent c.publisher.user.account c.message.subject r.1.routes })
 
 -- the deliveries of all views are one list, delivered at once
-pub sessions-are : (c : Setting) (told : List Item) (ys : List Session) (vs : List ViewItem) →
-    (delivered c.world.moment (map (sent c.world.sessions) (sendings (parts_in c told ys vs))) ys).0 ≡ sessions_in c told ys vs
-sessions-are c told ys [] = refl
-sessions-are c told ys (v ∷ vs) =
-    ap (λ (all : List Addressed). (delivered c.world.moment all ys).0) (map-append (sent c.world.sessions) first (sendings rest))
-    ∙ delivered_first c.world.moment (map (sent c.world.sessions) first) (map (sent c.world.sessions) (sendings rest)) ys
-    ∙ sessions-are c (told ++ told_in c told ys v) (sessions_after c told ys v) vs
+pub sessions-are : (c : Setting) (now : Stage) (vs : List ViewItem) →
+    (delivered c.world.moment (map (sent c.world.sessions) (sendings (parts_in c now vs))) now.sessions).0 ≡ (stage_in c now vs).sessions
+sessions-are c now [] = refl
+sessions-are c now (v ∷ vs) =
+    ap (λ (all : List Addressed). (delivered c.world.moment all now.sessions).0) (map-append (sent c.world.sessions) first (sendings rest))
+    ∙ delivered_first c.world.moment (map (sent c.world.sessions) first) (map (sent c.world.sessions) (sendings rest)) now.sessions
+    ∙ sessions-are c (behind c now (fate c now v)) vs
   where
     first : List Sending
-    first = sent_in c told v
+    first = sent_in c now.told (fate c now v)
 
     rest : List Part
-    rest = parts_in c (told ++ told_in c told ys v) (sessions_after c told ys v) vs
+    rest = parts_in c (behind c now (fate c now v)) vs
 
 -- and what they meet is told, beside the rows that are reported
 pub of-deliveries : (zs : List Session) (now : ℕ) (ss : List Sending) (ys : List Session) → of_deliveries (items_after zs now ss ys) ≡ items_after zs now ss ys
@@ -330,37 +440,40 @@ of-deliveries zs now (s ∷ ss) ys = here (has_room (session_of ys s.to.conn)) (
     here true later = ap (λ l. Entered s.to.conn s.to.sid ∷ l) later
     here false later = ap (λ l. Full s.to.conn s.to.sid ∷ l) later
 
-met-in : (c : Setting) (told : List Item) (ys : List Session) (v : ViewItem) → items_after c.world.sessions c.world.moment (sent_in c told v) ys ≡ of_deliveries (told_in c told ys v)
-met-in c told ys (At account subject way) = sym (of-deliveries c.world.sessions c.world.moment (sent_in c told (At account subject way)) ys)
-met-in c told ys (TooLong row) = refl
+met-in : (c : Setting) (now : Stage) (f : Fate) → items_after c.world.sessions c.world.moment (sent_in c now.told f) now.sessions ≡ of_deliveries (told_in c now f)
+met-in c now (Delivered seen opens) = sym (of-deliveries c.world.sessions c.world.moment (sent_in c now.told (Delivered seen opens)) now.sessions)
+met-in c now ForNobody = refl
+met-in c now (WithoutRoute row) = refl
+met-in c now (NotCrossed row) = refl
 
-pub items-are : (c : Setting) (told : List Item) (ys : List Session) (vs : List ViewItem) →
-    items_after c.world.sessions c.world.moment (sendings (parts_in c told ys vs)) ys ≡ of_deliveries (flat_map items_in (parts_in c told ys vs))
-items-are c told ys [] = refl
-items-are c told ys (v ∷ vs) =
-    ap (λ (all : List Addressed). (delivered c.world.moment all ys).1) (map-append (sent c.world.sessions) first (sendings rest))
-    ∙ delivered_items c.world.moment (map (sent c.world.sessions) first) (map (sent c.world.sessions) (sendings rest)) ys
-    ∙ ap (λ (l : List Item). l ++ items_after c.world.sessions c.world.moment (sendings rest) (sessions_after c told ys v)) (met-in c told ys v)
-    ∙ ap (λ (l : List Item). of_deliveries (told_in c told ys v) ++ l) (items-are c (told ++ told_in c told ys v) (sessions_after c told ys v) vs)
-    ∙ sym (filter-append is_of_delivery (told_in c told ys v) (flat_map items_in rest))
+pub items-are : (c : Setting) (now : Stage) (vs : List ViewItem) →
+    items_after c.world.sessions c.world.moment (sendings (parts_in c now vs)) now.sessions ≡ of_deliveries (flat_map items_in (parts_in c now vs))
+items-are c now [] = refl
+items-are c now (v ∷ vs) =
+    ap (λ (all : List Addressed). (delivered c.world.moment all now.sessions).1) (map-append (sent c.world.sessions) first (sendings rest))
+    ∙ delivered_items c.world.moment (map (sent c.world.sessions) first) (map (sent c.world.sessions) (sendings rest)) now.sessions
+    ∙ ap (λ (l : List Item). l ++ items_after c.world.sessions c.world.moment (sendings rest) (sessions_after c now (fate c now v))) (met-in c now (fate c now v))
+    ∙ ap (λ (l : List Item). of_deliveries (told_in c now (fate c now v)) ++ l) (items-are c (behind c now (fate c now v)) vs)
+    ∙ sym (filter-append is_of_delivery (told_in c now (fate c now v)) (flat_map items_in rest))
   where
     first : List Sending
-    first = sent_in c told v
+    first = sent_in c now.told (fate c now v)
 
     rest : List Part
-    rest = parts_in c (told ++ told_in c told ys v) (sessions_after c told ys v) vs
+    rest = parts_in c (behind c now (fate c now v)) vs
 
 -- a connection's items are of deliveries
 pub items-of : (conn : ℕ) (items : List Item) → items_of conn items ≡ items_of conn (of_deliveries items)
 items-of conn [] = refl
 items-of conn (Entered c sid ∷ items) = ap (λ l. cond (c == conn) (Entered c sid ∷ l) l) (items-of conn items)
 items-of conn (Full c sid ∷ items) = ap (λ l. cond (c == conn) (Full c sid ∷ l) l) (items-of conn items)
+items-of conn (RouteFull row ∷ items) = items-of conn items
 items-of conn (MapTooLong row ∷ items) = items-of conn items
 
 -- there is a part for each view
-pub parts-views : (c : Setting) (told : List Item) (ys : List Session) (vs : List ViewItem) → map (λ (p : Part). p.view) (parts_in c told ys vs) ≡ vs
-parts-views c told ys [] = refl
-parts-views c told ys (v ∷ vs) = ap (λ rest. v ∷ rest) (parts-views c (told ++ told_in c told ys v) (sessions_after c told ys v) vs)
+pub parts-views : (c : Setting) (now : Stage) (vs : List ViewItem) → map (λ (p : Part). p.view) (parts_in c now vs) ≡ vs
+parts-views c now [] = refl
+parts-views c now (v ∷ vs) = ap (λ rest. v ∷ rest) (parts-views c (behind c now (fate c now v)) vs)
 
 -- ---- each of them
 
@@ -382,15 +495,30 @@ each-part P done (q ∷ ps) each (b ∷ before) p later split =
     subst (λ (l : List Part). P l p) (append_assoc done (b ∷ []) before)
     (subst (λ (r : Part). P ((done ++ r ∷ []) ++ before) p) same (each-part P (done ++ q ∷ []) ps each.1 before p later rest))
 
--- what one part more tells
+-- what one part more tells, and opens
 told-more : (done : List Part) (p : Part) (told : List Item) → told ≡ told_by done → told ++ p.items ≡ told_by (done ++ p ∷ [])
 told-more done p told is =
     ap (λ l. l ++ p.items) is ∙ ap (λ l. told_by done ++ l) (sym (append-nil p.items)) ∙ sym (flat_map-append items_in done (p ∷ []))
 
-pub each-in : (P : List Part → Part → Type 0) (c : Setting) → ((done : List Part) (told : List Item) (ys : List Session) (v : ViewItem) → told ≡ told_by done → P done (part_in c told ys v)) →
-    (done : List Part) (told : List Item) (ys : List Session) (vs : List ViewItem) → told ≡ told_by done → EachPart P done (parts_in c told ys vs)
-each-in P c of done told ys [] is = tt
-each-in P c of done told ys (v ∷ vs) is = (
-  of done told ys v is,
-  each-in P c of (done ++ part_in c told ys v ∷ []) (told ++ told_in c told ys v) (sessions_after c told ys v) vs (told-more done (part_in c told ys v) told is),
+routes-more : (first : List (Name × Exporter)) (done : List Part) (p : Part) → with_opening p.opens (routes_behind first done) ≡ routes_behind first (done ++ p ∷ [])
+routes-more first [] p = refl
+routes-more first (q ∷ done) p = routes-more (with_opening q.opens first) done p
+
+-- what was told, and the routes that stand, are those that these parts leave
+pub record IsBehind (c : Setting) (done : List Part) (now : Stage) : Type 0 where
+  pub told : now.told ≡ told_by done
+  pub routes : now.routes ≡ routes_behind c.world.routes done
+
+behind-more : (c : Setting) (done : List Part) (now : Stage) (v : ViewItem) → IsBehind c done now → IsBehind c (done ++ part_in c now v ∷ []) (behind c now (fate c now v))
+behind-more c done now v is = record {
+  told = told-more done (part_in c now v) now.told is.told;
+  routes = ap (with_opening (opens_in (fate c now v))) is.routes ∙ routes-more c.world.routes done (part_in c now v);
+}
+
+pub each-in : (P : List Part → Part → Type 0) (c : Setting) → ((done : List Part) (now : Stage) (v : ViewItem) → IsBehind c done now → P done (part_in c now v)) →
+    (done : List Part) (now : Stage) (vs : List ViewItem) → IsBehind c done now → EachPart P done (parts_in c now vs)
+each-in P c of done now [] is = tt
+each-in P c of done now (v ∷ vs) is = (
+  of done now v is,
+  each-in P c of (done ++ part_in c now v ∷ []) (behind c now (fate c now v)) vs (behind-more c done now v is),
 )

@@ -18,7 +18,7 @@ use Rattle.events.specs.declared.event.Command.{Command}
 use Rattle.events.specs.declared.event.Command.TheVariants.{Connect, Sub, Unsub, Pub, Take, Close, Reload}
 use Rattle.events.specs.declared.answer.Delivery.{Delivery}
 use Rattle.events.specs.declared.answer.Item.{Item}
-use Rattle.events.specs.declared.answer.Item.TheVariants.{Entered, Full, MapTooLong}
+use Rattle.events.specs.declared.answer.Item.TheVariants.{Entered, Full, RouteFull, MapTooLong}
 use Rattle.events.specs.declared.answer.Outcome.{Outcome}
 use Rattle.events.specs.declared.answer.Outcome.TheVariants.{Connected, AuthViolation, Subscribed, SameSid, SubLimit, Denied, Unsubscribed, Published, Taken, Closed, Reloaded}
 use Rattle.events.specs.declared.answer.Entry.{Entry}
@@ -31,10 +31,17 @@ use Rattle.world_subscriptions.specs.Limit.{limited, is_entry_for}
 use Rattle.world_rows.specs.declared.subscription.Subscription.{Subscription}
 use Rattle.queue_choice.specs.Choices.{chosen}
 use Rattle.world.specs.World.{World}
-use Rattle.imports.specs.Views.{views}
+use Rattle.imports.specs.Across.{views}
 use Rattle.imports.specs.declared.view.ViewItem.{ViewItem}
 use Rattle.imports.specs.declared.view.ViewItem.TheVariants.{At, TooLong}
-use Rattle.world.specs.Routing.{View, view_of}
+use Rattle.imports.specs.declared.view.Way.{Way}
+use Rattle.imports.specs.declared.view.Way.TheVariants.{Own, Stream, Service, Response}
+use Rattle.exports.specs.declared.document.Row.{Row}
+use Rattle.service_exporter.specs.Limit.{is_full}
+use Rattle.service_exporter.specs.Routes.{Exporter}
+use Rattle.service_exporter.specs.declared.route.Route.{Route}
+use Rattle.service_routes.specs.Routes.{Name, exporter_of, opened, pruned, spent}
+use Rattle.world.specs.Routing.{View, view_of, view_with, next_subject, responses_on, route_for}
 use Rattle.world_groups.specs.Served.{is_member, members}
 use Rattle.world_subscriptions.specs.Addressing.{delivery_to}
 use Rattle.hub.specs.Sound.{IsSound, user_at, may_subscribe, HasAllowance, is_to_receive}
@@ -143,22 +150,42 @@ times_entered items sub = length (filter (is_entry_for sub) items)
 abbrev pub received_more : List Item → Subscription → Subscription
 received_more items sub = record sub { received = min (2 ^ 64 - 1) (sub.received + times_entered items sub) }
 
--- What one view of a message gives: the message as it is seen there, to whom it goes, and what is told of it.
+-- a response route that a request opens, and the name of its exporter
+pub record Opening : Type 0 where
+  pub exporter : Name
+  pub route : Route
+
+-- What one view of a message gives: the message as it is seen there, to whom it goes, what is told of it, and the route that
+-- it opens, if it is a request that opens one.
 pub record Part : Type 0 where
   pub view : ViewItem
   pub seen : View
   pub subs : List Subscription
   pub items : List Item
+  pub opens : Option Opening
 
 -- what parts tell, the first first
 abbrev pub told_by : List Part → List Item
 told_by parts = flat_map (λ (p : Part). p.items) parts
+
+-- the routes once one is opened, and once parts have opened theirs, the first first
+abbrev pub with_opening : Option Opening → List (Name × Exporter) → List (Name × Exporter)
+with_opening None routes = routes
+with_opening (Some o) routes = opened o.exporter o.route routes
+
+abbrev pub routes_behind : List (Name × Exporter) → List Part → List (Name × Exporter)
+routes_behind routes [] = routes
+routes_behind routes (p ∷ parts) = routes_behind (with_opening p.opens routes) parts
 
 -- the subscriptions that a message may be sent to as it is seen, oldest first: those that are still to receive, once what the
 -- parts before have told is counted
 abbrev pub eligible : World → ℕ → List Part → View → List Subscription
 eligible w conn before v =
     filter (λ (sub : Subscription). is_for w conn v.account v.message.subject sub && is_to_receive (received_more (told_by before) sub)) w.subscriptions
+
+abbrev pub has_some : List Subscription → Bool
+has_some [] = false
+has_some (sub ∷ subs) = true
 
 -- a subscription of no queue group
 abbrev pub is_plain : Subscription → Bool
@@ -227,14 +254,41 @@ pub record IsGivenTo (w : World) (conn word : ℕ) (before : List Part) (p : Par
   -- each of them has one item, oldest first, and nobody else has one
   pub one_each : map item_names p.items ≡ map (λ (sub : Subscription). Some (names_of sub)) p.subs
 
--- What a view gives, behind the parts before it. In an account the message is seen under the view's subject, and goes to those
--- that it is for there. An import row that the message doesn't cross is reported once, and gives it to nobody.
-abbrev pub IsGiven : World → ℕ → Message → ℕ → List Part → Part → ViewItem → Type 0
-IsGiven w conn m word before p (At account s way) = (p.seen ≡ view_of account s m) × IsGivenTo w conn word before p
-IsGiven w conn m word before p (TooLong row) = (p.subs ≡ []) × (p.items ≡ MapTooLong row ∷ [])
+-- A request that wants a response on this reply, where somebody may be sent it (`true`), and the exporter has as many routes as it
+-- may have (`true`), or hasn't. For nobody, nothing comes of it. Without room for a route its row is reported, and it is given to
+-- nobody. Else it is seen with the subject of the exporter's next route in place of its reply, and that route is opened for its
+-- response: for this row, on the terms of the row's export, at this moment.
+abbrev pub IsRequestTo : Bool → Bool → World → ℕ → ℕ → Message → ℕ → List Part → Part → List ℕ → List Token → Row → List Token → Type 0
+IsRequestTo false full w now conn m word before p account s row reply = (p.subs ≡ []) × (p.items ≡ []) × (p.opens ≡ None)
+IsRequestTo true true w now conn m word before p account s row reply = (p.subs ≡ []) × (p.items ≡ RouteFull row ∷ []) × (p.opens ≡ None)
+IsRequestTo true false w now conn m word before p account s row reply =
+    (p.seen ≡ view_with account s (Some (next_subject word (exporter_of account (routes_behind (pruned now w.routes) before)))) m)
+    × (p.opens ≡ Some record { exporter = account; route = route_for w.policy row reply word now })
+    × IsGivenTo w conn word before p
 
-abbrev pub IsPart : World → ℕ → Message → ℕ → List Part → Part → Type 0
-IsPart w conn m word before p = IsGiven w conn m word before p p.view
+-- One that wants no response is seen as it was published.
+abbrev pub IsRequest : World → ℕ → ℕ → Message → ℕ → List Part → Part → List ℕ → List Token → Row → Option (List Token) → Type 0
+IsRequest w now conn m word before p account s row None = (p.seen ≡ view_of account s m) × (p.opens ≡ None) × IsGivenTo w conn word before p
+IsRequest w now conn m word before p account s row (Some reply) =
+    IsRequestTo (has_some (eligible w conn before (view_of account s m))) (is_full 1 now (exporter_of account (routes_behind (pruned now w.routes) before)))
+    w now conn m word before p account s row reply
+
+-- What a message gives in an account, by the way on which it comes there. It goes to those that it is for there, under the view's
+-- subject; a response has no reply.
+abbrev pub IsGivenBy : World → ℕ → ℕ → Message → ℕ → List Part → Part → List ℕ → List Token → Way → Type 0
+IsGivenBy w now conn m word before p account s Own = (p.seen ≡ view_of account s m) × (p.opens ≡ None) × IsGivenTo w conn word before p
+IsGivenBy w now conn m word before p account s (Stream row) = (p.seen ≡ view_of account s m) × (p.opens ≡ None) × IsGivenTo w conn word before p
+IsGivenBy w now conn m word before p account s (Service row) = IsRequest w now conn m word before p account s row m.reply
+IsGivenBy w now conn m word before p account s (Response row) = (p.seen ≡ view_with account s None m) × (p.opens ≡ None) × IsGivenTo w conn word before p
+
+-- What a view gives, behind the parts before it. An import row that the message doesn't cross is reported once, and gives it to
+-- nobody.
+abbrev pub IsGiven : World → ℕ → ℕ → Message → ℕ → List Part → Part → ViewItem → Type 0
+IsGiven w now conn m word before p (At account s way) = IsGivenBy w now conn m word before p account s way
+IsGiven w now conn m word before p (TooLong row) = (p.subs ≡ []) × (p.items ≡ MapTooLong row ∷ []) × (p.opens ≡ None)
+
+abbrev pub IsPart : World → ℕ → ℕ → Message → ℕ → List Part → Part → Type 0
+IsPart w now conn m word before p = IsGiven w now conn m word before p p.view
 
 -- A message, as it is seen in a view, for a subscription.
 pub record Sending : Type 0 where
@@ -265,61 +319,68 @@ pub record IsDelivered (w : World) (now : ℕ) (by : By) (publisher : ℕ) (subj
   -- and these deliveries are what came into the outboxes, and what was noted
   pub outboxes : after ≡ map (λ (z : Session). receives now by publisher subject (map delivery_of (sent_to z.conn ss)) z) w.sessions
 
--- A message that a user of the account has published: what each of its views gives, by the policy in force, and what comes of
--- all.
-pub record IsSent (w : World) (now : ℕ) (by : By) (conn : ℕ) (m : Message) (word : ℕ) (account : List ℕ) (items : List Item) (after : List Session) : Type 0 where
+-- A message that a user of the account has published: what each of its views gives, by the policy in force and the routes that
+-- live, and what comes of all.
+pub record IsSent (w : World) (now : ℕ) (by : By) (conn : ℕ) (m : Message) (word : ℕ) (account : List ℕ) (items : List Item) (after : World) : Type 0 where
   pub parts : List Part
-  -- each view of the message, in order, and no other
-  pub in_views : map (λ (p : Part). p.view) parts ≡ views w.policy account m.subject
+  -- each view of the message, in order, and no other: across the rows of the policy, and where the account has a live route on
+  -- the subject, the response
+  pub in_views : map (λ (p : Part). p.view) parts ≡ views w.policy account m.subject (responses_on (pruned now w.routes) account m.subject)
   -- each gives what it gives behind those before it
-  pub each : (before : List Part) (p : Part) (later : List Part) → parts ≡ before ++ p ∷ later → IsPart w conn m word before p
+  pub each : (before : List Part) (p : Part) (later : List Part) → parts ≡ before ++ p ∷ later → IsPart w now conn m word before p
   -- what is told is what they tell
   pub items_are : items ≡ told_by parts
-  pub delivered : IsDelivered w now by conn m.subject (sendings parts) items after
+  pub delivered : IsDelivered w now by conn m.subject (sendings parts) items after.sessions
+  -- the routes that live stand, and behind them those that the message has opened; one of the account on its subject has ended,
+  -- if it was for a single response
+  pub routes : after.routes ≡ spent account m.subject (routes_behind (pruned now w.routes) parts)
 
 -- ---- what a step does
 
--- no session, outbox or subscription has changed
-pub record IsUntouched (w after : World) : Type 0 where
+-- no session, outbox or subscription has changed, and of the response routes those stand that live
+pub record IsUntouched (w : World) (now : ℕ) (after : World) : Type 0 where
   pub sessions : after.sessions ≡ w.sessions
   pub subscriptions : after.subscriptions ≡ w.subscriptions
+  pub routes : after.routes ≡ pruned now w.routes
 
 -- What an answered command does to the sessions and subscriptions, by what it was answered.
 abbrev pub IsEffect : World → ℕ → Command → Outcome → World → Type 0
 -- a session of the user stands, the last, with nothing in its outbox
 IsEffect w now (Connect conn name password echo) Connected after =
     IsSomeAnd (user_with_password w.policy name password) (λ (u : User). after.sessions ≡ w.sessions ++ new_session conn u echo w.capacity ∷ [])
-    × (after.subscriptions ≡ w.subscriptions)
-IsEffect w now (Connect conn name password echo) AuthViolation after = IsUntouched w after
+    × (after.subscriptions ≡ w.subscriptions) × (after.routes ≡ pruned now w.routes)
+IsEffect w now (Connect conn name password echo) AuthViolation after = IsUntouched w now after
 -- the subscription stands, the youngest, of the user's account, where none of that id stood and fewer than 4,096 of the
 -- connection's; else nothing changes
 IsEffect w now (Sub conn p queue sid) Subscribed after =
     (stands w.subscriptions conn sid ≡ false) × (has_all w.subscriptions conn ≡ false) × (after.sessions ≡ w.sessions)
     × IsSomeAnd (user_at w conn) (λ (u : User). after.subscriptions ≡ w.subscriptions ++ subscription_of after.number conn u.account p queue sid ∷ [])
-IsEffect w now (Sub conn p queue sid) SameSid after = (stands w.subscriptions conn sid ≡ true) × IsUntouched w after
+    × (after.routes ≡ pruned now w.routes)
+IsEffect w now (Sub conn p queue sid) SameSid after = (stands w.subscriptions conn sid ≡ true) × IsUntouched w now after
 IsEffect w now (Sub conn p queue sid) SubLimit after =
-    (stands w.subscriptions conn sid ≡ false) × (has_all w.subscriptions conn ≡ true) × IsUntouched w after
-IsEffect w now (Sub conn p queue sid) (Denied v) after = IsUntouched w after
+    (stands w.subscriptions conn sid ≡ false) × (has_all w.subscriptions conn ≡ true) × IsUntouched w now after
+IsEffect w now (Sub conn p queue sid) (Denied v) after = IsUntouched w now after
 -- the connection's subscription of that id, if one stands, takes the limit, in place of an earlier one, and ends where
 -- it has received as many; no other changes
 IsEffect w now (Unsub conn sid most) Unsubscribed after =
-    (after.sessions ≡ w.sessions) × (after.subscriptions ≡ filter is_to_receive (map (limited conn sid most) w.subscriptions))
+    (after.sessions ≡ w.sessions) × (after.subscriptions ≡ filter is_to_receive (map (limited conn sid most) w.subscriptions)) × (after.routes ≡ pruned now w.routes)
 -- the message, in each of its views to those that it is for there, and to nobody else: of those that may be sent it the
 -- plain ones, and of each queue group the one that the word chooses, room or not; each subscription counts it as often
 -- as it has entered for it, and ends where that was the last that it was to receive
 IsEffect w now (Pub conn m word) (Published by items) after =
-    IsSomeAnd (user_at w conn) (λ (u : User). IsSent w now by conn m word u.account items after.sessions)
+    IsSomeAnd (user_at w conn) (λ (u : User). IsSent w now by conn m word u.account items after)
     × (after.subscriptions ≡ filter is_to_receive (map (received_more items) w.subscriptions))
-IsEffect w now (Pub conn m word) (Denied v) after = IsUntouched w after
+IsEffect w now (Pub conn m word) (Denied v) after = IsUntouched w now after
 -- the oldest deliveries of the connection's session leave its outbox, and what was missed has been told
 IsEffect w now (Take conn most) (Taken deliveries missed) after =
     IsSomeAnd (session_of w.sessions conn) (λ (z : Session). (deliveries ≡ take most z.outbox.waiting) × (missed ≡ z.missed))
     × (after.sessions ≡ map (λ (z : Session). if z.conn == conn then drained most z else z) w.sessions)
-    × (after.subscriptions ≡ w.subscriptions)
+    × (after.subscriptions ≡ w.subscriptions) × (after.routes ≡ pruned now w.routes)
 -- the connection's session and subscriptions go, and no others
 IsEffect w now (Close conn) Closed after =
     (after.sessions ≡ filter (λ (z : Session). not (z.conn == conn)) w.sessions)
     × (after.subscriptions ≡ filter (λ (sub : Subscription). not (sub.conn == conn)) w.subscriptions)
+    × (after.routes ≡ pruned now w.routes)
 -- the policy is in force: sessions and subscriptions stay or go as it says
 IsEffect w now (Reload doc) (Reloaded gone removed) after = IsInForce w now doc gone removed after
 -- no command has another's answer
@@ -386,17 +447,18 @@ pub record IsRouted (s : State) (e : Event) (a : Entry) (after : State) : Type 0
   pub accepted : accepts a.outcome ≡ allows s.world (max s.world.moment e.now) e.what
   -- each denial names its deciding rule, or the missing allow
   pub reason : HasReason s.world (max s.world.moment e.now) e.what a.outcome
-  -- sessions, outboxes and subscriptions change as the command asks, and in no other way
+  -- sessions, outboxes, subscriptions and response routes change as the command asks, and in no other way
   pub effect : IsEffect s.world (max s.world.moment e.now) e.what a.outcome after.world
   -- the clock goes on to the event's moment, and the number rises by one; a reload, and nothing else, puts another
   -- policy in force and raises the epoch by one; the capacity stays
-  pub others : (after.world ≡ record s.world { policy = policy_after s.world e.what; epoch = epoch_after s.world e.what; moment = max s.world.moment e.now; number = s.world.number + 1; sessions = after.world.sessions; subscriptions = after.world.subscriptions })
+  pub others : (after.world ≡ record s.world { policy = policy_after s.world e.what; epoch = epoch_after s.world e.what; moment = max s.world.moment e.now; number = s.world.number + 1; sessions = after.world.sessions; subscriptions = after.world.subscriptions; routes = after.world.routes })
   pub number : a.number ≡ s.world.number + 1
   pub epoch : a.epoch ≡ epoch_after s.world e.what
   -- the answer has the event, and is entered behind all others, and nothing is forgotten
   pub event : a.event ≡ e
   pub history : after ≡ record s { world = after.world; entries = s.entries ++ a ∷ [] }
-  -- no standing subscription is refused by the policy in force
+  -- what every hub keeps held before the step, and holds after it: no standing subscription is refused by the policy in force
+  pub before : IsSound s.world
   pub sound : IsSound after.world
 
 -- A refused step hands the event back and changes nothing, where its refusal is due.

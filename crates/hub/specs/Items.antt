@@ -1,7 +1,7 @@
 -- What an item tells, read in one place (docs/GUARANTEE.md, "The guarantee").
 use Rattle.std.specs.Prelude.{ℕ, List, Bool, true, false, Option, Some, None}
 use Rattle.events.specs.declared.answer.Item.{Item}
-use Rattle.events.specs.declared.answer.Item.TheVariants.{Entered, Full, MapTooLong}
+use Rattle.events.specs.declared.answer.Item.TheVariants.{Entered, Full, RouteFull, MapTooLong}
 
 -- a delivery of which an item tells: the connection and the id of its subscription, and whether it has entered
 pub record DeliveryItem : Type 0 where
@@ -13,6 +13,7 @@ pub record DeliveryItem : Type 0 where
 abbrev pub delivery_item : Item → Option DeliveryItem
 delivery_item (Entered conn sid) = Some (record { conn = conn; sid = sid; entered = true })
 delivery_item (Full conn sid) = Some (record { conn = conn; sid = sid; entered = false })
+delivery_item (RouteFull row) = None
 delivery_item (MapTooLong row) = None
 
 abbrev pub passes : (DeliveryItem → Bool) → Option DeliveryItem → Bool

@@ -1,4 +1,5 @@
 pub mod Kept
+pub mod Routes
 pub mod Sound
 pub mod Replies
 pub mod History

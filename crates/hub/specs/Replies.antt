@@ -4,7 +4,7 @@ use Rattle.std.specs.Prelude.{◌==◌, ◌-◌, ◌&&◌, ℕ, Bool, true, fals
 use Rattle.std.specs.List.{list_any}
 use Rattle.subjects.specs.Subject.{Token}
 use Rattle.subjects.specs.Equal.{same_subject}
-use Rattle.policy_doc.specs.declared.document.Terms.{Terms}
+use Rattle.permission_doc.specs.declared.document.Terms.{Terms}
 use Rattle.permissions.specs.declared.verdict.By.{By}
 use Rattle.permissions.specs.declared.verdict.By.TheVariants.{All as AllowsAll, Index, Grant as ByGrant}
 use Rattle.reply_grants.specs.Grants.{Grant}

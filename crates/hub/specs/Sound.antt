@@ -2,6 +2,7 @@
 use Rattle.std.specs.Prelude.{◌≡◌, ◌≢◌, ◌+◌, ◌-◌, ◌^◌, ◌<◌, ◌≤◌, ℕ, List, Bool, true, false, Option, Some, None, length, All, AllPairs, IsSomeAnd, nat_lt}
 use Rattle.std.specs.Option.{option_map}
 use Rattle.subjects.specs.Subject.{Token}
+use Rattle.policy_doc.specs.Accounts.{IsByName}
 use Rattle.policy_doc.specs.Document.{IsValidPolicy}
 use Rattle.policy_doc.specs.declared.document.PolicyDoc.{PolicyDoc}
 use Rattle.permissions.specs.Verdicts.{subscribe_verdict, is_allowed, IsJustifiedSubscribe}
@@ -9,12 +10,15 @@ use Rattle.permissions.specs.declared.verdict.By.{By}
 use Rattle.permissions.specs.declared.verdict.Verdict.TheVariants.{Allowed}
 use Rattle.policy_ready.specs.Users.{user_named}
 use Rattle.policy_ready.specs.declared.ready.User.{User}
+use Rattle.service_exporter.specs.Routes.{Exporter}
+use Rattle.service_routes.specs.Routes.{Name}
 use Rattle.world_deliveries.specs.Sessions.{session_of}
 use Rattle.world_deliveries.specs.declared.session.Session.{Session}
 use Rattle.world_subscriptions.specs.Subscriptions.{is_under, of_connection}
 use Rattle.world_rows.specs.declared.subscription.Subscription.{Subscription}
 use Rattle.world.specs.World.{World}
 use Rattle.hub.specs.Kept.{IsKeptTable}
+use Rattle.hub.specs.Routes.{AreRouted, EachRoute, IsOfRow}
 
 -- the user that a session acts for: whom the policy has under the name of the session's user
 abbrev pub user_behind : PolicyDoc → Option Session → Option User
@@ -56,6 +60,8 @@ has_same_sid s t = is_under t.conn t.sid s
 pub record IsSound (w : World) : Type 0 where
   -- the policy in force is valid
   pub policy : IsValidPolicy w.policy
+  -- and has each account once, in the order of their names
+  pub names : IsByName w.policy.accounts
   -- at most 4,096 sessions stand
   pub limit : length w.sessions ≤ 4096
   -- no connection has two sessions
@@ -84,5 +90,9 @@ pub record IsSound (w : World) : Type 0 where
   -- their ids rise, and none is above the last number
   pub ids : AllPairs (λ (s t : Subscription). s.id < t.id) w.subscriptions
   pub numbers : All (λ (s : Subscription). s.id ≤ w.number) w.subscriptions
+  -- the response routes of each exporter: at most 65,536, each of which lives, with numbers that rise
+  pub routes : All (λ (e : Name × Exporter). AreRouted w.moment e.1) w.routes
+  -- each is for a service row of the policy in force, on the terms that it has there
+  pub rows : EachRoute (IsOfRow w.policy) w.routes
   -- the epoch, 1 at the opening, rises no faster than the number
   pub epoch : w.epoch ≤ w.number + 1

@@ -24,6 +24,15 @@ pub struct Caps {
 /// The world, and the history of its steps since its opening or last rotation. A clause sees the world, the one before
 /// the entries, and the entries. Of every hub it holds that the policy in force refuses no standing subscription, that
 /// the entries are a legal run, and what else `known` tells.
+///
+/// ```
+/// let mut hub = Hub::new(alloc, ready, caps, keys).ok()?;
+/// let answer = hub.step(event).ok()?;
+/// Some(answer.get().number)
+/// ```
+///
+/// A step costs what its command does: a publish its subject's look-up and something for each receiver, a reload a look at each
+/// session. An entry more in the history costs no more, however long it is.
 pub struct Hub {
     alloc: Global,
     world: World,

@@ -12,7 +12,7 @@ use Rattle.std.proofs.lemmas.List.Quantifiers.{all_pairs_push}
 use Rattle.subjects.specs.Subject.{Token}
 use Rattle.subjects.specs.Equal.{same_subject}
 use Rattle.policy_doc.specs.declared.document.PolicyDoc.{PolicyDoc}
-use Rattle.policy_doc.specs.declared.document.Terms.{Terms}
+use Rattle.permission_doc.specs.declared.document.Terms.{Terms}
 use Rattle.permissions.specs.Verdicts.{subscribe_verdict}
 use Rattle.permissions.specs.declared.verdict.By.{By}
 use Rattle.permissions.specs.declared.verdict.Verdict.{Verdict}
@@ -32,6 +32,10 @@ use Rattle.events.specs.declared.refusal.HubRefusal.{HubRefusal}
 use Rattle.events.specs.declared.refusal.HubRefusal.TheVariants.{SessionLimit}
 use Rattle.imports.specs.declared.view.ViewItem.{ViewItem}
 use Rattle.imports.specs.declared.view.ViewItem.TheVariants.{At, TooLong}
+use Rattle.imports.specs.declared.view.Way.TheVariants.{Own, Stream, Service, Response}
+use Rattle.service_exporter.specs.Routes.{Exporter}
+use Rattle.service_routes.specs.Routes.{Name, kept, pruned}
+use Rattle.service_rows.specs.Rows.{again}
 use Rattle.world_deliveries.specs.Sessions.{session_of, new_session, drained}
 use Rattle.world_sessions.specs.Renewal.{user_again_of, stays, goes, with_user, renewed, remaining, connection_of, closed_conns}
 use Rattle.world_deliveries.specs.declared.session.Session.{Session}
@@ -41,7 +45,7 @@ use Rattle.world_subscriptions.specs.Subscriptions.{stands, has_all, subscriptio
 use Rattle.world_subscriptions.specs.Limit.{unended, limited}
 use Rattle.world_rows.specs.declared.subscription.Subscription.{Subscription}
 use Rattle.world.specs.World.{World, opening_world, advanced}
-use Rattle.world.specs.Granting.{verdict_on}
+use Rattle.world.specs.Granting.{verdict_on, counted_on}
 use Rattle.world.specs.Reload.{removal_after, stands_on}
 use Rattle.world.specs.Transition.{transition, connected, subscribed, unsubscribed, published, taken, closed, in_session, in_new_session, moved, numbered, entry_with}
 use Rattle.hub.specs.History.{IsEntry, IsLegalRun}
@@ -50,12 +54,12 @@ use Rattle.hub.specs.Kept.{IsKeptTable}
 use Rattle.hub.specs.Replies.{is_by_grant, is_response as is_counted}
 use Rattle.hub.proofs.Finds.{find-passes, find-none, find-map, find-All, AllPairs-head, AllPairs-tail}
 use Rattle.hub.proofs.Grants.{not-false, kept_none, kept_later, kept_after, kept_judged}
-use Rattle.hub.proofs.Soundness.{next, IsApart, HasTable}
+use Rattle.hub.proofs.Soundness.{next, next_with, IsApart, HasTable}
 use Rattle.hub.proofs.Deliveries.{found, receives_of}
 use Rattle.hub_grant_laws.specs.Dropping.{world_after}
 use Rattle.hub_grant_laws.specs.Noted.{Step, step_of, steps_of, asks_on, waiting_in, entered_between, is_request, is_publish, responds_by, ends_for, latest, IsNoted, AreNoted, RequestsArePublished}
 use Rattle.hub_grant_laws.proofs.Noted.{latest-more, after-publish, after-other, after-judged}
-use Rattle.hub_grant_laws.proofs.Sends.{IsOf, publishes}
+use Rattle.hub_grant_laws.proofs.Sends.{Start, IsOf, IsOfRequest, publishes}
 
 -- ---- what a step brings into outboxes
 
@@ -342,6 +346,7 @@ module _ (steps : List Step) (w : World) (now : ℕ) (t : Told steps w.moment w.
     epoch = w.epoch + 1;
     sessions = remaining M doc w.sessions;
     subscriptions = filter (stands_on doc w.sessions) w.subscriptions;
+    routes = pruned M (kept (again w.policy doc) (pruned M w.routes));
     number = w.number + 1;
   }) refl
       (apart-map (renewed M doc) left (λ z. conn-is z (user_again_of doc z)) (AllPairs-filter IsApart (stays doc) w.sessions t.apart))
@@ -393,14 +398,25 @@ module _ (steps : List Step) (w : World) (now : ℕ) (t : Told steps w.moment w.
       denied v = same c (Denied v) w.subscriptions (λ n. refl) (λ n s. refl)
 
       -- of what is sent nothing is assumed
-      whatever : (v : ViewItem) → IsOf (λ s. Unit {0}) m v
-      whatever (At account subject way) = λ s. tt
-      whatever (TooLong row) = tt
+      start : By → Session → Start
+      start by z = record { before = w.sessions; begun = counted_on by z.conn m.subject w.sessions; world = advanced w now }
 
-      sent : (by : By) (ss : List Sending) (items : List Item) (left : List Subscription) (sender : ℕ) → sender ≡ conn → Leaves c (Published by items) (next w now (map (receives_of M by sender m.subject ss) w.sessions) left)
-      sent by ss items left sender sender_is = (
+      asked : (by : By) (z : Session) (account : List ℕ) (subject : List Token) (reply : Option (List Token)) → IsOfRequest (start by z) z m word (λ s. Unit {0}) account subject reply
+      asked by z account subject None = λ s. tt
+      asked by z account subject (Some reply) = λ route s. tt
+
+      whatever : (by : By) (z : Session) (v : ViewItem) → IsOf (start by z) z m word (λ s. Unit {0}) v
+      whatever by z (At account subject Own) = λ s. tt
+      whatever by z (At account subject (Stream row)) = λ s. tt
+      whatever by z (At account subject (Service row)) = asked by z account subject m.reply
+      whatever by z (At account subject (Response row)) = λ s. tt
+      whatever by z (TooLong row) = tt
+
+      sent : (by : By) (ss : List Sending) (items : List Item) (left : List Subscription) (routes : List (Name × Exporter)) (sender : ℕ) → sender ≡ conn →
+          Leaves c (Published by items) (next_with w now (map (receives_of M by sender m.subject ss) w.sessions) left routes)
+      sent by ss items left routes sender sender_is = (
         (λ number epoch.
-            let a : Step = step_of w (told number epoch now c (Published by items)) (next w now (map get w.sessions) left) in record {
+            let a : Step = step_of w (told number epoch now c (Published by items)) (next_with w now (map get w.sessions) left routes) in record {
               clock = clock_is a refl;
               apart = apart-map get w.sessions (λ z. refl) t.apart;
               tables = All-map (HasTable M) get w.sessions (λ k d h.
@@ -426,8 +442,8 @@ module _ (steps : List Step) (w : World) (now : ℕ) (t : Told steps w.moment w.
 
       by_verdict : (z : Session) (v : Verdict) → z.conn ≡ conn → Keeps c (numbered (w.number + 1) (Ok (published (advanced w now) z m word v)))
       by_verdict z (Allowed by) sender_is =
-          let p = publishes (λ s. Unit {0}) w now z m word by t.apart whatever in
-          subst (λ (r : Outcome × World). Keeps c (numbered (w.number + 1) (Ok r))) (sym p.is) (sent by p.ss p.items p.left z.conn sender_is)
+          let p = publishes (λ s. Unit {0}) w now z m word by t.apart (λ k d h. whatever by z _) in
+          subst (λ (r : Outcome × World). Keeps c (numbered (w.number + 1) (Ok r))) (sym p.is) (sent by p.ss p.items p.left p.routes z.conn sender_is)
       by_verdict z (DeniedBy i) from = denied (DeniedBy i)
       by_verdict z NoAllow from = denied NoAllow
       by_verdict z (NoQueueAllow i) from = denied (NoQueueAllow i)

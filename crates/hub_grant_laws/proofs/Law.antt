@@ -6,7 +6,7 @@ use Rattle.std.specs.Option.{option_map}
 use Rattle.std.proofs.lemmas.List.{length-map, map-append}
 use Rattle.subjects.specs.Subject.{Token}
 use Rattle.policy_doc.specs.declared.document.PolicyDoc.{PolicyDoc}
-use Rattle.policy_doc.specs.declared.document.Terms.{Terms}
+use Rattle.permission_doc.specs.declared.document.Terms.{Terms}
 use Rattle.permissions.specs.Verdicts.{publish_verdict, subscribe_verdict}
 use Rattle.permissions.specs.declared.verdict.By.{By}
 use Rattle.permissions.specs.declared.verdict.Verdict.{Verdict}
@@ -37,7 +37,8 @@ use Rattle.world_subscriptions.specs.Limit.{unended, limited}
 use Rattle.world_rows.specs.declared.subscription.Subscription.{Subscription}
 use Rattle.world.specs.World.{World, advanced}
 use Rattle.world.specs.Granting.{or_granted, verdict_on, counted_on, ended_on}
-use Rattle.imports.specs.Views.{views}
+use Rattle.service_routes.specs.Routes.{kept, pruned, spent}
+use Rattle.service_rows.specs.Rows.{again}
 use Rattle.world.specs.Routing.{may_hear, lets_through}
 use Rattle.world.specs.Reload.{user_after, verdict_for, may_stand, stands_on, removal, removal_after}
 use Rattle.world.specs.Transition.{connected, subscribed, published, in_session, in_new_session, moved, numbered, transition}
@@ -48,7 +49,7 @@ use Rattle.hub.proofs.Finds.{find-map, AllPairs-map}
 use Rattle.hub.proofs.Soundness.{IsApart, HasTable, tables-next}
 use Rattle.hub.proofs.Deliveries.{receives_of, outboxes, map-twice, map_same_on}
 use Rattle.hub_grant_laws.specs.Dropping.{with_live, settled, dropping, AreAlike, MakesNoDifference}
-use Rattle.hub_grant_laws.proofs.Sends.{Start, AreAs, sessions_behind, world_behind, from, sent-as, send-alike}
+use Rattle.hub_grant_laws.proofs.Sends.{Start, Behind, AreAs, views_of, sessions_behind, world_behind, from, sent-as, send-alike}
 use Rattle.hub_grant_laws.proofs.Tables.{live_in, live_later, filter-map, after_same, judged_same, granted_same}
 
 -- ---- what is live later
@@ -291,20 +292,22 @@ module _ (w : World) (moment : ℕ) where
           let begin : Start = record { before = zs; begun = counted_on by z.conn m.subject zs; world = whole } in
           let us : List Session = counted_on by z.conn m.subject ts in
           let same = as_before M by z.conn m.subject whole z in
-          let of = send-alike begin z ts us (with_live M z) same m word [] w.subscriptions (views w.policy z.user.account m.subject) in
+          let first : Behind = record { done = []; subs = w.subscriptions; routes = whole.routes } in
+          let of = send-alike begin z ts us (with_live M z) same m word first (views_of whole z m) in
           let items : List Item = of.items in
-          let xs : List Session = ended_on by z.conn m.subject (sessions_behind begin of.ss) in
-          let ys : List Session = ended_on by z.conn m.subject (sessions_behind (from begin us) of.ss) in
-          let finished : List Item × World → Outcome × World = λ r. (Published by r.0, record r.1 { sessions = ended_on by z.conn m.subject r.1.sessions }) in
-          let xs_is : xs ≡ map (receives_of M by z.conn m.subject of.ss) zs = outboxes M z.conn m.subject of.ss zs by connections in
-          let ys_is : ys ≡ map (receives_of M by z.conn m.subject of.ss) ts =
-          ap (λ (all : List Addressed). ended_on by z.conn m.subject (delivered M all us).0) (sym (sent-as begin z ts us (with_live M z) same of.ss))
-          ∙ outboxes M z.conn m.subject of.ss ts by apart in
+          let ss : List Sending = of.last.done in
+          let xs : List Session = ended_on by z.conn m.subject (sessions_behind begin ss) in
+          let ys : List Session = ended_on by z.conn m.subject (sessions_behind (from begin us) ss) in
+          let finished : List Item × World → Outcome × World = λ r. (Published by r.0, record r.1 { sessions = ended_on by z.conn m.subject r.1.sessions; routes = spent z.user.account m.subject r.1.routes }) in
+          let xs_is : xs ≡ map (receives_of M by z.conn m.subject ss) zs = outboxes M z.conn m.subject ss zs by connections in
+          let ys_is : ys ≡ map (receives_of M by z.conn m.subject ss) ts =
+          ap (λ (all : List Addressed). ended_on by z.conn m.subject (delivered M all us).0) (sym (sent-as begin z ts us (with_live M z) same ss))
+          ∙ outboxes M z.conn m.subject ss ts by apart in
           let same_sessions : map (with_live M) ys ≡ map (with_live M) xs =
-          ap (map (with_live M)) ys_is ∙ received_same M by z.conn m.subject of.ss zs tables ∙ sym (ap (map (with_live M)) xs_is) in
+          ap (map (with_live M)) ys_is ∙ received_same M by z.conn m.subject ss zs tables ∙ sym (ap (map (with_live M)) xs_is) in
           subst (λ (r : Outcome × World). AreAlike (numbered n (Ok r)) (numbered n (Ok (published left (with_live M z) m word (Allowed by))))) (sym (ap finished of.is))
-          (subst (λ (r : Outcome × World). AreAlike (numbered n (Ok (finished (items, world_behind begin of.ss of.left)))) (numbered n (Ok r))) (sym (ap finished of.also))
-          (alike M whole n (Published by items) xs ys of.left refl same_sessions))
+          (subst (λ (r : Outcome × World). AreAlike (numbered n (Ok (finished (items, world_behind begin of.last)))) (numbered n (Ok r))) (sym (ap finished of.also))
+          (alike M (record whole { routes = spent z.user.account m.subject of.last.routes }) n (Published by items) xs ys of.last.subs refl same_sessions))
 
       by_verdict : (z : Session) (v : Verdict) → AreAlike (numbered n (Ok (published whole z m word v))) (numbered n (Ok (published left (with_live (max w.moment moment) z) m word v)))
       by_verdict z (Allowed by) = sends z by
@@ -338,7 +341,7 @@ module _ (w : World) (moment : ℕ) where
       ∙ ap ascending (map-twice (with_live M) connection_of connection_of (filter (goes doc) zs) (λ z. refl)) in
       let lost : filter_map (removal_after doc ts) w.subscriptions ≡ filter_map (removal_after doc zs) w.subscriptions =
       ap (λ h. filter_map h w.subscriptions) (λ i sub. removal sub (verdict_for (user-same doc sub i) sub)) in
-      let kept : filter (stands_on doc ts) w.subscriptions ≡ filter (stands_on doc zs) w.subscriptions =
+      let stand : filter (stands_on doc ts) w.subscriptions ≡ filter (stands_on doc zs) w.subscriptions =
       ap (λ h. filter h w.subscriptions) (λ i sub. may_stand (verdict_for (user-same doc sub i) sub)) in
       let stay : map (with_live M) (remaining M doc ts) ≡ map (with_live M) (remaining M doc zs) =
       ap (λ ys. map (with_live M) (map (renewed M doc) ys)) (filter-map (stays doc) (with_live M) zs (λ z. refl))
@@ -346,7 +349,7 @@ module _ (w : World) (moment : ℕ) where
       ∙ map-twice (λ z. renewed M doc (with_live M z)) (with_live M) (λ z. with_live M (renewed M doc z)) (filter (stays doc) zs) (renewed-same doc)
       ∙ sym (map-twice (renewed M doc) (with_live M) (λ z. with_live M (renewed M doc z)) (filter (stays doc) zs) (λ z. refl)) in (
         sym (λ i. Reloaded (gone i) (lost i)),
-        (λ i. record whole { policy = doc; epoch = w.epoch + 1; sessions = stay i; subscriptions = kept i; number = n }),
+        (λ i. record whole { policy = doc; epoch = w.epoch + 1; sessions = stay i; subscriptions = stand i; routes = pruned M (kept (again w.policy doc) whole.routes); number = n }),
       )
 
   each : (c : Command) → AllPairs IsApart zs → All (HasTable (max w.moment moment)) zs → AreAlike (numbered n (moved whole c)) (numbered n (moved left c))

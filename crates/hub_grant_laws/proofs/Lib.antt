@@ -6,3 +6,4 @@ pub mod History
 pub mod Published
 pub mod Requests
 pub mod Runs
+pub mod Asked

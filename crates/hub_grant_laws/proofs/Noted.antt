@@ -7,7 +7,7 @@ use Rattle.std.proofs.lemmas.List.{append_assoc, length-append}
 use Rattle.std.proofs.lemmas.List.Elements.{All-nil, All-cons, All-push, All-drop, All-map, All-filter, All-weaker, All-head, All-tail, filter_passes, filter-append}
 use Rattle.subjects.specs.Subject.{Token}
 use Rattle.subjects.specs.Equal.{same_subject, same_subject-equiv}
-use Rattle.policy_doc.specs.declared.document.Terms.{Terms}
+use Rattle.permission_doc.specs.declared.document.Terms.{Terms}
 use Rattle.reply_grants.specs.Grants.{Grant, is_live, is_for, has_live, without, answered, after_note}
 use Rattle.reply_grants.specs.Replies.{Table, grants_of, answered_in, ended_in, judged}
 use Rattle.events.specs.declared.answer.Delivery.{Delivery}

@@ -1,7 +1,7 @@
--- The requests of a history are those that its entries tell, since in every view a message has the reply that it was
--- published with.
-use Rattle.std.proofs.Common.{◌≡◌, ◌∙◌, ◌==◌, ◌&&◌, ◌||◌, ℕ, ◌+◌, suc, zero, Bool, true, false, cond, List, [], ◌∷◌, map, length, take, Option, Some, None, Result, Ok, Err, ap, sym, refl, subst, arith, max, nat_lt}
-use Rattle.std.specs.Prelude.{All}
+-- The requests of a history are those that its entries tell, where in every view a message has the reply that it was published
+-- with.
+use Rattle.std.proofs.Common.{◌≡◌, ◌∙◌, ◌==◌, ◌&&◌, ◌||◌, ℕ, ◌+◌, suc, zero, Bool, true, false, not, cond, List, [], ◌∷◌, map, length, take, Option, Some, None, Result, Ok, Err, ap, sym, refl, subst, arith, max, nat_lt}
+use Rattle.std.specs.Prelude.{All, IfSome, is_some}
 use Rattle.std.specs.List.{list_any}
 use Rattle.std.proofs.Math.Bool.{and-false}
 use Rattle.std.proofs.lemmas.Bool.{lt-ltb, le-ltb}
@@ -16,25 +16,26 @@ use Rattle.events.specs.declared.event.Command.TheVariants.{Connect, Sub, Unsub,
 use Rattle.events.specs.declared.answer.Entry.{Entry}
 use Rattle.events.specs.declared.answer.Delivery.{Delivery}
 use Rattle.events.specs.declared.answer.Item.{Item}
-use Rattle.events.specs.declared.answer.Item.TheVariants.{Entered, Full, MapTooLong}
+use Rattle.events.specs.declared.answer.Item.TheVariants.{Entered, Full, RouteFull, MapTooLong}
 use Rattle.events.specs.declared.answer.Outcome.{Outcome}
 use Rattle.events.specs.declared.refusal.HubRefusal.{HubRefusal}
 use Rattle.imports.specs.declared.view.ViewItem.{ViewItem}
 use Rattle.imports.specs.declared.view.ViewItem.TheVariants.{At, TooLong}
+use Rattle.imports.specs.declared.view.Way.TheVariants.{Own, Stream, Service, Response}
 use Rattle.world_deliveries.specs.Sessions.{session_of}
 use Rattle.world_deliveries.specs.declared.session.Session.{Session}
 use Rattle.world_rows.specs.declared.subscription.Subscription.{Subscription}
 use Rattle.world.specs.World.{World, opening_world, advanced}
 use Rattle.world.specs.Changes.{items_in}
-use Rattle.world.specs.Granting.{verdict_on}
+use Rattle.world.specs.Granting.{verdict_on, counted_on}
 use Rattle.world.specs.Transition.{published, in_session, moved, numbered}
 use Rattle.world_routing.specs.Handing.{of_deliveries}
 use Rattle.hub.specs.History.{IsEntry}
 use Rattle.hub.specs.Guarantee.{Sending, sent_to, delivery_of, receiver, room_in, items_of, items_with_room, found_full}
 use Rattle.hub.proofs.Views.{items-of}
 use Rattle.hub.proofs.Deliveries.{items_after, receives_of, with_room}
-use Rattle.hub_grant_laws.specs.Noted.{Step, step_of, is_reply, asks_on, entered_between, is_request, is_publish, publishes_with, is_entered_at, tells_request, RequestsAreTold}
-use Rattle.hub_grant_laws.proofs.Sends.{IsOf, publishes}
+use Rattle.hub_grant_laws.specs.Noted.{Step, step_of, is_reply, asks_on, entered_between, is_request, is_publish, publishes_with, is_entered_at, tells_request, has_own_reply, HasOwnReplies, RequestsAreTold}
+use Rattle.hub_grant_laws.proofs.Sends.{Start, IsOf, IsOfRequest, views_of, publishes}
 use Rattle.hub_grant_laws.proofs.History.{quiet-same, none-entered, entered-is, Told, Keeps, step-told, run-each, told-opening}
 
 -- ---- what items tell of deliveries
@@ -43,6 +44,7 @@ use Rattle.hub_grant_laws.proofs.History.{quiet-same, none-entered, entered-is, 
 abbrev is_entering : Item → Bool
 is_entering (Entered c sid) = true
 is_entering (Full c sid) = false
+is_entering (RouteFull row) = false
 is_entering (MapTooLong row) = false
 
 any-own : (conn : ℕ) (items : List Item) → list_any (is_entered_at conn) items ≡ list_any is_entering (items_of conn items)
@@ -59,6 +61,7 @@ any-own conn (Full c sid ∷ items) = here (c == conn) (any-own conn items)
         list_any (is_entered_at conn) items ≡ list_any is_entering (cond b (Full c sid ∷ items_of conn items) (items_of conn items))
     here true rest = rest
     here false rest = rest
+any-own conn (RouteFull row ∷ items) = any-own conn items
 any-own conn (MapTooLong row ∷ items) = any-own conn items
 
 none-full : (subs : List Subscription) → list_any is_entering (map found_full subs) ≡ false
@@ -88,20 +91,33 @@ asks-all s reply (d ∷ ds) all =
 abbrev AsksOn : Option (List Token) → Sending → Type 0
 AsksOn reply s = s.message.reply ≡ reply
 
--- each view of a message has the reply that was published
-own_replies : (m : Message) (v : ViewItem) → IsOf (AsksOn m.reply) m v
-own_replies m (At account subject way) = λ s. refl
-own_replies m (TooLong row) = tt
+-- what has no reply is as it was published
+no-reply : (reply : Option (List Token)) → not (is_some reply) ≡ true → None ≡ reply
+no-reply None is = refl
+no-reply (Some r) is = absurd (cc)
+
+-- the views of a message that has its own reply in them
+module _ (b : Start) (publisher : Session) (m : Message) (word : ℕ) where
+  own_request : (account : List ℕ) (subject : List Token) (reply : Option (List Token)) → not (is_some reply) ≡ true → IsOfRequest b publisher m word (AsksOn m.reply) account subject reply
+  own_request account subject None is = λ s. refl
+  own_request account subject (Some reply) is = absurd (cc)
+
+  own_replies : (v : ViewItem) → has_own_reply m.reply v ≡ true → IsOf b publisher m word (AsksOn m.reply) v
+  own_replies (At account subject Own) is = λ s. refl
+  own_replies (At account subject (Stream row)) is = λ s. refl
+  own_replies (At account subject (Service row)) is = own_request account subject m.reply is
+  own_replies (At account subject (Response row)) is = λ s. no-reply m.reply is
+  own_replies (TooLong row) is = tt
 
 -- ---- a step
 
 abbrev IsAsTold : Step → Type 0
-IsAsTold step = (conn : ℕ) (s : List Token) → is_request conn s step ≡ tells_request conn s step.entry
+IsAsTold step = HasOwnReplies step.before (max step.before.moment step.entry.event.now) step.entry.event.what → (conn : ℕ) (s : List Token) → is_request conn s step ≡ tells_request conn s step.entry
 
 module _ (steps : List Step) (w : World) (now : ℕ) (t : Told steps w.moment w.sessions) where
   abbrev Tells : Command → Result (Outcome × World) HubRefusal → Type 0
   Tells c (Err refusal) = Unit {0}
-  Tells c (Ok r) = (conn : ℕ) (s : List Token) → list_any (asks_on s) (entered_between conn w.sessions r.1.sessions) ≡ (publishes_with s c && list_any (is_entered_at conn) (items_in r.0))
+  Tells c (Ok r) = HasOwnReplies w (max w.moment now) c → (conn : ℕ) (s : List Token) → list_any (asks_on s) (entered_between conn w.sessions r.1.sessions) ≡ (publishes_with s c && list_any (is_entered_at conn) (items_in r.0))
 
   -- only a publish is a request
   others : (c : Command) → is_publish c ≡ false → ((s : List Token) → publishes_with s c ≡ false) → Tells c (numbered (w.number + 1) (moved (advanced w now) c))
@@ -109,11 +125,11 @@ module _ (steps : List Step) (w : World) (now : ℕ) (t : Told steps w.moment w.
     where
       here : (r : Result (Outcome × World) HubRefusal) → Keeps steps w now t c r → Tells c r
       here (Err refusal) keeps = tt
-      here (Ok r) keeps = λ conn s.
+      here (Ok r) keeps = λ own conn s.
           none-entered w.sessions r.1.sessions (keeps.1 other) conn s ∙ sym (ap (λ b. b && list_any (is_entered_at conn) (items_in r.0)) (none s))
 
   publish : (conn : ℕ) (m : Message) (word : ℕ) → Tells (Pub conn m word) (numbered (w.number + 1) (moved (advanced w now) (Pub conn m word)))
-  publish conn m word = by_session (session_of w.sessions conn)
+  publish conn m word = by_session (session_of w.sessions conn) refl
     where
       c : Command
       c = Pub conn m word
@@ -138,20 +154,26 @@ module _ (steps : List Step) (w : World) (now : ℕ) (t : Told steps w.moment w.
           (All-map (HasReply m.reply) delivery_of (sent_to to ss) (All-filter (λ (x : Sending). x.to.conn == to) (AsksOn m.reply) ss asks)))
           ∙ ap (λ b. is_reply s m.reply && b) (sym (entered-told to ss items met_is))
 
-      denied : (to : ℕ) (s : List Token) → list_any (asks_on s) (entered_between to w.sessions w.sessions) ≡ (is_reply s m.reply && false)
-      denied to s = none-entered w.sessions w.sessions (quiet-same w.sessions t.apart) to s ∙ sym (and-false (is_reply s m.reply))
+      denied : HasOwnReplies w M c → (to : ℕ) (s : List Token) → list_any (asks_on s) (entered_between to w.sessions w.sessions) ≡ (is_reply s m.reply && false)
+      denied own to s = none-entered w.sessions w.sessions (quiet-same w.sessions t.apart) to s ∙ sym (and-false (is_reply s m.reply))
 
-      by_verdict : (z : Session) (v : Verdict) → Tells c (numbered (w.number + 1) (Ok (published (advanced w now) z m word v)))
-      by_verdict z (Allowed by) =
-          let p = publishes (AsksOn m.reply) w now z m word by t.apart (own_replies m) in
-          subst (λ (r : Outcome × World). Tells c (numbered (w.number + 1) (Ok r))) (sym p.is) (λ to s. sent by z.conn p.ss p.items to s p.met p.each)
-      by_verdict z (DeniedBy i) = denied
-      by_verdict z NoAllow = denied
-      by_verdict z (NoQueueAllow i) = denied
+      OwnOf : Session → Type 0
+      OwnOf z = All (λ v. has_own_reply m.reply v ≡ true) (views_of (advanced w now) z m)
 
-      by_session : (o : Option Session) → Tells c (numbered (w.number + 1) (in_session o (λ z. published (advanced w now) z m word (verdict_on M z m.subject))))
-      by_session None = tt
-      by_session (Some z) = by_verdict z (verdict_on M z m.subject)
+      by_verdict : (z : Session) (v : Verdict) → session_of w.sessions conn ≡ Some z → Tells c (numbered (w.number + 1) (Ok (published (advanced w now) z m word v)))
+      by_verdict z (Allowed by) at = λ own.
+          let all : OwnOf z = subst (λ o. IfSome o OwnOf) at own in
+          let begin : Start = record { before = w.sessions; begun = counted_on by z.conn m.subject w.sessions; world = advanced w now } in
+          let p = publishes (AsksOn m.reply) w now z m word by t.apart (λ k d h. own_replies begin z m word _ (all k d h)) in
+          subst (λ (r : Outcome × World). (to : ℕ) (s : List Token) → list_any (asks_on s) (entered_between to w.sessions r.1.sessions) ≡ (is_reply s m.reply && list_any (is_entered_at to) (items_in r.0))) (sym p.is)
+          (λ to s. sent by z.conn p.ss p.items to s p.met p.each)
+      by_verdict z (DeniedBy i) at = denied
+      by_verdict z NoAllow at = denied
+      by_verdict z (NoQueueAllow i) at = denied
+
+      by_session : (o : Option Session) → session_of w.sessions conn ≡ o → Tells c (numbered (w.number + 1) (in_session o (λ z. published (advanced w now) z m word (verdict_on M z m.subject))))
+      by_session None at = tt
+      by_session (Some z) at = by_verdict z (verdict_on M z m.subject) at
 
   step-tells : (c : Command) → Tells c (numbered (w.number + 1) (moved (advanced w now) c))
   step-tells (Connect conn name password echo) = others (Connect conn name password echo) refl (λ s. refl)

@@ -7,7 +7,7 @@ use Rattle.std.proofs.lemmas.Bool.{eqb-true, ltb-true, leb-true}
 use Rattle.std.proofs.lemmas.List.Elements.{All-nil, All-head, All-tail}
 use Rattle.subjects.specs.Subject.{Token, in_set}
 use Rattle.subjects.specs.Equal.{same_subject}
-use Rattle.policy_doc.specs.declared.document.Terms.{Terms}
+use Rattle.permission_doc.specs.declared.document.Terms.{Terms}
 use Rattle.permissions.specs.Lists.{Lists, Entry as ListEntry}
 use Rattle.permissions.specs.Verdicts.{unless_denied, by_entry, by_allow_list, by_entry_with, publish_verdict, is_allowed}
 use Rattle.permissions.specs.declared.verdict.By.{By}

@@ -1,20 +1,25 @@
 -- A message on its way in whatever views it has: all that is sent is one list, delivered at once.
-use Rattle.std.proofs.Common.{◌≡◌, ◌∙◌, ℕ, List, [], ◌∷◌, ◌++◌, map, filter, ap, sym, refl}
+use Rattle.std.proofs.Common.{◌≡◌, ◌∙◌, ℕ, Bool, true, false, List, [], ◌∷◌, ◌++◌, Option, Some, None, map, filter, ap, sym, refl}
 use Rattle.std.specs.Prelude.{All, AllPairs, max}
 use Rattle.std.proofs.lemmas.List.{append_assoc, append-nil, append_cancel_left, map-append}
-use Rattle.std.proofs.lemmas.List.Elements.{All-nil, All-append, All-map, filter_agree, filter-append}
+use Rattle.std.proofs.lemmas.List.Elements.{All-nil, All-head, All-tail, All-append, All-map, filter_agree, filter-append}
 use Rattle.events.specs.declared.answer.Addressed.{Addressed}
 use Rattle.events.specs.Messages.{Message}
 use Rattle.events.specs.declared.answer.Item.{Item}
-use Rattle.events.specs.declared.answer.Item.TheVariants.{MapTooLong}
+use Rattle.events.specs.declared.answer.Item.TheVariants.{RouteFull, MapTooLong}
 use Rattle.events.specs.declared.answer.Outcome.{Outcome}
 use Rattle.events.specs.declared.answer.Outcome.TheVariants.{Published}
 use Rattle.permissions.specs.declared.verdict.By.{By}
 use Rattle.permissions.specs.declared.verdict.Verdict.TheVariants.{Allowed}
+use Rattle.subjects.specs.Subject.{Token}
 use Rattle.exports.specs.declared.document.Row.{Row}
-use Rattle.imports.specs.Views.{views}
+use Rattle.imports.specs.Across.{views}
 use Rattle.imports.specs.declared.view.ViewItem.{ViewItem}
 use Rattle.imports.specs.declared.view.ViewItem.TheVariants.{At, TooLong}
+use Rattle.imports.specs.declared.view.Way.TheVariants.{Own, Stream, Service, Response}
+use Rattle.service_exporter.specs.Limit.{is_full}
+use Rattle.service_exporter.specs.Routes.{Exporter}
+use Rattle.service_routes.specs.Routes.{Name, exporter_of, spent}
 use Rattle.world_deliveries.specs.Delivered.{delivered}
 use Rattle.world_deliveries.specs.Replying.{noted_for}
 use Rattle.world_deliveries.specs.declared.session.Session.{Session}
@@ -25,13 +30,14 @@ use Rattle.world_groups.specs.Served.{served}
 use Rattle.world.specs.World.{World, advanced}
 use Rattle.world.specs.Granting.{counted_on, ended_on}
 use Rattle.world.specs.Transition.{published}
-use Rattle.world.specs.Routing.{View, under_subject, view_of, is_admitted, routed, in_view, in_views}
+use Rattle.world.specs.Routing.{View, view_of, view_with, is_admitted, routed, responses_on, route_for, next_subject, in_view, in_views}
+use Rattle.world_routing.specs.Routing.{is_nil, requested, requested_by}
 use Rattle.world_routing.specs.Handing.{is_of_delivery, of_deliveries}
-use Rattle.hub.specs.Guarantee.{Sending}
+use Rattle.hub.specs.Guarantee.{Opening, Sending, with_opening}
 use Rattle.world_routing.proofs.Publishing.{same_met}
 use Rattle.hub.proofs.Soundness.{IsApart}
 use Rattle.hub.proofs.Deliveries.{sent, map-twice, items_after, receives_of, outboxes}
-use Rattle.hub.proofs.Views.{to_each, of-deliveries, delivered_first, delivered_items}
+use Rattle.hub.proofs.Views.{Setting, Fate, Delivered, ForNobody, WithoutRoute, NotCrossed, of_reply, opens_in, to_each, of-deliveries, delivered_first, delivered_items}
 
 -- what stays the same over the views: the sessions before the message, those with which the first view begins, and the
 -- world
@@ -40,15 +46,12 @@ pub record Start : Type 0 where
   pub begun : List Session
   pub world : World
 
--- the sessions after these were sent, what was told of others behind them, and the world with these subscriptions
+-- the sessions after these were sent, and what was told of others behind them
 abbrev pub sessions_behind : Start → List Sending → List Session
 sessions_behind b done = (delivered b.world.moment (map (sent b.before) done) b.begun).0
 
 abbrev pub told_behind : Start → List Sending → List Sending → List Item
 told_behind b done ss = (delivered b.world.moment (map (sent b.before) ss) (sessions_behind b done)).1
-
-abbrev pub world_behind : Start → List Sending → List Subscription → World
-world_behind b done subs = record b.world { sessions = sessions_behind b done; subscriptions = subs }
 
 more-sessions : (b : Start) (done ss : List Sending) → (delivered b.world.moment (map (sent b.before) ss) (sessions_behind b done)).0 ≡ sessions_behind b (done ++ ss)
 more-sessions b done ss =
@@ -72,118 +75,126 @@ addressed-are zs publisher word subs v =
     map-twice (addressed_to v.message) (noted_for zs) (λ (s : Subscription). sent zs record { message = v.message; to = s }) some (λ s. refl)
     ∙ sym (map-twice (λ (s : Subscription). let one : Sending = record { message = v.message; to = s } in one) (sent zs) (λ (s : Subscription). sent zs record { message = v.message; to = s }) some (λ s. refl))
 
--- a view whose deliveries are these
-routed-is : (b : Start) (zs : List Session) (publisher : Session) (word : ℕ) (done ss : List Sending) (subs : List Subscription) (v : View) →
-    map (noted_for zs) (map (addressed_to v.message) (served word (filter (is_admitted zs publisher v) subs))) ≡ map (sent b.before) ss →
-    routed zs (world_behind b done subs) publisher v word ≡ (told_behind b done ss, world_behind b (done ++ ss) (unended (map (counted (told_behind b done ss)) subs)))
-routed-is b zs publisher word done ss subs v are =
-    ap (λ (all : List Addressed). ((delivered b.world.moment all (sessions_behind b done)).1, record b.world { sessions = (delivered b.world.moment all (sessions_behind b done)).0; subscriptions = unended (map (counted (delivered b.world.moment all (sessions_behind b done)).1) subs) })) are
-    ∙ ap (λ (ys : List Session). (told_behind b done ss, record b.world { sessions = ys; subscriptions = unended (map (counted (told_behind b done ss)) subs) })) (more-sessions b done ss)
+-- ---- what becomes of views
 
--- a row that the message doesn't cross sends nothing
-row-is : (b : Start) (done : List Sending) (subs : List Subscription) (row : Row) →
-    ◌≡◌ {A = List Item × World} (MapTooLong row ∷ [], world_behind b done subs) (MapTooLong row ∷ [], world_behind b (done ++ []) subs)
-row-is b done subs row = ap (λ (l : List Sending). (MapTooLong row ∷ [], world_behind b l subs)) (sym (append-nil done))
+-- what of a message has been handled: what was sent, the subscriptions that stand, and the response routes
+pub record Behind : Type 0 where
+  pub done : List Sending
+  pub subs : List Subscription
+  pub routes : List (Name × Exporter)
 
--- and then the others
-and-then : (zs : List Session) (publisher : Session) (m : Message) (word : ℕ) (v : ViewItem) (vs : List ViewItem) (w next : World) (items : List Item) (rest : List Item × World) →
-    in_view zs w publisher m word v ≡ (items, next) → in_views zs next publisher m word vs ≡ rest → in_views zs w publisher m word (v ∷ vs) ≡ (items ++ rest.0, rest.1)
-and-then zs publisher m word v vs w next items rest first others =
-    ap (λ (r : List Item × World). (r.0 ++ (in_views zs r.1 publisher m word vs).0, (in_views zs r.1 publisher m word vs).1)) first
-    ∙ ap (λ (r : List Item × World). (items ++ r.0, r.1)) others
+abbrev pub world_behind : Start → Behind → World
+world_behind b at = record b.world { sessions = sessions_behind b at.done; subscriptions = at.subs; routes = at.routes }
 
--- what is told of deliveries, of one view and then of the others
-met-both : (b : Start) (done ss rest : List Sending) (items later : List Item) → of_deliveries items ≡ told_behind b done ss → of_deliveries later ≡ told_behind b (done ++ ss) rest →
-    of_deliveries (items ++ later) ≡ told_behind b done (ss ++ rest)
-met-both b done ss rest items later first others =
-    filter-append is_of_delivery items later
-    ∙ ap (λ (l : List Item). l ++ of_deliveries later) first
-    ∙ ap (λ (l : List Item). told_behind b done ss ++ l) others
-    ∙ more-told b done ss rest
+-- the message among these sessions
+abbrev pub setting : Start → Session → Message → ℕ → Setting
+setting b publisher m word = record { world = b.world; publisher = publisher; message = m; word = word; may = λ (account : List ℕ) (s : List Token) (sub : Subscription). is_admitted b.before publisher (view_of account s m) sub }
 
--- the world behind both
-behind-both : (b : Start) (done ss rest : List Sending) (items : List Item) (left : List Subscription) →
-    ◌≡◌ {A = List Item × World} (items, world_behind b ((done ++ ss) ++ rest) left) (items, world_behind b (done ++ (ss ++ rest)) left)
-behind-both b done ss rest items left = ap (λ (l : List Sending). (items, world_behind b l left)) (append_assoc done ss rest)
+module _ (b : Start) (publisher : Session) (m : Message) (word : ℕ) where
+  abbrev pub of_request : Behind → List ℕ → List Token → Row → Option (List Token) → Fate
+  of_request at account subject row None = Delivered (view_of account subject m) None
+  of_request at account subject row (Some reply) =
+      of_reply (is_nil (filter (is_admitted b.before publisher (view_of account subject m)) at.subs)) (is_full 1 b.world.moment (exporter_of account at.routes)) (setting b publisher m word) at.routes account subject row reply
 
--- ---- one world
+  abbrev pub fate : Behind → ViewItem → Fate
+  fate at (At account subject Own) = Delivered (view_of account subject m) None
+  fate at (At account subject (Stream row)) = Delivered (view_of account subject m) None
+  fate at (At account subject (Service row)) = of_request at account subject row m.reply
+  fate at (At account subject (Response row)) = Delivered (view_with account subject None m) None
+  fate at (TooLong row) = NotCrossed row
 
--- what views send, each of which is so, and what is told of it
-pub record Sends (Q : Sending → Type 0) (b : Start) (publisher : Session) (m : Message) (word : ℕ) (done : List Sending) (subs : List Subscription) (vs : List ViewItem) : Type 0 where
-  pub ss : List Sending
-  pub each : All Q ss
-  pub left : List Subscription
-  pub items : List Item
-  pub met : of_deliveries items ≡ told_behind b done ss
-  pub is : in_views b.before (world_behind b done subs) publisher m word vs ≡ (items, world_behind b (done ++ ss) left)
+  -- what is sent, what is told of it, and what is left
+  abbrev pub sent_by : Behind → Fate → List Sending
+  sent_by at (Delivered seen opens) = whom b.before publisher word at.subs seen
+  sent_by at ForNobody = []
+  sent_by at (WithoutRoute row) = []
+  sent_by at (NotCrossed row) = []
 
--- of a view all is so that it can send
-abbrev pub IsOf : (Sending → Type 0) → Message → ViewItem → Type 0
-IsOf Q m (At account subject way) = (s : Subscription) → Q record { message = under_subject subject m; to = s }
-IsOf Q m (TooLong row) = Unit {0}
+  abbrev pub told_by : Behind → Fate → List Item
+  told_by at (Delivered seen opens) = told_behind b at.done (whom b.before publisher word at.subs seen)
+  told_by at ForNobody = []
+  told_by at (WithoutRoute row) = RouteFull row ∷ []
+  told_by at (NotCrossed row) = MapTooLong row ∷ []
 
--- a view that sends these, and then the others
-sends-then : (Q : Sending → Type 0) (b : Start) (publisher : Session) (m : Message) (word : ℕ) (done ss : List Sending) (subs left : List Subscription) (items : List Item) (v : ViewItem) (vs : List ViewItem) →
-    All Q ss → of_deliveries items ≡ told_behind b done ss → in_view b.before (world_behind b done subs) publisher m word v ≡ (items, world_behind b (done ++ ss) left) →
-    Sends Q b publisher m word (done ++ ss) left vs → Sends Q b publisher m word done subs (v ∷ vs)
-sends-then Q b publisher m word done ss subs left items v vs each met is rest = record {
-  ss = ss ++ rest.ss;
-  each = All-append Q ss rest.ss each rest.each;
-  left = rest.left;
-  items = items ++ rest.items;
-  met = met-both b done ss rest.ss items rest.items met rest.met;
-  is = and-then b.before publisher m word v vs _ _ _ _ is rest.is ∙ behind-both b done ss rest.ss (items ++ rest.items) rest.left;
-}
+  abbrev pub left_by : Behind → Fate → List Subscription
+  left_by at (Delivered seen opens) = unended (map (counted (told_by at (Delivered seen opens))) at.subs)
+  left_by at ForNobody = at.subs
+  left_by at (WithoutRoute row) = at.subs
+  left_by at (NotCrossed row) = at.subs
 
-pub sends : (Q : Sending → Type 0) (b : Start) (publisher : Session) (m : Message) (word : ℕ) (done : List Sending) (subs : List Subscription) (vs : List ViewItem) → ((v : ViewItem) → IsOf Q m v) →
-    Sends Q b publisher m word done subs vs
-sends Q b publisher m word done subs [] of = record {
-  ss = [];
-  each = All-nil Q;
-  left = subs;
-  items = [];
-  met = refl;
-  is = ap (λ (l : List Sending). ([], world_behind b l subs)) (sym (append-nil done));
-}
-sends Q b publisher m word done subs (At account subject way ∷ vs) of =
-    let v : View = view_of account subject m in
-    let first : List Sending = whom b.before publisher word subs v in
-    let items : List Item = told_behind b done first in
-    let left : List Subscription = unended (map (counted items) subs) in
-    sends-then Q b publisher m word done first subs left items (At account subject way) vs
-    (All-map Q (λ (s : Subscription). record { message = under_subject subject m; to = s }) (served word (filter (is_admitted b.before publisher v) subs)) (λ k d h. of (At account subject way) _))
-    (of-deliveries b.before b.world.moment first (sessions_behind b done))
-    (routed-is b b.before publisher word done first subs v (addressed-are b.before publisher word subs v))
-    (sends Q b publisher m word (done ++ first) left vs of)
-sends Q b publisher m word done subs (TooLong row ∷ vs) of =
-    sends-then Q b publisher m word done [] subs subs (MapTooLong row ∷ []) (TooLong row) vs (All-nil Q) refl (row-is b done subs row) (sends Q b publisher m word (done ++ []) subs vs of)
+  abbrev pub more : Behind → Fate → Behind
+  more at f = record { done = at.done ++ sent_by at f; subs = left_by at f; routes = with_opening (opens_in f) at.routes }
 
--- what is sent of a message that is published, each of which is so, what is told of it, and the world after it
-pub record Publishes (Q : Sending → Type 0) (w : World) (now : ℕ) (publisher : Session) (m : Message) (word : ℕ) (by : By) : Type 0 where
-  pub ss : List Sending
-  pub each : All Q ss
-  pub left : List Subscription
-  pub items : List Item
-  pub met : of_deliveries items ≡ items_after w.sessions (max w.moment now) ss w.sessions
-  pub is : published (advanced w now) publisher m word (Allowed by)
-      ≡ (Published by items, record (advanced w now) { sessions = map (receives_of (max w.moment now) by publisher.conn m.subject ss) w.sessions; subscriptions = left })
+  -- after all views
+  abbrev pub last : Behind → List ViewItem → Behind
+  last at [] = at
+  last at (v ∷ vs) = last (more at (fate at v)) vs
 
-pub publishes : (Q : Sending → Type 0) (w : World) (now : ℕ) (publisher : Session) (m : Message) (word : ℕ) (by : By) → AllPairs IsApart w.sessions → ((v : ViewItem) → IsOf Q m v) → Publishes Q w now publisher m word by
-publishes Q w now publisher m word by apart of =
-    let begin : Start = record { before = w.sessions; begun = counted_on by publisher.conn m.subject w.sessions; world = advanced w now } in
-    let all = sends Q begin publisher m word [] w.subscriptions (views w.policy publisher.user.account m.subject) of in
-    let finished : List Item × World → Outcome × World = λ r. (Published by r.0, record r.1 { sessions = ended_on by publisher.conn m.subject r.1.sessions }) in
-    record {
-      ss = all.ss;
-      each = all.each;
-      left = all.left;
-      items = all.items;
-      met = all.met ∙ same_met by publisher.conn m.subject (max w.moment now) (map (sent w.sessions) all.ss) w.sessions;
-      is = ap finished all.is
-          ∙ ap (λ (zs : List Session). (Published by all.items, record (advanced w now) { sessions = zs; subscriptions = all.left })) (outboxes (max w.moment now) publisher.conn m.subject all.ss w.sessions by apart);
-    }
+  abbrev pub told_in : Behind → List ViewItem → List Item
+  told_in at [] = []
+  told_in at (v ∷ vs) = told_by at (fate at v) ++ told_in (more at (fate at v)) vs
 
--- ---- two of them
+  -- what is told of deliveries
+  met-by : (at : Behind) (f : Fate) → of_deliveries (told_by at f) ≡ told_behind b at.done (sent_by at f)
+  met-by at (Delivered seen opens) = of-deliveries b.before b.world.moment (whom b.before publisher word at.subs seen) (sessions_behind b at.done)
+  met-by at ForNobody = refl
+  met-by at (WithoutRoute row) = refl
+  met-by at (NotCrossed row) = refl
+
+  pub met-in : (at : Behind) (vs : List ViewItem) → told_behind b [] at.done ++ of_deliveries (told_in at vs) ≡ told_behind b [] (last at vs).done
+  met-in at [] = append-nil (told_behind b [] at.done)
+  met-in at (v ∷ vs) =
+      let f : Fate = fate at v in
+      ap (λ (l : List Item). told_behind b [] at.done ++ l)
+      (filter-append is_of_delivery (told_by at f) (told_in (more at f) vs) ∙ ap (λ (l : List Item). l ++ of_deliveries (told_in (more at f) vs)) (met-by at f))
+      ∙ sym (append_assoc (told_behind b [] at.done) (told_behind b at.done (sent_by at f)) (of_deliveries (told_in (more at f) vs)))
+      ∙ ap (λ (l : List Item). l ++ of_deliveries (told_in (more at f) vs)) (more-told b [] at.done (sent_by at f))
+      ∙ met-in (more at f) vs
+
+  -- ---- what is sent
+
+  -- of a request, of a view, and of each of some views, all is so that it can send
+  abbrev pub IsOfRequest : (Sending → Type 0) → List ℕ → List Token → Option (List Token) → Type 0
+  IsOfRequest Q account subject None = (s : Subscription) → Q record { message = (view_of account subject m).message; to = s }
+  IsOfRequest Q account subject (Some reply) = (route : List Token) (s : Subscription) → Q record { message = (view_with account subject (Some route) m).message; to = s }
+
+  abbrev pub IsOf : (Sending → Type 0) → ViewItem → Type 0
+  IsOf Q (At account subject Own) = (s : Subscription) → Q record { message = (view_of account subject m).message; to = s }
+  IsOf Q (At account subject (Stream row)) = (s : Subscription) → Q record { message = (view_of account subject m).message; to = s }
+  IsOf Q (At account subject (Service row)) = IsOfRequest Q account subject m.reply
+  IsOf Q (At account subject (Response row)) = (s : Subscription) → Q record { message = (view_with account subject None m).message; to = s }
+  IsOf Q (TooLong row) = Unit {0}
+
+  seen-each : (Q : Sending → Type 0) (at : Behind) (seen : View) → ((s : Subscription) → Q record { message = seen.message; to = s }) → All Q (whom b.before publisher word at.subs seen)
+  seen-each Q at seen of =
+      All-map Q (λ (s : Subscription). record { message = seen.message; to = s }) (served word (filter (is_admitted b.before publisher seen) at.subs)) (λ k d h. of _)
+
+  request-each : (Q : Sending → Type 0) (at : Behind) (account : List ℕ) (subject : List Token) (row : Row) (reply : Option (List Token)) → IsOfRequest Q account subject reply → All Q (sent_by at (of_request at account subject row reply))
+  request-each Q at account subject row None of = seen-each Q at (view_of account subject m) of
+  request-each Q at account subject row (Some reply) of =
+      here (is_nil (filter (is_admitted b.before publisher (view_of account subject m)) at.subs)) (is_full 1 b.world.moment (exporter_of account at.routes))
+    where
+      here : (nobody full : Bool) → All Q (sent_by at (of_reply nobody full (setting b publisher m word) at.routes account subject row reply))
+      here true full = All-nil Q
+      here false true = All-nil Q
+      here false false =
+          let route : List Token = next_subject word (exporter_of account at.routes) in
+          seen-each Q at (view_with account subject (Some route) m) (of route)
+
+  view-each : (Q : Sending → Type 0) (at : Behind) (v : ViewItem) → IsOf Q v → All Q (sent_by at (fate at v))
+  view-each Q at (At account subject Own) of = seen-each Q at (view_of account subject m) of
+  view-each Q at (At account subject (Stream row)) of = seen-each Q at (view_of account subject m) of
+  view-each Q at (At account subject (Service row)) of = request-each Q at account subject row m.reply of
+  view-each Q at (At account subject (Response row)) of = seen-each Q at (view_with account subject None m) of
+  view-each Q at (TooLong row) of = All-nil Q
+
+  pub sent-each : (Q : Sending → Type 0) (at : Behind) (vs : List ViewItem) → All (IsOf Q) vs → All Q at.done → All Q (last at vs).done
+  sent-each Q at [] of all = all
+  sent-each Q at (v ∷ vs) of all =
+      sent-each Q (more at (fate at v)) vs (All-tail (IsOf Q) v vs of)
+      (All-append Q at.done (sent_by at (fate at v)) all (view-each Q at v (All-head (IsOf Q) v vs of)))
+
+-- ---- the transition does so
 
 -- the same begins with other sessions
 abbrev pub from : Start → List Session → Start
@@ -195,64 +206,137 @@ pub record AreAs (b : Start) (publisher : Session) (ts us : List Session) (other
   pub sends : (s : Sending) → sent ts s ≡ sent b.before s
   pub meets : (all : List Addressed) → (delivered b.world.moment all us).1 ≡ (delivered b.world.moment all b.begun).1
 
+-- those that it begins with, and its own publisher
+itself : (b : Start) (publisher : Session) → AreAs b publisher b.before b.begun publisher
+itself b publisher = record { admits = λ v s. refl; sends = λ s. refl; meets = λ all. refl }
+
 pub sent-as : (b : Start) (publisher : Session) (ts us : List Session) (other : Session) → AreAs b publisher ts us other → (ss : List Sending) → map (sent ts) ss ≡ map (sent b.before) ss
 sent-as b publisher ts us other same ss = ap (λ (f : Sending → Addressed). map f ss) (λ i s. same.sends s i)
 
-whom-as : (b : Start) (publisher : Session) (ts us : List Session) (other : Session) → AreAs b publisher ts us other → (word : ℕ) (subs : List Subscription) (v : View) →
-    map (noted_for ts) (map (addressed_to v.message) (served word (filter (is_admitted ts other v) subs))) ≡ map (sent b.before) (whom b.before publisher word subs v)
-whom-as b publisher ts us other same word subs v =
-    addressed-are ts other word subs v
-    ∙ ap (λ (some : List Subscription). map (sent ts) (to_each v.message (served word some))) (filter_agree (is_admitted ts other v) (is_admitted b.before publisher v) (same.admits v) subs)
-    ∙ sent-as b publisher ts us other same (whom b.before publisher word subs v)
+module _ (b : Start) (publisher : Session) (ts us : List Session) (other : Session) (same : AreAs b publisher ts us other) (m : Message) (word : ℕ) where
+  admitted-as : (subs : List Subscription) (v : View) → filter (is_admitted ts other v) subs ≡ filter (is_admitted b.before publisher v) subs
+  admitted-as subs v = filter_agree (is_admitted ts other v) (is_admitted b.before publisher v) (same.admits v) subs
 
-told-as : (b : Start) (publisher : Session) (ts us : List Session) (other : Session) → AreAs b publisher ts us other → (done ss : List Sending) → told_behind (from b us) done ss ≡ told_behind b done ss
-told-as b publisher ts us other same done ss =
-    let now : ℕ = b.world.moment in
-    let front : List Addressed = map (sent b.before) done in
-    let back : List Addressed = map (sent b.before) ss in
-    append_cancel_left (delivered now front us).1 (told_behind (from b us) done ss) (told_behind b done ss)
-    (sym (delivered_items now front back us) ∙ same.meets (front ++ back) ∙ delivered_items now front back b.begun ∙ ap (λ (l : List Item). l ++ told_behind b done ss) (sym (same.meets front)))
+  whom-as : (subs : List Subscription) (v : View) →
+      map (noted_for ts) (map (addressed_to v.message) (served word (filter (is_admitted ts other v) subs))) ≡ map (sent b.before) (whom b.before publisher word subs v)
+  whom-as subs v =
+      addressed-are ts other word subs v
+      ∙ ap (λ (some : List Subscription). map (sent ts) (to_each v.message (served word some))) (admitted-as subs v)
+      ∙ sent-as b publisher ts us other same (whom b.before publisher word subs v)
 
--- they send the same, tell the same of it, and leave the same subscriptions
-pub record SendAlike (b : Start) (publisher : Session) (ts us : List Session) (other : Session) (m : Message) (word : ℕ) (done : List Sending) (subs : List Subscription) (vs : List ViewItem) : Type 0 where
+  told-as : (done ss : List Sending) → told_behind (from b us) done ss ≡ told_behind b done ss
+  told-as done ss =
+      let now : ℕ = b.world.moment in
+      let front : List Addressed = map (sent b.before) done in
+      let back : List Addressed = map (sent b.before) ss in
+      append_cancel_left (delivered now front us).1 (told_behind (from b us) done ss) (told_behind b done ss)
+      (sym (delivered_items now front back us) ∙ same.meets (front ++ back) ∙ delivered_items now front back b.begun ∙ ap (λ (l : List Item). l ++ told_behind b done ss) (sym (same.meets front)))
+
+  -- the message goes to those that it is for, once a route is opened
+  routed-is : (at : Behind) (seen : View) (opens : Option Opening) →
+      routed ts (record (world_behind (from b us) at) { routes = with_opening opens at.routes }) other seen word
+      ≡ (told_by b publisher m word at (Delivered seen opens), world_behind (from b us) (more b publisher m word at (Delivered seen opens)))
+  routed-is at seen opens =
+      ap (λ (all : List Addressed). ((delivered b.world.moment all (sessions_behind (from b us) at.done)).1, record b.world { sessions = (delivered b.world.moment all (sessions_behind (from b us) at.done)).0; subscriptions = unended (map (counted (delivered b.world.moment all (sessions_behind (from b us) at.done)).1) at.subs); routes = with_opening opens at.routes })) (whom-as at.subs seen)
+      ∙ ap (λ (ys : List Session). (told_behind (from b us) at.done ss, record b.world { sessions = ys; subscriptions = unended (map (counted (told_behind (from b us) at.done ss)) at.subs); routes = with_opening opens at.routes })) (more-sessions (from b us) at.done ss)
+      ∙ ap (λ (l : List Item). (l, record b.world { sessions = sessions_behind (from b us) (at.done ++ ss); subscriptions = unended (map (counted l) at.subs); routes = with_opening opens at.routes })) (told-as at.done ss)
+    where
+      ss : List Sending
+      ss = whom b.before publisher word at.subs seen
+
+  -- what sends nothing
+  nothing-is : (at : Behind) (items : List Item) →
+      ◌≡◌ {A = List Item × World} (items, world_behind (from b us) at) (items, world_behind (from b us) record { done = at.done ++ []; subs = at.subs; routes = at.routes })
+  nothing-is at items = ap (λ (l : List Sending). (items, world_behind (from b us) record { done = l; subs = at.subs; routes = at.routes })) (sym (append-nil at.done))
+
+  request-is : (at : Behind) (account : List ℕ) (subject : List Token) (row : Row) (reply : Option (List Token)) →
+      requested ts (world_behind (from b us) at) other m word account subject row reply
+      ≡ (told_by b publisher m word at (of_request b publisher m word at account subject row reply), world_behind (from b us) (more b publisher m word at (of_request b publisher m word at account subject row reply)))
+  request-is at account subject row None = routed-is at (view_of account subject m) None
+  request-is at account subject row (Some reply) =
+      ap (λ (some : List Subscription). requested_by (is_nil some) full ts (world_behind (from b us) at) other m word account subject row reply) (admitted-as at.subs (view_of account subject m))
+      ∙ here (is_nil (filter (is_admitted b.before publisher (view_of account subject m)) at.subs)) full
+    where
+      full : Bool
+      full = is_full 1 b.world.moment (exporter_of account at.routes)
+
+      f : Bool → Bool → Fate
+      f nobody full = of_reply nobody full (setting b publisher m word) at.routes account subject row reply
+
+      here : (nobody full : Bool) → requested_by nobody full ts (world_behind (from b us) at) other m word account subject row reply
+          ≡ (told_by b publisher m word at (f nobody full), world_behind (from b us) (more b publisher m word at (f nobody full)))
+      here true full = nothing-is at []
+      here false true = nothing-is at (RouteFull row ∷ [])
+      here false false =
+          routed-is at (view_with account subject (Some (next_subject word (exporter_of account at.routes))) m)
+          (Some record { exporter = account; route = route_for b.world.policy row reply word b.world.moment })
+
+  view-is : (at : Behind) (v : ViewItem) →
+      in_view ts (world_behind (from b us) at) other m word v ≡ (told_by b publisher m word at (fate b publisher m word at v), world_behind (from b us) (more b publisher m word at (fate b publisher m word at v)))
+  view-is at (At account subject Own) = routed-is at (view_of account subject m) None
+  view-is at (At account subject (Stream row)) = routed-is at (view_of account subject m) None
+  view-is at (At account subject (Service row)) = request-is at account subject row m.reply
+  view-is at (At account subject (Response row)) = routed-is at (view_with account subject None m) None
+  view-is at (TooLong row) = nothing-is at (MapTooLong row ∷ [])
+
+  pub views-are : (at : Behind) (vs : List ViewItem) →
+      in_views ts (world_behind (from b us) at) other m word vs ≡ (told_in b publisher m word at vs, world_behind (from b us) (last b publisher m word at vs))
+  views-are at [] = refl
+  views-are at (v ∷ vs) =
+      ap (λ (r : List Item × World). (r.0 ++ (in_views ts r.1 other m word vs).0, (in_views ts r.1 other m word vs).1)) (view-is at v)
+      ∙ ap (λ (r : List Item × World). (told_by b publisher m word at (fate b publisher m word at v) ++ r.0, r.1)) (views-are (more b publisher m word at (fate b publisher m word at v)) vs)
+
+-- ---- one world
+
+-- the views of a message in a world
+abbrev pub views_of : World → Session → Message → List ViewItem
+views_of w publisher m = views w.policy publisher.user.account m.subject (responses_on w.routes publisher.user.account m.subject)
+
+-- what is sent of a message that is published, each of which is so, what is told of it, and the world after it
+pub record Publishes (Q : Sending → Type 0) (w : World) (now : ℕ) (publisher : Session) (m : Message) (word : ℕ) (by : By) : Type 0 where
   pub ss : List Sending
+  pub each : All Q ss
   pub left : List Subscription
+  pub routes : List (Name × Exporter)
   pub items : List Item
-  pub is : in_views b.before (world_behind b done subs) publisher m word vs ≡ (items, world_behind b (done ++ ss) left)
-  pub also : in_views ts (world_behind (from b us) done subs) other m word vs ≡ (items, world_behind (from b us) (done ++ ss) left)
+  pub met : of_deliveries items ≡ items_after w.sessions (max w.moment now) ss w.sessions
+  pub is : published (advanced w now) publisher m word (Allowed by)
+      ≡ (Published by items, record (advanced w now) { sessions = map (receives_of (max w.moment now) by publisher.conn m.subject ss) w.sessions; subscriptions = left; routes = routes })
 
--- a view that sends these, and then the others
-alike-then : (b : Start) (publisher : Session) (ts us : List Session) (other : Session) (m : Message) (word : ℕ) (done ss : List Sending) (subs left : List Subscription) (items : List Item) (v : ViewItem) (vs : List ViewItem) →
-    in_view b.before (world_behind b done subs) publisher m word v ≡ (items, world_behind b (done ++ ss) left) →
-    in_view ts (world_behind (from b us) done subs) other m word v ≡ (items, world_behind (from b us) (done ++ ss) left) →
-    SendAlike b publisher ts us other m word (done ++ ss) left vs → SendAlike b publisher ts us other m word done subs (v ∷ vs)
-alike-then b publisher ts us other m word done ss subs left items v vs is also rest = record {
-  ss = ss ++ rest.ss;
-  left = rest.left;
-  items = items ++ rest.items;
-  is = and-then b.before publisher m word v vs _ _ _ _ is rest.is ∙ behind-both b done ss rest.ss (items ++ rest.items) rest.left;
-  also = and-then ts other m word v vs _ _ _ _ also rest.also ∙ behind-both (from b us) done ss rest.ss (items ++ rest.items) rest.left;
-}
+pub publishes : (Q : Sending → Type 0) (w : World) (now : ℕ) (publisher : Session) (m : Message) (word : ℕ) (by : By) → AllPairs IsApart w.sessions →
+    All (IsOf record { before = w.sessions; begun = counted_on by publisher.conn m.subject w.sessions; world = advanced w now } publisher m word Q) (views_of (advanced w now) publisher m) → Publishes Q w now publisher m word by
+publishes Q w now publisher m word by apart of =
+    let begin : Start = record { before = w.sessions; begun = counted_on by publisher.conn m.subject w.sessions; world = advanced w now } in
+    let first : Behind = record { done = []; subs = w.subscriptions; routes = (advanced w now).routes } in
+    let vs : List ViewItem = views_of (advanced w now) publisher m in
+    let all : Behind = last begin publisher m word first vs in
+    let items : List Item = told_in begin publisher m word first vs in
+    let finished : List Item × World → Outcome × World = λ r. (Published by r.0, record r.1 { sessions = ended_on by publisher.conn m.subject r.1.sessions; routes = spent publisher.user.account m.subject r.1.routes }) in
+    record {
+      ss = all.done;
+      each = sent-each begin publisher m word Q first vs of (All-nil Q);
+      left = all.subs;
+      routes = spent publisher.user.account m.subject all.routes;
+      items = items;
+      met = met-in begin publisher m word first vs ∙ same_met by publisher.conn m.subject (max w.moment now) (map (sent w.sessions) all.done) w.sessions;
+      is = ap finished (views-are begin publisher begin.before begin.begun publisher (itself begin publisher) m word first vs)
+          ∙ ap (λ (zs : List Session). (Published by items, record (advanced w now) { sessions = zs; subscriptions = all.subs; routes = spent publisher.user.account m.subject all.routes })) (outboxes (max w.moment now) publisher.conn m.subject all.done w.sessions by apart);
+    }
 
-pub send-alike : (b : Start) (publisher : Session) (ts us : List Session) (other : Session) → AreAs b publisher ts us other → (m : Message) (word : ℕ) (done : List Sending) (subs : List Subscription) (vs : List ViewItem) →
-    SendAlike b publisher ts us other m word done subs vs
-send-alike b publisher ts us other same m word done subs [] = record {
-  ss = [];
-  left = subs;
-  items = [];
-  is = ap (λ (l : List Sending). ([], world_behind b l subs)) (sym (append-nil done));
-  also = ap (λ (l : List Sending). ([], world_behind (from b us) l subs)) (sym (append-nil done));
+-- ---- two of them
+
+-- they send the same, tell the same of it, and leave the same subscriptions and response routes
+pub record SendAlike (b : Start) (publisher : Session) (ts us : List Session) (other : Session) (m : Message) (word : ℕ) (first : Behind) (vs : List ViewItem) : Type 0 where
+  pub last : Behind
+  pub items : List Item
+  pub is : in_views b.before (world_behind b first) publisher m word vs ≡ (items, world_behind b last)
+  pub also : in_views ts (world_behind (from b us) first) other m word vs ≡ (items, world_behind (from b us) last)
+
+pub send-alike : (b : Start) (publisher : Session) (ts us : List Session) (other : Session) → AreAs b publisher ts us other → (m : Message) (word : ℕ) (first : Behind) (vs : List ViewItem) →
+    SendAlike b publisher ts us other m word first vs
+send-alike b publisher ts us other same m word first vs = record {
+  last = last b publisher m word first vs;
+  items = told_in b publisher m word first vs;
+  is = views-are b publisher b.before b.begun publisher (itself b publisher) m word first vs;
+  also = views-are b publisher ts us other same m word first vs;
 }
-send-alike b publisher ts us other same m word done subs (At account subject way ∷ vs) =
-    let v : View = view_of account subject m in
-    let first : List Sending = whom b.before publisher word subs v in
-    let items : List Item = told_behind b done first in
-    let left : List Subscription = unended (map (counted items) subs) in
-    alike-then b publisher ts us other m word done first subs left items (At account subject way) vs
-    (routed-is b b.before publisher word done first subs v (addressed-are b.before publisher word subs v))
-    (routed-is (from b us) ts other word done first subs v (whom-as b publisher ts us other same word subs v)
-    ∙ ap (λ (l : List Item). (l, world_behind (from b us) (done ++ first) (unended (map (counted l) subs)))) (told-as b publisher ts us other same done first))
-    (send-alike b publisher ts us other same m word (done ++ first) left vs)
-send-alike b publisher ts us other same m word done subs (TooLong row ∷ vs) =
-    alike-then b publisher ts us other m word done [] subs subs (MapTooLong row ∷ []) (TooLong row) vs (row-is b done subs row) (row-is (from b us) done subs row)
-    (send-alike b publisher ts us other same m word (done ++ []) subs vs)

@@ -6,7 +6,7 @@ use Rattle.std.proofs.lemmas.Bool.{eqb-true, leb-true, le-leb, ltb-false, le-ltb
 use Rattle.std.proofs.lemmas.List.{length-append, drop-append-le}
 use Rattle.std.proofs.lemmas.List.Elements.{All-nil, All-cons, All-head, All-tail, filter-append, filter_agree, filter_passes, All-filter}
 use Rattle.subjects.specs.Subject.{Token}
-use Rattle.policy_doc.specs.declared.document.Terms.{Terms}
+use Rattle.permission_doc.specs.declared.document.Terms.{Terms}
 use Rattle.reply_grants.specs.Grants.{Grant, is_below, is_within, is_live, is_for, has_live, youngest, without, after_note, answered, after_end, after_answer}
 use Rattle.reply_grants.specs.Replies.{Table, grants_of, answered_in, ended_in, judged}
 use Rattle.events.specs.declared.answer.Delivery.{Delivery}

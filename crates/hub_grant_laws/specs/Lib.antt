@@ -1,2 +1,3 @@
 pub mod Dropping
 pub mod Noted
+pub mod Asked

@@ -1,10 +1,10 @@
 -- What a grant tells of the history (docs/GUARANTEE.md, "Reply grants: the law").
-use Rattle.std.specs.Prelude.{◌≡◌, ◌==◌, ◌&&◌, ◌^◌, ◌-◌, ◌<◌, ◌≤◌, ◌∷◌, ◌++◌, ℕ, List, [], Bool, true, false, Option, Some, None, filter, length, drop, min, max, All, IfSome, IsSomeAnd}
+use Rattle.std.specs.Prelude.{◌≡◌, ◌==◌, ◌&&◌, ◌^◌, ◌-◌, ◌<◌, ◌≤◌, ◌∷◌, ◌++◌, ℕ, List, [], Bool, true, false, Option, Some, None, filter, length, drop, min, max, not, is_some, All, IfSome, IsSomeAnd}
 use Rattle.std.specs.List.{list_any}
 use Rattle.subjects.specs.Subject.{Token}
 use Rattle.subjects.specs.Equal.{same_subject}
 use Rattle.policy_doc.specs.declared.document.PolicyDoc.{PolicyDoc}
-use Rattle.policy_doc.specs.declared.document.Terms.{Terms}
+use Rattle.permission_doc.specs.declared.document.Terms.{Terms}
 use Rattle.reply_grants.specs.Grants.{Grant}
 use Rattle.reply_grants.specs.Replies.{grants_of}
 use Rattle.events.specs.declared.event.Command.{Command}
@@ -16,6 +16,12 @@ use Rattle.events.specs.declared.answer.Outcome.{Outcome}
 use Rattle.events.specs.declared.answer.Outcome.TheVariants.{Published, Closed, Reloaded}
 use Rattle.world_deliveries.specs.Sessions.{session_of}
 use Rattle.world_deliveries.specs.declared.session.Session.{Session}
+use Rattle.imports.specs.Across.{views}
+use Rattle.imports.specs.declared.view.ViewItem.{ViewItem}
+use Rattle.imports.specs.declared.view.ViewItem.TheVariants.{At, TooLong}
+use Rattle.imports.specs.declared.view.Way.TheVariants.{Own, Stream, Service, Response}
+use Rattle.service_routes.specs.Routes.{pruned}
+use Rattle.world.specs.Routing.{responses_on as on_routes}
 use Rattle.world.specs.World.{World, opening_world}
 use Rattle.world.specs.Transition.{transition}
 use Rattle.hub.specs.Counts.{items_told}
@@ -177,8 +183,23 @@ is_entered_at conn item = tells_of (λ (d : DeliveryItem). d.entered && (d.conn 
 abbrev pub tells_request : ℕ → List Token → Entry → Bool
 tells_request conn s e = publishes_with s e.event.what && list_any (is_entered_at conn) (items_told e)
 
--- In every view a message has the reply that it was published with. So the requests of a history are those that its
--- entries tell.
+-- whether a message with this reply, or with none, has it in a view. A request that wants a response has the subject of a response
+-- route in its place, and a response has none.
+abbrev pub has_own_reply : Option (List Token) → ViewItem → Bool
+has_own_reply reply (At account s Own) = true
+has_own_reply reply (At account s (Stream row)) = true
+has_own_reply reply (At account s (Service row)) = not (is_some reply)
+has_own_reply reply (At account s (Response row)) = not (is_some reply)
+has_own_reply reply (TooLong row) = true
+
+-- a message that is published, at a moment, has its own reply in all its views
+abbrev pub HasOwnReplies : World → ℕ → Command → Type 0
+HasOwnReplies w now (Pub conn m word) =
+    IfSome (session_of w.sessions conn) (λ (z : Session). All (λ v. has_own_reply m.reply v ≡ true) (views w.policy z.user.account m.subject (on_routes (pruned now w.routes) z.user.account m.subject)))
+HasOwnReplies w now _ = Unit {0}
+
+-- Of steps whose message has in every view the reply that it was published with, the requests are those that their entries tell.
 abbrev pub RequestsAreTold : Type 0
 RequestsAreTold = (policy : PolicyDoc) (capacity : ℕ) (es : List Entry) (w : World) → IsLegalRun (opening_world policy capacity) es w →
-    All (λ (step : Step). (conn : ℕ) (s : List Token) → is_request conn s step ≡ tells_request conn s step.entry) (steps_of (opening_world policy capacity) es)
+    All (λ (step : Step). HasOwnReplies step.before (max step.before.moment step.entry.event.now) step.entry.event.what → (conn : ℕ) (s : List Token) → is_request conn s step ≡ tells_request conn s step.entry)
+    (steps_of (opening_world policy capacity) es)

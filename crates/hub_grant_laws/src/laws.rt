@@ -1,4 +1,5 @@
 //! What holds of the definitions alone.
+ghost use Rattle.hub_grant_laws.specs.Asked.{RoutesAreAsked};
 ghost use Rattle.hub_grant_laws.specs.Dropping.{MakesNoDifference, NeverMakesDifference};
 ghost use Rattle.hub_grant_laws.specs.Noted.{ResponseHasRequest, AreNoted, MayRespondHasRequest, RequestsArePublished, RequestsAreTold};
 
@@ -28,4 +29,10 @@ pub fn any_history()
 /// entered for the connection.
 pub fn requests_are_told()
     ensures { RequestsAreTold }
+{}
+
+/// Tells of every history that each response route that stands was opened for one request: a session of the requester's account
+/// has published a message, whose reply is the route's, in the step in which the exporter has given the route's number.
+pub fn routes_are_asked()
+    ensures { RoutesAreAsked }
 {}

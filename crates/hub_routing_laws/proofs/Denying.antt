@@ -20,8 +20,9 @@ use Rattle.events.specs.declared.answer.Outcome.TheVariants.{Connected, AuthViol
 use Rattle.world_rows.specs.declared.subscription.Subscription.{Subscription}
 use Rattle.world.specs.World.{World}
 use Rattle.hub.specs.Sound.{user_at, may_subscribe}
-use Rattle.hub.specs.Guarantee.{IsEffect, HasReason, IsAllowance, accepts, allows, may_receive}
-use Rattle.hub_routing_laws.specs.Reach.{IsAdmitted, IsDeliveryToAdmitted}
+use Rattle.hub.specs.Guarantee.{IsEffect, IsUntouched, HasReason, IsAllowance, accepts, allows, may_receive}
+use Rattle.hub_routing_laws.specs.Seen.{Routes}
+use Rattle.hub_routing_laws.specs.Reach.{live_routes, IsAdmitted, IsDeliveryToAdmitted}
 use Rattle.hub_routing_laws.specs.Denied.{IsDeniedByEntry, IsPublishedByGrant, DenyOverridesPublish, DenyOverridesSubscribe, IsUndenied, IsDeliveryToUndenied, DenyOverridesDelivery, DeniedReachesNobody}
 use Rattle.hub_routing_laws.proofs.Lists.{back, at_some, position-some}
 use Rattle.hub_routing_laws.proofs.Reaching.{weaker, new_weaker, nothing_unadmitted}
@@ -117,8 +118,8 @@ none_denies test deny allowed = here (list_any test deny) refl
     here true some = let no : false ≡ true = sym (ap is_allowed (is_denied test deny (Allowed AllowsAll) some)) ∙ allowed in absurd (cc)
     here false some = refl
 
-undenied : (w : World) (conn : ℕ) (account : List ℕ) (m : Message) (into : List ℕ) (local : List Token) (sub : Subscription) → IsAdmitted w conn account m into local sub → IsUndenied w local sub
-undenied w conn account m into local sub admitted = here (user_at w sub.conn) (back _ _ admitted.may)
+undenied : (w : World) (routes : Routes) (conn : ℕ) (account : List ℕ) (m : Message) (into : List ℕ) (local : List Token) (sub : Subscription) → IsAdmitted w routes conn account m into local sub → IsUndenied w local sub
+undenied w routes conn account m into local sub admitted = here (user_at w sub.conn) (back _ _ admitted.may)
   where
     here : (o : Option User) → may_receive into local sub.queue o ≡ true →
         IsSomeAnd o (λ (u : User). list_any (λ (d : ListEntry). is_entry_for sub.queue d && in_set d.subject local) u.rules.subscribe.deny ≡ false)
@@ -126,15 +127,16 @@ undenied w conn account m into local sub admitted = here (user_at w sub.conn) (b
     here (Some u) h = none_denies (λ (d : ListEntry). is_entry_for sub.queue d && in_set d.subject local) u.rules.subscribe.deny
         (back (pointwise nat_eq u.account into) (is_allowed (delivery_verdict u.rules local sub.queue)) h)
 
-delivery_undenied : (w : World) (conn : ℕ) (account : List ℕ) (m : Message) (to : ℕ) (d : Delivery) → IsDeliveryToAdmitted w conn account m to d → IsDeliveryToUndenied w to d
-delivery_undenied w conn account m to d is =
-    (is.2, is.3.stood, is.4, sym (ap (λ (x : Delivery). x.sid) is.5), subst (λ (x : Delivery). IsUndenied w x.message.subject is.2) (sym is.5) (undenied w conn account m is.0 is.1 is.2 is.3))
+delivery_undenied : (w : World) (routes : Routes) (conn : ℕ) (account : List ℕ) (m : Message) (to : ℕ) (d : Delivery) → IsDeliveryToAdmitted w routes conn account m to d → IsDeliveryToUndenied w to d
+delivery_undenied w routes conn account m to d is =
+    (is.2, is.3.stood, is.4, sym (ap (λ (x : Delivery). x.sid) is.6), subst (λ (t : List Token). IsUndenied w t is.2) (sym (ap (λ (x : Message). x.subject) is.5.0)) (undenied w routes conn account m is.0 is.1 is.2 is.3))
 
 pub deny_overrides_delivery : DenyOverridesDelivery
-deny_overrides_delivery = weaker _ _ (λ w after conn u m items valid reaches. new_weaker (IsDeliveryToAdmitted w conn u.account m) (IsDeliveryToUndenied w) w.sessions after.sessions (delivery_undenied w conn u.account m) reaches.sent) nothing_unadmitted
+deny_overrides_delivery = weaker _ _ (λ w after conn u m items sound reaches. new_weaker (IsDeliveryToAdmitted w (live_routes w after) conn u.account m) (IsDeliveryToUndenied w) w.sessions after.sessions (delivery_undenied w (live_routes w after) conn u.account m) reaches.sent) nothing_unadmitted
 
 -- ---- what is denied
 
 pub denied_reaches_nobody : DeniedReachesNobody
 denied_reaches_nobody s e a after routed conn m word v asked answered =
-    subst₂ (λ c o. IsEffect s.world (max s.world.moment e.now) c o after.world) asked answered routed.effect
+    subst (λ now. IsUntouched s.world now after.world) (sym (ap (λ (w : World). w.moment) routed.others))
+    (subst₂ (λ c o. IsEffect s.world (max s.world.moment e.now) c o after.world) asked answered routed.effect)

@@ -24,11 +24,6 @@ pub from_some : {X : Type 0} (P Q : X → Type 0) (o : Option X) → ((x : X) �
 from_some P Q None f h = h
 from_some P Q (Some x) f h = f x refl h
 
-pub All-flat_map : {X Y : Type 0} (P : X → Type 0) (f : Y → List X) (ys : List Y) → All (λ y. All P (f y)) ys → All P (flat_map f ys)
-All-flat_map P f [] all = All-nil P
-All-flat_map P f (y ∷ ys) all =
-    All-append P (f y) (flat_map f ys) (All-head (λ z. All P (f z)) y ys all) (All-flat_map P f ys (All-tail (λ z. All P (f z)) y ys all))
-
 -- what holds of each, wherever the list is split there, holds of all
 pub each_split : {X : Type 0} (Q : X → Type 0) (xs : List X) → ((before : List X) (x : X) (later : List X) → xs ≡ before ++ x ∷ later → Q x) → All Q xs
 each_split Q [] h = All-nil Q

@@ -56,8 +56,9 @@ IsDeliveryToUndenied w to d =
 abbrev pub DenyOverridesDelivery : Type 0
 DenyOverridesDelivery = OfEachPublish (λ w after conn u m items. AreNew (IsDeliveryToUndenied w) w.sessions after.sessions)
 
--- A publish that is denied reaches nobody: no session, outbox or subscription changes.
+-- A publish that is denied reaches nobody: no session, outbox or subscription changes, and of the response routes those stand
+-- that live.
 abbrev pub DeniedReachesNobody : Type 0
 DeniedReachesNobody =
     (s : State) (e : Event) (a : Entry) (after : State) → IsRouted s e a after → (conn : ℕ) (m : Message) (word : ℕ) (v : Verdict) → e.what ≡ Pub conn m word → a.outcome ≡ Denied v →
-    IsUntouched s.world after.world
+    IsUntouched s.world after.world.moment after.world

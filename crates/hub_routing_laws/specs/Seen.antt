@@ -1,75 +1,94 @@
--- Where a message of an account is seen, by the policy in force (docs/GUARANTEE.md, "Laws of routing").
-use Rattle.std.specs.Prelude.{◌≡◌, ◌≢◌, ◌<◌, ◌≤◌, ◌⊎◌, ◌↔◌, ℕ, List, Some, true, false, length, slice_get, Contains}
-use Rattle.subjects.specs.Subject.{Token, IsConcreteSubject}
-use Rattle.mapping.specs.Pairs.{IsRowMap, IsPair, forward}
-use Rattle.exports.specs.Exports.{admits}
-use Rattle.exports.specs.declared.document.ExportDoc.{ExportDoc}
-use Rattle.exports.specs.declared.document.Kind.TheVariants.{Stream as StreamKind}
+-- Where a message of an account is seen, by the policy in force and the response routes that live (docs/GUARANTEE.md, "Laws of
+-- routing").
+use Rattle.std.specs.Prelude.{◌≡◌, ◌<◌, ◌↔◌, ℕ, List, Option, Some, None, false, length, Any, Contains, IsSomeAnd}
+use Rattle.subjects.specs.Subject.{Token}
+use Rattle.events.specs.Messages.{Message}
 use Rattle.exports.specs.declared.document.Row.{Row}
 use Rattle.policy_doc.specs.Document.{IsValidPolicy}
-use Rattle.policy_doc.specs.Imports.{mapping_of}
-use Rattle.policy_doc.specs.declared.document.ImportDoc.{ImportDoc}
-use Rattle.policy_doc.specs.declared.document.NamedAccount.{NamedAccount}
 use Rattle.policy_doc.specs.declared.document.PolicyDoc.{PolicyDoc}
-use Rattle.imports.specs.Views.{is_route, views}
+use Rattle.imports.specs.Across.{across, source_of, views, way_of}
+use Rattle.imports.specs.Laws.{IsExported, IsSeenBy}
+use Rattle.imports.specs.Views.{is_route, rows_of}
+use Rattle.imports.specs.declared.rows.ImportRow.{ImportRow}
+use Rattle.imports.specs.declared.view.ViewItem.{ViewItem}
 use Rattle.imports.specs.declared.view.ViewItem.TheVariants.{At, TooLong}
 use Rattle.imports.specs.declared.view.Way.{Way}
+use Rattle.imports.specs.declared.view.Way.TheVariants.{Own, Stream, Service, Response}
+use Rattle.service_subjects.specs.Names.{route_subject}
+use Rattle.service_exporter.specs.Routes.{Exporter, route_on}
+use Rattle.service_exporter.specs.declared.route.Route.{Route}
+use Rattle.service_routes.specs.Routes.{Name, exporter_of}
+use Rattle.world.specs.Routing.{responses_on}
+
+abbrev pub Routes : Type 0
+Routes = List (Name × Exporter)
+
+-- the views of what an account publishes on a subject
+abbrev pub views_by : PolicyDoc → Routes → List ℕ → List Token → List ViewItem
+views_by doc routes account s = views doc account s (responses_on routes account s)
 
 -- A message that a user of an account publishes on a subject has a view in an account, on a local subject.
-pub record IsSeen (doc : PolicyDoc) (account : List ℕ) (s : List Token) (into : List ℕ) (local : List Token) : Type 0 where
+pub record IsSeen (doc : PolicyDoc) (routes : Routes) (account : List ℕ) (s : List Token) (into : List ℕ) (local : List Token) : Type 0 where
   pub way : Way
-  pub view : Contains (views doc account s) (At into local way)
+  pub view : Contains (views_by doc routes account s) (At into local way)
 
 -- an import row is reported of it
-abbrev pub IsReported : PolicyDoc → List ℕ → List Token → Row → Type 0
-IsReported doc account s row = Contains (views doc account s) (TooLong row)
+abbrev pub IsReported : PolicyDoc → Routes → List ℕ → List Token → Row → Type 0
+IsReported doc routes account s row = Contains (views_by doc routes account s) (TooLong row)
 
--- An import row takes what an account publishes on a subject to its importer, under a local subject.
-pub record Takes (doc : PolicyDoc) (account : List ℕ) (s : List Token) (row : Row) (local : List Token) : Type 0 where
-  -- the importer has the row among its imports
-  pub importer : NamedAccount
-  pub is_importer : Contains doc.accounts importer
-  pub importer_name : importer.name ≡ row.importer
-  pub entry : ImportDoc
-  pub is_entry : slice_get importer.account.imports row.index ≡ Some entry
-  -- it imports streams of the account
-  pub is_stream : entry.kind ≡ StreamKind
-  pub is_from : entry.account ≡ account
-  -- which has an export that is open to the importer and covers what the row imports
-  pub exporter : NamedAccount
-  pub is_exporter : Contains doc.accounts exporter
-  pub exporter_name : exporter.name ≡ account
-  pub offer : ExportDoc
-  pub is_offer : Contains exporter.account.exports offer
-  pub admits_row : admits row.importer StreamKind entry.subject offer ≡ true
-  -- the row's mapping makes the local subject of the published one
-  pub maps : forward (mapping_of entry) s ≡ Some local
-  -- which doesn't begin as the answers of services do
-  pub not_route : is_route s ≡ false
+-- it is a request across an import row
+abbrev pub IsRequested : PolicyDoc → Routes → List ℕ → List Token → Row → Type 0
+IsRequested doc routes account s row = (into : List ℕ) × (local : List Token) × Contains (views_by doc routes account s) (At into local (Service row))
 
--- it is its publisher's account, and the published subject
-abbrev pub IsOwn : List ℕ → List Token → List ℕ → List Token → Type 0
-IsOwn account s into local = (into ≡ account) × (local ≡ s)
+-- ---- how it is seen there
 
--- a row of another account takes it there
-abbrev pub IsTaken : PolicyDoc → List ℕ → List Token → List ℕ → List Token → Type 0
-IsTaken doc account s into local = (row : Row) × (row.importer ≡ into) × (into ≢ account) × Takes doc account s row local × (length local ≤ 512)
+-- A request has the subject of a response route in place of its reply, and a response has no reply. Other messages have the reply
+-- that they were published with.
+abbrev pub HasRouteReply : Option (List Token) → Option (List Token) → Type 0
+HasRouteReply None reply = reply ≡ None
+HasRouteReply (Some published) reply = (word : ℕ) × (number : ℕ) × (reply ≡ Some (route_subject word number))
+
+abbrev pub HasReply : Way → Option (List Token) → Option (List Token) → Type 0
+HasReply Own published reply = reply ≡ published
+HasReply (Stream row) published reply = reply ≡ published
+HasReply (Service row) published reply = HasRouteReply published reply
+HasReply (Response row) published reply = reply ≡ None
+
+-- nothing but subject and reply is changed
+abbrev pub IsSeenAs : Way → List Token → Message → Message → Type 0
+IsSeenAs way local m seen = (seen ≡ record m { subject = local; reply = seen.reply }) × HasReply way m.reply seen.reply
+
+-- ---- why it is seen there
+
+-- A row of the policy takes it there: across a stream from the exporter to the importer, across a service the other way. An export
+-- of the exporter lets the row in. A subject that begins with the token `_R_` crosses no row.
+abbrev pub IsTaken : PolicyDoc → List ℕ → List Token → List ℕ → List Token → Way → Type 0
+IsTaken doc account s into local way =
+    (is_route s ≡ false) × Any (λ (r : ImportRow). (way_of r ≡ way) × IsSeenBy r account s into local × IsExported doc.accounts r) (rows_of doc)
+
+-- It is a response: the account has a live route on the subject, which leads to the account that has asked, and to the reply of its
+-- request.
+abbrev pub IsAnswered : Routes → List ℕ → List Token → List ℕ → List Token → Row → Type 0
+IsAnswered routes account s into local row =
+    IsSomeAnd (route_on s (exporter_of account routes).routes) (λ (r : Route). (r.row ≡ row) × (row.importer ≡ into) × (r.reply ≡ local))
+
+abbrev pub ComesBy : PolicyDoc → Routes → List ℕ → List Token → List ℕ → List Token → Way → Type 0
+ComesBy doc routes account s into local Own = (into ≡ account) × (local ≡ s)
+ComesBy doc routes account s into local (Stream row) = IsTaken doc account s into local (Stream row)
+ComesBy doc routes account s into local (Service row) = IsTaken doc account s into local (Service row)
+ComesBy doc routes account s into local (Response row) = IsAnswered routes account s into local row
 
 -- a row would take it to a subject that is too long
 abbrev pub IsTooLong : PolicyDoc → List ℕ → List Token → Row → Type 0
-IsTooLong doc account s row = (local : List Token) × Takes doc account s row local × (512 < length local)
+IsTooLong doc account s row =
+    (is_route s ≡ false) × Any (λ (r : ImportRow). (r.row ≡ row) × (source_of r ≡ account) × IsSomeAnd (across r s) (λ t. 512 < length t)) (rows_of doc)
 
--- A message has a view exactly in its publisher's account, on the published subject, and where an import row takes it.
-abbrev pub SeenByRows : Type 0
-SeenByRows = (doc : PolicyDoc) → IsValidPolicy doc → (account : List ℕ) (s : List Token) (into : List ℕ) (local : List Token) →
-    IsSeen doc account s into local ↔ (IsOwn account s into local ⊎ IsTaken doc account s into local)
+-- Each view of a message is its publisher's own, or a row of the policy takes it there, or it is the response on a route.
+abbrev pub SeenByWays : Type 0
+SeenByWays = (doc : PolicyDoc) → IsValidPolicy doc → (routes : Routes) (account : List ℕ) (s : List Token) (into : List ℕ) (local : List Token) (way : Way) →
+    Contains (views_by doc routes account s) (At into local way) → ComesBy doc routes account s into local way
 
 -- A row is reported exactly where it would take the message to a subject that is too long.
 abbrev pub ReportedByRows : Type 0
-ReportedByRows = (doc : PolicyDoc) → IsValidPolicy doc → (account : List ℕ) (s : List Token) (row : Row) →
-    IsReported doc account s row ↔ IsTooLong doc account s row
-
--- A concrete subject and the local one are a pair of the row's mapping, if that is a mapping.
-abbrev pub RowsPair : Type 0
-RowsPair = (doc : PolicyDoc) (account : List ℕ) (s : List Token) (row : Row) (local : List Token) → IsConcreteSubject s → (takes : Takes doc account s row local) → IsRowMap (mapping_of takes.entry) →
-    IsPair (mapping_of takes.entry) s local
+ReportedByRows = (doc : PolicyDoc) → IsValidPolicy doc → (routes : Routes) (account : List ℕ) (s : List Token) (row : Row) →
+    IsReported doc routes account s row ↔ IsTooLong doc account s row

@@ -1,8 +1,8 @@
 //! What follows from the routing guarantee of each step.
 ghost use Rattle.hub_routing_laws.specs.Denied.{DenyOverridesPublish, DenyOverridesSubscribe, DenyOverridesDelivery, DeniedReachesNobody};
 ghost use Rattle.hub_routing_laws.specs.Reach.{NothingUnadmitted, NobodyLeftOut, ReachesItsViews, AccountsApart, OneOfEachGroup};
-ghost use Rattle.hub_routing_laws.specs.Seen.{SeenByRows, ReportedByRows, RowsPair};
-ghost use Rattle.hub_routing_laws.specs.Within.{SeenWithin, ReachesItsSet};
+ghost use Rattle.hub_routing_laws.specs.Seen.{SeenByWays, ReportedByRows};
+ghost use Rattle.hub_routing_laws.specs.Within.{RoutesWithin, SeenWithin, ReachesItsSet};
 ghost use Rattle.hub_routing_laws.specs.Standing.{RefusedChangesNothing, ReloadLeavesNoneRefused};
 
 /// Tells that of a user's lists a deny entry wins over every allow entry. A publish that one has the subject of is denied,
@@ -21,7 +21,7 @@ pub fn nothing_unadmitted()
 {}
 
 /// Tells that nobody is left out. Who may be sent a message in one of its views, for a subscription of no queue group and
-/// without a limit, has an item.
+/// without a limit, has an item, unless it is a request for which there is no response route.
 pub fn nobody_left_out()
     ensures { NobodyLeftOut }
 {}
@@ -46,33 +46,30 @@ pub fn reaches_its_views()
     ensures { ReachesItsViews }
 {}
 
-/// Tells that a message has a view exactly in its publisher's account, on the published subject, and where an import row
-/// takes it. The row stands in the policy in force, and an export of the publisher's account admits it. A row is reported
-/// exactly where the subject that it makes would be too long.
-pub fn seen_by_rows()
-    ensures seen { SeenByRows }
+/// Tells that each view of a message is its publisher's own, on the published subject, or comes across an import row of the policy
+/// in force, which an export admits, or is the response on a live route of the account. A row is reported exactly where the
+/// subject that it makes would be too long.
+pub fn seen_by_ways()
+    ensures seen { SeenByWays }
     ensures reported { ReportedByRows }
 {}
 
-/// Tells that a concrete subject and the one that a row makes of it are a pair of the row's mapping, if that is a mapping.
-pub fn rows_pair()
-    ensures { RowsPair }
-{}
-
-/// Tells that a message of an account reaches sessions of that account, and a session of another one through an import row of
-/// that one alone, which an export of the first admits.
+/// Tells that a message of an account reaches sessions of that account, and a session of another one across an import row between
+/// the two alone, which an export admits, or as the response to a request of that one.
 pub fn accounts_apart()
     ensures { AccountsApart }
 {}
 
 /// Tells that a message of an account reaches only accounts of its closed set, and so it is of its views. A set of accounts is
-/// closed where no import row has one end in it and one outside.
+/// closed where no import row has one end in it and one outside; nor does a response route lead out of it, ever.
 pub fn reaches_its_set()
+    ensures routes { RoutesWithin }
     ensures seen { SeenWithin }
     ensures reaches { ReachesItsSet }
 {}
 
-/// Tells that a publish that is denied reaches nobody: no session, outbox or subscription changes.
+/// Tells that a publish that is denied reaches nobody: no session, outbox or subscription changes, and of the response routes those
+/// stand that live.
 pub fn denied_reaches_nobody()
     ensures { DeniedReachesNobody }
 {}

@@ -1,11 +1,11 @@
 -- Which views come across rows, that each row has its export, and what streams alone give.
-use Rattle.std.proofs.Common.{◌≡◌, ◌∙◌, ◌+◌, ◌<◌, ◌≤◌, ℕ, zero, suc, Bool, true, false, true≢false, cond, if◌then◌else◌, List, [], ◌∷◌, ◌++◌, Option, Some, None, length, ap, sym, refl, subst, arith}
+use Rattle.std.proofs.Common.{◌≡◌, ◌∙◌, ◌+◌, ◌<◌, ◌≤◌, ℕ, zero, suc, Bool, true, false, true≢false, cond, List, [], ◌∷◌, Option, Some, None, length, ap, sym, refl, subst, arith}
 use Rattle.std.specs.Prelude.{◌↔◌, nat_lt, All, Any, Contains, IsTrue, IsSome, IsSomeAnd, position}
 use Rattle.std.specs.List.{cons_option, filter_map, flat_map, slice_index_or}
 use Rattle.std.specs.Option.{option_map}
 use Rattle.std.specs.Str.{bytes_eq}
 use Rattle.std.proofs.lemmas.Bool.Decides.{nat_tests}
-use Rattle.std.proofs.lemmas.List.{append-nil, get_or_default}
+use Rattle.std.proofs.lemmas.List.{get_or_default}
 use Rattle.std.proofs.lemmas.List.Elements.{All-nil, All-cons, All-append, All-head, All-tail}
 use Rattle.std.proofs.lemmas.List.Quantifiers.{position-Some}
 use Rattle.std.proofs.lemmas.Slice.Eq.{bytes_eq-Decides}
@@ -16,21 +16,17 @@ use Rattle.exports.specs.Exports.{admits}
 use Rattle.exports.specs.declared.document.ExportDoc.{ExportDoc}
 use Rattle.exports.specs.declared.document.Kind.{Kind}
 use Rattle.exports.specs.declared.document.Kind.TheVariants as kind
-use Rattle.policy_doc.specs.Document.{imports_of}
 use Rattle.policy_doc.specs.Imports.{IsValidImport, export_of, exporter_of, mapping_by, mapping_of}
 use Rattle.policy_doc.specs.declared.document.ImportDoc.{ImportDoc}
 use Rattle.policy_doc.specs.declared.document.NamedAccount.{NamedAccount}
 use Rattle.imports.specs.Across.{across, across_by, crossed, crossing, crossings_in, source_of, target_of, way_of}
-use Rattle.imports.specs.Views as streams
-use Rattle.imports.specs.Views.{first_of_each, is_route, row_at, rows_from, rows_in, rows_of}
-use Rattle.imports.specs.Rows.{IsRow, is_asked}
-use Rattle.imports.specs.Laws.{CrossesByPairs, IsCrossedBy, IsExported, IsPairBy, IsSeenBy, RowsAreExported, StreamsAlone}
+use Rattle.imports.specs.Views.{row_at, rows_from, rows_in}
+use Rattle.imports.specs.Rows.{IsRow}
+use Rattle.imports.specs.Laws.{CrossesByPairs, IsCrossedBy, IsExported, IsPairBy, IsSeenBy, RowsAreExported}
 use Rattle.imports.specs.declared.rows.ImportRow.{ImportRow}
 use Rattle.imports.specs.declared.view.ViewItem.{ViewItem}
 use Rattle.imports.specs.declared.view.ViewItem.TheVariants.{At, TooLong}
 use Rattle.imports.specs.declared.view.Way.{Way}
-use Rattle.imports.specs.declared.view.Way.TheVariants.{Own}
-use Rattle.imports.proofs.Firsts.{same_given, streams_asked}
 
 -- ---- each row has its export
 
@@ -183,39 +179,3 @@ by_pairs rows all a b s t way subject plain =
           subst (λ l. Contains l v) (sym beyond)
           (gives (crossing a s) rows v (any.0, any.1, any.2, any.3, seen_crosses any.1 a b s t it ∙ ap (λ w. Some (At b t w)) any.4.0)),
     )
-
--- ---- streams alone
-
-abbrev IsStream : ImportRow → Type 0
-IsStream r = r.kind ≡ kind.Stream
-
-abbrev IsOfStream : ImportDoc → Type 0
-IsOfStream i = i.kind ≡ kind.Stream
-
--- what holds of all of two lists holds of each
-both : (xs ys : List ImportDoc) → All IsOfStream (xs ++ ys) → All IsOfStream xs × All IsOfStream ys
-both [] ys all = (All-nil IsOfStream, all)
-both (x ∷ xs) ys all =
-    let later = both xs ys (All-tail IsOfStream x (xs ++ ys) all) in
-    (All-cons IsOfStream x xs (All-head IsOfStream x (xs ++ ys) all) later.0, later.1)
-
-streams_from : (importer : List ℕ) (index : ℕ) (imports : List ImportDoc) → All IsOfStream imports → All IsStream (rows_from importer index imports)
-streams_from importer index [] all = All-nil IsStream
-streams_from importer index (i ∷ more) all =
-    All-cons IsStream (row_at importer index i) (rows_from importer (index + 1) more) (All-head IsOfStream i more all)
-    (streams_from importer (index + 1) more (All-tail IsOfStream i more all))
-
-streams_in : (accounts : List NamedAccount) → All IsOfStream (imports_of accounts) → All IsStream (flat_map rows_in accounts)
-streams_in [] all = All-nil IsStream
-streams_in (a ∷ more) all =
-    let parts = both a.account.imports (imports_of more) all in
-    All-append IsStream (rows_in a) (flat_map rows_in more) (streams_from a.name 0 a.account.imports parts.0) (streams_in more parts.1)
-
-stream_asked : (a : List ℕ) (s : List Token) (r : ImportRow) → IsStream r → crossing a s r ≡ streams.crossing a s r
-stream_asked a s r is = sym (ap (λ k. cond (is_asked false k) (crossing a s r) None) is) ∙ streams_asked a s r
-
-pub alone : StreamsAlone
-alone doc all a s =
-    let same = same_given (crossing a s) (streams.crossing a s) IsStream (stream_asked a s) (rows_of doc) (streams_in doc.accounts all) in
-    ap (λ l. first_of_each (At a s Own ∷ l)) (append-nil (crossings_in (rows_of doc) a s))
-    ∙ ap (λ l. first_of_each (At a s Own ∷ (if is_route s then [] else l))) same

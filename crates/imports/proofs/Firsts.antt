@@ -1,12 +1,11 @@
 -- The first view of each account and subject, view by view; and that the own view is like none across a row.
-use Rattle.std.proofs.Common.{◌≡◌, ◌==◌, ◌∙◌, ◌&&◌, ◌||◌, ℕ, Bool, true, false, true≢false, cond, not, List, [], ◌∷◌, ◌++◌, Option, Some, None, length, filter, ap, sym, refl, subst, arith}
+use Rattle.std.proofs.Common.{◌≡◌, ◌∙◌, ◌&&◌, ◌||◌, ℕ, Bool, true, false, true≢false, cond, not, List, [], ◌∷◌, ◌++◌, Option, Some, None, length, filter, ap, sym, refl, subst}
 use Rattle.std.specs.Prelude.{⊤, nat_lt, All}
 use Rattle.std.specs.List.{cons_option, filter_map, list_any}
 use Rattle.std.specs.Option.{option_map}
 use Rattle.std.specs.Str.{bytes_eq}
 use Rattle.std.specs.Cmp.Lexicographic.{bytes_decides, pointwise_decides}
 use Rattle.std.proofs.lemmas.Bool.{and_parts}
-use Rattle.std.proofs.lemmas.Bool.Decides.{nat_tests}
 use Rattle.std.proofs.lemmas.List.{append-nil}
 use Rattle.std.proofs.lemmas.List.Elements.{All-head, All-tail, filter-append, filter_map-append}
 use Rattle.std.proofs.lemmas.Slice.Eq.{bytes_eq-Decides}
@@ -15,9 +14,8 @@ use Rattle.subjects.specs.Equal.{same_subject}
 use Rattle.exports.specs.declared.document.Kind.{Kind}
 use Rattle.exports.specs.declared.document.Kind.TheVariants as kind
 use Rattle.imports.specs.Across.{across, crossed, crossing, crossings_in, first_by, last_by, source_of, target_of, views_in, way_of}
-use Rattle.imports.specs.Views as streams
 use Rattle.imports.specs.Views.{first_of_each, is_at, is_route, is_same}
-use Rattle.imports.specs.Rows.{IsRow, crossing_if, is_asked, with_crossing}
+use Rattle.imports.specs.Rows.{IsRow, with_crossing}
 use Rattle.imports.specs.declared.rows.ImportRow.{ImportRow}
 use Rattle.imports.specs.declared.view.ViewItem.{ViewItem}
 use Rattle.imports.specs.declared.view.ViewItem.TheVariants.{At, TooLong}
@@ -100,8 +98,8 @@ ends_apart : (k : Kind) (exporter importer : List ℕ) → bytes_eq exporter imp
 ends_apart kind.Stream exporter importer apart = apart
 ends_apart kind.Service exporter importer apart = turned exporter importer apart
 
-row_elsewhere : (services : Bool) (a : List ℕ) (s : List Token) (r : ImportRow) → IsRow r → IsElsewhere a s (crossing_if services a s r)
-row_elsewhere services a s r holds = by (is_asked services r.kind) (bytes_eq (source_of r) a) refl
+row_elsewhere : (a : List ℕ) (s : List Token) (r : ImportRow) → IsRow r → IsElsewhere a s (crossing a s r)
+row_elsewhere a s r holds = by (bytes_eq (source_of r) a) refl
   where
     long : bytes_eq a (target_of r) ≡ false → (t : List Token) (c : Bool) → IsElsewhere a s (Some (cond c (TooLong r.row) (At (target_of r) t (way_of r))))
     long other t true = refl
@@ -111,20 +109,19 @@ row_elsewhere services a s r holds = by (is_asked services r.kind) (bytes_eq (so
     mapped other None = tt
     mapped other (Some t) = long other t (nat_lt 512 (length t))
 
-    by : (b c : Bool) → bytes_eq (source_of r) a ≡ c → IsElsewhere a s (cond b (cond c (option_map (crossed r) (across r s)) None) None)
-    by false c e = tt
-    by true false e = tt
-    by true true e =
+    by : (c : Bool) → bytes_eq (source_of r) a ≡ c → IsElsewhere a s (cond c (option_map (crossed r) (across r s)) None)
+    by false e = tt
+    by true e =
         let source : source_of r ≡ a = (bytes_eq-Decides (source_of r) a).0 e in
         mapped (subst (λ n. bytes_eq n (target_of r) ≡ false) source (ends_apart r.kind r.exporter r.row.importer holds.other)) (across r s)
 
-rows_elsewhere : (services : Bool) (a : List ℕ) (s : List Token) (rows : List ImportRow) → All IsRow rows → has_at a s (filter_map (crossing_if services a s) rows) ≡ false
-rows_elsewhere services a s [] all = refl
-rows_elsewhere services a s (r ∷ rows) all =
-    by (crossing_if services a s r) (row_elsewhere services a s r (All-head IsRow r rows all)) (rows_elsewhere services a s rows (All-tail IsRow r rows all))
+rows_elsewhere : (a : List ℕ) (s : List Token) (rows : List ImportRow) → All IsRow rows → has_at a s (filter_map (crossing a s) rows) ≡ false
+rows_elsewhere a s [] all = refl
+rows_elsewhere a s (r ∷ rows) all =
+    by (crossing a s r) (row_elsewhere a s r (All-head IsRow r rows all)) (rows_elsewhere a s rows (All-tail IsRow r rows all))
   where
     given : List ViewItem
-    given = filter_map (crossing_if services a s) rows
+    given = filter_map (crossing a s) rows
 
     by : (o : Option ViewItem) → IsElsewhere a s o → has_at a s given ≡ false → has_at a s (cons_option o given) ≡ false
     by None here later = later
@@ -159,66 +156,22 @@ all_kept a s (u ∷ us) none = by (is_at a s u) refl none (λ rest. all_kept a s
 own_first : (a : List ℕ) (s : List Token) (vs : List ViewItem) → has_at a s vs ≡ false → At a s Own ∷ first_of_each vs ≡ first_of_each (At a s Own ∷ vs)
 own_first a s vs none = ap (λ l. At a s Own ∷ l) (sym (all_kept a s (first_of_each vs) (firsts_elsewhere a s vs none)))
 
--- ---- which rows are asked
-
--- rows that give the same one by one do so together
-pub same_given : (f g : ImportRow → Option ViewItem) (P : ImportRow → Type 0) → ((r : ImportRow) → P r → f r ≡ g r) → (rows : List ImportRow) → All P rows → filter_map f rows ≡ filter_map g rows
-same_given f g P same [] all = refl
-same_given f g P same (r ∷ rows) all =
-    ap (λ o. cons_option o (filter_map f rows)) (same r (All-head P r rows all))
-    ∙ ap (λ l. cons_option (g r) l) (same_given f g P same rows (All-tail P r rows all))
-
--- all rows are asked
-pub all_asked : (a : List ℕ) (s : List Token) (r : ImportRow) → crossing_if true a s r ≡ crossing a s r
-all_asked a s r = by r.kind refl
-  where
-    by : (k : Kind) → r.kind ≡ k → cond (is_asked true r.kind) (crossing a s r) None ≡ crossing a s r
-    by kind.Stream e = ap (λ k. cond (is_asked true k) (crossing a s r) None) e
-    by kind.Service e = ap (λ k. cond (is_asked true k) (crossing a s r) None) e
-
--- of streams alone
-pub streams_asked : (a : List ℕ) (s : List Token) (r : ImportRow) → crossing_if false a s r ≡ streams.crossing a s r
-streams_asked a s r = by r.kind refl
-  where
-    by : (k : Kind) → r.kind ≡ k → crossing_if false a s r ≡ streams.crossing a s r
-    by kind.Stream e = rw e refl
-    by kind.Service e = rw e refl
+-- ---- all views
 
 -- the views of a message that crosses rows: the own one, then the first of each across the rows
 pub views_across : (rows : List ImportRow) (a : List ℕ) (s : List Token) → All IsRow rows → is_route s ≡ false →
-    At a s Own ∷ first_of_each (filter_map (crossing_if true a s) rows) ≡ views_in rows a s []
+    At a s Own ∷ first_of_each (filter_map (crossing a s) rows) ≡ views_in rows a s []
 views_across rows a s all plain =
-    own_first a s (filter_map (crossing_if true a s) rows) (rows_elsewhere true a s rows all)
-    ∙ ap (λ l. first_of_each (At a s Own ∷ l)) (same_given (crossing_if true a s) (crossing a s) IsRow (λ r h. all_asked a s r) rows all ∙ sym (append-nil (filter_map (crossing a s) rows)))
+    own_first a s (filter_map (crossing a s) rows) (rows_elsewhere a s rows all)
+    ∙ ap (λ l. first_of_each (At a s Own ∷ l)) (sym (append-nil (filter_map (crossing a s) rows)))
     ∙ sym (ap (λ c. first_of_each (At a s Own ∷ (cond c [] (filter_map (crossing a s) rows) ++ []))) plain)
-
-pub streams_across : (rows : List ImportRow) (a : List ℕ) (s : List Token) → All IsRow rows → is_route s ≡ false →
-    At a s Own ∷ first_of_each (filter_map (crossing_if false a s) rows) ≡ streams.views_in rows a s
-streams_across rows a s all plain =
-    own_first a s (filter_map (crossing_if false a s) rows) (rows_elsewhere false a s rows all)
-    ∙ ap (λ l. first_of_each (At a s Own ∷ l)) (same_given (crossing_if false a s) (streams.crossing a s) IsRow (λ r h. streams_asked a s r) rows all)
-    ∙ sym (ap (λ c. first_of_each (At a s Own ∷ cond c [] (filter_map (streams.crossing a s) rows))) plain)
 
 -- and of one under `_R_`
 pub views_of_route : (rows : List ImportRow) (a : List ℕ) (s : List Token) → is_route s ≡ true → At a s Own ∷ [] ≡ views_in rows a s []
 views_of_route rows a s is = sym (ap (λ c. first_of_each (At a s Own ∷ (cond c [] (filter_map (crossing a s) rows) ++ []))) is)
-
-pub streams_of_route : (rows : List ImportRow) (a : List ℕ) (s : List Token) → is_route s ≡ true → At a s Own ∷ [] ≡ streams.views_in rows a s
-streams_of_route rows a s is = sym (ap (λ c. first_of_each (At a s Own ∷ cond c [] (filter_map (streams.crossing a s) rows))) is)
 
 -- with a response, if there is one
 pub all_views : (rows : List ImportRow) (a : List ℕ) (s : List Token) (o : Option ViewItem) → with_crossing (views_in rows a s []) o ≡ views_in rows a s (cons_option o [])
 all_views rows a s o =
     ap (λ l. with_crossing (first_of_each (At a s Own ∷ l)) o) (append-nil (crossings_in rows a s))
     ∙ sym (with_one (At a s Own ∷ crossings_in rows a s) o)
-
--- without rows there is the own view alone
-pub views_without_rows : (rows : List ImportRow) → (length rows == 0) ≡ true → (a : List ℕ) (s : List Token) → streams.views_in rows a s ≡ At a s Own ∷ []
-views_without_rows [] none a s = by (is_route s)
-  where
-    by : (c : Bool) → first_of_each (At a s Own ∷ cond c [] []) ≡ At a s Own ∷ []
-    by true = refl
-    by false = refl
-views_without_rows (r ∷ rows) none a s =
-    let some : (length (r ∷ rows) == 0) ≡ false = grind (arith, nat_tests) in
-    absurd (true≢false (sym none ∙ some))

@@ -18,7 +18,7 @@ use Rattle.pattern_groups.specs.Numbers.{front_from, IsOfFront}
 use Rattle.pattern_groups.specs.Links.{at, PassesBehind}
 use Rattle.pattern_groups.proofs.Fronts.{in_set-front}
 use Rattle.imports.specs.Across.{across, across_by, crossed, crossing, entrance_of, first_by, source_of}
-use Rattle.imports.specs.Rows.{crossing_if, is_asked, is_crossed, no_row, numbers_of, row_by, row_number, rows_at}
+use Rattle.imports.specs.Rows.{is_crossed, no_row, numbers_of, row_by, row_number, rows_at}
 use Rattle.imports.specs.declared.rows.ImportRow.{ImportRow}
 use Rattle.imports.specs.declared.view.ViewItem.{ViewItem}
 
@@ -28,31 +28,25 @@ not_entered kind.Stream m s none = rw none refl
 not_entered kind.Service m s none = rw none refl
 
 -- a row that isn't crossed gives nothing
-not_crossed : (services : Bool) (a : List ℕ) (s : List Token) (r : ImportRow) → is_crossed services a s r ≡ false → crossing_if services a s r ≡ None
-not_crossed services a s r none = by (is_asked services r.kind) (bytes_eq (source_of r) a) (in_set (entrance_of r) s) refl none
+not_crossed : (a : List ℕ) (s : List Token) (r : ImportRow) → is_crossed a s r ≡ false → crossing a s r ≡ None
+not_crossed a s r none = by (bytes_eq (source_of r) a) (in_set (entrance_of r) s) refl none
   where
-    by : (b c d : Bool) → in_set (entrance_of r) s ≡ d → (b && (c && d)) ≡ false → cond b (cond c (option_map (crossed r) (across r s)) None) None ≡ None
-    by false c d has none = refl
-    by true false d has none = refl
-    by true true false has none = ap (λ o. option_map (crossed r) o) (not_entered r.kind r.mapping s has)
-    by true true true has none = absurd (true≢false none)
-
--- a row that is crossed is asked
-asked_as : (services : Bool) (a : List ℕ) (s : List Token) (r : ImportRow) → is_crossed services a s r ≡ true → crossing a s r ≡ crossing_if services a s r
-asked_as services a s r is =
-    sym (ap (λ c. cond c (crossing a s r) None) (and_parts (is_asked services r.kind) (bytes_eq (source_of r) a && in_set (entrance_of r) s) is).0)
+    by : (c d : Bool) → in_set (entrance_of r) s ≡ d → (c && d) ≡ false → cond c (option_map (crossed r) (across r s)) None ≡ None
+    by false d has none = refl
+    by true false has none = ap (λ o. option_map (crossed r) o) (not_entered r.kind r.mapping s has)
+    by true true has none = absurd (true≢false none)
 
 -- what gives nothing may be left out
-left_out : (f g : ImportRow → Option ViewItem) (test : ImportRow → Bool) (row : ℕ → ImportRow) → ((r : ImportRow) → test r ≡ false → f r ≡ None) → ((r : ImportRow) → test r ≡ true → g r ≡ f r) →
-    (places : List ℕ) → filter_map g (map row (filter (λ i. test (row i)) places)) ≡ filter_map f (map row places)
-left_out f g test row gives same [] = refl
-left_out f g test row gives same (i ∷ places) = by (test (row i)) refl (left_out f g test row gives same places)
+left_out : (f : ImportRow → Option ViewItem) (test : ImportRow → Bool) (row : ℕ → ImportRow) → ((r : ImportRow) → test r ≡ false → f r ≡ None) →
+    (places : List ℕ) → filter_map f (map row (filter (λ i. test (row i)) places)) ≡ filter_map f (map row places)
+left_out f test row gives [] = refl
+left_out f test row gives (i ∷ places) = by (test (row i)) refl (left_out f test row gives places)
   where
     kept : List ℕ
     kept = filter (λ j. test (row j)) places
 
-    by : (b : Bool) → test (row i) ≡ b → filter_map g (map row kept) ≡ filter_map f (map row places) → filter_map g (map row (cond b (i ∷ kept) kept)) ≡ filter_map f (map row (i ∷ places))
-    by true e later = ap (λ l. cons_option (g (row i)) l) later ∙ ap (λ o. cons_option o (filter_map f (map row places))) (same (row i) e)
+    by : (b : Bool) → test (row i) ≡ b → filter_map f (map row kept) ≡ filter_map f (map row places) → filter_map f (map row (cond b (i ∷ kept) kept)) ≡ filter_map f (map row (i ∷ places))
+    by true e later = ap (λ l. cons_option (f (row i)) l) later
     by false e later = later ∙ sym (ap (λ o. cons_option o (filter_map f (map row places))) (gives (row i) e))
 
 -- the rows at all places are the rows
@@ -73,14 +67,14 @@ behind_front front (r ∷ rows) =
     again_as : {all other : List ImportRow} {m n : ℕ} → all ≡ other → m ≡ n → map (row_by all) (range_with_len m (length rows)) ≡ rows → map (row_by other) (range_with_len n (length rows)) ≡ rows
     again_as {all} {other} {m} {n} same as_long is = sym (ap (λ l. map (row_by l) (range_with_len n (length rows))) same) ∙ sym (ap (λ k. map (row_by all) (range_with_len k (length rows))) as_long) ∙ is
 
--- the rows that are crossed give what all that are asked give
-pub crossed_give_all : (services : Bool) (a : List ℕ) (s : List Token) (rows : List ImportRow) (numbers : List ℕ) (places : List ℕ) → numbers ≡ numbers_of rows →
-    places ≡ filter (λ i. is_crossed services a s (row_by rows i)) (range_with_len 0 (length numbers)) →
-    filter_map (crossing a s) (rows_at rows places) ≡ filter_map (crossing_if services a s) rows
-crossed_give_all services a s rows numbers places are is =
-    ap (λ l. filter_map (crossing a s) (rows_at rows l)) (is ∙ ap (λ n. filter (λ i. is_crossed services a s (row_by rows i)) (range_with_len 0 n)) (ap length are ∙ length-map rows row_number))
-    ∙ left_out (crossing_if services a s) (crossing a s) (is_crossed services a s) (row_by rows) (not_crossed services a s) (asked_as services a s) (range_with_len 0 (length rows))
-    ∙ ap (filter_map (crossing_if services a s)) (behind_front [] rows)
+-- the rows that are crossed give what all rows give
+pub crossed_give_all : (a : List ℕ) (s : List Token) (rows : List ImportRow) (numbers : List ℕ) (places : List ℕ) → numbers ≡ numbers_of rows →
+    places ≡ filter (λ i. is_crossed a s (row_by rows i)) (range_with_len 0 (length numbers)) →
+    filter_map (crossing a s) (rows_at rows places) ≡ filter_map (crossing a s) rows
+crossed_give_all a s rows numbers places are is =
+    ap (λ l. filter_map (crossing a s) (rows_at rows l)) (is ∙ ap (λ n. filter (λ i. is_crossed a s (row_by rows i)) (range_with_len 0 n)) (ap length are ∙ length-map rows row_number))
+    ∙ left_out (crossing a s) (is_crossed a s) (row_by rows) (not_crossed a s) (range_with_len 0 (length rows))
+    ∙ ap (filter_map (crossing a s)) (behind_front [] rows)
 
 -- and they are within the rows
 pub places_within : (test : ℕ → Bool) (count : ℕ) → All (λ i. i < count) (filter test (range_with_len 0 count))
@@ -95,13 +89,12 @@ places_within test count = from 0 count (omega arith)
         by false all = all
 
 -- whatever row is crossed has the number of the account and of some of the subject's first tokens
-pub crossed_by_front : (services : Bool) (a : List ℕ) (s : List Token) (rows : List ImportRow) (numbers text : List ℕ) → numbers ≡ numbers_of rows → IsSubject s → text ≡ text_of s →
-    PassesBehind (λ i. is_crossed services a s (row_by rows i)) numbers (number_from 7 a) (tokens_of text)
-crossed_by_front services a s rows numbers text are subject is j below passes =
+pub crossed_by_front : (a : List ℕ) (s : List Token) (rows : List ImportRow) (numbers text : List ℕ) → numbers ≡ numbers_of rows → IsSubject s → text ≡ text_of s →
+    PassesBehind (λ i. is_crossed a s (row_by rows i)) numbers (number_from 7 a) (tokens_of text)
+crossed_by_front a s rows numbers text are subject is j below passes =
     let r = row_by rows j in
     let inside : j < length rows = omega (arith, below, ap length are ∙ length-map rows row_number) in
-    let asked = and_parts (is_asked services r.kind) (bytes_eq (source_of r) a && in_set (entrance_of r) s) passes in
-    let parts = and_parts (bytes_eq (source_of r) a) (in_set (entrance_of r) s) asked.1 in
+    let parts = and_parts (bytes_eq (source_of r) a) (in_set (entrance_of r) s) passes in
     let source : source_of r ≡ a = (bytes_eq-Decides (source_of r) a).0 parts.0 in
     let number : at numbers j ≡ front_from (number_from 7 a) (entrance_of r) =
     ap (λ ns. at ns j) are ∙ get_or-map row_number rows j no_row 0 inside ∙ ap (λ e. front_from (number_from 7 e) (entrance_of r)) source in

@@ -1,7 +1,7 @@
 -- Views across rows of either kind, and by response routes (NATS documentation, "Multi Tenancy using Accounts" and "Subject
 -- Mapping and Partitioning"; docs/GUARANTEE.md, "Views"). A message of a stream goes from the exporter to the importer, a
 -- request to a service from the importer to the exporter.
-use Rattle.std.specs.Prelude.{◌++◌, ◌∷◌, ℕ, List, [], Option, None, filter, length, nat_lt, if◌then◌else◌}
+use Rattle.std.specs.Prelude.{◌++◌, ◌∷◌, ℕ, List, [], Option, None, length, nat_lt, if◌then◌else◌}
 use Rattle.std.specs.List.{filter_map}
 use Rattle.std.specs.Option.{option_map}
 use Rattle.std.specs.Str.{bytes_eq}

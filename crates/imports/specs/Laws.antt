@@ -1,5 +1,5 @@
 -- Laws of import rows, and of the views across them.
-use Rattle.std.specs.Prelude.{◌≡◌, ◌≤◌, ◌⊎◌, ◌↔◌, ℕ, false, IsTrue, List, [], Some, length, All, Any, Contains, IsSomeAnd, find}
+use Rattle.std.specs.Prelude.{◌≡◌, ◌≤◌, ◌⊎◌, ◌↔◌, ℕ, false, IsTrue, List, Some, length, All, Any, Contains, IsSomeAnd, find}
 use Rattle.subjects.specs.Subject.{Token, IsConcreteSubject}
 use Rattle.mapping.specs.Pairs.{RowMap, IsPair}
 use Rattle.exports.specs.Exports.{admits}
@@ -7,12 +7,10 @@ use Rattle.exports.specs.declared.document.ExportDoc.{ExportDoc}
 use Rattle.exports.specs.declared.document.Kind.{Kind}
 use Rattle.exports.specs.declared.document.Kind.TheVariants as kind
 use Rattle.policy_doc.specs.Accounts.{has_name}
-use Rattle.policy_doc.specs.Document.{imports_of, IsValidPolicy}
-use Rattle.policy_doc.specs.declared.document.ImportDoc.{ImportDoc}
+use Rattle.policy_doc.specs.Document.{IsValidPolicy}
 use Rattle.policy_doc.specs.declared.document.NamedAccount.{NamedAccount}
 use Rattle.policy_doc.specs.declared.document.PolicyDoc.{PolicyDoc}
-use Rattle.imports.specs.Across.{across, crossings_in, source_of, target_of, views_in, way_of, views}
-use Rattle.imports.specs.Views as streams
+use Rattle.imports.specs.Across.{across, crossings_in, source_of, target_of, views_in, way_of}
 use Rattle.imports.specs.Views.{is_at, is_route, rows_of}
 use Rattle.imports.specs.Rows.{IsRow}
 use Rattle.imports.specs.declared.rows.ImportRow.{ImportRow}
@@ -61,8 +59,3 @@ IsExported accounts r = IsSomeAnd (find (has_name r.exporter) accounts) (λ expo
 
 abbrev pub RowsAreExported : Type 0
 RowsAreExported = (doc : PolicyDoc) → IsValidPolicy doc → All (IsExported doc.accounts) (rows_of doc)
-
--- where a policy imports streams alone, the views without responses are those across streams
-abbrev pub StreamsAlone : Type 0
-StreamsAlone = (doc : PolicyDoc) → All (λ (i : ImportDoc). i.kind ≡ kind.Stream) (imports_of doc.accounts) → (account : List ℕ) (s : List Token) →
-    views doc account s [] ≡ streams.views doc account s

@@ -1,14 +1,13 @@
 -- What is known of import rows, and how the views across them are gathered.
-use Rattle.std.specs.Prelude.{◌≡◌, ◌&&◌, ◌++◌, ◌∷◌, ℕ, Bool, true, false, List, [], Option, Some, None, map, if◌then◌else◌}
+use Rattle.std.specs.Prelude.{◌≡◌, ◌&&◌, ◌++◌, ◌∷◌, ℕ, Bool, false, List, [], Option, Some, None, map, if◌then◌else◌}
 use Rattle.std.specs.List.{list_any, slice_index_or}
 use Rattle.std.specs.Str.{bytes_eq}
 use Rattle.subjects.specs.Subject.{Token, in_set}
 use Rattle.subjects.specs.Mark.{number_from}
 use Rattle.mapping.specs.Pairs.{IsRowMap}
 use Rattle.pattern_groups.specs.Numbers.{front_from}
-use Rattle.exports.specs.declared.document.Kind.{Kind}
 use Rattle.exports.specs.declared.document.Kind.TheVariants as kind
-use Rattle.imports.specs.Across.{crossing, entrance_of, source_of}
+use Rattle.imports.specs.Across.{entrance_of, source_of}
 use Rattle.imports.specs.Views.{is_same}
 use Rattle.imports.specs.declared.rows.ImportRow.{ImportRow}
 use Rattle.imports.specs.declared.view.ViewItem.{ViewItem}
@@ -25,18 +24,9 @@ with_crossing views (Some v) = if list_any (λ u. is_same u v) views then views 
 
 -- ---- which rows are asked
 
--- rows of streams are asked, and those of services only where they are wanted
-abbrev pub is_asked : Bool → Kind → Bool
-is_asked services kind.Stream = true
-is_asked services kind.Service = services
-
--- what a row that is asked gives
-abbrev pub crossing_if : Bool → List ℕ → List Token → ImportRow → Option ViewItem
-crossing_if services account s r = if is_asked services r.kind then crossing account s r else None
-
--- whether messages of an account on a subject cross a row that is asked
-abbrev pub is_crossed : Bool → List ℕ → List Token → ImportRow → Bool
-is_crossed services account s r = is_asked services r.kind && (bytes_eq (source_of r) account && in_set (entrance_of r) s)
+-- whether messages of an account on a subject cross a row
+abbrev pub is_crossed : List ℕ → List Token → ImportRow → Bool
+is_crossed account s r = bytes_eq (source_of r) account && in_set (entrance_of r) s
 
 -- the number by which a row is found: that of the account whose messages cross it, and of the literal tokens that their
 -- subjects begin with

@@ -1,11 +1,9 @@
 //! What an import row gives of a message, and the views across several rows.
-ghost use Rattle.std.specs.Prelude.{◌≡◌, ◌<◌, ◌&&◌, ℕ, All, IfOk, OnOk, Some, length};
+ghost use Rattle.std.specs.Prelude.{◌≡◌, ◌<◌, ℕ, All, IfOk, OnOk, Some, length};
 ghost use Rattle.std.specs.List.{filter_map, list_any};
-ghost use Rattle.std.specs.Str.{bytes_eq};
-ghost use Rattle.subjects.specs.Subject.{in_set};
 ghost use Rattle.imports.specs.Across.{across, crossing, entrance_of, source_of, target_of, way_of};
 ghost use Rattle.imports.specs.Views.{first_of_each, is_at, is_route, is_same};
-ghost use Rattle.imports.specs.Rows.{crossing_if, is_asked, is_crossed, numbers_of, row_by, rows_at, with_crossing};
+ghost use Rattle.imports.specs.Rows.{is_crossed, numbers_of, row_by, rows_at, with_crossing};
 ghost use Rattle.mapping.specs.Pairs.{IsMapped};
 
 use crate::{ImportRow, ViewItem, Way};
@@ -32,8 +30,6 @@ pub(crate) fn is_route(subject: &SubjectRef<'_>) -> bool
 #[derive(Drop)]
 struct Asked<'a, 'b> {
     rows: &'a [ImportRow],
-    /// Whether rows of services are asked too.
-    services: bool,
     account: &'a [u8],
     subject: &'a SubjectRef<'b>,
 }
@@ -41,31 +37,28 @@ struct Asked<'a, 'b> {
 impl<'a, 'b> Patterns for Asked<'a, 'b> {
     ghost count = { λ a. length a.rows.now };
 
-    ghost passes = { λ a i. is_crossed a.services a.account.now a.subject.now (row_by a.rows.now i) };
+    ghost passes = { λ a i. is_crossed a.account.now a.subject.now (row_by a.rows.now i) };
 
     fn passes(&self, index: usize) -> bool {
-        is_crossed(&self.rows[index], self.services, self.account, self.subject)
+        is_crossed(&self.rows[index], self.account, self.subject)
     }
 }
 
-/// Returns the views of an account's message across rows: those of streams, and those of services where they are wanted. Only
-/// those are asked that the account's messages cross and whose pattern begins as the subject does. It takes no memory where the
-/// message crosses none.
+/// Returns the views of an account's message across rows. Only those are asked that the account's messages cross and whose pattern
+/// begins as the subject does. It takes no memory where the message crosses none.
 pub(crate) fn crossings(
     alloc: Global,
     rows: &[ImportRow],
     groups: &Groups,
-    services: bool,
     account: &[u8],
     subject: &SubjectRef<'_>,
 ) -> Result<Vec<ViewItem>, NoMemory>
     requires { groups.now ≡ numbers_of rows.now }
-    ensures { IfOk result (λ views. views.items ≡ first_of_each (filter_map (crossing_if services account.now subject.now) rows.now)) }
+    ensures { IfOk result (λ views. views.items ≡ first_of_each (filter_map (crossing account.now subject.now) rows.now)) }
 {
     let _ = subject.tokens();
     let asked = Asked {
         rows,
-        services,
         account,
         subject,
     };
@@ -210,28 +203,11 @@ fn way_of(row: &ImportRow) -> Result<Way, NoMemory>
     }
 }
 
-/// Returns whether a message of the account crosses the row, where it is asked.
-fn is_crossed(row: &ImportRow, services: bool, account: &[u8], subject: &SubjectRef<'_>) -> bool
-    ensures { result ≡ is_crossed services account.now subject.now row.now }
-{
-    is_asked(row.kind, services) && is_entered(row, account, subject)
-}
-
 /// Returns whether a message of the account crosses the row.
-fn is_entered(row: &ImportRow, account: &[u8], subject: &SubjectRef<'_>) -> bool
-    ensures { result ≡ (bytes_eq (source_of row.now) account.now && in_set (entrance_of row.now) subject.now) }
+fn is_crossed(row: &ImportRow, account: &[u8], subject: &SubjectRef<'_>) -> bool
+    ensures { result ≡ is_crossed account.now subject.now row.now }
 {
     source_of(row) == account && entrance_of(row).matches(subject)
-}
-
-/// Returns whether rows of a kind are asked.
-fn is_asked(kind: Kind, services: bool) -> bool
-    ensures { result ≡ is_asked services kind }
-{
-    match kind {
-        Kind::Stream => true,
-        Kind::Service => services,
-    }
 }
 
 /// Returns whether a view of the same account and subject is among these.

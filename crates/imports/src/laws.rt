@@ -1,5 +1,5 @@
 //! Laws of import rows, for whoever proves something of views.
-ghost use Rattle.imports.specs.Laws.{CrossesByPairs, RowsAreExported, RowsGiveViews, StreamsAlone, ViewsComeByRows};
+ghost use Rattle.imports.specs.Laws.{CrossesByPairs, RowsAreExported, RowsGiveViews, ViewsComeByRows};
 
 /// A message of an account is seen in another, on another subject, across exactly the rows that lead from the one to the other
 /// and whose mapping pairs the two subjects, where the other has at most 512 tokens. A row of a stream leads from the exporter
@@ -18,9 +18,4 @@ pub fn views_come_by_rows()
 /// Each import row of a valid policy has an export that lets it in, of the account that it imports from.
 pub fn rows_are_exported()
     ensures { RowsAreExported }
-{}
-
-/// Where a policy imports streams alone and no response route has the subject, the views are those across streams.
-pub fn streams_alone()
-    ensures { StreamsAlone }
 {}

@@ -8,6 +8,6 @@ mod making;
 mod rows;
 mod view;
 
-pub use laws::{crosses_by_pairs, rows_are_exported, streams_alone, views_come_by_rows};
+pub use laws::{crosses_by_pairs, rows_are_exported, views_come_by_rows};
 pub use rows::{ImportRow, Rows};
 pub use view::{ViewItem, Way};

@@ -48,12 +48,10 @@ impl Model for Rows {
 }
 
 impl Rows {
-    ghost use Rattle.std.specs.Prelude.{◌≡◌, ◌==◌, ◌∷◌, ℕ, [], All, IfOk, List, length, true};
+    ghost use Rattle.std.specs.Prelude.{◌≡◌, ◌==◌, ◌∷◌, [], All, IfOk, length};
     ghost use Rattle.std.specs.List.{cons_option};
-    ghost use Rattle.subjects.specs.Subject.{Token};
     ghost use Rattle.imports.specs.Across.{views_in};
     ghost use Rattle.imports.specs.Views.{rows_of};
-    ghost use Rattle.imports.specs.Views as streams;
     ghost use Rattle.imports.specs.Rows.{IsRow};
     ghost use Rattle.imports.specs.declared.view.ViewItem.TheVariants as view;
     ghost use Rattle.imports.specs.declared.view.Way.TheVariants as way;
@@ -69,10 +67,8 @@ impl Rows {
 
     /// Returns whether there is no row: then each message is seen in its publisher's account alone.
     #[inline(always)]
-    #[tactic(auto, using(crate::proofs::Firsts::views_without_rows))]
     pub fn is_empty(&self) -> bool
-        ensures empty { result ≡ (length self.now == 0) }
-        ensures own { result ≡ true → (account : List ℕ) (s : List Token) → streams.views_in self.now account s ≡ view.At account s way.Own ∷ [] }
+        ensures { result ≡ (length self.now == 0) }
     {
         self.rows.is_empty()
     }
@@ -124,40 +120,8 @@ impl Rows {
         if is_route(subject) {
             return Ok(Vec::new(alloc));
         }
-        let found = crossings(
-            alloc,
-            self.rows.as_slice(),
-            &self.groups,
-            true,
-            account,
-            subject,
-        )?;
+        let found = crossings(alloc, self.rows.as_slice(), &self.groups, account, subject)?;
         Ok(found)
-    }
-
-    /// Returns those across rows of streams alone. `NoMemory` where memory could not be had. It takes no memory where the
-    /// message crosses no row.
-    #[tactic(auto, using(crate::proofs::Firsts::streams_across, crate::proofs::Firsts::streams_of_route))]
-    pub fn others(
-        &self,
-        alloc: Global,
-        account: &[u8],
-        subject: &SubjectRef<'_>,
-    ) -> Result<Vec<ViewItem>, NoMemory>
-        ensures { IfOk result (λ others. view.At account.now subject.now way.Own ∷ others.items ≡ streams.views_in self.now account.now subject.now) }
-    {
-        if is_route(subject) {
-            return Ok(Vec::new(alloc));
-        }
-        let others = crossings(
-            alloc,
-            self.rows.as_slice(),
-            &self.groups,
-            false,
-            account,
-            subject,
-        )?;
-        Ok(others)
     }
 }
 

@@ -2,7 +2,7 @@ use crate::marks::{MOST, Mark, Marks, count_answer, drop_dead, drop_one, dropped
 use crate::plain::{PlainGrant, plain_grants};
 use base::{Items, NoMemory};
 use indexmap::IndexMap;
-use policy_doc::Terms;
+use permission_doc::Terms;
 use std::alloc::Global;
 use std::hash::RandomState;
 use std::marker::Model;

@@ -1,6 +1,6 @@
 use crate::{Grants, PlainGrant};
 use base::{Items, NoMemory};
-use policy_doc::Terms;
+use permission_doc::Terms;
 use std::alloc::Global;
 use std::hash::RandomState;
 use std::marker::Model;

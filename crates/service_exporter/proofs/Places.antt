@@ -525,3 +525,17 @@ pub rising-on_rows : (again : Row → Option NewRow) (slots : List Slot) → Are
 unfolding AreRising
 rising-on_rows again [] rising = rising
 rising-on_rows again (s ∷ slots) rising = (above-on_rows again s.number slots rising.0, rising-on_rows again slots rising.1)
+
+-- ---- the routes of a plain list
+
+-- one slot first
+pub living_first : (now : ℕ) (s : Slot) (slots : List Slot) → living now (standing_in (s ∷ slots)) ≡ living now (standing_in (s ∷ [])) ++ living now (standing_in slots)
+living_first now s slots = by s.route
+  where
+    by : (o : Option Route) → living now (entry_of s.number o ++ standing_in slots) ≡ living now (entry_of s.number o ++ []) ++ living now (standing_in slots)
+    by None = refl
+    by (Some r) = by_life (lives now r)
+      where
+        by_life : (b : Bool) → cond b ((s.number, r) ∷ living now (standing_in slots)) (living now (standing_in slots)) ≡ cond b ((s.number, r) ∷ []) [] ++ living now (standing_in slots)
+        by_life true = refl
+        by_life false = refl

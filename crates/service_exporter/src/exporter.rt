@@ -5,6 +5,7 @@ ghost use Rattle.service_exporter.specs.Routes.{if_lives, kept_of, living, prune
 ghost use Rattle.service_exporter.specs.Limit.{is_full, IsNext, IsReserved};
 ghost use Rattle.service_exporter.specs.Slots.{standing_in};
 
+use crate::plain::PlainExporter;
 use crate::slots::{
     Slot, compact, copy_slots, count_living, drop_dead_at, keep_rows, prune, route_on, spend,
 };
@@ -78,6 +79,13 @@ impl Exporter {
             turn: self.turn,
             tally: self.tally,
         })
+    }
+
+    /// What is seen of it at a moment, in a plain list. `NoMemory` where memory could not be had.
+    pub fn plain(&self, alloc: Global, now: u64) -> Result<PlainExporter, NoMemory>
+        ensures { IfOk result (λ plain. plain ≡ pruned_of now self.now.exporter) }
+    {
+        PlainExporter::of(alloc, self.last, self.slots.as_slice(), now)
     }
 
     /// Takes all routes out, and forgets the last number.

@@ -11,6 +11,7 @@
 
 mod error;
 mod exporter;
+mod plain;
 mod route;
 mod slots;
 mod tally;
@@ -18,5 +19,6 @@ mod tally;
 pub use error::RouteError;
 pub use exporter::Exporter;
 pub use exports::{ResponseTerms, Row};
+pub use plain::{PlainExporter, PlainRoute};
 pub use route::{NewRow, Route, ServiceRows};
 pub use service_subjects::route_subject;

@@ -1,7 +1,7 @@
 //! One route, and the import row by which its request came.
 ghost use Rattle.std.specs.Prelude.{◌≡◌, IfOk};
 
-use base::{Copying, NoMemory};
+use base::{Alike, Copying, NoMemory};
 use bytes::Bytes;
 use exports::{ResponseTerms, Row};
 use std::alloc::Global;
@@ -167,6 +167,16 @@ impl Copying for Route {
             noted: self.noted,
             terms: self.terms,
         })
+    }
+}
+
+impl Alike for Route {
+    fn is_like(&self, other: &Route) -> bool {
+        self.word == other.word
+            && self.noted == other.noted
+            && self.terms.is_like(&other.terms)
+            && self.row.is_like(&other.row)
+            && self.reply.is_like(&other.reply)
     }
 }
 

@@ -479,3 +479,19 @@ copied-all [] zero le = refl
 copied-all [] (suc i) le = refl
 copied-all (e ∷ all) zero le = absurd (omega (arith, le))
 copied-all (e ∷ all) (suc i) le = ap (λ more. e ∷ more) (copied-all all i (omega (arith, le)))
+
+-- what is seen of one more exporter
+pub more_seen : (now : ℕ) (all : List (Name × WithRoom)) (place : ℕ) (name : Name) (w : WithRoom) → slice_get all place ≡ Some (name, w) →
+    take place (pruned now (exporters_in all)) ++ (name, pruned_of now w.exporter) ∷ [] ≡ take (place + 1) (pruned now (exporters_in all))
+more_seen now all place name w at = next all place at ∙ ap (λ n. take n (pruned now (exporters_in all))) (let e : suc place ≡ place + 1 = omega arith in e)
+  where
+    next : (es : List (Name × WithRoom)) (i : ℕ) → slice_get es i ≡ Some (name, w) → take i (pruned now (exporters_in es)) ++ (name, pruned_of now w.exporter) ∷ [] ≡ take (suc i) (pruned now (exporters_in es))
+    next [] i h = absurd (cc)
+    next (e ∷ es) zero h = let it : e ≡ (name, w) = cc in ap (λ (x : Name × WithRoom). (x.0, pruned_of now x.1.exporter) ∷ []) (sym it)
+    next (e ∷ es) (suc i) h = ap (λ rest. (e.0, pruned_of now e.1.exporter) ∷ rest) (next es i h)
+
+pub all_seen : (now : ℕ) (all : List (Name × WithRoom)) (i : ℕ) → length all ≤ i → take i (pruned now (exporters_in all)) ≡ pruned now (exporters_in all)
+all_seen now [] zero le = refl
+all_seen now [] (suc i) le = refl
+all_seen now (e ∷ all) zero le = absurd (omega (arith, le))
+all_seen now (e ∷ all) (suc i) le = ap (λ more. (e.0, pruned_of now e.1.exporter) ∷ more) (all_seen now all i (omega (arith, le)))

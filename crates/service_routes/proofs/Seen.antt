@@ -108,7 +108,7 @@ dead m n (e ∷ all) le =
 
 -- ---- several routes
 
-entered : (name : Name) (x : Exporter) (all : List (Name × Exporter)) → exporter_of name (insert_entry same_name all name x) ≡ x
+pub entered : (name : Name) (x : Exporter) (all : List (Name × Exporter)) → exporter_of name (insert_entry same_name all name x) ≡ x
 entered name x [] = rw ((bytes_decides name name).1 refl) refl
 entered name x (e ∷ all) = by (same_name name e.0) refl (entered name x all)
   where

@@ -6,9 +6,11 @@
 #![tactic(auto)]
 
 mod laws;
+mod plain;
 mod routes;
 
 pub use laws::{answers_to_routes, opens_together, seen_by_life};
+pub use plain::NamedExporter;
 pub use routes::Routes;
 pub use service_exporter::{
     NewRow, ResponseTerms, Route, RouteError, Row, ServiceRows, route_subject,

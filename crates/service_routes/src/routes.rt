@@ -1,5 +1,5 @@
 //! All routes, exporter by exporter.
-ghost use Rattle.std.specs.Prelude.{◌≡◌, ◌≤◌, ◌<◌, ◌+◌, ◌++◌, ◌∷◌, ℕ, List, [], IfOk, OnOk, None, Some, false, length, take, if◌then◌else◌};
+ghost use Rattle.std.specs.Prelude.{◌≡◌, ◌≤◌, ◌<◌, ◌+◌, ◌++◌, ◌∷◌, ℕ, List, [], IfOk, OnOk, None, Some, true, false, length, take, if◌then◌else◌};
 ghost use Rattle.std.specs.Map.{lookup};
 ghost use Rattle.std.specs.Option.{option_copied};
 ghost use Rattle.indexmap.specs.IndexMap.{spare};
@@ -8,7 +8,8 @@ ghost use Rattle.service_exporter.specs.Routes.{WithRoom, kept_of, no_routes, pr
 ghost use Rattle.service_routes.specs.Routes.{exporter_of, kept, opened, pruned, room_for, same_name, spent};
 ghost use Rattle.service_routes.specs.Tables.{exporters_in, room_in, room_of, IsChangedAt};
 
-use base::NoMemory;
+use crate::plain::NamedExporter;
+use base::{Items, NoMemory};
 use bytes::Bytes;
 use indexmap::IndexMap;
 use service_exporter::{Exporter, Route, RouteError, ServiceRows};
@@ -83,6 +84,22 @@ impl Routes {
             ready: IndexMap::new(alloc),
             turn: self.turn,
         })
+    }
+
+    /// Whether no exporter has opened a route yet.
+    #[inline(always)]
+    pub fn is_empty(&self) -> bool
+        ensures { result ≡ true → self.now.exporters ≡ [] }
+    {
+        self.exporters.is_empty()
+    }
+
+    /// What is seen of all exporters at a moment, in a plain list. `NoMemory` where memory could not be had.
+    pub fn plain(&self, alloc: Global, now: u64) -> Result<Items<NamedExporter>, NoMemory>
+        ensures { IfOk result (λ all. all ≡ pruned now self.now.exporters) }
+    {
+        let all = plain_all(alloc, &self.exporters, now)?;
+        Ok(Items::from_vec(all))
     }
 
     /// Makes room for so many routes more of an exporter, at least one, and gives its next number. Nothing else changes.
@@ -182,6 +199,38 @@ impl Routes {
         ensures room { (other : List ℕ) → room_for other self.old ≤ room_for other self.new }
     {
         keep_all(&mut self.exporters, rows);
+    }
+}
+
+/// What is seen of exporters at a moment, in their order.
+#[tactic(auto, using(crate::proofs::Maps::all_seen))]
+fn plain_all(alloc: Global, exporters: &Exporters, now: u64) -> Result<Vec<NamedExporter>, NoMemory>
+    ensures { IfOk result (λ all. all.items ≡ pruned now (exporters_in exporters.now.entries)) }
+{
+    let mut all = Vec::with_capacity(alloc, exporters.len())?;
+    for place in 0..exporters.len() {
+        plain_at(alloc, exporters, place, now, &mut all)?;
+    }
+    Ok(all)
+}
+
+/// Puts what is seen of the exporter at a place behind what is seen of those before it.
+fn plain_at(
+    alloc: Global,
+    exporters: &Exporters,
+    place: usize,
+    now: u64,
+    all: &mut Vec<NamedExporter>,
+) -> Result<(), NoMemory>
+    requires { all.old.items ≡ take place (pruned now (exporters_in exporters.now.entries)) }
+    ensures { OnOk result (all.new.items ≡ take (place + 1) (pruned now (exporters_in exporters.now.entries))) }
+{
+    match exporters.get_index(place) {
+        None => Ok(()),
+        Some((name, part)) => {
+            all.push(NamedExporter::of(alloc, name, part, now)?)?;
+            Ok(())
+        }
     }
 }
 

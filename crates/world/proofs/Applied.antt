@@ -8,12 +8,13 @@ use Rattle.events.specs.declared.answer.Entry.{Entry}
 use Rattle.events.specs.declared.answer.Outcome.{Outcome}
 use Rattle.events.specs.declared.answer.Outcome.TheVariants.{Connected, AuthViolation, Subscribed, SameSid, SubLimit, Denied, Unsubscribed, Published, Taken, Closed, Reloaded}
 use Rattle.events.specs.declared.refusal.HubRefusal.{HubRefusal}
-use Rattle.events.specs.declared.refusal.PublishRefusal.TheVariants.{Held}
+use Rattle.events.specs.declared.refusal.PublishRefusal.{PublishRefusal}
+use Rattle.events.specs.declared.refusal.PublishRefusal.TheVariants.{By, Held}
 use Rattle.world_deliveries.specs.declared.session.Session.{Session}
 use Rattle.world_leniency.specs.Held.{Terms, to_all, held_among}
 use Rattle.world_leniency.proofs.Kept.{none_holds}
 use Rattle.world_routing.specs.World.{World, advanced}
-use Rattle.world.specs.Transition.{numbered, transition, IsMoved, IsApplied, IsReasoned}
+use Rattle.world.specs.Transition.{moved, numbered, refusal_in, transition, IsMoved, IsApplied, IsReasoned, IsRefusal}
 use Rattle.world.specs.Changes.{items_in}
 use Rattle.world.specs.Holding.{held_in, holders, IsMovedIf, IsAppliedIf}
 
@@ -21,10 +22,28 @@ pub applied_is : (w after : World) (e : Event) (both : Entry × Entry) → IsMov
     IsApplied w e (Ok both) (record after { number = w.number + 1 })
 applied_is w after e both h = (ap (numbered (w.number + 1)) h.0, h.1, h.2)
 
+pub numbered_refusal : (n : ℕ) (r : Result (Outcome × World) HubRefusal) → refusal_in (numbered n r) ≡ refusal_in r
+numbered_refusal n (Ok r) = refl
+numbered_refusal n (Err e) = refl
+
 -- the same of one that nobody held back
 pub applied_if_is : (t : Terms) (w after : World) (e : Event) (both : Entry × Entry) (held : List ℕ) → IsMovedIf t (advanced w e.now) e (Ok both) held after →
     IsAppliedIf t w e (Ok both) held (record after { number = w.number + 1 })
 applied_if_is t w after e both held h = (applied_is w after e both h.0, h.1)
+
+-- the same of one that is refused, or held back: nothing has changed
+refusal_numbered : (n : ℕ) (t : Result (Outcome × World) HubRefusal) (r : HubRefusal) → IsRefusal t r → IsRefusal (numbered n t) r
+refusal_numbered n (Ok x) r h = h
+refusal_numbered n (Err e) r h = h
+
+holders_numbered : (t : Terms) (zs : List Session) (n : ℕ) (r : Result (Outcome × World) HubRefusal) → holders t zs r ≡ holders t zs (numbered n r)
+holders_numbered t zs n (Ok x) = refl
+holders_numbered t zs n (Err e) = refl
+
+pub refused_if_is : (t : Terms) (w after mid : World) (e : Event) (refusal : PublishRefusal) (held : List ℕ) → IsMovedIf t (advanced w e.now) e (Err refusal) held mid → after ≡ w →
+    IsAppliedIf t w e (Err refusal) held after
+refused_if_is t w after mid e (By r) held h back = (back, refusal_numbered (w.number + 1) (moved (advanced w e.now) e.what) r h.1)
+refused_if_is t w after mid e Held held h back = (back, h.1, h.2 ∙ holders_numbered t w.sessions (w.number + 1) (moved (advanced w e.now) e.what))
 
 -- what an outcome's reason is, whenever it is
 pub same_reason : (w : World) (moment : ℕ) (c : Command) (o : Outcome) → IsReasoned (record w { moment = moment }) c o → IsReasoned w c o

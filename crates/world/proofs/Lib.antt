@@ -1,4 +1,5 @@
 pub mod Applied
+pub mod Dropping
 pub mod Losing
 pub mod Publishing
 pub mod Reasons

@@ -13,12 +13,23 @@ use Rattle.world_subscriptions.specs.Limit.{unended, limited}
 use Rattle.world_rows.specs.declared.subscription.Subscription.{Subscription}
 use Rattle.world_routing.specs.World.{World}
 use Rattle.world_routing.specs.Handing.{met, carried, of_deliveries}
+use Rattle.world_routing.specs.Changing.{changed_by, AreNoted}
+use Rattle.service_routes.specs.Routes.{kept, pruned}
+use Rattle.service_rows.specs.Rows.{again}
 use Rattle.policy_doc.specs.declared.document.PolicyDoc.{PolicyDoc}
 use Rattle.world.specs.Reload.{stands_on}
 use Rattle.world.specs.Transition.{IsRefusal}
 use Rattle.world.specs.declared.change.Change.{Change}
-use Rattle.world.specs.declared.change.Change.TheVariants.{Nothing, Open, Stand, Limit, Deliver, Drain, Leave, Install}
+use Rattle.world.specs.declared.change.Change.TheVariants.{Nothing, Open, Stand, Limit, Deliver, Route, Drain, Leave, Install}
 use Rattle.world.specs.declared.change.Decided.{Decided}
+
+-- the world at its moment: routes that don't live at it are gone
+abbrev pub pruned_world : World → World
+pruned_world w = record w { routes = pruned w.moment w.routes }
+
+-- with another moment, and the routes that were seen
+abbrev pub at_moment : ℕ → World → World
+at_moment moment w = record w { moment = moment }
 
 -- the items of an outcome
 abbrev pub items_in : Outcome → List Item
@@ -35,6 +46,7 @@ done w (Open z) o = record w { sessions = w.sessions ++ z ∷ [] }
 done w (Stand a) o = record w { subscriptions = w.subscriptions ++ subscription_of (w.number + 1) a.conn a.account a.subject a.queue a.sid ∷ [] }
 done w (Limit conn sid most) o = record w { subscriptions = unended (map (limited conn sid most) w.subscriptions) }
 done w (Deliver ds) o = carried w ds.answered ds.all (items_in o)
+done w (Route r) o = record (carried w r.deliveries.answered r.deliveries.all (items_in o)) { routes = changed_by r.routes w.routes }
 done w (Drain conn most) o = record w { sessions = with_session (drained most) conn w.sessions }
 done w (Leave conn) o =
     record w { sessions = filter (λ (z : Session). not (z.conn == conn)) w.sessions; subscriptions = filter (λ (s : Subscription). not (s.conn == conn)) w.subscriptions }
@@ -43,6 +55,7 @@ done w (Install doc users lost) o = record w {
   epoch = w.epoch + 1;
   sessions = remaining w.moment doc w.sessions;
   subscriptions = filter (stands_on doc w.sessions) w.subscriptions;
+  routes = pruned w.moment (kept (again w.policy doc) w.routes);
 }
 
 -- what opens has no session yet, and what is to stand doesn't; the outcome tells what each delivery meets; a policy comes with the users of the sessions that stay, and the ids of the
@@ -53,6 +66,7 @@ IsFit w (Open z) o = session_of w.sessions z.conn ≡ None
 IsFit w (Stand a) o = stands w.subscriptions a.conn a.sid ≡ false
 IsFit w (Limit conn sid most) o = Unit {0}
 IsFit w (Deliver ds) o = of_deliveries (items_in o) ≡ met w ds.all
+IsFit w (Route r) o = (of_deliveries (items_in o) ≡ met w r.deliveries.all) × AreNoted w.moment r.routes
 IsFit w (Drain conn most) o = Unit {0}
 IsFit w (Leave conn) o = Unit {0}
 IsFit w (Install doc users lost) o =

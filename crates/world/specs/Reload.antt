@@ -2,6 +2,7 @@
 -- (docs/GUARANTEE.md, "A reload").
 use Rattle.std.specs.Prelude.{◌≡◌, ◌+◌, List, Bool, true, false, Option, Some, None, if◌then◌else◌, filter, All, AllPairs, IfSome}
 use Rattle.std.specs.List.{filter_map}
+use Rattle.policy_doc.specs.Accounts.{IsByName}
 use Rattle.policy_doc.specs.Document.{IsValidPolicy}
 use Rattle.policy_doc.specs.declared.document.PolicyDoc.{PolicyDoc}
 use Rattle.permissions.specs.Verdicts.{subscribe_verdict, is_allowed, IsJustifiedSubscribe}
@@ -14,6 +15,8 @@ use Rattle.world_deliveries.specs.Sessions.{session_of}
 use Rattle.world_sessions.specs.Renewal.{user_again_of, remaining, closed_conns, HaveOneUser}
 use Rattle.world_deliveries.specs.declared.session.Session.{Session}
 use Rattle.world_rows.specs.declared.subscription.Subscription.{Subscription}
+use Rattle.service_routes.specs.Routes.{kept, pruned}
+use Rattle.service_rows.specs.Rows.{again}
 use Rattle.world_routing.specs.World.{World}
 
 -- whom a session that stays acts for
@@ -56,7 +59,7 @@ AreEntitled zs subs = AllPairs HaveOneUser zs × AllMayStand zs subs
 
 -- a subscription that a session has lost by this verdict
 abbrev pub removed_by : Subscription → Verdict → Removed
-removed_by sub v = record { id = sub.id; conn = sub.conn; sid = sub.sid; verdict = v }
+removed_by sub v = record { id = sub.id; conn = sub.conn; subject = sub.subject; queue = sub.queue; sid = sub.sid; verdict = v }
 
 -- what is reported of a subscription: its removal, where its session stays and may not have it
 abbrev pub removal : Subscription → Option Verdict → Option Removed
@@ -69,7 +72,7 @@ removal_after doc zs sub = removal sub (verdict_after doc zs sub)
 -- ---- the step
 
 -- the policy comes into force, the next epoch begins, and outboxes stay as they are; grants stay that are live under the
--- terms before and those after
+-- terms before and those after, and so do routes whose row the policy has again
 abbrev pub reloaded : World → PolicyDoc → Outcome × World
 reloaded w doc = (
   Reloaded (closed_conns doc w.sessions) (filter_map (removal_after doc w.sessions) w.subscriptions),
@@ -78,6 +81,7 @@ reloaded w doc = (
     epoch = w.epoch + 1;
     sessions = remaining w.moment doc w.sessions;
     subscriptions = filter (stands_on doc w.sessions) w.subscriptions;
+    routes = pruned w.moment (kept (again w.policy doc) w.routes);
   },
 )
 
@@ -86,6 +90,6 @@ abbrev pub IsReasonedVerdict : PolicyDoc → List Session → Subscription → T
 IsReasonedVerdict doc zs sub =
     IfSome (user_after doc (session_of zs sub.conn)) (λ (u : User). IsJustifiedSubscribe sub.subject sub.queue u.rules.subscribe (subscribe_verdict u.rules sub.subject sub.queue))
 
--- a valid policy, and a reason for each verdict
+-- a valid policy, which has each account once, and a reason for each verdict
 abbrev pub IsReasonedReload : PolicyDoc → List Session → List Subscription → Type 0
-IsReasonedReload doc zs subs = IsValidPolicy doc × All (IsReasonedVerdict doc zs) subs
+IsReasonedReload doc zs subs = IsValidPolicy doc × IsByName doc.accounts × All (IsReasonedVerdict doc zs) subs

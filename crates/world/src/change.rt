@@ -3,12 +3,12 @@ use base::Boxed;
 use events::{Outcome, Sid};
 use policy_ready::{Ready, User};
 use std::collections::VecDeque;
-use world_routing::Deliveries;
+use world_routing::{Deliveries, Routing};
 use world_sessions::Session;
 use world_subscriptions::NewSubscription;
 
-/// What is to be done for a command. All memory that it takes is had, but for the one growth of a new session or
-/// subscription, which comes first. What is large has a block of its own, since a change is handed on several times for
+/// What is to be done for a command. All memory that it takes is had, but for the growth of a new session,
+/// subscription or response route, which comes first. What is large has a block of its own, since a change is handed on several times for
 /// each message.
 #[derive(Drop)]
 pub(crate) enum Change {
@@ -26,6 +26,8 @@ pub(crate) enum Change {
     },
     /// Deliveries are handed over.
     Deliver(Deliveries),
+    /// Deliveries are handed over of a message by which response routes may change.
+    Route(Boxed<Routing>),
     /// Deliveries leave an outbox.
     Drain {
         conn: u64,

@@ -2,7 +2,7 @@
 ghost use Rattle.std.specs.Prelude.{◌≡◌, IfOk, IfErr};
 
 use crate::change::{Change, Decided};
-use crate::reload::{Lost, lost_by};
+use crate::reload::{Lost, is_valid, lost_by};
 use crate::verdict::on_subscription;
 use crate::world::World;
 use base::{Boxed, Copying, Items, NoMemory, Shared, SharedText};
@@ -58,7 +58,7 @@ impl World {
     ghost use Rattle.std.specs.Prelude.{◌≡◌, IfOk};
     ghost use Rattle.events.specs.declared.event.Command.TheVariants as command;
     ghost use Rattle.world.specs.Transition.{moved, IsReasoned};
-    ghost use Rattle.world.specs.Changes.{IsDecided};
+    ghost use Rattle.world.specs.Changes.{pruned_world, IsDecided};
     ghost use Rattle.world.specs.Reload.{AreEntitled};
 
     /// Decides what a command comes to: its outcome, and what is to be done; or why it is refused. Nothing has changed
@@ -66,7 +66,7 @@ impl World {
     #[inline(always)]
     pub(crate) fn decide(&mut self, command: &Command) -> Result<Decided, HubRefusal>
         requires sound { AreEntitled self.old.sessions self.old.subscriptions }
-        ensures decided { IsDecided self.old (moved self.old command.now) result }
+        ensures decided { IsDecided (pruned_world self.old) (moved (pruned_world self.old) command.now) result }
         ensures reason { IfOk result (λ d. IsReasoned self.old command.now d.outcome) }
         ensures same { self.new ≡ self.old }
     {
@@ -103,7 +103,7 @@ impl World {
         password: &SharedText,
         echo: bool,
     ) -> Result<Decided, HubRefusal>
-        ensures decided { IsDecided self.now (moved self.now (command.Connect conn user.now password.now echo)) result }
+        ensures decided { IsDecided (pruned_world self.now) (moved (pruned_world self.now) (command.Connect conn user.now password.now echo)) result }
         ensures reason { IfOk result (λ d. IsReasoned self.now (command.Connect conn user.now password.now echo) d.outcome) }
     {
         if self.sessions.has(conn) {
@@ -133,7 +133,7 @@ impl World {
         queue: &Option<Subject>,
         sid: &Sid,
     ) -> Result<Decided, HubRefusal>
-        ensures decided { IsDecided self.now (moved self.now (command.Sub conn subject.now queue.now sid.now)) result }
+        ensures decided { IsDecided (pruned_world self.now) (moved (pruned_world self.now) (command.Sub conn subject.now queue.now sid.now)) result }
         ensures reason { IfOk result (λ d. IsReasoned self.now (command.Sub conn subject.now queue.now sid.now) d.outcome) }
     {
         match self.sessions.find(conn) {
@@ -172,7 +172,7 @@ impl World {
 
     /// Decides an UNSUB: a limit, or an end, for the connection's subscription of that id.
     fn unsubscribe(&self, conn: u64, sid: &Sid, most: Option<u64>) -> Result<Decided, HubRefusal>
-        ensures decided { IsDecided self.now (moved self.now (command.Unsub conn sid.now most)) result }
+        ensures decided { IsDecided (pruned_world self.now) (moved (pruned_world self.now) (command.Unsub conn sid.now most)) result }
         ensures reason { IfOk result (λ d. IsReasoned self.now (command.Unsub conn sid.now most) d.outcome) }
     {
         if !self.sessions.has(conn) {
@@ -188,7 +188,7 @@ impl World {
     /// Decides a PUB: a message to whom it is for, where the user's permissions allow it.
     #[inline(always)]
     fn publish(&mut self, conn: u64, message: &Message, word: u64) -> Result<Decided, HubRefusal>
-        ensures decided { IsDecided self.old (moved self.old (command.Pub conn message.now word)) result }
+        ensures decided { IsDecided (pruned_world self.old) (moved (pruned_world self.old) (command.Pub conn message.now word)) result }
         ensures reason { IfOk result (λ d. IsReasoned self.old (command.Pub conn message.now word) d.outcome) }
         ensures same { self.new ≡ self.old }
     {
@@ -202,8 +202,8 @@ impl World {
             &mut self.sessions,
             &mut self.subscriptions,
             &mut self.receivers,
-            self.ready.rows(),
-            self.keys,
+            &mut self.routes,
+            &self.ready,
             publish,
         )? {
             Plan::Refused(verdict) => Ok(unchanged(Outcome::Denied(verdict))),
@@ -215,12 +215,16 @@ impl World {
                 outcome: Outcome::Published(by, items),
                 change: Change::Deliver(deliveries),
             }),
+            Plan::OnRoutes(by, items, routing) => Ok(Decided {
+                outcome: Outcome::Published(by, items),
+                change: Change::Route(routing),
+            }),
         }
     }
 
     /// Decides a Take: the oldest deliveries of a session's outbox.
     fn take(&mut self, conn: u64, most: usize) -> Result<Decided, HubRefusal>
-        ensures decided { IsDecided self.old (moved self.old (command.Take conn most)) result }
+        ensures decided { IsDecided (pruned_world self.old) (moved (pruned_world self.old) (command.Take conn most)) result }
         ensures reason { IfOk result (λ d. IsReasoned self.old (command.Take conn most) d.outcome) }
         ensures same { self.new ≡ self.old }
     {
@@ -237,7 +241,7 @@ impl World {
 
     /// Decides a Close: the end of a session.
     fn close(&self, conn: u64) -> Result<Decided, HubRefusal>
-        ensures decided { IsDecided self.now (moved self.now (command.Close conn)) result }
+        ensures decided { IsDecided (pruned_world self.now) (moved (pruned_world self.now) (command.Close conn)) result }
         ensures reason { IfOk result (λ d. IsReasoned self.now (command.Close conn) d.outcome) }
     {
         if !self.sessions.has(conn) {
@@ -252,9 +256,10 @@ impl World {
     /// Decides a reload: whose sessions stay, and which subscriptions they lose.
     fn reload(&self, ready: &Ready) -> Result<Decided, HubRefusal>
         requires sound { AreEntitled self.now.sessions self.now.subscriptions }
-        ensures decided { IsDecided self.now (moved self.now (command.Reload ready.now)) result }
+        ensures decided { IsDecided (pruned_world self.now) (moved (pruned_world self.now) (command.Reload ready.now)) result }
         ensures reason { IfOk result (λ d. IsReasoned self.now (command.Reload ready.now) d.outcome) }
     {
+        is_valid(ready);
         let users = self.sessions.users_again(ready)?;
         let gone = self.sessions.closed(ready)?;
         let lost = lost_by(self.alloc, ready, &self.sessions, &self.subscriptions)?;

@@ -2,6 +2,7 @@
 use crate::world::World;
 use base::{Alike, Copying, Items, NoMemory};
 use policy_ready::Ready;
+use service_routes::NamedExporter;
 use std::marker::Model;
 use world_copies::{PlainSession, PlainSubscription, plain_sessions, plain_subscriptions};
 
@@ -16,6 +17,7 @@ pub struct PlainWorld {
     number: u64,
     sessions: Items<PlainSession>,
     subscriptions: Items<PlainSubscription>,
+    routes: Items<NamedExporter>,
 }
 
 impl Model for PlainWorld {
@@ -30,6 +32,7 @@ impl Model for PlainWorld {
       moment = w.moment;
       sessions = w.sessions;
       subscriptions = w.subscriptions;
+      routes = w.routes;
       number = w.number;
     } };
 }
@@ -56,6 +59,7 @@ impl PlainWorld {
             && self.ready.is_like(&other.ready)
             && self.sessions.is_like(&other.sessions)
             && self.subscriptions.is_like(&other.subscriptions)
+            && self.routes.is_like(&other.routes)
     }
 }
 
@@ -74,6 +78,7 @@ impl World {
             number: self.number,
             sessions: plain_sessions(self.alloc, self.sessions.as_slice())?,
             subscriptions: plain_subscriptions(self.alloc, &self.subscriptions)?,
+            routes: self.routes.plain(self.alloc, self.routes_at)?,
         })
     }
 }

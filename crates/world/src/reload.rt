@@ -3,13 +3,15 @@ ghost use Rattle.std.specs.Prelude.{◌≡◌, ◌∷◌, ◌++◌, [], List, If
 ghost use Rattle.std.specs.List.{filter_map};
 ghost use Rattle.std.specs.Option.{option_copied};
 ghost use Rattle.world_sessions.specs.Renewal.{AreSameLists};
+ghost use Rattle.policy_doc.specs.Accounts.{IsByName};
+ghost use Rattle.policy_doc.specs.Document.{IsValidPolicy};
 ghost use Rattle.policy_doc.specs.declared.document.PolicyDoc.{PolicyDoc};
 ghost use Rattle.world_deliveries.specs.declared.session.Session.{Session};
 ghost use Rattle.world.specs.Changes.{lost_id};
-ghost use Rattle.world.specs.Reload.{user_after, verdict_after, verdict_before, may_stand, stands_on, removal_after, AreEntitled, IsReasonedVerdict};
+ghost use Rattle.world.specs.Reload.{user_after, verdict_after, verdict_before, may_stand, stands_on, removed_by, removal_after, AreEntitled, IsReasonedVerdict};
 
 use crate::verdict::on_subscription;
-use base::NoMemory;
+use base::{Copying, NoMemory};
 use events::Removed;
 use permissions::{Verdict, each_has_reason};
 use policy_ready::{Ready, User};
@@ -54,8 +56,27 @@ fn verdict_on(
     }
 }
 
+/// Returns what is reported of a subscription that is lost by this verdict.
+fn removed_by(
+    alloc: Global,
+    subscription: &SharedSubscription,
+    verdict: Verdict,
+) -> Result<Removed, NoMemory>
+    ensures { IfOk result (λ removed. removed ≡ removed_by subscription.now verdict) }
+{
+    Ok(Removed {
+        id: subscription.id(),
+        conn: subscription.conn(),
+        subject: subscription.subject().again()?,
+        queue: subscription.queue().copy(alloc)?,
+        sid: subscription.sid().again()?,
+        verdict,
+    })
+}
+
 /// Adds a subscription, if it doesn't stand on. Where its session has the same lists beside it, it does.
 fn add_if_lost(
+    alloc: Global,
     lost: &mut Lost,
     ready: &Ready,
     sessions: &Sessions,
@@ -80,12 +101,8 @@ fn add_if_lost(
         Some(verdict) => {
             if !verdict.is_allowed() {
                 lost.ids.push(subscription.id())?;
-                lost.removed.push(Removed {
-                    id: subscription.id(),
-                    conn: subscription.conn(),
-                    sid: subscription.sid().again()?,
-                    verdict,
-                })?;
+                lost.removed
+                    .push(removed_by(alloc, subscription, verdict)?)?;
             }
             Ok(())
         }
@@ -97,6 +114,14 @@ fn has_reason(subscription: &SharedSubscription)
     ensures { (doc : PolicyDoc) (zs : List Session) → IsReasonedVerdict doc zs subscription.now }
 {
     each_has_reason(subscription.subject().get());
+}
+
+/// Tells the prover that a policy that is ready is valid, and has each account once. It does nothing when it runs.
+pub(crate) fn is_valid(ready: &Ready)
+    ensures valid { IsValidPolicy ready.now }
+    ensures names { IsByName ready.now.accounts }
+{
+    let _ = ready.policy().doc().accounts.as_slice();
 }
 
 /// Returns the subscriptions that don't stand on. Only those of users whose subscribe lists change are judged: the
@@ -120,7 +145,14 @@ pub(crate) fn lost_by(
     let same = sessions.same_lists(ready)?;
     for subscription in subscriptions.values() {
         has_reason(subscription);
-        add_if_lost(&mut lost, ready, sessions, same.as_slice(), subscription)?;
+        add_if_lost(
+            alloc,
+            &mut lost,
+            ready,
+            sessions,
+            same.as_slice(),
+            subscription,
+        )?;
     }
     Ok(lost)
 }

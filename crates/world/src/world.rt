@@ -2,10 +2,12 @@
 use crate::carry_out::items_in;
 use crate::change::{Change, Decided};
 use crate::decide::SESSIONS;
+use crate::reload::is_valid;
 use crate::standing::{Standing, standing_all};
 use base::{Copying, Items, NoMemory, Shared};
 use events::{Answer, Command, Entry, Event, HubRefusal, Outcome, PublishRefusal};
 use policy_ready::Ready;
+use service_routes::Routes;
 use std::alloc::Global;
 use std::hash::RandomState;
 use std::marker::Model;
@@ -14,7 +16,7 @@ use world_receivers::Receivers;
 use world_sessions::Sessions;
 use world_subscriptions::Subscriptions;
 
-/// The tables: the policy in force, the sessions with their outboxes, and the standing subscriptions. A clause sees
+/// The tables: the policy in force, the sessions with their outboxes, the standing subscriptions and the response routes. A clause sees
 /// the world that they show.
 #[derive(Drop)]
 pub struct World {
@@ -28,11 +30,17 @@ pub struct World {
     pub(crate) sessions: Sessions,
     pub(crate) subscriptions: Subscriptions,
     pub(crate) receivers: Receivers,
+    /// Routes that don't live any more may stand here. Nobody sees them.
+    pub(crate) routes: Routes,
+    /// The moment at which routes are seen: that of the last step. While a step is decided, the moment is its event's already, and a
+    /// step that is refused has dropped none.
+    pub(crate) routes_at: u64,
 }
 
 impl Model for World {
     ghost use Rattle.std.specs.Prelude.{◌≤◌};
     ghost use Rattle.imports.specs.Views.{rows_of};
+    ghost use Rattle.service_routes.specs.Routes.{pruned};
     ghost use Rattle.world_receivers.specs.Cached.{IsCurrent};
     ghost use Rattle.world_routing.specs.World as worlds;
 
@@ -45,14 +53,16 @@ impl Model for World {
       moment = w.moment;
       sessions = w.sessions;
       subscriptions = w.subscriptions;
+      routes = pruned w.routes_at w.routes.exporters;
       number = w.number;
     } };
 
-    ghost invariant = { λ w. (1 ≤ w.capacity) × IsCurrent (rows_of w.ready) w.sessions w.subscriptions w.receivers.cache };
+    ghost invariant = { λ w. (1 ≤ w.capacity) × (w.routes_at ≤ w.moment) × IsCurrent (rows_of w.ready) w.sessions w.subscriptions w.receivers.cache };
 }
 
 impl World {
-    ghost use Rattle.std.specs.Prelude.{◌≡◌, ◌==◌, ◌<◌, ◌≤◌, ◌+◌, ℕ, Ok, [], false, IfOk, IfErr, All, map};
+    ghost use Rattle.std.specs.Prelude.{◌≡◌, ◌==◌, ◌<◌, ◌≤◌, ◌+◌, ℕ, Ok, [], false, IfOk, IfErr, OnErr, All, map};
+    ghost use Rattle.policy_doc.specs.Accounts.{IsByName};
     ghost use Rattle.events.specs.declared.answer.Outcome.{Outcome};
     ghost use Rattle.world_deliveries.specs.Sessions.{session_of};
     ghost use Rattle.world_deliveries.specs.declared.session.Session.{Session};
@@ -60,7 +70,7 @@ impl World {
     ghost use Rattle.world_routing.specs.World as worlds;
     ghost use Rattle.world_routing.specs.World.{opening_world, advanced};
     ghost use Rattle.world.specs.Transition.{IsApplied, IsReasoned, IsRefusal, IsMoved, transition, moved, refusal_in, in_session, in_new_session};
-    ghost use Rattle.world.specs.Changes.{IsDecided};
+    ghost use Rattle.world.specs.Changes.{at_moment, pruned_world, IsDecided};
     ghost use Rattle.world.specs.Holding.{IsAppliedIf, IsMovedIf};
     ghost use Rattle.world.specs.Reload.{AreEntitled};
     ghost use Rattle.world.specs.Shown.{standing_of, waiting_of};
@@ -77,8 +87,10 @@ impl World {
         requires low { 1 ≤ outbox }
         requires high { outbox ≤ 65536 }
         ensures ok { IfOk result (λ world. world ≡ opening_world ready outbox) }
+        ensures names { IfOk result (λ _. IsByName ready.accounts) }
         ensures err { IfErr result (λ refused. refused.0 ≡ ready) }
     {
+        is_valid(&ready);
         Ok(World {
             alloc,
             keys,
@@ -90,6 +102,8 @@ impl World {
             sessions: Sessions::new(alloc),
             subscriptions: Subscriptions::new(alloc, keys),
             receivers: Receivers::new(alloc, keys),
+            routes: Routes::new(alloc),
+            routes_at: 0,
         })
     }
 
@@ -140,13 +154,23 @@ impl World {
         match self.enter_if(event, lenient, held) {
             Ok(both) => {
                 self.number = next;
+                self.routes_at = self.moment;
                 Ok(both)
             }
             Err(refusal) => {
-                self.moment = before;
+                self.put_back(before);
                 Err(refusal)
             }
         }
+    }
+
+    /// Puts the moment back, where a step is refused. Routes are seen as they were: no step that is refused sees them at a later
+    /// moment, so nothing is dropped here.
+    fn put_back(&mut self, moment: u64)
+        ensures { self.new ≡ at_moment moment self.old }
+    {
+        self.routes_at = seen_again(&mut self.routes, self.routes_at, moment);
+        self.moment = moment;
     }
 
     /// Decides, and does what was decided unless somebody holds the event back. The moment is the event's already, the
@@ -163,7 +187,8 @@ impl World {
         requires ids { All (λ (s : Subscription). s.id ≤ self.old.number) self.old.subscriptions }
         requires sound { AreEntitled self.old.sessions self.old.subscriptions }
         requires none { held.old.items ≡ [] }
-        ensures step { IsMovedIf (T.terms lenient.now) self.old event.entry.now result held.new.items self.new }
+        ensures step { IsMovedIf (T.terms lenient.now) (pruned_world self.old) event.entry.now result held.new.items (pruned_world self.new) }
+        ensures err { OnErr result (self.new ≡ self.old) }
         ensures reason { IfOk result (λ both. IsReasoned self.old event.entry.now.what both.0.outcome) }
     {
         let Decided { outcome, change } = match self.decide(&event.what) {
@@ -194,8 +219,9 @@ impl World {
         requires fresh { self.old.number < 18446744073709551615 }
         requires epoch { self.old.epoch ≤ self.old.number + 1 }
         requires ids { All (λ (s : Subscription). s.id ≤ self.old.number) self.old.subscriptions }
-        requires decided { IsDecided self.old (moved self.old event.now.what) (Ok (record { outcome = outcome; change = change })) }
-        ensures step { IsMoved self.old event.entry.now result self.new }
+        requires decided { IsDecided (pruned_world self.old) (moved (pruned_world self.old) event.now.what) (Ok (record { outcome = outcome; change = change })) }
+        ensures step { IsMoved (pruned_world self.old) event.entry.now result (pruned_world self.new) }
+        ensures err { OnErr result (self.new ≡ self.old) }
         ensures told { IfOk result (λ both. both.0.outcome ≡ outcome) }
     {
         let epoch = epoch_after(self.epoch, &change);
@@ -293,9 +319,23 @@ impl World {
     }
 }
 
-ghost use Rattle.std.specs.Prelude.{ℕ, ◌≡◌, ◌<◌, ◌+◌, IfOk};
+ghost use Rattle.std.specs.Prelude.{ℕ, ◌≡◌, ◌≤◌, ◌<◌, ◌+◌, IfOk};
+ghost use Rattle.service_routes.specs.Routes.{pruned};
 ghost use Rattle.world.specs.Transition.{entry_with};
 ghost use Rattle.world.specs.Changes.{epoch_after};
+
+/// Returns a moment that is no later than another, at which the same routes are seen as at this one: this one, as it was before.
+/// Where it is later, the routes that live at it are all that is left.
+fn seen_again(routes: &mut Routes, at: u64, moment: u64) -> u64
+    ensures seen { pruned result routes.new.exporters ≡ pruned at routes.old.exporters }
+    ensures early { result ≤ moment }
+{
+    if at <= moment {
+        return at;
+    }
+    routes.prune(at);
+    0
+}
 
 /// Returns which policy is in force once a change is done.
 fn epoch_after(epoch: u128, change: &Change) -> u128

@@ -1,5 +1,8 @@
-use Rattle.hub_routing_laws.proofs.Within.{seen_within, reaches_its_set}
+use Rattle.hub_routing_laws.proofs.Within.{routes_within, seen_within, reaches_its_set}
 use Rattle.hub_routing_laws.proofs.laws.reaches_its_set.Goals as goal
+
+pub returns-clause-routes : goal.returns-clause-routes
+returns-clause-routes c = routes_within
 
 pub returns-clause-seen : goal.returns-clause-seen
 returns-clause-seen c = seen_within

@@ -1,9 +1,18 @@
 -- a Take leaves the cache of receivers current
-use Rattle.std.proofs.Common.{◌∙◌, sym, subst, refl, ap}
+use Rattle.std.proofs.Common.{◌≡◌, ◌∙◌, List, sym, subst, refl, ap}
+use Rattle.events.specs.declared.answer.Item.{Item}
+use Rattle.service_exporter.specs.Routes.{Exporter}
+use Rattle.service_routes.specs.Routes.{Name, pruned}
+use Rattle.service_routes.proofs.Seen.{dead}
+use Rattle.world_subscriptions.specs.Counting.{entered_ids, in_turn}
+use Rattle.world_routing.specs.World.{World}
+use Rattle.world_routing.specs.Changing.{changed_by}
+use Rattle.world_routing.specs.declared.carrying.Routing.{Routing}
+use Rattle.world.specs.declared.change.Change.TheVariants.{Route}
 use Rattle.imports.specs.Views.{rows_of}
 use Rattle.world_deliveries.specs.Sessions.{drained}
 use Rattle.world_receivers.proofs.Stays.{AreSeated, seats_with, current_taken}
-use Rattle.world.specs.Changes.{done}
+use Rattle.world.specs.Changes.{done, pruned_world}
 use Rattle.world.specs.declared.change.Change.{Change}
 use Rattle.world.proofs.world.World.carry_out.Goals as goal
 
@@ -11,12 +20,32 @@ pub invariant_of-self-in-Drain : goal.invariant_of-self-in-Drain
 invariant_of-self-in-Drain c =
     let h = c.self-in-Drain.inside in (
       c.self-in-Drain.invariant.0,
+      c.self-in-Drain.invariant.1,
       current_taken h.receivers.cache (rows_of h.ready) h.sessions c.drain.new.self h.subscriptions
-          (subst (AreSeated h.sessions) (sym c.drain.ensures) (seats_with (drained c.in-Drain.most) c.in-Drain.conn (λ z. refl) h.sessions)) c.self-in-Drain.invariant.1,
+          (subst (AreSeated h.sessions) (sym c.drain.ensures) (seats_with (drained c.in-Drain.most) c.in-Drain.conn (λ z. refl) h.sessions)) c.self-in-Drain.invariant.2,
     )
 
 pub returns-in-Leave-clause-ok : goal.returns-in-Leave-clause-ok
-returns-in-Leave-clause-ok c = c.leave.ensures c.args.told.now ∙ ap (λ (change : Change). done c.args.self.now change c.args.told.now) (sym c.in-Leave.is)
+returns-in-Leave-clause-ok c = ap pruned_world (c.leave.ensures c.args.told.now) ∙ ap (λ (change : Change). done (pruned_world c.args.self.now) change c.args.told.now) (sym c.in-Leave.is)
 
 pub returns-in-Install-clause-ok : goal.returns-in-Install-clause-ok
-returns-in-Install-clause-ok c = c.install.ensures c.args.told.now ∙ ap (λ (change : Change). done c.args.self.now change c.args.told.now) (sym c.in-Install.is)
+returns-in-Install-clause-ok c = c.install.ensures c.args.told.now ∙ ap (λ (change : Change). done (pruned_world c.args.self.now) change c.args.told.now) (sym c.in-Install.is)
+
+-- deliveries are handed over, and routes have changed
+pub returns-in_ok-change_routes-in-Route-clause-ok : goal.returns-in_ok-change_routes-in-Route-clause-ok
+returns-in_ok-change_routes-in-Route-clause-ok c =
+    let h = c.self-in-Route.inside in
+    let all = h.routes.exporters in
+    let told = c.args.told.now in
+    let r : Routing = c.into_inner-deliveries.result in
+    let gone : (all : List (Name × Exporter)) → pruned h.moment (pruned h.routes_at all) ≡ pruned h.moment all = λ all. dead h.routes_at h.moment all c.self-in-Route.invariant.1 in
+    let sessions = c.carry_publish-in-Route.ensures.sessions in
+    let subs = c.carry_publish-in-Route.ensures.subscriptions ∙ ap (λ (is : List Item). in_turn (entered_ids r.deliveries.all is) h.subscriptions) c.items_in-in-Route.ensures in
+    let routes : pruned h.moment (pruned h.routes_at c.change_routes.new.routes.exporters) ≡ changed_by r.routes (pruned h.moment (pruned h.routes_at all)) =
+    gone c.change_routes.new.routes.exporters ∙ c.in_ok-change_routes-in-Route.ensures.ok ∙ ap (changed_by r.routes) (sym (gone all)) in
+    let before : World = record { capacity = h.capacity; policy = h.ready; epoch = h.epoch; moment = h.moment; sessions = h.sessions; subscriptions = h.subscriptions; routes = pruned h.routes_at all; number = h.number } in
+    let by_routing : Routing → World = λ x. done (pruned_world before) (Route x) told in
+    (λ i. record { capacity = h.capacity; policy = h.ready; epoch = h.epoch; moment = h.moment; sessions = sessions i; subscriptions = subs i; routes = routes i; number = h.number })
+    ∙ ap by_routing c.into_inner-deliveries.ensures
+    ∙ ap (λ (w : World). done (pruned_world w) (Route c.in-Route.routing) told) c.self-in-Route.view_is
+    ∙ ap (λ (change : Change). done (pruned_world c.args.self.now) change told) (sym c.in-Route.is)

@@ -1,7 +1,11 @@
 -- the ids are those of the subscriptions that don't stand on, so the others are left
-use Rattle.std.proofs.Common.{◌∙◌, ◌+◌, ap, sym}
+use Rattle.std.proofs.Common.{◌≡◌, ◌∙◌, ◌+◌, List, ap, sym}
 use Rattle.std.specs.List.{filter_map}
-use Rattle.world.specs.Changes.{done, lost_id}
+use Rattle.service_exporter.specs.Routes.{Exporter}
+use Rattle.service_routes.specs.Routes.{Name, kept, pruned}
+use Rattle.service_routes.proofs.Seen.{dead}
+use Rattle.service_rows.specs.Rows.{again}
+use Rattle.world.specs.Changes.{done, lost_id, pruned_world}
 use Rattle.world_routing.specs.World.{World}
 use Rattle.world.specs.declared.change.Change.TheVariants.{Install}
 use Rattle.world.proofs.world.World.install.Goals as goal
@@ -13,5 +17,9 @@ returns c = λ told.
     let ids = c.as_slice.ensures.value ∙ c.requires.lost ∙ ap (λ (w : World). filter_map (lost_id doc w.sessions) w.subscriptions) (sym c.self.view_is) in
     let subs = c.remove_lost.ensures doc h.sessions ids in
     let zs = c.renew.ensures in
-    (λ i. record { capacity = h.capacity; policy = doc; epoch = h.epoch + 1; moment = h.moment; sessions = zs i; subscriptions = subs i; number = h.number })
-    ∙ ap (λ (w : World). done w (Install doc c.args.users c.args.lost) told) c.self.view_is
+    let table : List (Name × Exporter) → List (Name × Exporter) = λ all. pruned h.moment (kept (again h.ready doc) all) in
+    let gone : (all : List (Name × Exporter)) → pruned h.moment (pruned h.routes_at all) ≡ pruned h.moment all = λ all. dead h.routes_at h.moment all c.self.invariant.1 in
+    let routes : pruned h.moment (pruned h.routes_at c.keep_routes.new.routes.exporters) ≡ table (pruned h.moment (pruned h.routes_at h.routes.exporters)) =
+    gone c.keep_routes.new.routes.exporters ∙ ap (pruned h.moment) c.keep_routes.ensures ∙ ap table (sym (gone h.routes.exporters)) in
+    (λ i. record { capacity = h.capacity; policy = doc; epoch = h.epoch + 1; moment = h.moment; sessions = zs i; subscriptions = subs i; routes = routes i; number = h.number })
+    ∙ ap (λ (w : World). done (pruned_world w) (Install doc c.args.users c.args.lost) told) c.self.view_is
