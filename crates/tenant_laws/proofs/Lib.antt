@@ -1,0 +1,4 @@
+pub mod Rest
+pub mod Following
+pub mod Unseen
+pub mod Runs

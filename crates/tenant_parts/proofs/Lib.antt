@@ -1,0 +1,5 @@
+pub mod Lists
+pub mod Routes
+pub mod Policy
+pub mod Least
+pub mod OnLeast

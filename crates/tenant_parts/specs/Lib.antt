@@ -1,0 +1,3 @@
+pub mod Part
+pub mod Laws
+pub mod Least

@@ -1,0 +1,9 @@
+pub mod Sessions
+pub mod Pairs
+pub mod Groups
+pub mod Views
+pub mod Publishing
+pub mod Commands
+pub mod Reloads
+pub mod Staying
+pub mod Steps

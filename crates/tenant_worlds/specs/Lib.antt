@@ -1,0 +1,4 @@
+pub mod Tenants
+pub mod Alike
+pub mod Answers
+pub mod Laws
