@@ -31,7 +31,7 @@ use Rattle.clap.specs.declared.builder.value_parser.Reading.TheVariants.{AsWritt
 use Rattle.clap.specs.declared.parser.matches.ValueSource.TheVariants.{CommandLine, DefaultValue}
 use Rattle.command_line.specs.Options.{AreDefaults, IsOptions, IsNumberIn, default_listen, most_connections, most_history}
 use Rattle.command_line.specs.Question.{Word}
-use Rattle.command_line.specs.Words.{checking, natsd_app, kinds_of, found_in, is_mistake, names_task, on_policy, IsFound, IsInvokedBy, IsReading, IsRefusal, IsServeOrMemory, IsServing, IsTaskOrMemory, IsUnknown, IsWrongOrMemory}
+use Rattle.command_line.specs.Words.{checking, natsd_app, kinds_of, found_in, is_mistake, names_task, on_policy, IsCheckIf, IsFound, IsInvokedBy, IsReading, IsRefusal, IsServeOrMemory, IsServing, IsTaskOrMemory, IsUnknown, IsWrongOrMemory}
 
 simple_and_free : is_simple_and_free natsd_app ≡ true
 unfolding clap_on_literals
@@ -190,6 +190,7 @@ no_mistake asked mistake e = let bad : is_mistake OutOfMemory ≡ true = ap is_m
 by_kind : (k : ErrorKind) (kinds : Kinds) (found : Option (Text × List Row)) (r : Result Invocation WordsFault) → (k ≡ OutOfMemory) ⊎ IsAmong k kinds → IsRefusal (k ∷ []) r → IsReading kinds found r
 by_kind k kinds found (Ok (invocation.Serve options)) h p = absurd p
 by_kind k kinds found (Ok (invocation.OnFile task file)) h p = absurd p
+by_kind k kinds found (Ok (invocation.Split options)) h p = absurd p
 by_kind k kinds found (Ok (invocation.Task Play)) h p = absurd p
 by_kind k kinds found (Ok (invocation.Task Check)) h p = absurd p
 by_kind k kinds found (Ok (invocation.Task Sets)) h p = absurd p
@@ -213,6 +214,7 @@ wrong a words error r e h p =
 refused_by : (kinds : Kinds) (a : Invocation) → (IsAmong DisplayHelp kinds → ⊥) → (IsAmong DisplayVersion kinds → ⊥) → IsRefusal kinds (Ok a) → ⊥
 refused_by kinds (invocation.Serve options) help version h = absurd h
 refused_by kinds (invocation.OnFile task file) help version h = absurd h
+refused_by kinds (invocation.Split options) help version h = absurd h
 refused_by kinds (invocation.Task Play) help version h = absurd h
 refused_by kinds (invocation.Task Check) help version h = absurd h
 refused_by kinds (invocation.Task Sets) help version h = absurd h
@@ -231,15 +233,21 @@ play_if rows (Ok a) (inr h) = absurd (none_refused a h)
 play_if rows (Err (WrongLine text)) h = absurd h.1
 play_if rows (Err NoMemory) h = tt
 
+-- without a folder no parts are to be written
+no_parts : (rows : List Row) (folder : Option Text) (a : Invocation) → folder ≡ None → IsCheckIf rows folder a → IsCheckIf rows None a
+no_parts rows folder a e h = subst (λ (f : Option Text). IsCheckIf rows f a) e h
+
 no_file : (task : Task) (a : Invocation) (file : Option Word) → a ≡ on_policy task file → option_map string_bytes file ≡ None → a ≡ invocation.Task task
 no_file task a None e h = e
 no_file task a (Some file) e h = absurd (cc)
 
-check_if : (task : Task) (rows : List Row) (r : Result Invocation WordsFault) → checking rows ≡ task → first_of (codes "policy") rows ≡ None → IsReading [] (Some (codes "check", rows)) r → IsTaskOrMemory task r
-check_if task rows (Ok a) asked free (inl h) = no_file task a h.1.1.0 (h.1.1.1 ∙ ap (λ (t : Task). on_policy t h.1.1.0) asked) (h.1.1.2 ∙ free)
-check_if task rows (Ok a) asked free (inr h) = absurd (none_refused a h)
-check_if task rows (Err (WrongLine text)) asked free h = absurd h.1
-check_if task rows (Err NoMemory) asked free h = tt
+check_if : (task : Task) (rows : List Row) (r : Result Invocation WordsFault) → checking rows ≡ task → first_of (codes "policy") rows ≡ None → first_of (codes "split") rows ≡ None → IsReading [] (Some (codes "check", rows)) r → IsTaskOrMemory task r
+check_if task rows (Ok a) asked free whole (inl h) =
+    let checked = no_parts rows _ a whole h.1.1 in
+    no_file task a checked.0 (checked.1 ∙ ap (λ (t : Task). on_policy t checked.0) asked) (checked.2 ∙ free)
+check_if task rows (Ok a) asked free whole (inr h) = absurd (none_refused a h)
+check_if task rows (Err (WrongLine text)) asked free whole h = absurd h.1
+check_if task rows (Err NoMemory) asked free whole h = tt
 
 -- each number is the one of its default's text
 number_is : (least most n m : ℕ) (t : Text) → IsNumberIn least most (Some t) n → IsUnsignedIn least most t → digits_value 10 (without_leading_plus t) ≡ m → n ≡ m
@@ -264,6 +272,7 @@ is_serving : (a : Invocation) → IsServing default_rows a → IsServeOrMemory A
 is_serving (invocation.Serve options) h = defaults options h
 is_serving (invocation.Task task) h = let named : Some Denials ≡ None = h.1 in absurd (cc)
 is_serving (invocation.OnFile task file) h = h
+is_serving (invocation.Split options) h = h
 
 serve_if : (r : Result Invocation WordsFault) → IsReading [] (Some (codes "serve", default_rows)) r → IsServeOrMemory AreDefaults r
 serve_if (Ok a) (inl h) = is_serving a h.1.1
@@ -287,11 +296,11 @@ play_is_right words name r e p = play_if [] r (read_as words _ _ _ r e (plays na
 
 -- the words of `natsd check`
 pub check_is_right : (words : List Text) (name : Text) (r : Result Invocation WordsFault) → words ≡ name ∷ codes "check" ∷ [] → IsReading (kinds_of words) (found_in words) r → IsTaskOrMemory Check r
-check_is_right words name r e p = check_if Check (default_row (codes "sets") (codes "false") ∷ []) r refl refl (read_as words _ _ _ r e (checks name).0 (checks name).1 p)
+check_is_right words name r e p = check_if Check (default_row (codes "sets") (codes "false") ∷ []) r refl refl refl (read_as words _ _ _ r e (checks name).0 (checks name).1 p)
 
 -- the words of `natsd check --sets`
 pub sets_is_right : (words : List Text) (name : Text) (r : Result Invocation WordsFault) → words ≡ name ∷ codes "check" ∷ codes "--sets" ∷ [] → IsReading (kinds_of words) (found_in words) r → IsTaskOrMemory Sets r
-sets_is_right words name r e p = check_if Sets (given_row (codes "sets") (codes "true") ∷ []) r refl refl (read_as words _ _ _ r e (asks_sets name).0 (asks_sets name).1 p)
+sets_is_right words name r e p = check_if Sets (given_row (codes "sets") (codes "true") ∷ []) r refl refl refl (read_as words _ _ _ r e (asks_sets name).0 (asks_sets name).1 p)
 
 -- the words of `natsd serve`
 pub serve_is_right : (words : List Text) (name : Text) (r : Result Invocation WordsFault) → words ≡ name ∷ codes "serve" ∷ [] → IsReading (kinds_of words) (found_in words) r → IsServeOrMemory AreDefaults r

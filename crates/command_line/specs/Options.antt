@@ -37,7 +37,7 @@ flag_rule id = record (new_rule id) { long = Some id; action = Some SetTrue }
 
 -- what `check` takes
 abbrev pub check_app : App
-check_app = with_rule (with_rule (new_app (codes "check")) policy_rule) (flag_rule (codes "sets"))
+check_app = with_rule (with_rule (with_rule (new_app (codes "check")) policy_rule) (flag_rule (codes "sets"))) (text_rule (codes "split"))
 
 abbrev pub listen_rule : Rule
 listen_rule = record (text_rule (codes "listen")) { defaults = default_listen ∷ [] }

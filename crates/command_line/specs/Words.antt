@@ -10,6 +10,7 @@ use Rattle.command_line.specs.Question.{Word, explain_app, kind_named, word_at, 
 use Rattle.command_line.specs.declared.question.Question.{Question}
 use Rattle.command_line.specs.declared.question.QuestionKind.{QuestionKind}
 use Rattle.command_line.specs.declared.options.ServeOptions.{ServeOptions}
+use Rattle.command_line.specs.declared.options.SplitOptions.{SplitOptions}
 use Rattle.command_line.specs.declared.words.Invocation.{Invocation}
 use Rattle.command_line.specs.declared.words.Invocation.TheVariants as invocation
 use Rattle.command_line.specs.declared.words.Task.{Task}
@@ -59,9 +60,13 @@ IsPolicyFile rows file = option_map string_bytes file ≡ first_of (codes "polic
 abbrev pub checking : List Row → Task
 checking rows = if is_set (codes "sets") rows then Sets else Check
 
--- a policy is to be checked
+-- a policy is to be checked; or its parts are to be written, where a folder for them is named
+abbrev pub IsCheckIf : List Row → Option Text → Invocation → Type 0
+IsCheckIf rows None a = (file : Option Word) × (a ≡ on_policy (checking rows) file) × IsPolicyFile rows file
+IsCheckIf rows (Some folder) a = (options : SplitOptions) × (a ≡ invocation.Split options) × (string_bytes options.folder ≡ folder) × IsPolicyFile rows options.policy
+
 abbrev pub IsCheck : List Row → Invocation → Type 0
-IsCheck rows a = (file : Option Word) × (a ≡ on_policy (checking rows) file) × IsPolicyFile rows file
+IsCheck rows a = IsCheckIf rows (first_of (codes "split") rows) a
 
 -- a question is to be answered, or its kind isn't known
 abbrev pub IsAskedIf : List Row → Option QuestionKind → Invocation → Type 0
@@ -77,6 +82,7 @@ abbrev pub IsServing : List Row → Invocation → Type 0
 IsServing rows (invocation.Serve options) = IsOptions rows options
 IsServing rows (invocation.Task task) = (task ≡ BadLog) × (log_named (word_at (codes "log") rows) ≡ None)
 IsServing rows (invocation.OnFile task file) = ⊥
+IsServing rows (invocation.Split options) = ⊥
 
 -- what a subcommand asks for
 abbrev pub IsInvokedIf : Bool → Bool → Bool → List Row → Invocation → Type 0
@@ -125,6 +131,7 @@ abbrev pub IsServeOrMemory : (ServeOptions → Type 0) → Result Invocation Wor
 IsServeOrMemory P (Ok (invocation.Serve options)) = P options
 IsServeOrMemory P (Ok (invocation.Task task)) = ⊥
 IsServeOrMemory P (Ok (invocation.OnFile task file)) = ⊥
+IsServeOrMemory P (Ok (invocation.Split options)) = ⊥
 IsServeOrMemory P (Err (WrongLine text)) = ⊥
 IsServeOrMemory P (Err NoMemory) = ⊤
 

@@ -5,6 +5,6 @@ mod options;
 mod question;
 mod words;
 
-pub use options::{LogChoice, ServeOptions};
+pub use options::{LogChoice, ServeOptions, SplitOptions};
 pub use question::{Question, QuestionKind};
 pub use words::{Invocation, Task, WordsFault, read_words};

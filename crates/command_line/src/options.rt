@@ -29,6 +29,15 @@ pub struct ServeOptions {
     pub log: LogChoice,
 }
 
+/// What `natsd check --split` is started with.
+#[derive(Debug, Drop)]
+pub struct SplitOptions {
+    /// The folder to be made, in which each part of the policy is written.
+    pub folder: String,
+    /// The file of the policy. Without one, it comes on standard input.
+    pub policy: Option<String>,
+}
+
 /// What is told on standard error.
 #[derive(Clone, Copy, Debug, PartialEq, Eq)]
 pub enum LogChoice {
@@ -238,7 +247,21 @@ pub fn check_command<'a>(alloc: Global) -> Result<Command<'a>, AllocError>
         alloc,
         "sets",
         "Prints in place of that which accounts exchange messages, each set of them on a line",
-    ))
+    ))?
+    .arg(split_option(alloc))
+}
+
+/// The folder for the parts of the policy that `check` takes.
+fn split_option<'a>(alloc: Global) -> Arg<'a>
+    ensures rule { rule_of result ≡ text_rule (codes "split") }
+    ensures local { result.global ≡ false }
+{
+    text_option(
+        alloc,
+        "split",
+        "DIR",
+        "Makes the folder DIR, and writes each set of accounts that exchange messages there as a policy of its own",
+    )
 }
 
 /// Returns the command `natsd serve`, with the options that it takes.

@@ -3,7 +3,9 @@ ghost use Rattle.std.specs.Prelude.{◌≡◌, ◌∷◌, [], ℕ, List, IfOk, c
 ghost use Rattle.clap.specs.Words.{app_of, kind_of};
 ghost use Rattle.clap.specs.declared.error.kind.ErrorKind.TheVariants.{OutOfMemory};
 
-use crate::options::{ServeOptions, check_command, is_set, options_of, serve_command, text_in};
+use crate::options::{
+    ServeOptions, SplitOptions, check_command, is_set, options_of, serve_command, text_in,
+};
 use crate::question::{Question, explain_command, question_of};
 use clap::error::ErrorKind;
 use clap::{ArgMatches, Command, Error};
@@ -17,6 +19,8 @@ pub enum Invocation {
     Task(Task),
     /// A task that reads the file of this name in place of standard input.
     OnFile(Task, String),
+    /// To write the parts of a policy, each as a policy of its own.
+    Split(SplitOptions),
     /// To serve clients over sockets.
     Serve(ServeOptions),
 }
@@ -135,7 +139,10 @@ fn checked_by(alloc: Global, options: &ArgMatches<'_>) -> Result<Invocation, All
     ensures { IfOk result (IsCheck (rows_of (found_of options.now))) }
 {
     let policy = text_in(alloc, options, "policy")?;
-    Ok(on_policy(checking(is_set(options, "sets")), policy))
+    match text_in(alloc, options, "split")? {
+        None => Ok(on_policy(checking(is_set(options, "sets")), policy)),
+        Some(folder) => Ok(Invocation::Split(SplitOptions { folder, policy })),
+    }
 }
 
 /// What is asked of a policy, by whether its sets are.
@@ -183,7 +190,8 @@ fn invoked_by(alloc: Global, matches: &ArgMatches<'_>) -> Result<Invocation, All
 /// The words are judged by clap: `play` asks for a script to be played, `check` for a policy to be checked, `explain` for
 /// what a policy says to a question, `serve` for clients to be served by its options, `--help`, `-h` and `play --help` for
 /// help, `--version` for the version. `check` and `explain` read the policy on standard input, or in the file that their
-/// option `--policy` names; `check` with the option `--sets` asks which accounts exchange messages. Where they have the right number, the words of `explain` are a question; one of another kind
+/// option `--policy` names; `check` with the option `--sets` asks which accounts exchange messages, and with `--split` for a
+/// policy of each set of them. Where they have the right number, the words of `explain` are a question; one of another kind
 /// than `publish`, `subscribe`, `delivery` and `path` asks for that to be said, and so does another word of `serve`'s option
 /// `--log` than `none`, `denials` and `all`.
 /// `WrongLine` comes with clap's text where the line is another, such as one with no word behind the name, with one

@@ -6,6 +6,7 @@ ghost use Rattle.command_line.specs.Options.{AreServable};
 
 mod notes;
 mod on_file;
+mod parting;
 mod policy_input;
 mod serve;
 mod telling;
@@ -14,6 +15,7 @@ use command_line::ServeOptions;
 use devices::{ReadSource, WriteSink};
 use notes::tell_of_input;
 use on_file::run_on_file;
+use parting::split;
 use policy_input::PolicyInput;
 use policy_source::{Frames, WatchedFile};
 use serve::serve_clients;
@@ -25,7 +27,7 @@ use std::io::Read;
 use std::process::ExitCode;
 use std::random::RandomSource;
 use std::rt::Env;
-use std::{env, thread};
+use std::{env, slice, thread};
 use tasks::{Ran, Start, StartFault, run};
 use telling::{FileWatcher, level_of};
 
@@ -60,9 +62,12 @@ fn main(rt: HostRuntime) -> ExitCode {
                 Some(path) => {
                     let mut watcher = FileWatcher { rt, log: &log };
                     let mut policies = WatchedFile::new(rt, path.as_str(), &mut watcher);
-                    serve_clients(rt, options, &mut policies, outputs)
+                    serve_clients(rt, options, slice::from_mut(&mut policies), outputs)
                 }
-                None => serve_clients(rt, options, &mut Frames::new(rt.alloc(), source), outputs),
+                None => {
+                    let mut policies = Frames::new(rt.alloc(), source);
+                    serve_clients(rt, options, slice::from_mut(&mut policies), outputs)
+                }
             }
         },
     );
@@ -89,6 +94,7 @@ fn done<I: Read>(rt: &HostRuntime, input: &mut PolicyInput<I>) -> Result<u8, Ser
             // (who hasn't started names no file)
             Err(_) => Ok(1),
         },
+        Ran::Split(options) => Ok(split(rt, &options, input, &mut sink, &mut errors)),
         Ran::Serve(options) => Err(options),
     }
 }

@@ -19,12 +19,8 @@ pub fn run_on_file<R: Files + AllocGlobal, W: Sink, E: Sink>(
     errors: &mut E,
 ) -> u8 {
     let alloc = rt.alloc();
-    let mut input = match File::open(rt, path) {
-        Ok(file) => PolicyInput::new(alloc, file),
-        Err(error) => {
-            tell_error(alloc, path, &error, errors);
-            return 1;
-        }
+    let Some(mut input) = open_input(rt, path, errors) else {
+        return 1;
     };
     let status = run_and_tell(alloc, keys, task, &mut input, sink, errors);
     if let Some(error) = input.failed() {
@@ -33,4 +29,19 @@ pub fn run_on_file<R: Files + AllocGlobal, W: Sink, E: Sink>(
         tell_of_text(alloc, &input, errors);
     }
     status
+}
+
+/// Opens a file as an input, or tells on the error sink why it can't be.
+pub fn open_input<R: Files + AllocGlobal, E: Sink>(
+    rt: &R,
+    path: &str,
+    errors: &mut E,
+) -> Option<PolicyInput<R::File>> {
+    match File::open(rt, path) {
+        Ok(file) => Some(PolicyInput::new(rt.alloc(), file)),
+        Err(error) => {
+            tell_error(rt.alloc(), path, &error, errors);
+            None
+        }
+    }
 }

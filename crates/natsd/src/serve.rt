@@ -21,17 +21,17 @@ impl GateSource<Open> for AllOpen {
         Open
     }
 
-    fn reload_gate(&self) -> Open {
+    fn reload_gate(&self, _input: usize) -> Open {
         Open
     }
 }
 
-/// Serves clients as the options say, by the policies that come, until they end, and returns the status: 0 at their end,
-/// 1 at a fault. It prints a line for where it listens and for what each policy does; the last line tells why it has ended.
+/// Serves clients as the options say, by the policies that come from the inputs, until these end, and returns the status: 0
+/// then, 1 at a fault. It prints a line for where it listens and for what each policy does; the last line tells why it has ended.
 pub fn serve_clients<
     R: Threads + Wait + Net + Clock + RandomSource + Sync + AllocGlobal,
     P: Policies + Send,
->(rt: &R, options: &ServeOptions, policies: &mut P, outputs: Outputs<'_>) -> u8
+>(rt: &R, options: &ServeOptions, inputs: &mut [P], outputs: Outputs<'_>) -> u8
     requires { AreServable options.now }
     ensures { result ≤ 1 }
 {
@@ -43,5 +43,5 @@ pub fn serve_clients<
         history_bytes: options.history_bytes,
         connections: options.connections,
     };
-    server::serve_clients(rt, settings, &AllOpen, policies, outputs)
+    server::serve_clients(rt, settings, &AllOpen, inputs, outputs)
 }

@@ -3,7 +3,6 @@ use Rattle.std.specs.Prelude.{◌∷◌, ◌++◌, ◌+◌, ℕ, Bool, List, [],
 use Rattle.std.specs.List.{flat_map, list_any, IsDistinct}
 use Rattle.std.specs.Option.{option_map, option_map_or, option_or}
 use Rattle.std.specs.Str.{bytes_eq}
-use Rattle.subjects.specs.Subject.{Token, text_of}
 use Rattle.policy_doc.specs.Accounts.{Name}
 use Rattle.policy_doc.specs.Imports.{AreValidImports, fault_in_imports}
 use Rattle.policy_doc.specs.declared.fault.Place.{Place}
@@ -15,8 +14,8 @@ use Rattle.policy_doc.specs.declared.document.UserDoc.{UserDoc}
 use Rattle.policy_doc.specs.declared.document.ImportDoc.{ImportDoc}
 use Rattle.policy_doc.specs.declared.document.Counts.{Counts}
 use Rattle.exports.specs.declared.document.ExportDoc.{ExportDoc}
-use Rattle.policy_doc.specs.declared.document.Direction.{Direction}
-use Rattle.policy_doc.specs.declared.document.PermEntry.{PermEntry}
+use Rattle.permission_doc.specs.declared.document.Direction.{Direction}
+use Rattle.permission_doc.specs.Entries.{entry_of}
 
 -- the users of accounts, account by account
 abbrev pub users_of : List NamedAccount → List UserDoc
@@ -86,18 +85,6 @@ abbrev pub IsPolicyFault : PolicyDoc → PolicyFault → Type 0
 IsPolicyFault doc (DuplicateUser place) = IsFirstTwin doc.accounts place
 IsPolicyFault doc NoMemory = IsValidPolicy doc
 IsPolicyFault doc _ = HaveUniqueNames (users_of doc.accounts)
-
--- a plain entry for the subjects of a pattern
-abbrev pub entry_of : List Token → PermEntry
-entry_of tokens = record { subject = tokens; queue = None }
-
-abbrev pub queue_text : Option (List Token) → List ℕ
-queue_text None = []
-queue_text (Some queue) = codes " " ++ text_of queue
-
--- an entry as it is printed: its pattern, and behind one space its queue part if it has one
-abbrev pub entry_text : PermEntry → List ℕ
-entry_text e = text_of e.subject ++ queue_text e.queue
 
 -- all below foo but foo.bar
 abbrev pub limited_direction : Direction

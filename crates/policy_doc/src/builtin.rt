@@ -2,7 +2,8 @@
 ghost use Rattle.std.specs.Prelude.{◌≡◌, ◌∷◌, [], None, IfOk};
 ghost use Rattle.subjects.specs.Subject.{tokens_of};
 ghost use Rattle.subjects.specs.Fault.{pattern_fault};
-ghost use Rattle.policy_doc.specs.Document.{entry_of, limited_direction, limited_user, demo_user, builtin_doc};
+ghost use Rattle.policy_doc.specs.Document.{limited_direction, limited_user, demo_user, builtin_doc};
+ghost use Rattle.permission_doc.specs.Entries.{entry_of};
 
 use crate::{AccountDoc, Accounts, Direction, PermDoc, PermEntry, PolicyDoc, UserDoc};
 use base::{Items, NoMemory};

@@ -12,10 +12,8 @@ mod policy;
 mod unique;
 
 pub use accounts::Accounts;
-pub use document::{
-    AccountDoc, Counts, Direction, ImportDoc, NamedAccount, PermDoc, PermEntry, PolicyDoc, Terms,
-    UserDoc,
-};
+pub use document::{AccountDoc, Counts, ImportDoc, NamedAccount, PolicyDoc, UserDoc};
 pub use exports::{ExportDoc, Kind, ResponseTerms, Row};
 pub use fault::{Place, PolicyFault};
+pub use permission_doc::{Direction, PermDoc, PermEntry, Terms};
 pub use policy::Policy;

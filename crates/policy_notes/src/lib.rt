@@ -6,3 +6,4 @@ mod notes;
 mod place;
 
 pub use notes::{Notes, notes_of};
+pub use place::place_of;

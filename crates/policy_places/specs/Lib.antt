@@ -2,3 +2,4 @@ pub mod Place
 pub mod Starts
 pub mod Spots
 pub mod Names
+pub mod Repeats

@@ -1,5 +1,6 @@
 -- Lines and columns (docs/POLICY.md, "Where a fault stands").
-use Rattle.std.specs.Prelude.{ℕ, ◌+◌, ◌==◌, List, [], ◌∷◌, if◌then◌else◌}
+use Rattle.std.specs.Prelude.{ℕ, ◌+◌, ◌++◌, ◌==◌, List, [], ◌∷◌, codes, decimal, if◌then◌else◌}
+use Rattle.policy_places.specs.declared.place.Place.{Place}
 
 -- one more than LFs stand in a text, from a line on
 unfoldable pub line_after : ℕ → List ℕ → ℕ
@@ -10,3 +11,7 @@ line_after line (b ∷ bs) = line_after (if b == 10 then line + 1 else line) bs
 unfoldable pub column_after : ℕ → List ℕ → ℕ
 column_after column [] = column
 column_after column (b ∷ bs) = column_after (if b == 10 then 1 else column + 1) bs
+
+-- a place in words
+abbrev pub place_words : Place → List ℕ
+place_words place = codes "line " ++ decimal place.line ++ codes " column " ++ decimal place.column

@@ -39,6 +39,11 @@ fn place_behind(front: &[u8]) -> Place
 }
 
 impl fmt::Display for Place {
+    ghost use Rattle.std.specs.Prelude.{Some};
+    ghost use Rattle.policy_places.specs.Place.{place_words};
+
+    ghost output = { λ place. Some (place_words place) };
+
     fn fmt<W: fmt::Write>(&self, f: &mut fmt::Formatter<W>) -> fmt::Result {
         write!(f, "line {} column {}", self.line, self.column)
     }

@@ -1,8 +1,11 @@
 //! Keys that stand twice in one object.
+ghost use Rattle.std.specs.Prelude.{◌≡◌, ◌++◌, IfOk, OnOk, map};
+ghost use Rattle.policy_places.specs.Repeats.{repeated, repeated_at, repeats_of};
+
 use crate::spots::Spot;
 use base::NoMemory;
 use std::alloc::Global;
-use std::cmp::Ordering;
+use std::collections::BTreeMap;
 
 /// A key that stands in one object again.
 #[derive(Clone, Copy, Debug)]
@@ -14,46 +17,37 @@ pub struct Repeat<'x> {
     pub again: usize,
 }
 
-/// The order of two spots by their objects, their names, and where they stand.
-fn by_name(one: &Spot, other: &Spot) -> Ordering {
-    one.container
-        .cmp(&other.container)
-        .then(one.name.as_str().cmp(other.name.as_str()))
-        .then(one.at.cmp(&other.at))
-}
-
-/// The indexes of the spots, in the order of their objects and names.
-fn sorted(alloc: Global, spots: &[Spot]) -> Result<Vec<usize>, NoMemory> {
-    let mut indexes = Vec::new(alloc);
-    for index in 0..spots.len() {
-        indexes.push(index)?;
+/// Appends a spot whose name was seen before in its object or list, if it was, with where.
+fn push_repeat<'x>(
+    repeats: &mut Vec<Repeat<'x>>,
+    spot: &'x Spot,
+    first: Option<usize>,
+) -> Result<(), NoMemory>
+    ensures { OnOk result (map repeated repeats.new.items ≡ map repeated repeats.old.items ++ repeated_at spot.now first) }
+{
+    match first {
+        None => Ok(()),
+        Some(first) => {
+            repeats.push(Repeat {
+                name: spot.name.as_str(),
+                first,
+                again: spot.at,
+            })?;
+            Ok(())
+        }
     }
-    indexes.sort_unstable_by(|one, other| match (spots.get(*one), spots.get(*other)) {
-        (Some(one), Some(other)) => by_name(one, other),
-        _ => Ordering::Equal,
-    });
-    Ok(indexes)
 }
 
 /// The keys among these spots of a text that stand in one object again, each with where it stood before, in the order of the
-/// text. `NoMemory` where memory could not be had.
-pub fn repeats_of<'x>(alloc: Global, spots: &'x [Spot]) -> Result<Vec<Repeat<'x>>, NoMemory> {
-    let indexes = sorted(alloc, spots)?;
+/// spots. `NoMemory` where memory could not be had.
+pub fn repeats_of<'x>(alloc: Global, spots: &'x [Spot]) -> Result<Vec<Repeat<'x>>, NoMemory>
+    ensures { IfOk result (λ repeats. map repeated repeats.items ≡ repeats_of spots.now) }
+{
+    let mut seen = BTreeMap::new(alloc);
     let mut repeats = Vec::new(alloc);
-    for place in 1..indexes.len() {
-        let (Some(first), Some(again)) = (spots.get(indexes[place - 1]), spots.get(indexes[place]))
-        else {
-            break;
-        };
-        let name = again.name.as_str();
-        if first.container == again.container && first.name.as_str() == name {
-            repeats.push(Repeat {
-                name,
-                first: first.at,
-                again: again.at,
-            })?;
-        }
+    for spot in spots {
+        let first = seen.insert((spot.container, spot.name.as_str()), spot.at)?;
+        push_repeat(&mut repeats, spot, first)?;
     }
-    repeats.sort_unstable_by_key(|repeat| repeat.again);
     Ok(repeats)
 }

@@ -29,13 +29,6 @@ service_rows = (codes "service", true) ∷ (codes "accounts", false) ∷ (codes 
 abbrev pub either_rows : List Row
 either_rows = (codes "stream", false) ∷ (codes "service", false) ∷ (codes "accounts", false) ∷ (codes "response_type", false) ∷ (codes "response_ttl", false) ∷ []
 
--- where services aren't known, those of streams alone
-abbrev pub lone_rows : List Row
-lone_rows = (codes "stream", false) ∷ (codes "accounts", false) ∷ []
-
-abbrev pub known_rows : Bool → List Row
-known_rows services = if services then either_rows else lone_rows
-
 -- the pattern whose subjects are offered
 unfoldable pub offered_at : List ℕ → Path → Data → Read (List Token)
 offered_at key path d = do
@@ -100,25 +93,25 @@ service_at path d = do
   Ok (record { kind = Service; subject = subject; accounts = accounts; response = response })
 
 -- a row with neither of the two keys, or with both
-unfoldable pub neither_at : Bool → Path → Data → Read ExportDoc
-neither_at services path d = do
-  known ← judged (known_rows services) path d
+unfoldable pub neither_at : Path → Data → Read ExportDoc
+neither_at path d = do
+  known ← judged either_rows path d
   Err (WrongType path)
 
-abbrev pub export_by : Bool → Path → Data → Option Kind → Read ExportDoc
-export_by services path d (Some Stream) = stream_at path d
-export_by services path d (Some Service) = service_at path d
-export_by services path d None = neither_at services path d
+abbrev pub export_by : Path → Data → Option Kind → Read ExportDoc
+export_by path d (Some Stream) = stream_at path d
+export_by path d (Some Service) = service_at path d
+export_by path d None = neither_at path d
 
-abbrev pub export_at : Bool → Path → Data → Read ExportDoc
-export_at services path d = export_by services path d (kind_of services d)
+abbrev pub export_at : Path → Data → Read ExportDoc
+export_at path d = export_by path d (kind_of d)
 
-unfoldable pub exports_at : Bool → Path → Data → Read (List ExportDoc)
-exports_at services path d = do
+unfoldable pub exports_at : Path → Data → Read (List ExportDoc)
+exports_at path d = do
   items ← items_at path d
-  each (export_at services) path 0 items
+  each export_at path 0 items
 
 -- absent exports are none
-abbrev pub exports_under : Bool → Path → Option Data → Read (List ExportDoc)
-exports_under services path None = Ok []
-exports_under services path (Some d) = exports_at services path d
+abbrev pub exports_under : Path → Option Data → Read (List ExportDoc)
+exports_under path None = Ok []
+exports_under path (Some d) = exports_at path d

@@ -29,13 +29,6 @@ service_rows = (codes "service", true) ∷ (codes "to", false) ∷ []
 abbrev pub either_rows : List Row
 either_rows = (codes "stream", false) ∷ (codes "service", false) ∷ (codes "to", false) ∷ (codes "prefix", false) ∷ []
 
--- where services aren't known, those of streams alone
-abbrev pub lone_rows : List Row
-lone_rows = (codes "stream", false) ∷ (codes "to", false) ∷ (codes "prefix", false) ∷ []
-
-abbrev pub known_rows : Bool → List Row
-known_rows services = if services then either_rows else lone_rows
-
 abbrev pub source_rows : List Row
 source_rows = (codes "account", true) ∷ (codes "subject", true) ∷ []
 
@@ -100,25 +93,25 @@ service_at path d = do
   Ok (record { kind = Service; account = source.account; subject = source.subject; to = to; prefix = None })
 
 -- a row with neither of the two keys, or with both
-unfoldable pub neither_at : Bool → Path → Data → Read ImportDoc
-neither_at services path d = do
-  known ← judged (known_rows services) path d
+unfoldable pub neither_at : Path → Data → Read ImportDoc
+neither_at path d = do
+  known ← judged either_rows path d
   Err (WrongType path)
 
-abbrev pub import_by : Bool → Path → Data → Option Kind → Read ImportDoc
-import_by services path d (Some Stream) = stream_at path d
-import_by services path d (Some Service) = service_at path d
-import_by services path d None = neither_at services path d
+abbrev pub import_by : Path → Data → Option Kind → Read ImportDoc
+import_by path d (Some Stream) = stream_at path d
+import_by path d (Some Service) = service_at path d
+import_by path d None = neither_at path d
 
-abbrev pub import_at : Bool → Path → Data → Read ImportDoc
-import_at services path d = import_by services path d (kind_of services d)
+abbrev pub import_at : Path → Data → Read ImportDoc
+import_at path d = import_by path d (kind_of d)
 
-unfoldable pub imports_at : Bool → Path → Data → Read (List ImportDoc)
-imports_at services path d = do
+unfoldable pub imports_at : Path → Data → Read (List ImportDoc)
+imports_at path d = do
   items ← items_at path d
-  each (import_at services) path 0 items
+  each import_at path 0 items
 
 -- absent imports are none
-abbrev pub imports_under : Bool → Path → Option Data → Read (List ImportDoc)
-imports_under services path None = Ok []
-imports_under services path (Some d) = imports_at services path d
+abbrev pub imports_under : Path → Option Data → Read (List ImportDoc)
+imports_under path None = Ok []
+imports_under path (Some d) = imports_at path d

@@ -36,5 +36,5 @@ kind_by true true = None
 kind_by false false = None
 
 -- a stream or a service, where just one of the two keys is there
-abbrev pub kind_of : Bool → Data → Option Kind
-kind_of services d = kind_by (is_some (get (codes "stream") d)) (services && is_some (get (codes "service") d))
+abbrev pub kind_of : Data → Option Kind
+kind_of d = kind_by (is_some (get (codes "stream") d)) (is_some (get (codes "service") d))

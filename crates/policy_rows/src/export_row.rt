@@ -4,7 +4,7 @@ ghost use Rattle.serde_json.specs.View.{view, items_view};
 ghost use Rattle.policy_walk.specs.Fault.{Gives};
 ghost use Rattle.policy_walk.specs.Object.{judged};
 ghost use Rattle.policy_permissions.specs.Permissions.{each};
-ghost use Rattle.policy_rows.specs.Exports.{accounts_at, accounts_under, export_at, export_by, exports_at, exports_under, known_rows, neither_at, offered_at, service_at, stream_at};
+ghost use Rattle.policy_rows.specs.Exports.{accounts_at, accounts_under, either_rows, export_at, export_by, exports_at, exports_under, neither_at, offered_at, service_at, stream_at};
 ghost use Rattle.policy_rows.specs.Names.{account_name_at, kind_of};
 
 use crate::names::{account_name_of, kind_of};
@@ -18,67 +18,55 @@ use serde_json::Value;
 use std::alloc::Global;
 use subjects::Pattern;
 
-/// The exports of a list, if it is there. Where services aren't known, their keys are unknown ones. The first fault, as
-/// docs/POLICY.md has them in order, where it isn't a list of exports; `NoMemory` where memory could not be had.
+/// The exports of a list, if it is there. The first fault, as docs/POLICY.md has them in order, where it isn't a list of
+/// exports; `NoMemory` where memory could not be had.
 pub fn exports_under(
     alloc: Global,
-    services: bool,
     path: &Path,
     found: Option<&Value>,
 ) -> Result<Items<ExportDoc>, ConfigFault>
-    ensures { Gives (λ x. x) result (exports_under services path.now (option_map (λ v. view v.now) found.entry)) }
+    ensures { Gives (λ x. x) result (exports_under path.now (option_map (λ v. view v.now) found.entry)) }
 {
     match found {
         None => Ok(Items::new(alloc)),
-        Some(value) => Ok(exports_of(alloc, services, path, value)?),
+        Some(value) => Ok(exports_of(alloc, path, value)?),
     }
 }
 
 /// The exports of a list.
 #[tactic(auto, unfolding(crate::specs::Exports::exports_at))]
-fn exports_of(
-    alloc: Global,
-    services: bool,
-    path: &Path,
-    value: &Value,
-) -> Result<Items<ExportDoc>, ConfigFault>
-    ensures { Gives (λ x. x) result (exports_at services path.now (view value.now)) }
+fn exports_of(alloc: Global, path: &Path, value: &Value) -> Result<Items<ExportDoc>, ConfigFault>
+    ensures { Gives (λ x. x) result (exports_at path.now (view value.now)) }
 {
     let values = items_of(alloc, path, value)?;
-    Ok(each_export(alloc, services, path, values)?)
+    Ok(each_export(alloc, path, values)?)
 }
 
 /// The exports of a list's values in order.
 fn each_export(
     alloc: Global,
-    services: bool,
     path: &Path,
     values: &[Value],
 ) -> Result<Items<ExportDoc>, ConfigFault>
-    ensures { Gives (λ x. x) result (each (export_at services) path.now 0 (items_view values.now)) }
+    ensures { Gives (λ x. x) result (each export_at path.now 0 (items_view values.now)) }
 {
     let mut exports = Vec::with_capacity(alloc, values.len())?;
     for (index, value) in values.iter().enumerate() {
         let below = path.index(alloc, index)?;
-        let export = export_of(alloc, services, &below, value)?;
+        let export = export_of(alloc, &below, value)?;
         exports.push(export)?;
     }
     Ok(Items::from_vec(exports))
 }
 
 /// An export of either kind.
-fn export_of(
-    alloc: Global,
-    services: bool,
-    path: &Path,
-    value: &Value,
-) -> Result<ExportDoc, ConfigFault>
-    ensures { Gives (λ x. x) result (export_at services path.now (view value.now)) }
+fn export_of(alloc: Global, path: &Path, value: &Value) -> Result<ExportDoc, ConfigFault>
+    ensures { Gives (λ x. x) result (export_at path.now (view value.now)) }
 {
-    match kind_of(services, value) {
+    match kind_of(value) {
         Some(Kind::Stream) => Ok(stream_of(alloc, path, value)?),
         Some(Kind::Service) => Ok(service_of(alloc, path, value)?),
-        None => Ok(neither_of(alloc, services, path, value)?),
+        None => Ok(neither_of(alloc, path, value)?),
     }
 }
 
@@ -125,39 +113,25 @@ fn service_of(alloc: Global, path: &Path, value: &Value) -> Result<ExportDoc, Co
 
 /// The fault of a row with neither of the two keys, or with both: `WrongType`, after an unknown key.
 #[tactic(auto, unfolding(crate::specs::Exports::neither_at))]
-fn neither_of(
-    alloc: Global,
-    services: bool,
-    path: &Path,
-    value: &Value,
-) -> Result<ExportDoc, ConfigFault>
-    ensures { Gives (λ x. x) result (neither_at services path.now (view value.now)) }
+fn neither_of(alloc: Global, path: &Path, value: &Value) -> Result<ExportDoc, ConfigFault>
+    ensures { Gives (λ x. x) result (neither_at path.now (view value.now)) }
 {
-    judge_known(alloc, services, path, value)?;
+    judge_known(alloc, path, value)?;
     Err(ConfigFault::WrongType(path.copy(alloc)?))
 }
 
-/// Refuses what is no object of the keys of exports.
-fn judge_known(alloc: Global, services: bool, path: &Path, value: &Value) -> Result<(), ConfigFault>
-    ensures { Gives (λ x. x) result (judged (known_rows services) path.now (view value.now)) }
+/// Refuses what is no object of the keys of exports of either kind.
+fn judge_known(alloc: Global, path: &Path, value: &Value) -> Result<(), ConfigFault>
+    ensures { Gives (λ x. x) result (judged either_rows path.now (view value.now)) }
 {
-    if services {
-        let rows = [
-            ("stream", false),
-            ("service", false),
-            ("accounts", false),
-            ("response_type", false),
-            ("response_ttl", false),
-        ];
-        judge(alloc, &rows, path, value)
-    } else {
-        judge(
-            alloc,
-            &[("stream", false), ("accounts", false)],
-            path,
-            value,
-        )
-    }
+    let rows = [
+        ("stream", false),
+        ("service", false),
+        ("accounts", false),
+        ("response_type", false),
+        ("response_ttl", false),
+    ];
+    judge(alloc, &rows, path, value)
 }
 
 /// The pattern under a key that has to be there.

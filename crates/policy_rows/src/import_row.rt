@@ -4,7 +4,7 @@ ghost use Rattle.serde_json.specs.View.{view, items_view};
 ghost use Rattle.policy_walk.specs.Fault.{Gives};
 ghost use Rattle.policy_walk.specs.Object.{judged};
 ghost use Rattle.policy_permissions.specs.Permissions.{each};
-ghost use Rattle.policy_rows.specs.Imports.{account_at, import_at, import_by, imports_at, imports_under, known_rows, neither_at, prefix_under, service_at, source_at, source_in, stream_at, subject_at, subject_from, to_under};
+ghost use Rattle.policy_rows.specs.Imports.{account_at, either_rows, import_at, import_by, imports_at, imports_under, neither_at, prefix_under, service_at, source_at, source_in, stream_at, subject_at, subject_from, to_under};
 ghost use Rattle.policy_rows.specs.Names.{kind_of};
 
 use crate::names::{account_name_from, kind_of};
@@ -25,67 +25,55 @@ struct Source {
     subject: Pattern,
 }
 
-/// The imports of a list, if it is there. Where services aren't known, their keys are unknown ones. The first fault, as
-/// docs/POLICY.md has them in order, where it isn't a list of imports; `NoMemory` where memory could not be had.
+/// The imports of a list, if it is there. The first fault, as docs/POLICY.md has them in order, where it isn't a list of
+/// imports; `NoMemory` where memory could not be had.
 pub fn imports_under(
     alloc: Global,
-    services: bool,
     path: &Path,
     found: Option<&Value>,
 ) -> Result<Items<ImportDoc>, ConfigFault>
-    ensures { Gives (λ x. x) result (imports_under services path.now (option_map (λ v. view v.now) found.entry)) }
+    ensures { Gives (λ x. x) result (imports_under path.now (option_map (λ v. view v.now) found.entry)) }
 {
     match found {
         None => Ok(Items::new(alloc)),
-        Some(value) => Ok(imports_of(alloc, services, path, value)?),
+        Some(value) => Ok(imports_of(alloc, path, value)?),
     }
 }
 
 /// The imports of a list.
 #[tactic(auto, unfolding(crate::specs::Imports::imports_at))]
-fn imports_of(
-    alloc: Global,
-    services: bool,
-    path: &Path,
-    value: &Value,
-) -> Result<Items<ImportDoc>, ConfigFault>
-    ensures { Gives (λ x. x) result (imports_at services path.now (view value.now)) }
+fn imports_of(alloc: Global, path: &Path, value: &Value) -> Result<Items<ImportDoc>, ConfigFault>
+    ensures { Gives (λ x. x) result (imports_at path.now (view value.now)) }
 {
     let values = items_of(alloc, path, value)?;
-    Ok(each_import(alloc, services, path, values)?)
+    Ok(each_import(alloc, path, values)?)
 }
 
 /// The imports of a list's values in order.
 fn each_import(
     alloc: Global,
-    services: bool,
     path: &Path,
     values: &[Value],
 ) -> Result<Items<ImportDoc>, ConfigFault>
-    ensures { Gives (λ x. x) result (each (import_at services) path.now 0 (items_view values.now)) }
+    ensures { Gives (λ x. x) result (each import_at path.now 0 (items_view values.now)) }
 {
     let mut imports = Vec::with_capacity(alloc, values.len())?;
     for (index, value) in values.iter().enumerate() {
         let below = path.index(alloc, index)?;
-        let import = import_of(alloc, services, &below, value)?;
+        let import = import_of(alloc, &below, value)?;
         imports.push(import)?;
     }
     Ok(Items::from_vec(imports))
 }
 
 /// An import of either kind.
-fn import_of(
-    alloc: Global,
-    services: bool,
-    path: &Path,
-    value: &Value,
-) -> Result<ImportDoc, ConfigFault>
-    ensures { Gives (λ x. x) result (import_at services path.now (view value.now)) }
+fn import_of(alloc: Global, path: &Path, value: &Value) -> Result<ImportDoc, ConfigFault>
+    ensures { Gives (λ x. x) result (import_at path.now (view value.now)) }
 {
-    match kind_of(services, value) {
+    match kind_of(value) {
         Some(Kind::Stream) => Ok(stream_of(alloc, path, value)?),
         Some(Kind::Service) => Ok(service_of(alloc, path, value)?),
-        None => Ok(neither_of(alloc, services, path, value)?),
+        None => Ok(neither_of(alloc, path, value)?),
     }
 }
 
@@ -130,34 +118,24 @@ fn service_of(alloc: Global, path: &Path, value: &Value) -> Result<ImportDoc, Co
 
 /// The fault of a row with neither of the two keys, or with both: `WrongType`, after an unknown key.
 #[tactic(auto, unfolding(crate::specs::Imports::neither_at))]
-fn neither_of(
-    alloc: Global,
-    services: bool,
-    path: &Path,
-    value: &Value,
-) -> Result<ImportDoc, ConfigFault>
-    ensures { Gives (λ x. x) result (neither_at services path.now (view value.now)) }
+fn neither_of(alloc: Global, path: &Path, value: &Value) -> Result<ImportDoc, ConfigFault>
+    ensures { Gives (λ x. x) result (neither_at path.now (view value.now)) }
 {
-    judge_known(alloc, services, path, value)?;
+    judge_known(alloc, path, value)?;
     Err(ConfigFault::WrongType(path.copy(alloc)?))
 }
 
-/// Refuses what is no object of the keys of imports.
-fn judge_known(alloc: Global, services: bool, path: &Path, value: &Value) -> Result<(), ConfigFault>
-    ensures { Gives (λ x. x) result (judged (known_rows services) path.now (view value.now)) }
+/// Refuses what is no object of the keys of imports of either kind.
+fn judge_known(alloc: Global, path: &Path, value: &Value) -> Result<(), ConfigFault>
+    ensures { Gives (λ x. x) result (judged either_rows path.now (view value.now)) }
 {
-    if services {
-        let rows = [
-            ("stream", false),
-            ("service", false),
-            ("to", false),
-            ("prefix", false),
-        ];
-        judge(alloc, &rows, path, value)
-    } else {
-        let rows = [("stream", false), ("to", false), ("prefix", false)];
-        judge(alloc, &rows, path, value)
-    }
+    let rows = [
+        ("stream", false),
+        ("service", false),
+        ("to", false),
+        ("prefix", false),
+    ];
+    judge(alloc, &rows, path, value)
 }
 
 /// What stands under the key of a row's kind.

@@ -56,11 +56,11 @@ fn has_account_bytes(name: &[u8]) -> bool
 }
 
 /// The kind of a row, by the one of two keys that is there.
-pub(crate) fn kind_of(services: bool, value: &Value) -> Option<Kind>
-    ensures { result ≡ kind_of services (view value.now) }
+pub(crate) fn kind_of(value: &Value) -> Option<Kind>
+    ensures { result ≡ kind_of (view value.now) }
 {
     let has_stream = value.get("stream").is_some();
-    let has_service = services && value.get("service").is_some();
+    let has_service = value.get("service").is_some();
     let kind = kind_by(has_stream, has_service);
     kind
 }

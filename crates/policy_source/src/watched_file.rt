@@ -55,7 +55,7 @@ pub struct WatchedFile<'a, R: Files, E> {
     alloc: Global,
     path: &'a str,
     /// What was taken last, and what the look found that came with it.
-    last: Vec<u8>,
+    last: Option<Vec<u8>>,
     seen: Option<Look>,
     spare: Option<R::File>,
     /// Who is told why the file can't be read, and what was told last.
@@ -71,7 +71,7 @@ impl<'a, R: Files + Clock + Wait + AllocGlobal, E: Watcher> WatchedFile<'a, R, E
             rt,
             alloc,
             path,
-            last: Vec::new(alloc),
+            last: None,
             seen: None,
             spare: None,
             watcher,
@@ -160,14 +160,22 @@ impl<'a, R: Files + Clock + Wait + AllocGlobal, E: Watcher> WatchedFile<'a, R, E
         }
     }
 
+    /// Returns whether a content is the one that was taken last.
+    fn is_last(&self, text: &[u8]) -> bool {
+        match &self.last {
+            None => false,
+            Some(last) => last.as_slice() == text,
+        }
+    }
+
     /// Takes a content, if it is another than the last.
     fn take(&mut self, text: Vec<u8>) -> Next {
-        if text.as_slice() == self.last.as_slice() {
+        if self.is_last(text.as_slice()) {
             return Next::Later;
         }
         match Vec::from_slice(self.alloc, text.as_slice()) {
             Ok(last) => {
-                self.last = last;
+                self.last = Some(last);
                 Next::Text(text)
             }
             Err(_) => {

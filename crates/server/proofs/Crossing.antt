@@ -8,9 +8,9 @@ use Rattle.std.specs.declared.sync.ledger.Ledger.{Ghosts as Ledgers}
 use Rattle.shared_desk.specs.declared.desk.Run.{Ghosts as Runs}
 use Rattle.server_mail.proofs.server_state.ServerState.TheSendSync as state
 use Rattle.server.specs.contracts.threads.Common as common
-use Rattle.server_prints.proofs.prints.Prints.TheSendSync as prints
+use Rattle.server_reloads.proofs.installs.Installs.TheSendSync as installs
 use Rattle.shared_hub.proofs.Crossing.{shared_sync}
 
 pub common_sync : (κ : NamedLft) (L R : RattleType) (r : Runs L.Denot) (l : Ledgers L.Denot) → IsSync R → IsSync (common.the_row κ L R r l)
 common_sync κ L R r l s =
-    recorded_sync _ _ _ (common.the_type κ L R r l).to_one (struct_sync (shape (common.the_type κ L R r l)) (search (sendable, s), (global.the_field_sync, (shr_sync _ _ _ (shared_sync L r l), (search (sendable, state.the_sync), (search (sendable, prints.the_sync), tt))))))
+    recorded_sync _ _ _ (common.the_type κ L R r l).to_one (struct_sync (shape (common.the_type κ L R r l)) (search (sendable, s), (global.the_field_sync, (shr_sync _ _ _ (shared_sync L r l), (search (sendable, state.the_sync), (search (sendable, installs.the_sync), tt))))))

@@ -31,8 +31,8 @@ pub trait GateSource<G> {
     /// Returns the gate of a worker. The first worker is number 0.
     fn worker_gate(&self, worker: usize) -> G;
 
-    /// Returns the gate of the thread that installs policies.
-    fn reload_gate(&self) -> G;
+    /// Returns the gate of the thread that installs the policies of an input. The first input is number 0.
+    fn reload_gate(&self, input: usize) -> G;
 }
 
 /// The words of messages, as a generator draws them.
@@ -41,11 +41,11 @@ struct Drawn {
     generator: SmallRng,
 }
 
-/// What a server's caller lends it: its gates, its policies, and where it prints.
+/// What a server's caller lends it: its gates, the inputs of its policies, and where it prints.
 #[derive(Drop)]
 struct Lent<'x, F, P> {
     gates: &'x F,
-    policies: &'x mut P,
+    policies: &'x mut [P],
     prints: &'x Prints,
 }
 
@@ -64,15 +64,16 @@ impl Words for Drawn {
     }
 }
 
-/// Serves clients as the settings say, by the policies that come, until they end, and returns the status: 0 at their end,
-/// 1 at a fault. It prints a line for where it listens and for what each policy does; the last line tells why it has ended.
-/// Each thread passes a gate of its own.
+/// Serves clients as the settings say, by the policies that come, until all their inputs have ended, and returns the status: 0
+/// then, 1 at a fault. The first policy is the first input's. Later ones come from any input, and the one that is installed last
+/// is in force. It prints a line for where it listens and for what each policy does; the last line tells why it has ended. Each
+/// thread, of a worker or of an input, passes a gate of its own.
 pub fn serve_clients<
     R: Threads + Wait + Net + Clock + RandomSource + Sync + AllocGlobal,
     G: Gate + Send + Drop,
     F: GateSource<G>,
     P: Policies + Send,
->(rt: &R, settings: Settings<'_>, gates: &F, policies: &mut P, outputs: Outputs<'_>) -> u8
+>(rt: &R, settings: Settings<'_>, gates: &F, policies: &mut [P], outputs: Outputs<'_>) -> u8
     requires { AreServable settings.workers settings.outbox settings.history settings.history_bytes settings.connections }
     ensures { result ≤ 1 }
 {
@@ -102,13 +103,16 @@ fn serve_policies<
     rt: &R,
     settings: Settings<'_>,
     gates: &F,
-    policies: &mut P,
+    policies: &mut [P],
     outputs: Outputs<'_>,
 ) -> Result<(), Fault>
     requires { AreServable settings.workers settings.outbox settings.history settings.history_bytes settings.connections }
 {
     let Outputs { prints, log } = outputs;
-    let Some(ready) = first_policy(rt, policies, log)? else {
+    let Some(first) = policies.first_mut() else {
+        return Ok(());
+    };
+    let Some(ready) = first_policy(rt, first, log)? else {
         return Ok(());
     };
     log.note_policy(rt, 1, &ready);
@@ -117,7 +121,7 @@ fn serve_policies<
         return Err(Fault::NoKeys);
     };
     let (hub, limits) = open_hub(rt.alloc(), settings, ready, keys)?;
-    let seats = settings.workers + 1;
+    let seats = settings.workers.saturating_add(policies.len() as u64);
     let opened = Opened {
         listener,
         limits,
@@ -157,7 +161,7 @@ fn serve_run<
     }
 }
 
-/// Serves with a worker for each seat but the last, whose thread installs policies.
+/// Serves with a thread for each seat: one for each input of policies, and the others are workers.
 fn serve_seats<
     L: Run + Send + Sync,
     R: Threads + Wait + Net + Clock + RandomSource + Sync + AllocGlobal,
@@ -178,21 +182,35 @@ fn serve_seats<
         prints,
     } = lent;
     let mut seats = seats;
-    let Some(seat) = seats.pop() else {
-        return Err(Fault::NoMemory);
-    };
+    let reloads = reload_starts(alloc, gates, &mut seats, policies)?;
     let accesses = accesses(rt, alloc, gates, seats)?;
     tell_listening(rt, &opened.listener, prints)?;
-    let reload = ReloadStart {
-        access: Access {
-            seat,
-            gate: gates.reload_gate(),
-        },
-        policies,
-    };
-    let starts = ThreadStarts { accesses, reload };
+    let starts = ThreadStarts { accesses, reloads };
     serve(rt, alloc, shared, opened, starts, prints)?;
     Ok(())
+}
+
+/// Returns the start of each input's reloads, with a seat and a gate of its own.
+fn reload_starts<'b, L: Run, G: Gate + Drop, F: GateSource<G>, P: Policies>(
+    alloc: Global,
+    gates: &F,
+    seats: &mut Vec<Seat<L>>,
+    policies: &'b mut [P],
+) -> Result<Vec<ReloadStart<'b, L, G, P>>, Fault> {
+    let mut starts = Vec::with_capacity(alloc, policies.len())?;
+    for (input, policies) in policies.iter_mut().enumerate() {
+        let Some(seat) = seats.pop() else {
+            return Err(Fault::NoMemory);
+        };
+        let access = Access {
+            seat,
+            gate: gates.reload_gate(input),
+        };
+        if starts.push(ReloadStart { access, policies }).is_err() {
+            return Err(Fault::NoMemory);
+        }
+    }
+    Ok(starts)
 }
 
 /// Returns an access to the hub for each seat, with a gate and words of its own.

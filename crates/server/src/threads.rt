@@ -8,7 +8,7 @@ use server_log::ServerLog;
 use server_loop::{Access, Start, WAKER, Worker};
 use server_mail::{Flags, Mailbox, ServerState, millis, open_mailbox};
 use server_prints::Prints;
-use server_reloads::Reloads;
+use server_reloads::{Installs, Reloads};
 use session_conn::Words;
 use shared_hub::{Run, SharedHub};
 use std::alloc::Global;
@@ -19,7 +19,7 @@ use std::thread;
 use std::thread::Threads;
 use std::time::Clock;
 
-/// What the thread that installs policies begins with, and what is lent to it.
+/// What a thread that installs policies begins with, and the input of these, which is lent to it.
 #[derive(Drop)]
 pub(crate) struct ReloadStart<'b, L: Run, G: Drop, P> {
     pub(crate) access: Access<L, G>,
@@ -33,11 +33,11 @@ pub(crate) struct WorkerAccess<L: Run, G: Drop, W: Drop> {
     pub(crate) words: W,
 }
 
-/// What the threads of a server begin with: an access to the hub for each worker, and the start of the reloads.
+/// What the threads of a server begin with: an access to the hub for each worker, and the start of each input's reloads.
 #[derive(Drop)]
 pub(crate) struct ThreadStarts<'b, L: Run, G: Drop, W: Drop, P> {
     pub(crate) accesses: Vec<WorkerAccess<L, G, W>>,
-    pub(crate) reload: ReloadStart<'b, L, G, P>,
+    pub(crate) reloads: Vec<ReloadStart<'b, L, G, P>>,
 }
 
 /// What the threads of a server do. It stands for a `Common`, so that what is handed to a thread names no more than this.
@@ -45,7 +45,7 @@ trait Duties<J, O> {
     /// Runs one worker, from its start to its end, and returns its fault. Where it fails the others end too.
     fn work(&self, start: J) -> Option<ServeFault>;
 
-    /// Installs policies to the end of their input, and returns the fault. The workers end after it.
+    /// Installs the policies of an input to its end, and returns the fault. Where it fails all threads end.
     fn reload(&self, start: O) -> Option<ServeFault>;
 
     /// Ends all threads.
@@ -59,7 +59,7 @@ struct Common<'a, L: Run, R> {
     alloc: Global,
     shared: &'a SharedHub<L>,
     state: &'a ServerState<'a>,
-    prints: &'a Prints,
+    installs: &'a Installs<'a>,
 }
 
 fn common_of<'a, L: Run, R>(
@@ -67,14 +67,14 @@ fn common_of<'a, L: Run, R>(
     alloc: Global,
     shared: &'a SharedHub<L>,
     state: &'a ServerState<'a>,
-    prints: &'a Prints,
+    installs: &'a Installs<'a>,
 ) -> Common<'a, L, R> {
     Common {
         rt,
         alloc,
         shared,
         state,
-        prints,
+        installs,
     }
 }
 
@@ -95,12 +95,14 @@ impl<'a, 'b, L: Run, R: Wait + Clock, G: Gate + Drop, W: Words + Drop, P: Polici
 
     fn reload(&self, start: ReloadStart<'b, L, G, P>) -> Option<ServeFault> {
         let ReloadStart { access, policies } = start;
-        let (shared, prints) = (self.shared, self.prints);
-        let fault = match Reloads::new(self.rt, self.alloc, shared, self.state, access, prints) {
+        let (shared, installs) = (self.shared, self.installs);
+        let fault = match Reloads::new(self.rt, self.alloc, shared, self.state, access, installs) {
             None => Some(ServeFault::NoMemory),
             Some(mut reloads) => reloads.run(policies),
         };
-        self.state.stop();
+        if fault.is_some() {
+            self.state.stop();
+        }
         fault
     }
 
@@ -110,8 +112,8 @@ impl<'a, 'b, L: Run, R: Wait + Clock, G: Gate + Drop, W: Words + Drop, P: Polici
 }
 
 /// Serves clients over sockets, with a worker for each access to the hub, and installs the policies that come. The first
-/// worker accepts connections and deals them out round-robin, beginning with itself. It ends where the input of the policies
-/// ends, once what was accepted is written out or two seconds have passed. The moment of an event is in milliseconds
+/// worker accepts connections and deals them out round-robin, beginning with itself. It ends where all inputs of policies
+/// have ended, once what was accepted is written out or two seconds have passed. The moment of an event is in milliseconds
 /// since it began.
 ///
 /// `PollFailed` comes where the system gives no way to wait for sockets, `BadFrame` where a frame of the policies is wrong
@@ -137,30 +139,46 @@ pub(crate) fn serve<
         limits,
         log,
     } = opened;
-    let ThreadStarts { accesses, reload } = starts;
+    let ThreadStarts { accesses, reloads } = starts;
     let (mailboxes, starts) = open_all(rt, alloc, listener, accesses, log)?;
     let flags = Flags::new(limits);
     let state = ServerState::new(mailboxes.as_slice(), limits, millis(rt), &flags, log);
-    let common = common_of(rt, alloc, shared, &state, prints);
-    match run_all(rt, &common, reload, starts) {
+    let installs = Installs::new(prints);
+    let common = common_of(rt, alloc, shared, &state, &installs);
+    match run_all(rt, &common, reloads, starts) {
         Some(fault) => Err(fault),
         None => Ok(()),
     }
 }
 
-/// Runs the reloads in a thread of their own, beside the workers, and returns the least of all faults.
+/// Runs the reloads of all inputs beside the workers, which end after them, and returns the least of all faults.
 fn run_all<R: Threads + Sync, J: Send + Drop, O: Send + Drop, T: Duties<J, O> + Sync>(
     rt: &R,
     duties: &T,
-    reload: O,
+    reloads: Vec<O>,
     starts: Vec<J>,
 ) -> Option<ServeFault> {
     let (reloads, workers) = thread::join(
         rt,
-        || -> Option<ServeFault> { duties.reload(reload) },
+        || -> Option<ServeFault> { reload_all(rt, duties, reloads) },
         || -> Option<ServeFault> { work_all(rt, duties, starts) },
     );
     least(reloads, workers)
+}
+
+/// Installs the policies of all inputs, each in a thread of its own, and ends the workers. It returns the least of the faults.
+fn reload_all<R: Threads + Sync, J, O: Send + Drop, T: Duties<J, O> + Sync>(
+    rt: &R,
+    duties: &T,
+    starts: Vec<O>,
+) -> Option<ServeFault> {
+    let reload = |start: O| -> Option<ServeFault> { duties.reload(start) };
+    let fault = match thread::map_vec(rt, starts, &reload) {
+        Ok(faults) => least_of(faults.as_slice()),
+        Err(_) => Some(ServeFault::NoMemory),
+    };
+    duties.stop();
+    fault
 }
 
 /// Runs all workers, each in a thread of its own, and returns the least of their faults.
@@ -171,18 +189,21 @@ fn work_all<R: Threads + Sync, J: Send + Drop, O, T: Duties<J, O> + Sync>(
 ) -> Option<ServeFault> {
     let work = |start: J| -> Option<ServeFault> { duties.work(start) };
     match thread::map_vec(rt, starts, &work) {
-        Ok(faults) => {
-            let mut first = None;
-            for fault in faults.as_slice() {
-                first = least(first, *fault);
-            }
-            first
-        }
+        Ok(faults) => least_of(faults.as_slice()),
         Err(_) => {
             duties.stop();
             Some(ServeFault::NoMemory)
         }
     }
+}
+
+/// Returns the least of faults, if there is one.
+fn least_of(faults: &[Option<ServeFault>]) -> Option<ServeFault> {
+    let mut first = None;
+    for fault in faults {
+        first = least(first, *fault);
+    }
+    first
 }
 
 /// Opens a mailbox for each worker, and makes its start. The first worker has the listener. Where the system refuses, the log

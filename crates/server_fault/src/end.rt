@@ -46,12 +46,20 @@ impl Fault {
 }
 
 impl From<AllocError> for Fault {
+    ghost use Rattle.server_fault.specs.declared.end.Fault.TheVariants.{NoMemory};
+
+    ghost from_gives = { λ _ e. e ≡ NoMemory };
+
     fn from(_refused: AllocError) -> Fault {
         Fault::NoMemory
     }
 }
 
 impl From<NoMemory> for Fault {
+    ghost use Rattle.server_fault.specs.declared.end.Fault.TheVariants.{NoMemory};
+
+    ghost from_gives = { λ _ e. e ≡ NoMemory };
+
     fn from(_refused: NoMemory) -> Fault {
         Fault::NoMemory
     }

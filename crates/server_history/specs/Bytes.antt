@@ -3,13 +3,15 @@ use Rattle.std.specs.Prelude.{ℕ, ◌+◌, ◌*◌, ◌^◌, ◌<◌, ◌≤◌
 use Rattle.std.specs.Io.Iter.{u64_saturate}
 use Rattle.events.specs.declared.answer.Entry.{Entry}
 use Rattle.events.specs.declared.answer.Outcome.{Outcome}
-use Rattle.events.specs.declared.answer.Outcome.TheVariants.{Published, Taken}
+use Rattle.events.specs.declared.answer.Outcome.TheVariants.{Published, Taken, Reloaded}
 use Rattle.server_history.specs.declared.kept.Telling.{Telling}
 
--- for each item of a message, and for each delivery that a Take gave
+-- for each item of a message, for each delivery that a Take gave, and for each session that a reload ended and each
+-- subscription that it removed
 abbrev pub listed : Outcome → ℕ
 listed (Published _ met) = 24 * length met
 listed (Taken deliveries _) = 48 * length deliveries
+listed (Reloaded gone removed) = 8 * length gone + 128 * length removed
 listed _ = 0
 
 -- How many bytes an entry keeps of its own, beside the texts that were read: its command, and its lists.

@@ -1,19 +1,20 @@
-use crate::line::line_of;
-use crate::noted::Noted;
-use crate::notice::{Denial, LogLevel, Notice, What, what_of};
-use crate::rate::Rate;
+use crate::noted::{InvalidTexts, Noted};
 use base::{Copying, SharedText};
 use bytes::Bytes;
-use events::{Command, Entry, Outcome, Removed};
+use events::{Command, Entry, Item, Outcome, Removed};
+use permission_doc::PermEntry;
 use permissions::Verdict;
-use policy_doc::PermEntry;
 use policy_ready::{Ready, User};
+use server_lines::{
+    Denial, Invalid, LogLevel, Notice, Rate, Slowness, Unrouted, What, line_of, what_of,
+};
 use server_prints::Prints;
 use std::alloc::Global;
 use std::io;
 use std::net::SocketAddr;
 use std::sync::{Mutex, Wait};
 use std::time::Clock;
+use subjects::Subject;
 
 /// How many lines a second a connection may have.
 const MOST_OF_ONE: u64 = 10;
@@ -122,6 +123,21 @@ fn bytes_of(text: &Option<Vec<u8>>) -> Option<&[u8]> {
     }
 }
 
+/// Returns the operation of a frame.
+fn command_of(frame: &InvalidTexts) -> &[u8] {
+    frame.command.as_bytes()
+}
+
+/// Returns what is told of a frame whose subject is none.
+fn invalid_of(frame: &InvalidTexts) -> Invalid<'_> {
+    Invalid {
+        command: command_of(frame),
+        subject: frame.subject.as_slice(),
+        queue: bytes_of(&frame.queue),
+        reply: bytes_of(&frame.reply),
+    }
+}
+
 /// Returns the account of a user, if there is one.
 fn account_of(user: Option<&User>) -> Option<Bytes> {
     user?.account.clone().ok()
@@ -132,6 +148,14 @@ fn name_in(name: &Option<SharedText>) -> Option<&[u8]> {
     match name {
         None => None,
         Some(name) => Some(name.as_slice()),
+    }
+}
+
+/// Returns the bytes of a queue, if there is one.
+fn queue_in(queue: &Option<Subject>) -> Option<&[u8]> {
+    match queue {
+        None => None,
+        Some(queue) => Some(queue.bytes()),
     }
 }
 
@@ -328,10 +352,27 @@ impl<'a> ServerLog<'a> {
             has_failed = has_failed || matches!(&entry.outcome, Outcome::AuthViolation);
             self.tell_entry(rt, party, entry);
         }
-        if noted.left_out > 0 {
-            party.rate.add_left_out(noted.left_out);
+        self.tell_invalid(rt, party, noted.take_invalid());
+        let left_out = noted.left_out();
+        if left_out > 0 {
+            party.rate.add_left_out(left_out);
         }
         has_failed
+    }
+
+    /// Tells the frames of a connection for which its client was sent `Invalid Subject`.
+    fn tell_invalid<R: Wait + Clock>(
+        &self,
+        rt: &R,
+        party: &mut Party,
+        frames: Option<Vec<InvalidTexts>>,
+    ) {
+        let Some(frames) = frames else {
+            return;
+        };
+        for frame in frames.as_slice() {
+            self.tell_of(rt, party, What::InvalidSubject(invalid_of(frame)));
+        }
     }
 
     /// Tells an entry of a connection.
@@ -340,7 +381,10 @@ impl<'a> ServerLog<'a> {
             Outcome::Connected => self.tell_connect(rt, party, entry),
             Outcome::AuthViolation => self.tell_failure(rt, party, entry),
             Outcome::Denied(verdict) => self.tell_denial(rt, party, entry, *verdict),
-            Outcome::Taken(_, _) => self.tell_of(rt, party, What::SlowConsumer),
+            Outcome::Published(_, met) => self.tell_unrouted(rt, party, entry, met.as_slice()),
+            Outcome::Taken(_, _) => {
+                self.tell_of(rt, party, What::SlowConsumer(Slowness::OutboxFull))
+            }
             Outcome::Closed => self.tell_of(rt, party, What::Closed),
             _ => {}
         }
@@ -405,10 +449,7 @@ impl<'a> ServerLog<'a> {
                 let denial = Denial {
                     command: "SUB",
                     subject: Some(subject.get().bytes()),
-                    queue: match queue {
-                        None => None,
-                        Some(queue) => Some(queue.bytes()),
-                    },
+                    queue: queue_in(queue),
                     sid: None,
                     verdict,
                     entry: bytes_of(&rule),
@@ -416,6 +457,29 @@ impl<'a> ServerLog<'a> {
                 self.put_of(rt, party, passed, What::Denied(denial));
             }
             _ => {}
+        }
+    }
+
+    /// Tells at which imports a message was a request that was given to nobody, since the exporter has as many response routes
+    /// as it may have.
+    fn tell_unrouted<R: Wait + Clock>(
+        &self,
+        rt: &R,
+        party: &mut Party,
+        entry: &Entry,
+        items: &[Item],
+    ) {
+        let Command::Pub { message, .. } = &entry.event.what else {
+            return;
+        };
+        for item in items {
+            if let Item::RouteFull(row) = item {
+                let request = Unrouted {
+                    subject: message.subject().bytes(),
+                    import: row.get().index as u64,
+                };
+                self.tell_of(rt, party, What::RouteFull(request));
+            }
         }
     }
 
@@ -438,8 +502,8 @@ impl<'a> ServerLog<'a> {
         let rule = text_of(self.alloc, entry_of(user, false, removed.verdict));
         let denial = Denial {
             command: "SUB",
-            subject: None,
-            queue: None,
+            subject: Some(removed.subject.get().bytes()),
+            queue: queue_in(&removed.queue),
             sid: Some(removed.sid.as_slice()),
             verdict: removed.verdict,
             entry: bytes_of(&rule),
@@ -487,8 +551,9 @@ fn error_in(line: &[u8]) -> Option<&[u8]> {
     text.strip_suffix(b"'")
 }
 
-/// Returns whether an error is told of an answer.
+/// Returns whether an error is told of an answer, or of a frame.
 fn is_told_elsewhere(error: &[u8], has_failed: bool) -> bool {
-    error.starts_with(b"Permissions Violation ")
+    error == b"Invalid Subject".as_slice()
+        || error.starts_with(b"Permissions Violation ")
         || has_failed && error == b"Authorization Violation".as_slice()
 }

@@ -1,20 +1,33 @@
-use crate::notice::LogLevel;
-use events::{Answer, Event, HubRefusal, Outcome, PublishRefusal};
+use base::NoMemory;
+use events::{Answer, Event, HubRefusal, InvalidFrame, Item, Outcome, PublishRefusal};
+use server_lines::LogLevel;
 use std::alloc::Global;
+use std::cell::{Cell, RefCell};
 use std::mem;
 
-/// How many answers of a turn are noted, at most.
+/// How many answers of a turn are noted, at most, and how many frames that were none.
 const MOST: usize = 16;
 
-/// What a connection's turn had that is to be told.
+/// The texts of a frame whose subject is none, or its queue or reply.
+#[derive(Drop)]
+pub(crate) struct InvalidTexts {
+    pub command: &'static str,
+    pub subject: Vec<u8>,
+    pub queue: Option<Vec<u8>>,
+    pub reply: Option<Vec<u8>>,
+}
+
+/// What a connection's turn had that is to be told. A frame that was none goes with an error that its client was sent.
 pub struct Noted {
     alloc: Global,
     level: LogLevel,
     pub(crate) answers: Vec<Answer>,
     /// Whether the hub has no session of the connection any more.
     pub(crate) is_gone: bool,
-    /// How many answers found no room.
-    pub(crate) left_out: u64,
+    /// The frames that were none. A port hears of them while it is lent to be read alone.
+    invalid: RefCell<Vec<InvalidTexts>>,
+    /// How many answers and frames found no room.
+    left_out: Cell<u64>,
 }
 
 impl Drop for Noted {
@@ -24,6 +37,7 @@ impl Drop for Noted {
             level: _,
             answers: _,
             is_gone: _,
+            invalid: _,
             left_out: _,
         } = self;
     }
@@ -37,7 +51,8 @@ impl Noted {
             level,
             answers: Vec::new(alloc),
             is_gone: false,
-            left_out: 0,
+            invalid: RefCell::new(Vec::new(alloc)),
+            left_out: Cell::new(0),
         }
     }
 
@@ -94,6 +109,39 @@ impl Noted {
         }
     }
 
+    /// Notes a frame that was none, if that is to be told.
+    pub fn note_invalid(&self, frame: &InvalidFrame<'_>) {
+        if self.level != LogLevel::None && !self.keeps(frame) {
+            self.leave_out();
+        }
+    }
+
+    /// Keeps the texts of a frame. Returns whether there was room for them.
+    fn keeps(&self, frame: &InvalidFrame<'_>) -> bool {
+        let Ok(texts) = texts_of(self.alloc, frame) else {
+            return false;
+        };
+        let Ok(mut frames) = self.invalid.try_borrow_mut() else {
+            return false;
+        };
+        frames.len() < MOST && frames.push(texts).is_ok()
+    }
+
+    /// Takes out the frames that were none.
+    pub(crate) fn take_invalid(&self) -> Option<Vec<InvalidTexts>> {
+        self.invalid.try_replace(Vec::new(self.alloc)).ok()
+    }
+
+    /// Counts something that found no room.
+    fn leave_out(&self) {
+        self.left_out.set(self.left_out.get().saturating_add(1));
+    }
+
+    /// Returns how many answers and frames found no room.
+    pub(crate) fn left_out(&self) -> u64 {
+        self.left_out.get()
+    }
+
     /// Adds one more owner of an answer.
     #[inline(never)]
     fn add(&mut self, answer: &Answer) {
@@ -104,7 +152,25 @@ impl Noted {
                 }
             }
         }
-        self.left_out = self.left_out.saturating_add(1);
+        self.leave_out();
+    }
+}
+
+/// Returns the texts of a frame, copied.
+fn texts_of(alloc: Global, frame: &InvalidFrame<'_>) -> Result<InvalidTexts, NoMemory> {
+    Ok(InvalidTexts {
+        command: frame.command,
+        subject: Vec::from_slice(alloc, frame.subject)?,
+        queue: copy_of(alloc, frame.queue)?,
+        reply: copy_of(alloc, frame.reply)?,
+    })
+}
+
+/// Returns a copy of a text, if there is one.
+fn copy_of(alloc: Global, text: Option<&[u8]>) -> Result<Option<Vec<u8>>, NoMemory> {
+    match text {
+        None => Ok(None),
+        Some(text) => Ok(Some(Vec::from_slice(alloc, text)?)),
     }
 }
 
@@ -115,7 +181,14 @@ fn is_told(level: LogLevel, outcome: &Outcome) -> bool {
         Outcome::Connected | Outcome::AuthViolation => level != LogLevel::None,
         Outcome::Denied(_) => level != LogLevel::None,
         Outcome::Taken(_, missed) => *missed && level != LogLevel::None,
+        Outcome::Published(_, met) => level != LogLevel::None && lacks_route(met.as_slice()),
         Outcome::Closed => level == LogLevel::All,
         _ => false,
     }
+}
+
+/// Returns whether a message found no response route at an exporter.
+#[inline(always)]
+fn lacks_route(items: &[Item]) -> bool {
+    items.iter().any(|item| matches!(item, Item::RouteFull(_)))
 }

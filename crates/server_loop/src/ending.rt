@@ -2,7 +2,7 @@
 use crate::worker::Worker;
 use mio::Events;
 use server_gates::Gate;
-use server_log::What;
+use server_log::{Slowness, What};
 use server_mail::millis;
 use server_pacing::Slice;
 use server_turns::Turn;
@@ -34,7 +34,7 @@ impl<'a, L: Run, R: Wait + Clock, G: Gate + Drop, W: Words + Drop> Worker<'a, L,
         };
         if !it.is_over {
             it.tell_last(self.alloc, ServerError::SlowConsumer);
-            self.tell_of(key, What::SlowConsumer);
+            self.tell_of(key, What::SlowConsumer(Slowness::TooMuchWaits));
             self.close(key, Turn::Closed);
         }
     }
@@ -42,7 +42,7 @@ impl<'a, L: Run, R: Wait + Clock, G: Gate + Drop, W: Words + Drop> Worker<'a, L,
     /// Ends a connection whose client reads nothing, and waits to be read, for ten seconds, if there is one.
     pub(crate) fn end_stuck(&mut self) {
         if let Some(key) = self.connections.next_stuck(self.now) {
-            self.tell_of(key, What::SlowConsumer);
+            self.tell_of(key, What::SlowConsumer(Slowness::ReadsNothing));
             self.close(key, Turn::Failed);
         }
     }

@@ -2,7 +2,7 @@
 use crate::worker::Worker;
 use events::{Answer, Outcome};
 use server_gates::Gate;
-use server_log::What;
+use server_log::{Slowness, What};
 use server_turns::Turn;
 use session_conn::Words;
 use shared_hub::Run;
@@ -48,7 +48,12 @@ impl<'a, L: Run, R: Wait + Clock, G: Gate + Drop, W: Words + Drop> Worker<'a, L,
         };
         let is_out = matches!(it.blocked.end_at, Some(at) if at <= self.now);
         if is_out && !it.client.conn().stage().is_closed() {
-            self.tell_of(key, What::SlowConsumer);
+            let why = if it.due.must_drain() {
+                Slowness::OutboxFull
+            } else {
+                Slowness::TakesNothing
+            };
+            self.tell_of(key, What::SlowConsumer(why));
         }
     }
 

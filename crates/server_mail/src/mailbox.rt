@@ -55,12 +55,52 @@ pub struct Mailbox {
 }
 
 impl Mail {
+    ghost use Rattle.std.specs.Prelude.{◌≡◌, is_some, true};
+    ghost use Rattle.server_mail.specs.Mails.{IsMore, IsSaid, frees};
+
     /// Returns empty mail. It takes no memory.
     pub fn new(alloc: Global) -> Mail {
         Mail {
             pending: Vec::new(alloc),
             freed: Vec::new(alloc),
             all: false,
+        }
+    }
+
+    /// Adds to the entry at an index if it is that connection's. Returns how many deliveries are pending for the connection then.
+    #[inline(always)]
+    pub(crate) fn add_at(&mut self, index: usize, more: Pending) -> Option<usize>
+        ensures more { IsMore self.old self.new }
+        ensures said { is_some result ≡ true → IsSaid more self.new }
+    {
+        match self.pending.get_mut(index) {
+            Some(pending) if pending.conn == more.conn => {
+                pending.entered = pending.entered.saturating_add(more.entered);
+                pending.bytes = pending.bytes.saturating_add(more.bytes);
+                pending.drain = pending.drain || more.drain;
+                Some(pending.entered)
+            }
+            _ => None,
+        }
+    }
+
+    /// Adds an entry behind the others. Without memory `all` is set.
+    pub(crate) fn add_pending(&mut self, pending: Pending)
+        ensures more { IsMore self.old self.new }
+        ensures said { IsSaid pending self.new }
+    {
+        if self.pending.push(pending).is_err() {
+            self.all = true;
+        }
+    }
+
+    /// Adds a publisher that is let on. Without memory `all` is set.
+    pub(crate) fn add_freed(&mut self, conn: u64)
+        ensures more { IsMore self.old self.new }
+        ensures freed { frees conn self.new ≡ true }
+    {
+        if self.freed.push(conn).is_err() {
+            self.all = true;
         }
     }
 

@@ -3,7 +3,7 @@ ghost use Rattle.server_mail.specs.Owners.{owner};
 ghost use Rattle.server_mail.specs.Work.{work};
 
 use crate::mailbox::{Mail, Mailbox};
-use events::{Answer, Item, Met, Outcome};
+use events::{Answer, Item, Outcome};
 use server_pacing::Pending;
 use std::alloc::Global;
 use std::mem;
@@ -56,6 +56,9 @@ pub fn owner_of(conn: u64, workers: usize) -> usize
 }
 
 impl OutgoingMail {
+    ghost use Rattle.std.specs.Prelude.{◌<◌, All, length, true};
+    ghost use Rattle.server_mail.specs.Mails.{AreMore, IsItemTold, IsNoted, IsSaidBySome, awaits, drains, frees, is_told};
+
     /// Returns empty mail for so many workers, which the worker `own` gathers or, with `None`, a thread that is no worker.
     /// Without memory it returns `None`.
     pub fn new(alloc: Global, workers: usize, own: Option<usize>) -> Option<OutgoingMail> {
@@ -82,44 +85,92 @@ impl OutgoingMail {
     /// is: one, and one for each delivery of a message.
     #[inline(always)]
     pub fn add_answer(&mut self, answer: &Answer, size: usize) -> usize
-        ensures { result ≡ work answer.now.outcome }
+        ensures work { result ≡ work answer.now.outcome }
+        ensures noted { IsNoted answer.now.outcome self.old.by_worker.items self.new.by_worker.items }
     {
         match &answer.get().outcome {
             Outcome::Published(_, met) => {
-                self.add_receivers(met, size);
+                self.add_receivers(met.as_slice(), size);
                 met.as_slice().len().saturating_add(1)
             }
             Outcome::Taken(_, _) => 0,
             Outcome::Reloaded { gone, .. } => {
-                for conn in gone.as_slice() {
-                    self.add_pending(*conn, 0, 0, true);
-                }
+                self.add_gone(gone.as_slice());
                 1
             }
             _ => 1,
         }
     }
 
-    /// Adds a message's receivers.
-    fn add_receivers(&mut self, met: &Met, bytes: usize) {
-        for item in met.as_slice() {
-            match item {
-                Item::Entered { conn, .. } => self.add_pending(*conn, 1, bytes, false),
-                Item::Full { conn, .. } => self.add_pending(*conn, 0, 0, true),
-                Item::MapTooLong(_) => {}
-            }
+    /// Adds connections whose sessions have ended.
+    fn add_gone(&mut self, gone: &[u64])
+        ensures more { AreMore self.old.by_worker.items self.new.by_worker.items }
+        ensures told { 0 < length self.old.by_worker.items → All (λ conn. is_told drains self.new.by_worker.items conn ≡ true) gone.now }
+    {
+        for conn in gone {
+            self.add_drain(*conn);
         }
     }
 
-    /// Adds to a connection's entry, or makes one.
-    fn add_pending(&mut self, conn: u64, entered: usize, bytes: usize, drain: bool) {
-        let slot = (conn % CACHED as u64) as usize;
-        let pending = Pending {
+    /// Adds a message's receivers.
+    fn add_receivers(&mut self, items: &[Item], bytes: usize)
+        ensures more { AreMore self.old.by_worker.items self.new.by_worker.items }
+        ensures told { 0 < length self.old.by_worker.items → All (IsItemTold self.new.by_worker.items) items.now }
+    {
+        for item in items {
+            self.add_item(item, bytes);
+        }
+    }
+
+    /// Adds what a message met.
+    #[inline(always)]
+    fn add_item(&mut self, item: &Item, bytes: usize)
+        ensures more { AreMore self.old.by_worker.items self.new.by_worker.items }
+        ensures told { 0 < length self.old.by_worker.items → IsItemTold self.new.by_worker.items item.now }
+    {
+        match item {
+            Item::Entered { conn, .. } => self.add_entered(*conn, bytes),
+            Item::Full { conn, .. } => self.add_drain(*conn),
+            Item::RouteFull(_) => {}
+            Item::MapTooLong(_) => {}
+        }
+    }
+
+    /// Adds a delivery that has entered for a connection.
+    #[inline(always)]
+    fn add_entered(&mut self, conn: u64, bytes: usize)
+        ensures more { AreMore self.old.by_worker.items self.new.by_worker.items }
+        ensures told { 0 < length self.old.by_worker.items → is_told awaits self.new.by_worker.items conn ≡ true }
+    {
+        self.add_pending(Pending {
             conn,
-            entered,
+            entered: 1,
             bytes,
-            drain,
-        };
+            drain: false,
+        });
+    }
+
+    /// Adds a connection that is to be drained whatever waits.
+    #[inline(always)]
+    fn add_drain(&mut self, conn: u64)
+        ensures more { AreMore self.old.by_worker.items self.new.by_worker.items }
+        ensures told { 0 < length self.old.by_worker.items → is_told drains self.new.by_worker.items conn ≡ true }
+    {
+        self.add_pending(Pending {
+            conn,
+            entered: 0,
+            bytes: 0,
+            drain: true,
+        });
+    }
+
+    /// Adds to a connection's entry, or makes one.
+    #[inline(always)]
+    fn add_pending(&mut self, pending: Pending)
+        ensures more { AreMore self.old.by_worker.items self.new.by_worker.items }
+        ensures said { 0 < length self.old.by_worker.items → IsSaidBySome pending self.new.by_worker.items }
+    {
+        let slot = (pending.conn % CACHED as u64) as usize;
         if !self.add_cached(slot, pending) {
             self.add_new(slot, pending);
         }
@@ -127,49 +178,58 @@ impl OutgoingMail {
 
     /// Adds to a connection's entry, and returns whether the cache has it.
     #[inline(always)]
-    fn add_cached(&mut self, slot: usize, more: Pending) -> bool {
+    fn add_cached(&mut self, slot: usize, more: Pending) -> bool
+        ensures more { AreMore self.old.by_worker.items self.new.by_worker.items }
+        ensures said { result ≡ true → IsSaidBySome more self.new.by_worker.items }
+    {
         let Some(Slot { worker, index }) = self.cache.get(slot).copied() else {
             return false;
         };
         let Some(mail) = self.by_worker.get_mut(worker) else {
             return false;
         };
-        match mail.pending.get_mut(index) {
-            Some(pending) if pending.conn == more.conn => {
-                pending.entered = pending.entered.saturating_add(more.entered);
-                pending.bytes = pending.bytes.saturating_add(more.bytes);
-                pending.drain = pending.drain || more.drain;
+        match mail.add_at(index, more) {
+            None => false,
+            Some(entered) => {
                 if self.own != Some(worker) {
-                    self.most = self.most.max(pending.entered);
+                    self.most = self.most.max(entered);
                 }
                 true
             }
-            _ => false,
         }
     }
 
     /// Adds an entry behind the others of its worker, and caches where.
     #[inline(never)]
-    fn add_new(&mut self, slot: usize, pending: Pending) {
+    fn add_new(&mut self, slot: usize, pending: Pending)
+        ensures more { AreMore self.old.by_worker.items self.new.by_worker.items }
+        ensures said { 0 < length self.old.by_worker.items → IsSaidBySome pending self.new.by_worker.items }
+    {
         let worker = owner_of(pending.conn, self.by_worker.len());
         if let Some(mail) = self.by_worker.get_mut(worker) {
             let index = mail.pending.len();
-            if mail.pending.push(pending).is_err() {
-                mail.all = true;
-            }
-            if let Some(cached) = self.cache.get_mut(slot) {
-                *cached = Slot { worker, index };
-            }
+            mail.add_pending(pending);
+            self.note_place(slot, Slot { worker, index });
+        }
+    }
+
+    /// Caches where an entry is.
+    fn note_place(&mut self, slot: usize, place: Slot)
+        ensures { self.new.by_worker ≡ self.old.by_worker }
+    {
+        if let Some(cached) = self.cache.get_mut(slot) {
+            *cached = place;
         }
     }
 
     /// Adds a publisher that is let on.
-    pub fn add_freed(&mut self, conn: u64) {
+    pub fn add_freed(&mut self, conn: u64)
+        ensures more { AreMore self.old.by_worker.items self.new.by_worker.items }
+        ensures told { 0 < length self.old.by_worker.items → is_told frees self.new.by_worker.items conn ≡ true }
+    {
         let worker = owner_of(conn, self.by_worker.len());
         if let Some(mail) = self.by_worker.get_mut(worker) {
-            if mail.freed.push(conn).is_err() {
-                mail.all = true;
-            }
+            mail.add_freed(conn);
             self.has_freed = true;
         }
     }

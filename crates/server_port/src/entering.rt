@@ -4,7 +4,9 @@ ghost use Rattle.std.specs.Prelude.{◌≡◌};
 use crate::course::Why;
 use crate::port::ServerPort;
 use crate::runs::goes_on;
-use events::{Answer, Event, HubRefusal, Message, Port, PublishRefusal, RunEnd, Words};
+use events::{
+    Answer, Event, HubRefusal, InvalidFrame, Message, Port, PublishRefusal, RunEnd, Words,
+};
 use server_gates::{Gate, Point};
 use server_history::{Look, Telling};
 use shared_hub::Run;
@@ -268,5 +270,9 @@ impl<L: Run, R: Wait, G: Gate + Drop> Port for ServerPort<'_, L, R, G> {
         ensures passed { self.now.course.has_passed ≡ true → result ≡ false }
     {
         !self.course.has_passed && self.shared.waiting(self.rt, conn) > 0
+    }
+
+    fn hear_invalid(&self, frame: &InvalidFrame<'_>) {
+        self.noted.note_invalid(frame);
     }
 }

@@ -1,8 +1,10 @@
-//! The thread that installs policies.
+//! The threads that install policies.
 #![tactic(auto)]
 
+mod installs;
 mod reading;
 mod reloads;
 
+pub use installs::Installs;
 pub use reading::{NextPolicy, next_policy, tell_refused, tell_warnings};
 pub use reloads::Reloads;

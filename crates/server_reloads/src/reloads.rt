@@ -1,3 +1,4 @@
+use crate::installs::Installs;
 use crate::reading::{NextPolicy, next_policy, tell_refused, tell_warnings};
 use events::{Answer, Command, Event, HubRefusal, Outcome};
 use policy_ready::Ready;
@@ -8,7 +9,6 @@ use server_gates::{Gate, Point};
 use server_log::{LogLevel, What};
 use server_mail::{OutgoingMail, ServerState};
 use server_port::{Access, ServerPort};
-use server_prints::Prints;
 use shared_hub::{Run, SharedHub};
 use std::alloc::Global;
 use std::sync::Wait;
@@ -17,15 +17,13 @@ use std::time::{Clock, Duration};
 /// After how long a line that found no room is offered again, in milliseconds.
 const RETRY: u64 = 10;
 
-/// The thread that installs policies: its port to the hub, and where it prints.
+/// A thread that installs policies: its port to the hub, and what it shares with others of its kind.
 pub struct Reloads<'a, L: Run, R: Wait, G: Gate + Drop> {
     rt: &'a R,
     alloc: Global,
     state: &'a ServerState<'a>,
     port: ServerPort<'a, L, R, G>,
-    prints: &'a Prints,
-    /// The epoch of the policy in force.
-    epoch: u128,
+    installs: &'a Installs<'a>,
 }
 
 impl<L: Run, R: Wait, G: Gate + Drop> Drop for Reloads<'_, L, R, G> {
@@ -35,8 +33,7 @@ impl<L: Run, R: Wait, G: Gate + Drop> Drop for Reloads<'_, L, R, G> {
             alloc: _,
             state: _,
             port: _,
-            prints: _,
-            epoch: _,
+            installs: _,
         } = self;
     }
 }
@@ -49,7 +46,7 @@ impl<'a, L: Run, R: Wait + Clock, G: Gate + Drop> Reloads<'a, L, R, G> {
         shared: &'a SharedHub<L>,
         state: &'a ServerState<'a>,
         access: Access<L, G>,
-        prints: &'a Prints,
+        installs: &'a Installs<'a>,
     ) -> Option<Reloads<'a, L, R, G>> {
         let outgoing = OutgoingMail::new(alloc, state.mailboxes.len(), None)?;
         Some(Reloads {
@@ -57,12 +54,11 @@ impl<'a, L: Run, R: Wait + Clock, G: Gate + Drop> Reloads<'a, L, R, G> {
             alloc,
             state,
             port: ServerPort::new(rt, alloc, shared, state, access, outgoing),
-            prints,
-            epoch: 1,
+            installs,
         })
     }
 
-    /// Installs policies until their input ends or the server stops.
+    /// Installs the policies of an input until it ends or the server stops.
     pub fn run<P: Policies>(&mut self, policies: &mut P) -> Option<ServeFault> {
         for _ in self.rt.forever() {
             if self.state.stops() {
@@ -96,9 +92,12 @@ impl<'a, L: Run, R: Wait + Clock, G: Gate + Drop> Reloads<'a, L, R, G> {
         let _ = self.port.shed(usize::MAX);
     }
 
-    /// Enters a reload, and prints what came of it.
+    /// Enters a reload, and prints what came of it. Meanwhile no other policy comes into force, so that the lines stand in the
+    /// order of the epochs.
     fn submit(&mut self, ready: Ready) {
-        let next = self.epoch.saturating_add(1);
+        let installs = self.installs;
+        let mut epoch = installs.epoch.lock(self.rt);
+        let next = epoch.saturating_add(1);
         self.state.log.note_policy(self.rt, next, &ready);
         let now = self.state.now(self.rt);
         let event = Event {
@@ -107,7 +106,7 @@ impl<'a, L: Run, R: Wait + Clock, G: Gate + Drop> Reloads<'a, L, R, G> {
         };
         match self.port.enter(event) {
             Ok(answer) => {
-                self.epoch = next;
+                *epoch = next;
                 self.tell(&answer);
             }
             Err((_, refusal)) => {
@@ -164,7 +163,7 @@ impl<'a, L: Run, R: Wait + Clock, G: Gate + Drop> Reloads<'a, L, R, G> {
     /// Prints lines, once there is room for them. Where the server stops first they are lost.
     fn say(&self, lines: &[u8]) {
         for _ in self.rt.forever() {
-            if self.prints.add(self.rt, lines) || self.state.stops() {
+            if self.installs.prints.add(self.rt, lines) || self.state.stops() {
                 return;
             }
             self.rt.sleep(Duration::from_millis(RETRY));

@@ -6,7 +6,7 @@ use crate::counted::Counted;
 use crate::heard::Heard;
 use devices::NonBlocking;
 use events::Port;
-use server_turns::Turn;
+use server_turns::{ReadContext, Turn};
 use session_conn::Words;
 
 /// The result of one turn of a connection.
@@ -38,9 +38,10 @@ impl Connection {
         let mut reader = Counted::new(NonBlocking::new(&self.socket));
         let writes = NonBlocking::new(&self.socket);
         let mut writer = Heard::new(writes, self.client.waits(), errors);
+        let context = ReadContext { buf, moment: now };
         let turn = self
             .client
-            .serve(port, words, &mut reader, &mut writer, buf, now);
+            .serve(port, words, &mut reader, &mut writer, context);
         let read = reader.count();
         self.note_written(now);
         self.is_let_on = self.is_let_on && turn == Turn::Waits;

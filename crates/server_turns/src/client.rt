@@ -44,6 +44,14 @@ ghost use Rattle.session_plan.specs.Replies.{is_closed};
 ghost use Rattle.server_turns.specs.declared.client.Piece.TheVariants as piece;
 ghost use Rattle.server_turns.specs.Turns.{client, is_early, state, Client, Writes, IsTurn, IsReadTurn, IsServing, IsNoRead, IsStallTold, IsDraining, IsOpening, IsOver, IsPiece, piece_length};
 
+/// What a turn that reads goes by: where a piece is read to, and when.
+pub struct ReadContext<'a> {
+    /// No piece is longer than this.
+    pub buf: &'a mut [u8],
+    /// The moment of the turn's events.
+    pub moment: u64,
+}
+
 /// What a read has brought.
 enum Piece {
     /// So many bytes, none of them where frames wait.
@@ -226,17 +234,17 @@ impl Client {
         words: &mut W,
         reader: &mut R,
         writer: &mut S,
-        buf: &mut [u8],
-        now: u64,
+        context: ReadContext<'_>,
     ) -> Turn
-        requires { 0 < length buf.old }
+        requires { 0 < length context.buf.now }
         ensures place { P.place port.new ≡ P.place port.old }
-        ensures serving { IsServing (port_of P.steps P.posts P.holds) W.draws now (length buf.old) (state self.old port.old (S.contents writer.old)) words.old (R.remaining reader.old) (state self.new port.new (S.contents writer.new)) words.new (R.remaining reader.new) result }
+        ensures serving { IsServing (port_of P.steps P.posts P.holds) W.draws context.entry.moment (length context.entry.buf.now) (state self.old port.old (S.contents writer.old)) words.old (R.remaining reader.old) (state self.new port.new (S.contents writer.new)) words.new (R.remaining reader.new) result }
         ensures turn { IsReadTurn self.new (R.failed reader.old) (R.failed reader.new) (S.failed writer.old) (S.failed writer.new) (S.waits writer.new) result }
         ensures ended { result ≡ Turn.Ended → IsAtEnd (R.remaining reader.new) }
         ensures idle { result ≡ Turn.Idle → R.waits reader.new ≡ true }
         ensures held { self.old.conn.stall ≢ None → reader.new ≡ reader.old }
     {
+        let ReadContext { buf, moment } = context;
         if self.conn.stage().is_closed() {
             return self.close(writer);
         }
@@ -254,7 +262,7 @@ impl Client {
         };
         let output = self
             .conn
-            .on_bytes(self.alloc, port, &buf[..count], now, words);
+            .on_bytes(self.alloc, port, &buf[..count], moment, words);
         self.tell(output, writer)
     }
 

@@ -5,5 +5,5 @@
 mod client;
 mod turn;
 
-pub use client::Client;
+pub use client::{Client, ReadContext};
 pub use turn::Turn;

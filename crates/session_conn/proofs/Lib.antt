@@ -4,4 +4,3 @@ mod Posted
 mod Reading
 mod Runs
 mod Told
-mod Written

@@ -1,7 +1,6 @@
 -- Drains: what a Take gives, and its texts (NATS documentation, "Client Protocol", "MSG", "HMSG";
 -- docs/PROTOCOL.md, "Deliveries").
 use Rattle.std.specs.Prelude.{◌≡◌, ◌⊎◌, ℕ, Bool, true, false, List, [], ◌++◌, Option, Some, None, Result, Ok, Err}
-use Rattle.std.specs.List.{flat_map}
 use Rattle.wire_write.specs.Errors.{err_line}
 use Rattle.wire_write.specs.declared.error.ServerError.TheVariants as error
 use Rattle.events.specs.declared.event.Command.TheVariants as command
@@ -19,21 +18,9 @@ use Rattle.session_conn.specs.declared.drain.Written.TheVariants.{All, Closes, S
 use Rattle.session_plan.specs.Replies.{closed_from, takes_headers}
 use Rattle.session_conn.specs.Turns.{Steps, event, IsAnswered}
 use Rattle.session_pending.specs.Owing.{Owed, owed_by}
-pub use Rattle.session_pending.specs.Texts.{delivery_text}
-
--- ---- texts
-
--- the texts of deliveries
-abbrev pub texts : Bool → List Delivery → List ℕ
-texts headers ds = flat_map (delivery_text headers) ds
+pub use Rattle.session_pending.specs.Texts.{delivery_text, texts, IsWritten}
 
 -- ---- what is written
-
--- a front of the deliveries is written, and the rest is left
-pub record IsWritten (headers : Bool) (before : List ℕ) (all : List Delivery) (after : List ℕ) (left : List Delivery) : Type 0 where
-  pub written : List Delivery
-  pub is_front : all ≡ written ++ left
-  pub text : after ≡ before ++ texts headers written
 
 -- What was taken is written whole; or whole with the text that closes the connection, where a delivery was missed;
 -- or memory lacked, and the rest is left, with whether one was missed.

@@ -1,13 +1,14 @@
 // What a Take gave, and its texts.
-ghost use Rattle.std.specs.Prelude.{◌≡◌, [], OnOk};
-ghost use Rattle.session_conn.specs.Drains.{IsWritten, IsTold, IsTaken, drain_of};
+ghost use Rattle.std.specs.Prelude.{◌≡◌, ◌+◌, ◌≤◌, []};
+ghost use Rattle.std.specs.Vec.{vec_len, vec_capacity};
+ghost use Rattle.session_conn.specs.Drains.{drain_of, stage_after, stall_after, Drains, IsTaken, IsTakeTold, IsTold};
+ghost use Rattle.session_conn.specs.Turns.{port_of, outcome_of};
 
 use crate::context::DrainContext;
 use crate::output::Stall;
 use crate::submit::submit;
-use base::NoMemory;
 use events::{Answer, Command, Event, HubRefusal, Port};
-use session_pending::{Owed, make_room, write_delivery};
+use session_pending::{Owed, make_room, write_front};
 use session_plan::{Stage, Text, put_text, write_text};
 use std::alloc::Global;
 use wire_write::ServerError;
@@ -21,19 +22,6 @@ pub enum Written {
     Closes,
     /// Memory lacked, and the rest stays.
     Short,
-}
-
-/// Writes deliveries from the front. Where memory lacks the rest stays.
-fn write_front(out: &mut Vec<u8>, headers: bool, owed: &mut Owed) -> Result<(), NoMemory>
-    ensures written { IsWritten headers out.old.items owed.old.deliveries out.new.items owed.new.deliveries }
-    ensures ok { OnOk result (owed.new.deliveries ≡ []) }
-    ensures missed { owed.new.missed ≡ owed.old.missed }
-{
-    while let Some(delivery) = owed.first() {
-        write_delivery(out, headers, delivery)?;
-        owed.drop_first();
-    }
-    Ok(())
 }
 
 /// Writes what was taken, and then closes the connection where a delivery was missed. Once all is written the answer
@@ -93,11 +81,6 @@ fn drained_after(bytes: Vec<u8>, stage: Stage, written: Written) -> Drained
     }
 }
 
-ghost use Rattle.std.specs.Prelude.{◌+◌, ◌≤◌};
-ghost use Rattle.std.specs.Vec.{vec_len, vec_capacity};
-ghost use Rattle.session_conn.specs.Drains.{stage_after, stall_after, IsTakeTold};
-ghost use Rattle.session_conn.specs.Turns.{port_of, outcome_of};
-
 /// Carries out a Take's answer: writes what it gave. There is room for the text of a session that is gone.
 fn drained_by_answer(
     alloc: Global,
@@ -154,8 +137,6 @@ fn drain_by_take<P: Port>(
     let answer = submit(port, Event { now, what });
     drained_by_answer(context.alloc, answer, context.stage, bytes, owed)
 }
-
-ghost use Rattle.session_conn.specs.Drains.{Drains};
 
 /// Writes what an earlier drain could not, and then makes a Take, unless a delivery was missed then.
 pub fn drain<P: Port>(context: DrainContext, port: &mut P, owed: &mut Owed) -> Drained

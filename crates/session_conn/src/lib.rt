@@ -5,6 +5,7 @@
 mod conn;
 mod context;
 mod drain;
+mod invalid;
 mod output;
 mod run;
 mod serve;

@@ -8,6 +8,7 @@ ghost use Rattle.session_plan.specs.Plans.{plan_of};
 ghost use Rattle.session_plan.specs.Replies.{text_line, room_of};
 
 use crate::context::TurnContext;
+use crate::invalid::hear_if_invalid;
 use crate::output::Stall;
 use crate::submit::{offer, submit};
 use events::{Answer, Command, Event, HubRefusal, Message, Outcome, Port, Words};
@@ -161,6 +162,7 @@ pub fn take_turn<P: Port, W: Words>(
             if port.must_wait(context.conn) {
                 return FrameTurn::Stalls(Stall::Held, context.word);
             }
+            hear_if_invalid(port, &reply.text, frame);
             tell(out, reply)
         }
         Plan::Asks(what, accepted) => {

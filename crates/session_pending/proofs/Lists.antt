@@ -1,5 +1,5 @@
 -- The elements of a list behind the first so many.
-use Rattle.std.proofs.Common.{◌≡◌, ℕ, zero, suc, ◌+◌, ◌-◌, ◌<◌, ◌≤◌, List, [], ◌∷◌, ◌++◌, drop, length, Some, None, slice_get, arith, refl, sym, ap, ◌∙◌, ⊎_elim, length-drop, append-nil}
+use Rattle.std.proofs.Common.{◌≡◌, ℕ, zero, suc, ◌+◌, ◌-◌, ◌<◌, ◌≤◌, List, [], ◌∷◌, ◌++◌, drop, length, min, Some, None, slice_get, arith, refl, sym, ap, ◌∙◌, ⊎_elim, length-drop, append-nil}
 use Rattle.std.proofs.lemmas.Bool.{cases_lt}
 use Rattle.std.proofs.lemmas.List.{drop-drop, drop-append-le, drop_all}
 
@@ -20,12 +20,13 @@ none_left (y ∷ xs) (suc i) e = none_left xs i e
 pub drop_one_more : {X : Type 0} (xs : List X) (i : ℕ) → drop (i + 1) xs ≡ drop 1 (drop i xs)
 drop_one_more xs i = sym (drop-drop 1 i xs)
 
--- behind the last there is no more
-pub drop_past : {X : Type 0} (xs : List X) (i : ℕ) → length xs ≤ i → drop i xs ≡ drop 1 (drop i xs)
-drop_past [] zero h = refl
-drop_past [] (suc i) h = refl
-drop_past (y ∷ xs) zero h = absurd (omega arith)
-drop_past (y ∷ xs) (suc i) h = drop_past xs i (omega arith)
+-- so many more, counted no further than to a number that no list has more elements than
+pub drop_many_more : {X : Type 0} (xs : List X) (i n most : ℕ) → length xs ≤ most → drop (min (i + n) most) xs ≡ drop n (drop i xs)
+drop_many_more xs i n most few =
+    ⊎_elim
+    (λ (within : i + n < most). ap (λ k. drop k xs) (omega (arith, within)) ∙ sym (drop-drop n i xs))
+    (λ (past : most ≤ i + n). drop_all (min (i + n) most) xs (omega (arith, past, few)) ∙ sym (drop_all (i + n) xs (omega (arith, past, few))) ∙ sym (drop-drop n i xs))
+    (cases_lt (i + n) most)
 
 -- what is left of a list, with another behind it
 pub first_behind : {X : Type 0} (xs ys : List X) (i : ℕ) (x : X) → slice_get xs i ≡ Some x → drop i xs ++ ys ≡ x ∷ drop 1 (drop i xs ++ ys)

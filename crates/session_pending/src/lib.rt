@@ -4,7 +4,9 @@
 mod delivery;
 mod frames;
 mod owed;
+mod writing;
 
 pub use delivery::write_delivery;
 pub use frames::Frames;
 pub use owed::{Owed, make_room};
+pub use writing::write_front;

@@ -71,31 +71,22 @@ impl Owed {
         self.missed
     }
 
-    /// How many deliveries are not written yet. It serves to make room, so no clause speaks of it.
-    fn count(&self) -> usize {
-        deliveries_of(&self.answer)
-            .len()
-            .saturating_sub(self.written)
-    }
-
-    /// The delivery that is written next.
-    #[tactic(auto, using(crate::proofs::Lists::first_left, crate::proofs::Lists::none_left))]
-    pub fn first(&self) -> Option<&Delivery>
-        ensures { MatchOption result (self.now.deliveries ≡ []) (λ delivery. self.now.deliveries ≡ delivery.now ∷ drop 1 self.now.deliveries) }
+    /// The deliveries that are not written yet, oldest first.
+    #[tactic(auto, using(std::proofs::lemmas::List::drop_min))]
+    pub fn deliveries(&self) -> &[Delivery]
+        ensures { result.now ≡ self.now.deliveries }
     {
-        match deliveries_of(&self.answer).get(self.written) {
-            Some(delivery) => Some(delivery),
-            None => None,
-        }
+        let all = deliveries_of(&self.answer);
+        &all[self.written.min(all.len())..]
     }
 
-    /// Drops the delivery that was written.
-    #[tactic(auto, using(crate::proofs::Lists::drop_one_more, crate::proofs::Lists::drop_past))]
-    pub fn drop_first(&mut self)
-        ensures { self.new ≡ record self.old { deliveries = drop 1 self.old.deliveries } }
+    /// Drops the first deliveries, which were written.
+    #[tactic(auto, using(crate::proofs::Lists::drop_many_more))]
+    pub fn drop_many(&mut self, count: usize)
+        ensures { self.new ≡ record self.old { deliveries = drop count self.old.deliveries } }
     {
         let _bound = deliveries_of(&self.answer).len();
-        self.written = self.written.saturating_add(1);
+        self.written = self.written.saturating_add(count);
     }
 }
 
@@ -111,9 +102,10 @@ const ROOM: usize = 65_536;
 pub fn make_room(alloc: Global, out: &mut Vec<u8>, owed: &Owed)
     ensures { out.new.items ≡ out.old.items }
 {
-    if let Some(delivery) = owed.first() {
-        let each = delivery.message.payload().len().saturating_add(LINE);
-        let room = owed.count().saturating_mul(each).min(ROOM);
+    let deliveries = owed.deliveries();
+    if let Some(next) = deliveries.first() {
+        let each = next.message.payload().len().saturating_add(LINE);
+        let room = deliveries.len().saturating_mul(each).min(ROOM);
         grow(alloc, out, room);
     }
 }

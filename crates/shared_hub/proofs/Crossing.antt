@@ -4,8 +4,12 @@ use denote.RattleType.{RattleType}
 use denote.Param.Send.{IsSend, IsSync, sendable, recorded_send, struct_send, recorded_sync, struct_sync, part_keyless}
 use denote.Struct.Declared.{shape}
 use Rattle.std.proofs.Crossing.{frees, crosses}
+use Rattle.std.proofs.MapsCrossingOver.{BTreeSet-send}
+use Rattle.std.specs.contracts.prelude.U64Ord.TheImpl as u64_ord
+use Rattle.std.specs.contracts.prelude.U64PartialEq.TheImpl as u64_eq
+use Rattle.std.specs.contracts.prelude.U64PartialOrd.TheImpl as u64_partial
 use Rattle.std.specs.contracts.hash.DefaultHasher as hasher
-use denote.Builtin.{u8}
+use denote.Builtin.{u8, u64}
 use Rattle.std.specs.contracts.hash.BuildHasherDefault as by_default
 use Rattle.std.specs.contracts.hash.FoldHasher as fold
 use Rattle.std.specs.contracts.vec.Vec as vec_row
@@ -28,6 +32,7 @@ use Rattle.hub.specs.contracts.hub.Hub as hub
 use Rattle.policy_ready.proofs.ready.Ready.TheSendSync as ready
 use Rattle.world_sessions.proofs.sessions.Sessions.TheSendSync as sessions
 use Rattle.world_receivers.proofs.receivers.Receivers.TheSendSync as receivers
+use Rattle.service_routes.proofs.routes.Routes.TheSendSync as routes
 use Rattle.events.proofs.answer.Entry.TheSendSync as entry
 use Rattle.base.proofs.shared.Shared.TheSendSync as shared
 use Rattle.world.proofs.plain.PlainWorld.TheSendSync as plain
@@ -48,7 +53,7 @@ use Rattle.world_ids.proofs.id_cache.IdCache.TheSendSync as id_cache
 use Rattle.world_rows.proofs.rows.Rows.TheSendSync as rows
 
 node_send : IsSend (node.the_field).row
-node_send = send-Node (search (sendable, crosses) depth 12) (λ h s. option.the_send _ (boxed.the_send _ _ _ s global.the_send frees)) (λ h s. hash_map.the_send _ _ _ _ hasher.the_row _ _ _ _ _ (vec.the_send _ _ _ (search sendable) global.the_send frees) (boxed.the_send _ _ _ s global.the_send frees) state.the_send global.the_send frees)
+node_send = send-Node (BTreeSet-send u64 heap_row.the_row u64_ord.ghosts u64_eq.ghosts u64_partial.ghosts ghosts (search sendable) global.the_send frees) (λ h s. option.the_send _ (boxed.the_send _ _ _ s global.the_send frees)) (λ h s. hash_map.the_send _ _ _ _ hasher.the_row _ _ _ _ _ (vec.the_send _ _ _ (search sendable) global.the_send frees) (boxed.the_send _ _ _ s global.the_send frees) state.the_send global.the_send frees)
 
 tree_send : IsSend tree.the_row
 tree_send = search (sendable, node_send) depth 12
@@ -71,7 +76,7 @@ subs_out_send t = search (sendable, t) depth 6
 
 world_send : IsSend subs.the_row → IsSend world_in.the_row
 world_send t = recorded_send _ _ _ (world_in.the_type).to_one (struct_send (shape world_in.the_type)
-    (global.the_field_send, (state.the_field_send, (ready.the_send, (search sendable, (search sendable, (search sendable, (search sendable, (sessions.the_send, (t, (receivers.the_field_send, tt)))))))))))
+    (global.the_field_send, (state.the_field_send, (ready.the_send, (search sendable, (search sendable, (search sendable, (search sendable, (sessions.the_send, (t, (receivers.the_field_send, (routes.the_send, (search sendable, tt)))))))))))))
 
 world_out_send : IsSend world_in.the_row → IsSend world.the_row
 world_out_send t = search (sendable, t) depth 6

@@ -2,7 +2,7 @@
 use Rattle.std.proofs.Common.{◌≡◌, Bool, true, false, inl, inr, List, Option, Some, None, Ok, Err, Result, subst}
 use Rattle.clap.specs.Words.{Kinds, Row, Text}
 use Rattle.command_line.specs.Options.{AreServable, IsOptions}
-use Rattle.command_line.specs.Words.{checking, on_policy, IsAskedIf, IsFound, IsInvokedIf, IsReading}
+use Rattle.command_line.specs.Words.{checking, on_policy, IsAskedIf, IsCheckIf, IsFound, IsInvokedIf, IsReading}
 use Rattle.tasks.specs.Run.{IsReadingRun, IsWordsRun, Reads, Writes}
 use Rattle.command_line.specs.Question.{Word}
 use Rattle.command_line.specs.declared.options.ServeOptions.{ServeOptions}
@@ -35,10 +35,14 @@ no_question : (kind : Option QuestionKind) (rows : List Row) (o : ServeOptions) 
 no_question None rows o e = cc
 no_question (Some kind) rows o h = no_file (Explain h.0) h.1 o h.2
 
+no_check : (folder : Option Text) (rows : List Row) (o : ServeOptions) → IsCheckIf rows folder (invocation.Serve o) → ⊥
+no_check None rows o h = no_file (checking rows) h.0 o h.1
+no_check (Some folder) rows o h = let bad : invocation.Serve o ≡ invocation.Split h.0 = h.1 in absurd (cc)
+
 by_serving : (serves explains checks : Bool) (rows : List Row) (o : ServeOptions) → IsInvokedIf serves explains checks rows (invocation.Serve o) → AreServable o
 by_serving true explains checks rows o h = by_options rows o h
 by_serving false true checks rows o h = absurd (no_question _ rows o h)
-by_serving false false true rows o h = absurd (no_file (checking rows) h.0 o h.1)
+by_serving false false true rows o h = absurd (no_check _ rows o h)
 by_serving false false false rows o h = absurd (cc)
 
 by_found : (found : Option (Text × List Row)) (o : ServeOptions) → IsFound found (invocation.Serve o) → AreServable o
@@ -56,6 +60,7 @@ by_reading : (kinds : Kinds) (found : Option (Text × List Row)) (read : Result 
     IsReading kinds found read → IsReadingRun read source sink errors (ran.Serve o) → AreServable o
 by_reading kinds found (Ok (invocation.Serve p)) source sink errors o h r = subst AreServable (same_options o p r.0) (by_answer kinds found p h)
 by_reading kinds found (Ok (invocation.OnFile task file)) source sink errors o h r = absurd (cc)
+by_reading kinds found (Ok (invocation.Split options)) source sink errors o h r = absurd (cc)
 by_reading kinds found (Ok (invocation.Task task)) source sink errors o h r = absurd r
 by_reading kinds found (Err fault) source sink errors o h r = by_fault fault r
   where

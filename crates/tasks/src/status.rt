@@ -12,7 +12,7 @@ use crate::explaining::explain;
 use crate::fault::TaskFault;
 use crate::parting::tell_sets;
 use crate::playing::play;
-use command_line::{Invocation, ServeOptions, Task, WordsFault, read_words};
+use command_line::{Invocation, ServeOptions, SplitOptions, Task, WordsFault, read_words};
 use devices::{Sink, Source, write_all};
 use std::alloc::Global;
 use std::convert::AsStr;
@@ -62,6 +62,8 @@ pub enum Ran {
     Ended(u8),
     /// A task is to be done that reads the file of this name in place of the source. Nothing was read or written.
     OnFile(Task, String),
+    /// The parts of a policy are to be written. Nothing was read or written.
+    Split(SplitOptions),
     /// Clients are to be served. Nothing was read or written.
     Serve(ServeOptions),
 }
@@ -165,7 +167,7 @@ pub fn run_and_tell<R: Source, W: Sink, E: Sink>(
     }
 }
 
-/// Does what words ask for, unless they ask to serve.
+/// Does what words ask for, unless they ask to serve, or to write the parts of a policy.
 fn run_words<S: AsStr, R: Source, W: Sink, E: Sink>(
     alloc: Global,
     keys: RandomState,
@@ -185,6 +187,7 @@ fn run_words<S: AsStr, R: Source, W: Sink, E: Sink>(
                 Ran::Ended(run_and_tell(alloc, keys, &task, source, sink, errors))
             }
             Invocation::OnFile(task, file) => Ran::OnFile(task, file),
+            Invocation::Split(options) => Ran::Split(options),
             Invocation::Serve(options) => Ran::Serve(options),
         },
         Err(fault) => match fault {
@@ -194,8 +197,8 @@ fn run_words<S: AsStr, R: Source, W: Sink, E: Sink>(
     }
 }
 
-/// The program: does what the words of its command line ask for, and returns its status; or hands out the options of
-/// `serve`, or a task with the name of the file that it is to read, before anything is read or written.
+/// The program: does what the words of its command line ask for, and returns its status; or hands out the options of `serve`
+/// or of `check --split`, or a task with the name of the file that it is to read, before anything is read or written.
 ///
 /// The status is the task's, with nothing on the error sink. A fault of the task has status 1, and so has want
 /// of memory for the words or of random keys; a wrong line, or a word that isn't UTF-8, has status 2. Each is told on

@@ -64,6 +64,7 @@ impl MessageText {
     }
 
     /// The subject to answer on, if it has one.
+    #[inline(always)]
     pub fn reply(&self) -> Option<&[u8]>
         ensures { option_copied result ≡ self.now.reply }
     {

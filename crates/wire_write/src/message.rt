@@ -156,6 +156,7 @@ fn write_addressed(
 
 /// Appends a delivery: the MSG line with the payload's size in bytes, then the payload.
 /// `NoMemory` comes only where the buffer has no room for it and can't grow, and leaves it as it was.
+#[inline(always)]
 pub fn write_msg(
     out: &mut Vec<u8>,
     subject: &[u8],

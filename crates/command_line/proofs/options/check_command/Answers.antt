@@ -6,4 +6,5 @@ use Rattle.command_line.proofs.options.check_command.Goals as goal
 pub returns : goal.returns
 returns c =
     let first = with_option _ _ _ _ _ c.local_command.ensures c.in_ok-arg.ensures c.policy_file_option.ensures.rule c.policy_file_option.ensures.local in
-    IfOk-weaker c.arg-2.result _ _ (λ command more. with_option _ _ _ _ _ first more c.flag.ensures.rule c.flag.ensures.local) c.arg-2.ensures
+    let next = with_option _ _ _ _ _ first c.in_ok-arg-2.ensures c.flag.ensures.rule c.flag.ensures.local in
+    IfOk-weaker c.arg-3.result _ _ (λ command more. with_option _ _ _ _ _ next more c.split_option.ensures.rule c.split_option.ensures.local) c.arg-3.ensures

@@ -8,5 +8,5 @@ use Rattle.policy_rows.proofs.export_row.each_export.Goals as goal
 pub loop-index-preserved : goal.loop-index-preserved
 loop-index-preserved c =
     let e : c.push.new.self.items ≡ c.loop-index.exports.items ++ c.in_ok-export.export ∷ [] = c.in_ok-push.ensures.items in
-    rw e (goes_on (export_at c.args.services) c.args.path.now c.loop-index.exports.items c.args.values.now c.loop-index.index c.index-values-index.result c.in_ok-export.export (each (export_at c.args.services) c.args.path.now 0 (items_view c.args.values.now))
+    rw e (goes_on export_at c.args.path.now c.loop-index.exports.items c.args.values.now c.loop-index.index c.index-values-index.result c.in_ok-export.export (each export_at c.args.path.now 0 (items_view c.args.values.now))
     c.loop-index-test.true c.index-values-index.is (search rules) c.loop-index.invariant)

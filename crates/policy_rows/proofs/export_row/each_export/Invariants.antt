@@ -7,4 +7,4 @@ use Rattle.policy_permissions.proofs.Lists.{from_index}
 use Rattle.policy_rows.proofs.export_row.each_export.Given as goal
 
 abbrev pub invariant-loop-index : goal.invariant-loop-index
-invariant-loop-index l = from_index (export_at l.services) l.path l.exports.items l.index l.values ≡ each (export_at l.services) l.path 0 (items_view l.values)
+invariant-loop-index l = from_index export_at l.path l.exports.items l.index l.values ≡ each export_at l.path 0 (items_view l.values)

@@ -7,4 +7,4 @@ use Rattle.policy_permissions.proofs.Lists.{from_index}
 use Rattle.policy_rows.proofs.import_row.each_import.Given as goal
 
 abbrev pub invariant-loop-index : goal.invariant-loop-index
-invariant-loop-index l = from_index (import_at l.services) l.path l.imports.items l.index l.values ≡ each (import_at l.services) l.path 0 (items_view l.values)
+invariant-loop-index l = from_index import_at l.path l.imports.items l.index l.values ≡ each import_at l.path 0 (items_view l.values)

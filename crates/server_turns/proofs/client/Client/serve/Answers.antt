@@ -14,7 +14,7 @@ returns-clause-serving g c =
     let waits : c.is_some-frames_wait.result ≡ is_some c.args.self.now.conn.stall = c.is_some-frames_wait.ensures ∙ ap is_some (c.stall.ensures ∙ ap (λ (k : Connection). k.stall) same) in
     let none : c.write_kept.new.self.kept ≡ [] = search rules in
     let bytes = take c.in-Read.count c.next_piece.new.buf in
-    let made = subst (λ (k : Connection). IsServed (port_of g.P.Port.steps g.P.Port.posts g.P.Port.holds) g.W.Words.draws c.args.now bytes k c.args.port.now c.args.words.now c.on_bytes-output.result c.on_bytes-output.new.self c.on_bytes-output.new.port c.on_bytes-output.new.words)
+    let made = subst (λ (k : Connection). IsServed (port_of g.P.Port.steps g.P.Port.posts g.P.Port.holds) g.W.Words.draws c.args.context.moment bytes k c.args.port.now c.args.words.now c.on_bytes-output.result c.on_bytes-output.new.self c.on_bytes-output.new.port c.on_bytes-output.new.words)
     same c.on_bytes-output.ensures.served in
     inr (record {
       piece = bytes;
@@ -24,7 +24,7 @@ returns-clause-serving g c =
       some = λ unstopped. piece_some c.in-Read.count c.next_piece.new.buf c.in-Read.ensures.within
           (λ empty. c.in-Read.ensures.some (waits ∙ ap is_some unstopped) (ap piece.Read empty));
       none = λ stopped. ap (λ (n : ℕ). take n c.next_piece.new.buf) (ap piece_length (c.in-Read.ensures.none (waits ∙ stopped_some c.args.self.now.conn.stall stopped)));
-      served = subst (λ (k : Connection). IsServed (port_of g.P.Port.steps g.P.Port.posts g.P.Port.holds) g.W.Words.draws c.args.now bytes c.args.self.now.conn c.args.port.now c.args.words.now c.on_bytes-output.result k c.on_bytes-output.new.port c.on_bytes-output.new.words)
+      served = subst (λ (k : Connection). IsServed (port_of g.P.Port.steps g.P.Port.posts g.P.Port.holds) g.W.Words.draws c.args.context.moment bytes c.args.self.now.conn c.args.port.now c.args.words.now c.on_bytes-output.result k c.on_bytes-output.new.port c.on_bytes-output.new.words)
           (sym c.tell.ensures.conn) made;
       told = record {
         between = g.S.NonBlockingSink.contents c.write_kept.new.writer;

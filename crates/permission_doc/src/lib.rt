@@ -1,0 +1,7 @@
+//! What a user may do, as a policy writes it down: its permission lists, and its terms for answers.
+#![tactic(auto)]
+
+mod document;
+mod equality;
+
+pub use document::{Direction, PermDoc, PermEntry, Terms};

@@ -1,0 +1,4 @@
+pub mod Few
+pub mod Quotes
+pub mod Spaces
+pub mod Texts

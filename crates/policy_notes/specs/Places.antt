@@ -1,0 +1,103 @@
+-- Where a fault stands in a policy's text, in words (docs/POLICY.md, "Where a fault stands").
+use Rattle.std.specs.Prelude.{◌≡◌, ◌++◌, ◌==◌, ◌||◌, ℕ, List, [], Bool, true, false, Option, None, Some, codes, if◌then◌else◌, take}
+use Rattle.std.specs.List.{prefix_len}
+use Rattle.std.specs.Option.{option_and_then, option_map}
+use Rattle.std.specs.Str.{is_utf8}
+use Rattle.json.specs.Print.{quoted}
+use Rattle.serde_json.specs.Find.{as_str, pointer}
+use Rattle.serde_json.specs.Read.{read}
+use Rattle.policy_doc.specs.Faults.{fault_place}
+use Rattle.policy_doc.specs.declared.fault.Place.{Place as Row}
+use Rattle.policy_doc.specs.declared.fault.PolicyFault.{PolicyFault}
+use Rattle.policy_doc.specs.declared.fault.PolicyFault.TheVariants.{DuplicateUser}
+use Rattle.policy_walk.specs.Path.{Path, at_key, at_index}
+use Rattle.policy_walk.specs.declared.fault.ConfigFault.{ConfigFault}
+use Rattle.policy_walk.specs.declared.fault.ConfigFault.TheVariants.{TooLarge, NotJson, UnknownKey, WrongType, BadSubject, BadDuration, BadMax, BadName, HashedPassword, NoMemory}
+use Rattle.reload.specs.declared.fault.ReloadFault.{ReloadFault}
+use Rattle.reload.specs.declared.fault.ReloadFault.TheVariants.{Config, Policy}
+use Rattle.policy_places.specs.Names.{at_of}
+use Rattle.policy_places.specs.Spots.{AreSpots}
+use Rattle.policy_places.specs.Place.{column_after, line_after, place_words}
+use Rattle.policy_places.specs.declared.place.Place.{Place}
+use Rattle.policy_places.specs.declared.spots.Spot.{Spot}
+use Rattle.policy_notes.specs.declared.place.Named.{Named}
+
+-- ---- what a fault names: a path, and whether the text that stands there is shown
+
+abbrev pub naming : Path → Bool → Option Named
+naming path is_shown = Some (record { path = path; is_shown = is_shown })
+
+-- of a document's fault: a text that is no pattern, no duration or no name is shown
+abbrev pub named_by_config : ConfigFault → Option Named
+named_by_config TooLarge = None
+named_by_config NotJson = None
+named_by_config (UnknownKey path) = naming path false
+named_by_config (WrongType path) = naming path false
+named_by_config (BadSubject path) = naming path true
+named_by_config (BadDuration path) = naming path true
+named_by_config (BadMax path) = naming path false
+named_by_config (BadName path) = naming path true
+named_by_config (HashedPassword path) = naming path false
+named_by_config NoMemory = None
+
+-- the row of an account that has a policy's fault: of a user that there is already, its name, which is shown
+abbrev pub account_path : List ℕ → Path
+account_path account = at_key (at_key [] (codes "accounts")) account
+
+abbrev pub user_path : List ℕ → ℕ → Path
+user_path account row = at_key (at_index (at_key (account_path account) (codes "users")) row) (codes "user")
+
+abbrev pub import_path : List ℕ → ℕ → Path
+import_path account row = at_index (at_key (account_path account) (codes "imports")) row
+
+abbrev pub is_duplicate : PolicyFault → Bool
+is_duplicate (DuplicateUser place) = true
+is_duplicate fault = false
+
+abbrev pub row_named : PolicyFault → List ℕ → ℕ → Option Named
+row_named fault account row = if is_duplicate fault then naming (user_path account row) true else naming (import_path account row) false
+
+abbrev pub named_row : PolicyFault → List ℕ → Option Row → Option Named
+named_row fault account None = None
+named_row fault account (Some place) = row_named fault account place.row
+
+abbrev pub named_by : ReloadFault → Option Named
+named_by (Config fault) = named_by_config fault
+named_by (Policy fault account) = if is_utf8 account then named_row fault account (fault_place fault) else None
+
+-- ---- where it stands
+
+-- the place of a byte of a text
+abbrev pub place_of : List ℕ → ℕ → Place
+place_of text at = record { line = line_after 1 (take at text); column = column_after 1 (take at text) }
+
+abbrev pub is_space : ℕ → Bool
+is_space b = b == 32 || b == 9 || b == 10 || b == 13
+
+-- what names nothing stands where the whole begins
+abbrev pub begin_or : List ℕ → Option ℕ → ℕ
+begin_or text None = prefix_len is_space text
+begin_or text (Some at) = at
+
+-- the text that a JSON text has under a path, if one stands there, as JSON writes it
+abbrev pub text_under : List ℕ → Path → Option (List ℕ)
+text_under text path = option_and_then (λ d. option_map quoted (option_and_then as_str (pointer path d))) (read text)
+
+abbrev pub shown_if : Bool → List ℕ → Path → Option (List ℕ)
+shown_if true text path = text_under text path
+shown_if false text path = None
+
+-- a place behind the text that stands there, if one is shown
+abbrev pub shown_words : Option (List ℕ) → List ℕ
+shown_words None = []
+shown_words (Some shown) = shown ++ codes " "
+
+abbrev pub told : Option (List ℕ) → Place → List ℕ
+told shown place = shown_words shown ++ (codes "at " ++ place_words place)
+
+abbrev pub told_of : List ℕ → List Spot → Named → List ℕ
+told_of text spots n = told (shown_if n.is_shown text n.path) (place_of text (begin_or text (at_of spots n.path)))
+
+-- where a path leads among a text's spots, with the text that stands there
+abbrev pub IsToldOf : List ℕ → Path → List ℕ → Type 0
+IsToldOf text path words = (spots : List Spot) × AreSpots text spots × (words ≡ told_of text spots (record { path = path; is_shown = true }))
