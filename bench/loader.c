@@ -2,8 +2,8 @@
  *
  * TASK is `all` (every receiver gets each of COUNT messages), `stream` (the same, with receivers in another account, that of
  * the user `importer`, which has the publisher's subjects under the prefix `from`), `queue` (the receivers are one queue
- * group), `pairs` (each receiver has a publisher and a subject of its own, and gets COUNT messages) or `ask` (one asks COUNT
- * times in turn, one answers). A message has SIZE bytes. A publisher writes up to 64 KiB at once, and is no more than WINDOW messages before
+ * group), `pairs` (each receiver has a publisher and a subject of its own, and gets COUNT messages), `several` (RECEIVERS
+ * publishers send COUNT messages each to one receiver) or `ask` (one asks COUNT times in turn, one answers). A message has SIZE bytes. A publisher writes up to 64 KiB at once, and is no more than WINDOW messages before
  * the slowest of its receivers, or before the group. It prints for `ask` the median and the 99th percentile of the
  * microseconds from a request to its answer, and else the deliveries a second.
  * Each connection has a thread of its own, with blocking reads and writes. */
@@ -285,6 +285,50 @@ static double pairs(void)
     return count * (double)count_of_receivers / passed;
 }
 
+/* How many messages all publishers to one receiver have sent. */
+static _Atomic long sent_by_all;
+
+static void *publish_part(void *closure)
+{
+    int each, length, publisher = connected("demo");
+    char *piece = publishes("load", &each, &length);
+    (void)closure;
+    for (long sent = 0; sent < count;) {
+        long part = count - sent < each ? count - sent : each;
+        while (atomic_load(&sent_by_all) + part - atomic_load(&receivers[0].received) > window)
+            usleep(20);
+        atomic_fetch_add(&sent_by_all, part);
+        send_all(publisher, piece, (size_t)part * length);
+        sent += part;
+    }
+    return NULL;
+}
+
+static double several(void)
+{
+    pthread_t reader, writers[MOST];
+    int publishers = count_of_receivers;
+    count_of_receivers = 1;
+    receivers[0].socket = connected("demo");
+    subscribe(receivers[0].socket, wish);
+    pthread_create(&reader, NULL, receive, &receivers[0]);
+    double begin = now(), last = begin;
+    for (int i = 0; i < publishers; i++)
+        pthread_create(&writers[i], NULL, publish_part, NULL);
+    for (long before = -1, it; (it = done()) < count * publishers; before = it) {
+        if (it != before)
+            last = now();
+        if (now() - last > 60)
+            die("messages were lost");
+        usleep(50);
+    }
+    double passed = now() - begin;
+    for (int i = 0; i < publishers; i++)
+        pthread_join(writers[i], NULL);
+    end_receivers(&reader);
+    return count * (double)publishers / passed;
+}
+
 static void *answer(void *closure)
 {
     int socket = *(int *)closure;
@@ -359,6 +403,8 @@ int main(int argc, char **argv)
         die("a number is out of range");
     if (!strcmp(argv[2], "ask"))
         ask();
+    else if (!strcmp(argv[2], "several"))
+        printf("%.0f\n", several());
     else
         printf("%.0f\n", strcmp(argv[2], "pairs") ? flood() : pairs());
     return 0;

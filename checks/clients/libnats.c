@@ -1,7 +1,8 @@
 /* What a client over libnats finds at a server: libnats URL
  *
  * Its users are those of the built-in policy, docs/POLICY.md: `demo` may do everything, `limited` may publish and
- * subscribe below foo, and not on foo.bar. It prints a line for each thing that it shows. Where it prints
+ * subscribe below foo, and not on foo.bar; and those of examples/services.json: `prices` answers on price.*, for which
+ * `shop` asks in another account on ask.price.*. It prints a line for each thing that it shows. Where it prints
  * `stop and start`, the server is to be ended and started again at the same address. */
 #include <nats/nats.h>
 #include <pthread.h>
@@ -264,6 +265,38 @@ static void requests(void)
     END("request and reply; where nobody listens, the client's own timeout");
 }
 
+/* Answers each request with its own subject, once it is clear that the reply is a response subject. */
+static void on_priced(natsConnection *nc, natsSubscription *sub, natsMsg *msg, void *closure)
+{
+    const char *reply = natsMsg_GetReply(msg), *subject = natsMsg_GetSubject(msg);
+    if (reply && !strncmp(reply, "_R_.", 4))
+        natsConnection_PublishString(nc, reply, subject);
+    natsMsg_Destroy(msg);
+    count(closure, &((Seen *)closure)->answered);
+}
+
+static void services(void)
+{
+    BEGIN;
+    OK(connect_as(&nc, "prices", "s3cret", NULL, true));
+    OK(connect_as(&nc2, "shop", "w3lcome", NULL, true));
+    OK(natsConnection_Subscribe(&sub, nc, "price.*", on_priced, &seen));
+    OK(natsConnection_FlushTimeout(nc, LIMIT));
+    for (int i = 0; i < 200; i++) {
+        char asked[32], wanted[32];
+        snprintf(asked, sizeof asked, "ask.price.%d", i);
+        snprintf(wanted, sizeof wanted, "price.%d", i);
+        OK(natsConnection_RequestString(&msg, nc2, asked, "", LIMIT));
+        WANT(natsMsg_GetDataLength(msg) == (int)strlen(wanted) && !memcmp(natsMsg_GetData(msg), wanted, strlen(wanted)));
+        WANT(natsMsg_GetReply(msg) == NULL);
+        natsMsg_Destroy(msg), msg = NULL;
+    }
+    WANT(read_count(&seen, &seen.answered) == 200);
+    WANT(natsConnection_RequestString(&msg, nc2, "price.tea", "", 300) == NATS_TIMEOUT);
+    WANT(read_count(&seen, &seen.answered) == 200);
+    END("request and reply between two accounts, each under its own subject");
+}
+
 static void headers(void)
 {
     const char *value = NULL;
@@ -390,6 +423,7 @@ int main(int argc, char **argv)
     wildcards();
     queues();
     requests();
+    services();
     headers();
     unsubscribes();
     drains();

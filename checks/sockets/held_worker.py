@@ -18,11 +18,11 @@ PUB = b"PUB here 2\r\nhi\r\n"
 class Held(Server):
     """The program `test_held`, which was built beside the program that is checked. It looks so many times at most."""
 
-    def __init__(self, program, turns):
+    def __init__(self, program, turns, **more):
         held = (pathlib.Path(program).parent / "../../test_held/out/test_held").resolve()
         if not held.exists():
             raise Failed(f"there is no {held}: 'rt run' in crates/test_held builds it")
-        super().__init__(held, turns)
+        super().__init__(held, turns, **more)
 
     def command(self, program, listen, words):
         return [program, *words]

@@ -92,15 +92,46 @@ def errors(program, divide):
                 one.rest()
                 exactly(line_of(server, event, text=text), event=event, text=text, **party_of(one))
         one = Client(server, user="demo")
-        one.send(b"SUB foo..bar 1\r\n" + b"".join(b"SUB it.%d %d\r\n" % (it, it) for it in range(4097)))
-        one.line(b"-ERR 'Invalid Subject'")
+        one.send(b"SUB foo..bar 1\r\nPUB foo bar..foo 0\r\n\r\nSUB foo it..q 2\r\n")
+        for _ in range(3):
+            one.line(b"-ERR 'Invalid Subject'")
+        one.send(b"".join(b"SUB it.%d %d\r\n" % (it, it) for it in range(4097)))
         one.line(b"-ERR 'Maximum Subscriptions Exceeded'")
         party = party_of(one, "demo")
-        exactly(line_of(server, "protocol_error", text="Invalid Subject"), event="protocol_error", text="Invalid Subject", **party)
+        for fields in [
+            {"command": "SUB", "subject": "foo..bar"},
+            {"command": "PUB", "subject": "foo", "reply": "bar..foo"},
+            {"command": "SUB", "subject": "foo", "queue": "it..q"},
+        ]:
+            fields = {"event": "protocol_error", "text": "Invalid Subject", **fields}
+            exactly(line_of(server, **fields), **fields, **party)
         text = "Maximum Subscriptions Exceeded"
         exactly(line_of(server, "limit", text=text), event="limit", text=text, **party)
-        want(len(told(server)) == 6, f"there are other lines: {told(server)}")
-    return "six lines"
+        want(len(told(server)) == 8, f"there are other lines: {told(server)}")
+    return "eight lines"
+
+
+def no_route(program, divide):
+    """A request that its exporter has no response route for is told of its client, and those before aren't"""
+    users = [[{"user": it, "password": it}] for it in ("prices", "shop")]
+    accounts = {"PRICES": {"users": users[0], "exports": [{"service": "price.*"}]}, "SHOP": {"users": users[1], "imports": [
+        {"stream": {"account": "NEWS", "subject": "news"}}, {"service": {"account": "PRICES", "subject": "price.*"}, "to": "ask.$1"}]},
+        "NEWS": {"exports": [{"stream": "news"}]}}
+    with Server(program, policy={"accounts": accounts}) as server:
+        prices, shop = Client(server, user="prices"), Client(server, user="shop")
+        prices.subscribe(b"price.*")
+        for first in range(0, 65_536, 512):
+            shop.send(b"".join(b"PUB ask.%d inbox 0\r\n\r\n" % it for it in range(first, first + 512)))
+            for _ in range(512):
+                prices.message()
+        shop.ping()
+        want(told(server) == [], f"there are lines: {told(server)}")
+        shop.send(b"PUB ask.last inbox 0\r\n\r\n")
+        fields = {"event": "limit", "text": "routes", "subject": "ask.last", "import": 1}
+        exactly(line_of(server, **fields), **fields, **{**party_of(shop, "shop"), "account": "SHOP"})
+        prices.ping()
+        want(len(told(server)) == 1, f"there are other lines: {told(server)}")
+    return "one line"
 
 
 def slow_consumer(program, divide):
@@ -111,7 +142,7 @@ def slow_consumer(program, divide):
             it.subscribe(b"flood")
         flood = Flood(max(400_000 // divide, 40_000), size=128)
         flood.run(publisher, [reader])
-        exactly(line_of(server, "slow_consumer"), event="slow_consumer", **party_of(sleeper, "demo"))
+        exactly(line_of(server, "slow_consumer"), event="slow_consumer", reason="outbox full", **party_of(sleeper, "demo"))
         want(len(told(server)) == 1, f"there are other lines: {told(server)}")
     return "one line"
 
@@ -128,7 +159,7 @@ def reloads(program, divide):
         want(guest.rest() == TEXTS["authorization"], "another text came")
         exactly(line_of(server, "reloaded"), event="reloaded", epoch=2, gone=1, removed=1)
         exactly(line_of(server, "gone"), event="gone", **party_of(guest, "guest"))
-        exactly(line_of(server, "removed"), event="removed", command="SUB", sid="s\"1", verdict="denied", index=1, entry="bar",
+        exactly(line_of(server, "removed"), event="removed", command="SUB", subject="bar", sid="s\"1", verdict="denied", index=1, entry="bar",
                 **party_of(bound, "bound"))
         bound.send(b"PUB bar.x 0\r\n\r\n")
         line_of(server, "denied", subject="bar.x", verdict="no allow")
@@ -261,4 +292,4 @@ def full_pipe(program, divide):
 
 
 if __name__ == "__main__":
-    run(__doc__, refusals, errors, slow_consumer, reloads, descriptors, levels, rates, full_pipe)
+    run(__doc__, refusals, errors, no_route, slow_consumer, reloads, descriptors, levels, rates, full_pipe)

@@ -69,8 +69,8 @@ def three_thousand(program, divide, workers):
 
 @storm(2)
 def thousand_each(program, divide, workers):
-    """A piece of 100 messages to 25 sessions with 1,000 subscriptions each"""
-    return beside_piece(program, workers, 100, 25, 1_000, 300)
+    """A piece of 315 messages to 25 sessions with 1,000 subscriptions each"""
+    return beside_piece(program, workers, 315, 25, 1_000, 300)
 
 
 def beside_deaf(program, workers, count):

@@ -1,4 +1,4 @@
-use policy_doc::Terms;
+use permission_doc::Terms;
 use reply_grants::Grants;
 use std::hash::RandomState;
 use std::test::Fail;

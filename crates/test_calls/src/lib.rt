@@ -17,6 +17,8 @@ mod outboxes;
 #[cfg(test)]
 mod patterns;
 #[cfg(test)]
+mod permission_lists;
+#[cfg(test)]
 mod response_routes;
 #[cfg(test)]
 mod sendings;

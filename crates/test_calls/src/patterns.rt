@@ -53,6 +53,29 @@ fn reached(rt: &HostRuntime, tree: &Sublist, text: &str) -> Result<String, Fail>
 }
 
 #[test]
+fn a_pattern_has_subjects(rt: HostRuntime) -> Result<(), Fail> {
+    let orders = Pattern::parse(rt.alloc(), b"orders.*.eu")?;
+    let all = Pattern::parse(rt.alloc(), b"orders.>")?;
+    assert!(rt; orders.matches(&Subject::parse(rt.alloc(), b"orders.new.eu")?.lend()));
+    assert!(rt; all.covers(&orders));
+    assert!(rt; !orders.covers(&all));
+    Ok(())
+}
+
+#[test]
+fn a_subject_finds_ids(rt: HostRuntime) -> Result<(), Fail> {
+    let wildcard = Pattern::parse(rt.alloc(), b"orders.*.eu")?;
+    let all = Pattern::parse(rt.alloc(), b"orders.>")?;
+    let subject = Subject::parse(rt.alloc(), b"orders.new.eu")?;
+    let mut tree = Sublist::new(rt.alloc(), RandomState::new(&rt)?);
+    assert!(rt; tree.insert(&wildcard, 1).is_ok());
+    assert!(rt; tree.insert(&all, 2).is_ok());
+    let found = tree.matching(&subject.lend())?;
+    assert_eq!(rt; found.as_slice(), [1, 2].as_slice());
+    Ok(())
+}
+
+#[test]
 fn a_pair_stands_once(rt: HostRuntime) -> Result<(), Fail> {
     let mut tree = Sublist::new(rt.alloc(), RandomState::new(&rt)?);
     for (ask, text, id, want) in [

@@ -4,6 +4,7 @@
 
 mod fault;
 mod policy;
+mod requests;
 mod run;
 mod scenario;
 mod server;

@@ -9,6 +9,11 @@ use std::alloc::Global;
 /// The built-in policy; or one whose user may publish what so many entries allow, of which the last is `foo`; or one with
 /// imports.
 pub fn policy_of(alloc: Global, scenario: Scenario) -> Result<Ready, CostFault> {
+    if scenario.service {
+        return prepare(alloc, serving().as_bytes())
+            .ok()
+            .ok_or(CostFault::NoMemory);
+    }
     if scenario.stream || scenario.imports > 0 {
         let text = importing(alloc, scenario.imports)?;
         return prepare(alloc, text.as_str().as_bytes())
@@ -27,6 +32,11 @@ pub fn policy_of(alloc: Global, scenario: Scenario) -> Result<Ready, CostFault> 
     }
     let policy = Policy::builtin(alloc).ok().ok_or(CostFault::NoMemory)?;
     Ready::of(alloc, policy).ok().ok_or(CostFault::NoMemory)
+}
+
+/// The text of a policy whose first account serves `foo` to the second. It has no clause, so that the prover knows nothing of it.
+fn serving() -> &'static str {
+    "{\"accounts\":{\"A\":{\"users\":[{\"user\":\"demo\",\"password\":\"demo\"}],\"exports\":[{\"service\":\"foo\"}]},\"B\":{\"users\":[{\"user\":\"reader\",\"password\":\"demo\"}],\"imports\":[{\"service\":{\"account\":\"A\",\"subject\":\"foo\"}}]}}}"
 }
 
 /// The texts before and behind a policy's list. It has no clause, so that the prover knows nothing of the texts.

@@ -1,14 +1,14 @@
 //! A run: what stands beside the publisher, and then its messages.
 use crate::fault::CostFault;
 use crate::policy::policy_of;
+use crate::requests::ask;
 use crate::scenario::Scenario;
 use crate::server::Server;
 use session::Conn;
 use std::alloc::Global;
 use std::hash::RandomState;
 
-/// How many messages a piece of the publisher's stream has: those of 4,096 bytes, as a server reads them. A Take has room for
-/// them all.
+/// How many messages a piece has whose subjects take turns.
 const PIECE: u64 = 136;
 
 /// How many subjects the messages have that have them in turn.
@@ -87,10 +87,10 @@ fn open_others(alloc: Global, server: &mut Server, scenario: Scenario) -> Result
     Ok(())
 }
 
-/// A piece of messages, all on one subject.
-fn piece(alloc: Global) -> Result<Vec<u8>, CostFault> {
+/// A piece of so many messages, all on one subject.
+fn piece_of(alloc: Global, messages: u64) -> Result<Vec<u8>, CostFault> {
     let mut piece = Vec::new(alloc);
-    for _ in 0..PIECE {
+    for _ in 0..messages {
         piece.extend_from_slice(b"PUB foo 16\r\n0123456789abcdef\r\n")?;
     }
     Ok(piece)
@@ -111,7 +111,7 @@ fn piece_of_turns(alloc: Global, first: u64) -> Result<Vec<u8>, CostFault> {
 fn pieces_of(alloc: Global, scenario: Scenario) -> Result<Vec<Vec<u8>>, CostFault> {
     let mut pieces = Vec::new(alloc);
     if !scenario.turns {
-        pieces.push(piece(alloc)?)?;
+        pieces.push(piece_of(alloc, scenario.piece)?)?;
         return Ok(pieces);
     }
     for first in (0..ROUND * PIECE).step_by(136) {
@@ -161,6 +161,9 @@ fn play(
     scenario: Scenario,
     count: u64,
 ) -> Result<(), CostFault> {
+    if scenario.service {
+        return ask(alloc, server, scenario, count);
+    }
     let pieces = pieces_of(alloc, scenario)?;
     open_others(alloc, server, scenario)?;
     let mut receivers = open_receivers(alloc, server, scenario)?;
@@ -177,7 +180,7 @@ pub fn publish_in(
 ) -> Result<u64, CostFault> {
     let ready = policy_of(alloc, scenario)?;
     let mut server = Server::new(alloc, keys, ready)?;
-    let played = play(alloc, &mut server, scenario, messages / PIECE);
+    let played = play(alloc, &mut server, scenario, messages / scenario.piece.max(1));
     let sent = server.sent();
     drop(server);
     match played {

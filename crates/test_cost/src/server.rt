@@ -85,6 +85,11 @@ impl Server {
         self.sent
     }
 
+    /// The word that was drawn last.
+    pub fn word(&self) -> u64 {
+        self.words.last
+    }
+
     /// Opens a connection whose CONNECT was accepted.
     pub fn open(&mut self) -> Result<Conn, CostFault> {
         let client = self.open_by(CONNECT)?;

@@ -6,6 +6,8 @@ use std::fmt;
 pub enum HeldFault {
     /// The words have no number.
     WrongWords,
+    /// A file of policies can't be opened.
+    NoFile,
     /// Memory could not be had.
     NoMemory,
 }
@@ -13,7 +15,8 @@ pub enum HeldFault {
 impl fmt::Display for HeldFault {
     fn fmt<W: fmt::Write>(&self, f: &mut fmt::Formatter<W>) -> fmt::Result {
         match self {
-            HeldFault::WrongWords => f.write_str("held TURNS"),
+            HeldFault::WrongWords => f.write_str("held TURNS [FILE]..."),
+            HeldFault::NoFile => f.write_str("no file"),
             HeldFault::NoMemory => f.write_str("no memory"),
         }
     }

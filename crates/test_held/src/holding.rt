@@ -1,6 +1,9 @@
-//! Gates that hold the first worker.
+//! Gates that hold the first worker, and policies before they come into force.
 use server::GateSource;
 use server_gates::{Gate, GateClosed, Point};
+use std::alloc::AllocError;
+use std::fs;
+use std::fs::Files;
 use std::sync::atomic::{AtomicU64, Ordering};
 use std::time::{Clock, Duration};
 
@@ -32,7 +35,7 @@ impl Answers {
             Thread::Second => {
                 let _ = self.second.fetch_add(1, Ordering::SeqCst);
             }
-            Thread::Reloads => {}
+            Thread::Input(_) => {}
         }
     }
 
@@ -47,12 +50,12 @@ impl Answers {
     }
 }
 
-/// A thread that serves.
+/// A thread that serves: a worker, or one that installs the policies of an input.
 #[derive(Clone, Copy)]
 enum Thread {
     First,
     Second,
-    Reloads,
+    Input(usize),
 }
 
 /// The gate of one thread.
@@ -61,10 +64,11 @@ pub struct HoldingGate<'a, R> {
     rt: &'a R,
     answers: &'a Answers,
     looks: u64,
+    files: &'a [String],
     thread: Thread,
 }
 
-impl<R: Clock> HoldingGate<'_, R> {
+impl<R: Clock + Files + AllocGlobal> HoldingGate<'_, R> {
     /// Waits until the second worker has answered enough, and looks so often at most.
     fn wait(&self) -> Result<(), GateClosed> {
         for _ in 0..self.looks {
@@ -76,13 +80,42 @@ impl<R: Clock> HoldingGate<'_, R> {
         Err(GateClosed)
     }
 
-    /// Returns whether it holds its thread before the next event: the first worker, but at its first event.
+    /// Holds a policy of an input that has a file, and looks so often at most. It makes FILE.held, waits for FILE.go, and takes
+    /// both away.
+    fn hold_policy(&self, file: &str) -> Result<(), GateClosed> {
+        let Ok((held, go)) = self.marks(file) else {
+            return Err(GateClosed);
+        };
+        if fs::write(self.rt, held.as_str(), "").is_err() {
+            return Err(GateClosed);
+        }
+        for _ in 0..self.looks {
+            if fs::remove_file(self.rt, go.as_str()).is_ok() {
+                let _ = fs::remove_file(self.rt, held.as_str());
+                return Ok(());
+            }
+            self.rt.sleep(Duration::from_micros(100));
+        }
+        Err(GateClosed)
+    }
+
+    /// Returns the names of the two files beside a file.
+    fn marks(&self, file: &str) -> Result<(String, String), AllocError> {
+        let alloc = self.rt.alloc();
+        Ok((
+            format!(in alloc; "{file}.held")?,
+            format!(in alloc; "{file}.go")?,
+        ))
+    }
+
+    /// Returns whether it holds its thread before the next event: the first worker, but at its first event, and where no file is
+    /// an input.
     fn holds(&self) -> bool {
-        matches!(self.thread, Thread::First) && self.answers.has_first()
+        self.files.is_empty() && matches!(self.thread, Thread::First) && self.answers.has_first()
     }
 }
 
-impl<R: Clock> Gate for HoldingGate<'_, R> {
+impl<R: Clock + Files + AllocGlobal> Gate for HoldingGate<'_, R> {
     fn pass(&mut self, point: Point) -> Result<(), GateClosed> {
         match point {
             Point::FrameRead => {
@@ -91,7 +124,13 @@ impl<R: Clock> Gate for HoldingGate<'_, R> {
                 }
             }
             Point::Answered => self.answers.count(self.thread),
-            Point::Prepared => {}
+            Point::Prepared => {
+                if let Thread::Input(input) = self.thread {
+                    if let Some(file) = self.files.get(input) {
+                        return self.hold_policy(file.as_str());
+                    }
+                }
+            }
         }
         Ok(())
     }
@@ -103,12 +142,19 @@ pub struct Holding<'a, R> {
     rt: &'a R,
     answers: &'a Answers,
     looks: u64,
+    files: &'a [String],
 }
 
 impl<'a, R> Holding<'a, R> {
-    /// Returns the source of gates. The first worker's looks `looks` times at most whether it may go on.
-    pub fn new(rt: &'a R, answers: &'a Answers, looks: u64) -> Holding<'a, R> {
-        Holding { rt, answers, looks }
+    /// Returns the source of gates, each of which looks so often at most whether its thread may go on. The inputs of policies
+    /// are these files, or none of them is held.
+    pub fn new(rt: &'a R, answers: &'a Answers, looks: u64, files: &'a [String]) -> Holding<'a, R> {
+        Holding {
+            rt,
+            answers,
+            looks,
+            files,
+        }
     }
 
     fn gate(&self, thread: Thread) -> HoldingGate<'a, R> {
@@ -116,12 +162,13 @@ impl<'a, R> Holding<'a, R> {
             rt: self.rt,
             answers: self.answers,
             looks: self.looks,
+            files: self.files,
             thread,
         }
     }
 }
 
-impl<'a, R: Clock> GateSource<HoldingGate<'a, R>> for Holding<'a, R> {
+impl<'a, R: Clock + Files + AllocGlobal> GateSource<HoldingGate<'a, R>> for Holding<'a, R> {
     fn worker_gate(&self, worker: usize) -> HoldingGate<'a, R> {
         self.gate(if worker == 0 {
             Thread::First
@@ -130,7 +177,7 @@ impl<'a, R: Clock> GateSource<HoldingGate<'a, R>> for Holding<'a, R> {
         })
     }
 
-    fn reload_gate(&self) -> HoldingGate<'a, R> {
-        self.gate(Thread::Reloads)
+    fn reload_gate(&self, input: usize) -> HoldingGate<'a, R> {
+        self.gate(Thread::Input(input))
     }
 }

@@ -162,6 +162,26 @@ fn show_new(alloc: Global, keys: RandomState, asks: &[Ask], in_one_run: bool) ->
     shown
 }
 
+/// The number of the entry of a new hub's first event.
+fn first_number(alloc: Global, ready: Ready, event: Event, keys: RandomState) -> Option<u64> {
+    let caps = Caps {
+        outbox: 16,
+        history: 2,
+    };
+    let mut hub = Hub::new(alloc, ready, caps, keys).ok()?;
+    let answer = hub.step(event).ok()?;
+    Some(answer.get().number)
+}
+
+#[test]
+fn numbers_begin_at_one(rt: HostRuntime) -> Result<(), Fail> {
+    let keys = RandomState::new(&rt)?;
+    let ready = ready(rt.alloc()).ok_or("memory lacked")?;
+    let event = event(rt.alloc(), Ask::Connect).ok_or("memory lacked")?;
+    assert_eq!(rt; first_number(rt.alloc(), ready, event, keys), Some(1));
+    Ok(())
+}
+
 #[test]
 fn a_run_changes_nothing_once_the_history_is_full(rt: HostRuntime) -> Result<(), Fail> {
     let keys = RandomState::new(&rt)?;

@@ -1,26 +1,32 @@
 use base::Items;
 use bytes::Bytes;
-use policy_doc::{AccountDoc, Accounts, Direction, PermDoc, PermEntry, Policy, PolicyDoc, UserDoc};
+use permission_doc::{Direction, PermDoc, PermEntry};
+use policy_doc::{AccountDoc, Accounts, Policy, PolicyDoc, UserDoc};
 use policy_ready::Ready;
 use std::alloc::Global;
 use subjects::Pattern;
 
-/// The policies of the tests. Each has one account, of user demo.
+/// The policies of the tests. Each has one account, of user demo if there is one.
 #[derive(Clone, Copy)]
 pub enum Given {
     /// User demo may do everything.
     All,
     /// User demo may subscribe to this subject alone.
     Only(&'static str),
+    /// There is no user.
+    Nobody,
 }
 
 /// The policy, ready for use. There is none where memory could not be had.
 pub fn ready_of(alloc: Global, given: Given) -> Option<Ready> {
-    let permissions = match given {
-        Given::All => None,
-        Given::Only(subject) => Some(permissions(entry(alloc, subject)?, alloc)?),
+    let users = match given {
+        Given::All => one_user(alloc, None)?,
+        Given::Only(subject) => {
+            one_user(alloc, Some(permissions(entry(alloc, subject)?, alloc)?))?
+        }
+        Given::Nobody => Items::new(alloc),
     };
-    ready(alloc, account(alloc, permissions)?)
+    ready(alloc, account(alloc, users))
 }
 
 fn entry(alloc: Global, subject: &str) -> Option<PermEntry> {
@@ -46,7 +52,7 @@ fn permissions(entry: PermEntry, alloc: Global) -> Option<PermDoc> {
     })
 }
 
-fn account(alloc: Global, permissions: Option<PermDoc>) -> Option<AccountDoc> {
+fn one_user(alloc: Global, permissions: Option<PermDoc>) -> Option<Items<UserDoc>> {
     let mut users = Vec::new(alloc);
     let demo = UserDoc {
         user: Bytes::from_static(b"demo"),
@@ -54,11 +60,15 @@ fn account(alloc: Global, permissions: Option<PermDoc>) -> Option<AccountDoc> {
         permissions,
     };
     users.push(demo).ok()?;
-    Some(AccountDoc {
-        users: Items::from_vec(users),
+    Some(Items::from_vec(users))
+}
+
+fn account(alloc: Global, users: Items<UserDoc>) -> AccountDoc {
+    AccountDoc {
+        users,
         exports: Items::new(alloc),
         imports: Items::new(alloc),
-    })
+    }
 }
 
 fn ready(alloc: Global, account: AccountDoc) -> Option<Ready> {

@@ -2,9 +2,11 @@
 ghost use Rattle.std.specs.Prelude.{◌≡◌};
 
 use base::{Copying, Shared as Handle};
-use hub::{Command, Entry, Event, Hub, Outcome, Ready, Segment};
+use hub::{Caps, Command, Entry, Event, Hub, Outcome, Ready, Segment};
 use shared_hub::{Audit, AuditFault, Parts, Receipt, Run, Seat};
 use std::alloc::Global;
+use std::hash::RandomState;
+use test_samples::{Given, connect, ready_of, sub};
 
 /// What an audit of all parts tells.
 #[derive(Drop)]
@@ -13,16 +15,58 @@ pub(crate) struct Totals {
     entries: usize,
     /// How many each seat has made.
     counts: Vec<u64>,
+    /// The number of the last receipt that was handed in.
+    last: u64,
 }
 
 impl Totals {
     pub(crate) fn are(&self, entries: usize, counts: &[u64]) -> bool {
         self.entries == entries && self.counts.as_slice() == counts
     }
+
+    /// Whether the last receipt is that of the last entry, and the seats have made all entries.
+    pub(crate) fn end_with_last_receipt(&self) -> bool {
+        let mut made = 0u64;
+        for count in self.counts.as_slice() {
+            made = made.saturating_add(*count);
+        }
+        made == self.entries as u64 && self.last == made
+    }
+}
+
+/// Whether audits are refused for receipts that are forged of the second, which is that of a Subscribed, and handed in behind
+/// all others: a copy beside it, one with the number of another entry, one with this number, which no entry has. What is missing
+/// counts first: a seat, and then a segment.
+pub(crate) fn refuses_forged<L: Run>(
+    alloc: Global,
+    slot: &mut Option<Parts<L>>,
+    number: u64,
+) -> bool
+    requires { L.seats ≡ L.parts }
+{
+    let (other, own) = (number_of(slot, 0), number_of(slot, 1));
+    refuses_remade(alloc, slot, own)
+        && refuses_remade(alloc, slot, other)
+        && refuses_remade(alloc, slot, number)
+        && refuses_incomplete(alloc, slot, number)
+}
+
+/// Whether an audit with a forged receipt is refused for the last segment, while that lacks, and for a seat, while both lack.
+fn refuses_incomplete<L: Run>(alloc: Global, slot: &mut Option<Parts<L>>, number: u64) -> bool
+    requires { L.seats ≡ L.parts }
+{
+    let made = add_remade(alloc, slot, number);
+    let withheld = take_segment(slot);
+    let gap = first_of(&withheld);
+    let missed = misses_a_seat(alloc, slot);
+    let refused = is_refused(alloc, slot, AuditFault::SegmentGap(gap));
+    let put = put_segment(slot, withheld);
+    drop_receipt(slot);
+    made && missed && refused && put
 }
 
 /// Whether an audit is refused that lacks the last seat.
-pub(crate) fn misses_a_seat<L: Run>(alloc: Global, slot: &mut Option<Parts<L>>) -> bool
+fn misses_a_seat<L: Run>(alloc: Global, slot: &mut Option<Parts<L>>) -> bool
     requires { L.seats ≡ L.parts }
 {
     let withheld = take_seat(slot);
@@ -30,7 +74,7 @@ pub(crate) fn misses_a_seat<L: Run>(alloc: Global, slot: &mut Option<Parts<L>>) 
     put_seat(slot, withheld) && refused
 }
 
-/// Whether an audit that lacks the one segment is refused for a gap at this number.
+/// Whether an audit that lacks the last segment is refused for a gap at this number.
 pub(crate) fn has_a_gap<L: Run>(alloc: Global, slot: &mut Option<Parts<L>>, number: u64) -> bool
     requires { L.seats ≡ L.parts }
 {
@@ -39,13 +83,43 @@ pub(crate) fn has_a_gap<L: Run>(alloc: Global, slot: &mut Option<Parts<L>>, numb
     put_segment(slot, withheld) && refused
 }
 
-/// Whether an audit is refused for the second receipt, of a Subscribed, remade with this number and handed in behind all
-/// others.
-pub(crate) fn refuses_remade<L: Run>(
+/// Whether an audit is refused for a gap at this number that has a segment of another run in place of the last.
+pub(crate) fn refuses_foreign<L: Run>(
     alloc: Global,
     slot: &mut Option<Parts<L>>,
+    keys: RandomState,
     number: u64,
 ) -> bool
+    requires { L.seats ≡ L.parts }
+{
+    let withheld = take_segment(slot);
+    let put = put_segment(slot, foreign_segment(alloc, keys));
+    let refused = is_refused(alloc, slot, AuditFault::SegmentGap(number));
+    drop(take_segment(slot));
+    put_segment(slot, withheld) && put && refused
+}
+
+/// The first two entries of a hub whose policy allows a subscription alone.
+fn foreign_segment(alloc: Global, keys: RandomState) -> Option<Segment> {
+    let caps = Caps {
+        outbox: 16,
+        history: 10,
+    };
+    let mut hub = Hub::new(alloc, ready_of(alloc, Given::Only("a"))?, caps, keys).ok()?;
+    enter(&mut hub, connect(alloc, 0)?)?;
+    enter(&mut hub, sub(alloc, 0, "a", 0)?)?;
+    hub.rotate().ok()
+}
+
+fn enter(hub: &mut Hub, what: Command) -> Option<()> {
+    match hub.step(Event { now: 0, what }) {
+        Ok(_) => Some(()),
+        Err(_) => None,
+    }
+}
+
+/// Whether an audit is refused for the second receipt remade with this number.
+fn refuses_remade<L: Run>(alloc: Global, slot: &mut Option<Parts<L>>, number: u64) -> bool
     requires { L.seats ≡ L.parts }
 {
     let made = add_remade(alloc, slot, number);
@@ -60,10 +134,13 @@ pub(crate) fn audited<L: Run>(alloc: Global, slot: &mut Option<Parts<L>>) -> Opt
 {
     match slot.take() {
         None => None,
-        Some(parts) => match finish(alloc, parts) {
-            Ok(audit) => Some(totals_of(audit)),
-            Err(_) => None,
-        },
+        Some(parts) => {
+            let last = last_number(parts.receipts.as_slice());
+            match finish(alloc, parts) {
+                Ok(audit) => Some(totals_of(audit, last)),
+                Err(_) => None,
+            }
+        }
     }
 }
 
@@ -100,11 +177,38 @@ fn finish<L: Run>(alloc: Global, parts: Parts<L>) -> Result<Audit<L>, (AuditFaul
     run.finish(alloc, seats, receipts, segments)
 }
 
-fn totals_of<L: Run>(audit: Audit<L>) -> Totals {
+fn last_number(receipts: &[Receipt]) -> u64 {
+    match receipts.last() {
+        None => 0,
+        Some(receipt) => receipt.number(),
+    }
+}
+
+/// The number of the receipt at this place, 0 if there is none.
+fn number_of<L: Run>(slot: &Option<Parts<L>>, place: usize) -> u64 {
+    match slot {
+        None => 0,
+        Some(parts) => match parts.receipts.get(place) {
+            None => 0,
+            Some(receipt) => receipt.number(),
+        },
+    }
+}
+
+/// The number of a segment's first entry, 0 if there is none.
+fn first_of(segment: &Option<Segment>) -> u64 {
+    match segment {
+        None => 0,
+        Some(segment) => segment.first_number(),
+    }
+}
+
+fn totals_of<L: Run>(audit: Audit<L>, last: u64) -> Totals {
     let entries = entries_of(&audit.hub, audit.segments.as_slice());
     Totals {
         entries,
         counts: audit.counts.into_vec(),
+        last,
     }
 }
 

@@ -1,7 +1,7 @@
 //! A run of a shared hub: threads, each with a seat, and the closing audits.
 ghost use Rattle.std.specs.Prelude.{◌≡◌, length};
 
-use crate::audits::{Totals, audited, has_a_gap, misses_a_seat, refuses_remade};
+use crate::audits::{Totals, audited, has_a_gap, refuses_foreign, refuses_forged};
 use crate::worker::{Place, Row, Site, Stock, Worker};
 use hub::{Caps, Hub};
 use shared_hub::{Blank, Parts, Receipt, Run, Seat, SharedHub, Unlocked};
@@ -11,20 +11,23 @@ use std::marker::Brand;
 use std::sync::Wait;
 use std::thread;
 use std::thread::Threads;
+use std::time::Clock;
 use test_samples::{Given, ready_of};
 
 /// Which audits should be refused before that of all parts.
 #[derive(Clone, Copy)]
 pub(crate) enum Plan {
     None,
-    /// Without the last seat, and with a receipt of this number.
+    /// With forged receipts, the last of which has this number, which no entry has.
     Forged(u64),
-    /// With a gap at this number, without the one segment.
+    /// With a gap at this number, without the last segment.
     Gap(u64),
+    /// With a gap at this number, behind a segment in place of the last, which a run with these keys has handed out.
+    Foreign(RandomState, u64),
 }
 
 /// Runs a thread for each job, over a hub whose policy allows all, and returns what the last audit tells.
-pub(crate) fn run<R: Threads + Wait + Sync>(
+pub(crate) fn run<R: Threads + Wait + Clock + Sync>(
     rt: &R,
     alloc: Global,
     keys: RandomState,
@@ -47,7 +50,7 @@ fn opened(alloc: Global, keys: RandomState) -> Option<Hub> {
     Hub::new(alloc, ready_of(alloc, Given::All)?, caps, keys).ok()
 }
 
-fn shared<L: Run + Send + Sync, R: Threads + Wait + Sync>(
+fn shared<L: Run + Send + Sync, R: Threads + Wait + Clock + Sync>(
     rt: &R,
     alloc: Global,
     blank: Blank,
@@ -104,7 +107,7 @@ fn add_worker<L: Run>(
 }
 
 /// Returns the workers after their work, each in a thread of its own.
-fn worked<L: Run + Send + Sync, R: Threads + Wait + Sync>(
+fn worked<L: Run + Send + Sync, R: Threads + Wait + Clock + Sync>(
     rt: &R,
     alloc: Global,
     lock: &SharedHub<L>,
@@ -164,8 +167,9 @@ fn is_as_planned<L: Run>(alloc: Global, slot: &mut Option<Parts<L>>, plan: Plan)
 {
     match plan {
         Plan::None => true,
-        Plan::Forged(number) => misses_a_seat(alloc, slot) && refuses_remade(alloc, slot, number),
+        Plan::Forged(number) => refuses_forged(alloc, slot, number),
         Plan::Gap(number) => has_a_gap(alloc, slot, number),
+        Plan::Foreign(keys, number) => refuses_foreign(alloc, slot, keys, number),
     }
 }
 

@@ -1,7 +1,7 @@
 use crate::audits::receipt_of;
 use crate::runs::{Plan, run};
 use crate::worker::{Ask, Row, Said};
-use hub::{Command, Entry, Event, Outcome};
+use hub::{Entry, Event, Outcome};
 use permissions::Verdict;
 use std::alloc::Global;
 use std::hash::RandomState;
@@ -37,19 +37,54 @@ const SUBSCRIBE: &[Row] = &[
 
 const RELOAD: &[Row] = &[
     (Ask::Prepare(Given::All), Said::Prepared),
-    (Ask::Reload, Said::Reloaded),
+    (
+        Ask::Reload,
+        Said::InForce {
+            epoch: 2,
+            gone: 0,
+            removed: 0,
+        },
+    ),
     (Ask::Rotate, Said::Rotated),
     (Ask::Prepare(Given::All), Said::Prepared),
-    (Ask::Reload, Said::Reloaded),
+    (
+        Ask::Reload,
+        Said::InForce {
+            epoch: 3,
+            gone: 0,
+            removed: 0,
+        },
+    ),
     (Ask::Rotate, Said::Rotated),
     (Ask::Prepare(Given::All), Said::Prepared),
-    (Ask::Reload, Said::Reloaded),
+    (
+        Ask::Reload,
+        Said::InForce {
+            epoch: 4,
+            gone: 0,
+            removed: 0,
+        },
+    ),
     (Ask::Rotate, Said::Rotated),
     (Ask::Prepare(Given::All), Said::Prepared),
-    (Ask::Reload, Said::Reloaded),
+    (
+        Ask::Reload,
+        Said::InForce {
+            epoch: 5,
+            gone: 0,
+            removed: 0,
+        },
+    ),
     (Ask::Rotate, Said::Rotated),
     (Ask::Prepare(Given::All), Said::Prepared),
-    (Ask::Reload, Said::Reloaded),
+    (
+        Ask::Reload,
+        Said::InForce {
+            epoch: 6,
+            gone: 0,
+            removed: 0,
+        },
+    ),
     (Ask::Rotate, Said::Rotated),
 ];
 
@@ -62,47 +97,184 @@ fn four_threads_subscribe_while_one_reloads_and_rotates(rt: HostRuntime) -> Resu
     Ok(())
 }
 
-// The second policy that comes into force is prepared first. The first ends one subscription, which stands again under
-// the second.
-const ROTATE: &[Row] = &[
+// Both policies are prepared in epoch 1. Each comes into force as the whole that it is: the first ends the subscription that
+// it doesn't allow, and the second, which allows all again, ends nothing and brings nothing back.
+const FEWER_FIRST: &[Row] = &[
     (Ask::Connect, Said::Connected),
     (Ask::Subs("a", 1), Said::Subscribed),
     (Ask::Subs("b", 1), Said::Subscribed),
-    (Ask::Rotate, Said::Rotated),
     (Ask::Prepare(Given::All), Said::Prepared),
     (Ask::Prepare(Given::Only("a")), Said::Prepared),
-    (Ask::Reload, Said::RemovedOne),
-    (Ask::Reload, Said::Reloaded),
+    (Ask::Rotate, Said::Rotated),
+    (
+        Ask::Reload,
+        Said::InForce {
+            epoch: 2,
+            gone: 0,
+            removed: 1,
+        },
+    ),
+    (Ask::Rotate, Said::Rotated),
+    (
+        Ask::Reload,
+        Said::InForce {
+            epoch: 3,
+            gone: 0,
+            removed: 0,
+        },
+    ),
+    (Ask::Pub("b"), Said::Published),
+    (Ask::Pub("a"), Said::Published),
+    (Ask::Take("a"), Said::Took),
+    (Ask::Subs("b", 1), Said::Subscribed),
+    (Ask::Pub("b"), Said::Published),
+    (Ask::Take("b"), Said::Took),
+];
+
+#[test]
+fn the_policy_with_fewer_subscriptions_comes_first(rt: HostRuntime) -> Result<(), Fail> {
+    let keys = RandomState::new(&rt)?;
+    let totals = run(&rt, rt.alloc(), keys, &[FEWER_FIRST], Plan::Gap(4))?;
+    assert!(rt; totals.are(11, &[11]));
+    Ok(())
+}
+
+// The same two in the other order.
+const FEWER_LAST: &[Row] = &[
+    (Ask::Connect, Said::Connected),
+    (Ask::Subs("a", 1), Said::Subscribed),
+    (Ask::Subs("b", 1), Said::Subscribed),
+    (Ask::Prepare(Given::Only("a")), Said::Prepared),
+    (Ask::Prepare(Given::All), Said::Prepared),
+    (Ask::Rotate, Said::Rotated),
+    (
+        Ask::Reload,
+        Said::InForce {
+            epoch: 2,
+            gone: 0,
+            removed: 0,
+        },
+    ),
+    (Ask::Rotate, Said::Rotated),
+    (
+        Ask::Reload,
+        Said::InForce {
+            epoch: 3,
+            gone: 0,
+            removed: 1,
+        },
+    ),
+    (Ask::Subs("b", 1), Said::Denied),
+    (Ask::Pub("b"), Said::Published),
+    (Ask::Pub("a"), Said::Published),
+    (Ask::Take("a"), Said::Took),
+];
+
+#[test]
+fn the_policy_with_fewer_subscriptions_comes_last(rt: HostRuntime) -> Result<(), Fail> {
+    let keys = RandomState::new(&rt)?;
+    let totals = run(&rt, rt.alloc(), keys, &[FEWER_LAST], Plan::Gap(4))?;
+    assert!(rt; totals.are(9, &[9]));
+    Ok(())
+}
+
+const ONE_SEGMENT: &[Row] = &[
+    (Ask::Connect, Said::Connected),
+    (Ask::Subs("a", 1), Said::Subscribed),
+    (Ask::Rotate, Said::Rotated),
     (Ask::Subs("b", 1), Said::Subscribed),
 ];
 
 #[test]
-fn a_run_goes_on_over_a_rotation_and_reloads(rt: HostRuntime) -> Result<(), Fail> {
+fn a_segment_of_another_policy_does_not_join(rt: HostRuntime) -> Result<(), Fail> {
     let keys = RandomState::new(&rt)?;
-    let totals = run(&rt, rt.alloc(), keys, &[ROTATE], Plan::Gap(1))?;
-    assert!(rt; totals.are(6, &[6]));
+    let totals = run(
+        &rt,
+        rt.alloc(),
+        keys,
+        &[ONE_SEGMENT],
+        Plan::Foreign(keys, 3),
+    )?;
+    assert!(rt; totals.are(3, &[3]));
+    Ok(())
+}
+
+const SUBMIT: &[Row] = &[
+    (Ask::Connect, Said::Connected),
+    (Ask::Outlive("x"), Said::Outlived),
+];
+
+const REMOVE: &[Row] = &[
+    (Ask::Prepare(Given::Nobody), Said::Prepared),
+    (Ask::Meet(0), Said::Met),
+    (
+        Ask::Reload,
+        Said::InForce {
+            epoch: 2,
+            gone: 1,
+            removed: 0,
+        },
+    ),
+];
+
+// The reload is the last entry: whatever the connection of the user that it removes submits later makes none.
+#[test]
+fn a_connection_whose_user_goes_enters_nothing_more(rt: HostRuntime) -> Result<(), Fail> {
+    let keys = RandomState::new(&rt)?;
+    let totals = run(&rt, rt.alloc(), keys, &[SUBMIT, REMOVE], Plan::None)?;
+    assert!(rt; totals.end_with_last_receipt());
+    Ok(())
+}
+
+const CHAT: &[Row] = &[
+    (Ask::Connect, Said::Connected),
+    (Ask::Subs("x", 1), Said::Subscribed),
+    (Ask::Chat("x", 2_400), Said::Chatted),
+];
+
+const RACE: &[Row] = &[(Ask::Races(Given::All, Given::Only("x"), 198), Said::Raced)];
+
+#[test]
+fn two_threads_chat_while_two_reload_and_rotate(rt: HostRuntime) -> Result<(), Fail> {
+    let keys = RandomState::new(&rt)?;
+    let totals = run(&rt, rt.alloc(), keys, &[CHAT, CHAT, RACE, RACE], Plan::None)?;
+    assert!(rt; totals.are(10_000, &[4_802, 4_802, 198, 198]));
     Ok(())
 }
 
 #[test]
-fn a_policy_that_allows_all_denies_nothing(rt: HostRuntime) -> Result<(), Fail> {
-    let forged = is_forged(rt.alloc()).ok_or("memory lacked")?;
-    assert!(rt; !forged, "no user of that policy is denied");
+fn a_receipt_has_a_verdict_of_its_policy(rt: HostRuntime) -> Result<(), Fail> {
+    let cases = [
+        (Given::All, Outcome::Subscribed, true),
+        (Given::All, Outcome::Denied(Verdict::NoAllow), false),
+        (Given::Only("a"), Outcome::Subscribed, false),
+        (Given::Only("a"), Outcome::Denied(Verdict::NoAllow), true),
+        (
+            Given::Only("a"),
+            Outcome::Denied(Verdict::DeniedBy(0)),
+            false,
+        ),
+        (Given::Nobody, Outcome::Subscribed, false),
+        (Given::Nobody, Outcome::Denied(Verdict::NoAllow), false),
+    ];
+    for (given, outcome, is_made) in cases {
+        let made = makes_receipt(rt.alloc(), given, outcome).ok_or("memory lacked")?;
+        assert_eq!(rt; made, is_made);
+    }
     Ok(())
 }
 
-/// Whether there is a receipt of a Sub that was denied by a policy that denies nothing.
-fn is_forged(alloc: Global) -> Option<bool> {
-    let ready = ready_of(alloc, Given::All)?;
-    let what = sub(alloc, 1, "a", 1)?;
-    Some(receipt_of(alloc, denied(what), ready).is_some())
-}
-
-fn denied(what: Command) -> Entry {
-    Entry {
+/// Whether there is a receipt of a Sub to `b` with this outcome, under a policy.
+fn makes_receipt(alloc: Global, given: Given, outcome: Outcome) -> Option<bool> {
+    let ready = ready_of(alloc, given)?;
+    let entry = Entry {
         number: 1,
         epoch: 1,
-        outcome: Outcome::Denied(Verdict::NoAllow),
-        event: Event { now: 0, what },
-    }
+        outcome,
+        event: Event {
+            now: 0,
+            what: sub(alloc, 1, "b", 1)?,
+        },
+    };
+    Some(receipt_of(alloc, entry, ready).is_some())
 }

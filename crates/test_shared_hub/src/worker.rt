@@ -1,8 +1,9 @@
 //! What the threads of the tests do.
-use hub::{Command, Delivery, Event, Outcome, Port, Ready, Segment};
+use hub::{Command, Delivery, Entry, Event, HubRefusal, Outcome, Port, Ready, Segment};
 use shared_hub::{Receipt, Run, Seat, SharedHub, SharedPort};
 use std::alloc::Global;
 use std::sync::Wait;
+use std::time::{Clock, Duration};
 use test_samples::{Given, connect, publish, ready_of, sub};
 
 /// What a thread does with its seat, on a connection of its own.
@@ -22,7 +23,24 @@ pub(crate) enum Ask {
     Reload,
     /// A rotation.
     Rotate,
+    /// As many times a message to a subject and a Take, which may give any messages.
+    Chat(&'static str, u64),
+    /// As many times, by turns, one of these policies and a reload of it, which ends nothing; behind each tenth a rotation.
+    Races(Given, Given, u64),
+    /// Takes for a connection until it has a session.
+    Meet(u64),
+    /// Messages to a subject until the session is gone, and then some more, each of which is refused.
+    Outlive(&'static str),
 }
+
+/// How often a thread waits for another. It rests so long each time that this is ten seconds or more.
+const LOOKS: u64 = 100_000;
+
+/// How many messages a thread sends before it rests behind each.
+const QUICK: u64 = 1_000;
+
+/// How many messages it sends at most, so that all fit the history.
+const MOST: u64 = 9_000;
 
 /// What the thread is told.
 #[derive(Clone, Copy, PartialEq, Eq)]
@@ -31,11 +49,22 @@ pub(crate) enum Said {
     Subscribed,
     Published,
     Took,
+    /// A Take that gave none, several, or another message.
+    TookOthers,
     Prepared,
-    Reloaded,
-    /// A reload that ended one subscription.
-    RemovedOne,
+    /// The policy of this epoch is in force. It closed and ended as many sessions and subscriptions.
+    InForce {
+        epoch: u64,
+        gone: usize,
+        removed: usize,
+    },
     Rotated,
+    Chatted,
+    Raced,
+    Met,
+    Outlived,
+    Denied,
+    NoSession,
     /// Anything else, or that there was no memory.
     Otherwise,
 }
@@ -56,7 +85,7 @@ pub(crate) struct Place<'a, L: Run, R> {
     pub(crate) lock: &'a SharedHub<L>,
 }
 
-impl<L: Run, R: Wait> Site<Worker<L>> for Place<'_, L, R> {
+impl<L: Run, R: Wait + Clock> Site<Worker<L>> for Place<'_, L, R> {
     fn work(&self, worker: &mut Worker<L>) {
         worker.work(self.rt, self.alloc, self.lock);
     }
@@ -83,16 +112,26 @@ pub(crate) struct Stock {
 
 impl<L: Run> Worker<L> {
     /// Does what its rows ask, through a port.
-    fn work<R: Wait>(&mut self, rt: &R, alloc: Global, lock: &SharedHub<L>) {
+    fn work<R: Wait + Clock>(&mut self, rt: &R, alloc: Global, lock: &SharedHub<L>) {
         let Some(seat) = self.seat.take() else {
             return;
         };
-        let mut port = SharedPort::new(rt, alloc, lock, seat);
-        self.is_right = is_right(&mut port, alloc, self.conn, self.rows, &mut self.stock);
-        let (seat, receipts) = port.into_parts();
+        let mut desk = Seated {
+            rt,
+            port: SharedPort::new(rt, alloc, lock, seat),
+        };
+        self.is_right = is_right(&mut desk, alloc, self.conn, self.rows, &mut self.stock);
+        let (seat, receipts) = desk.port.into_parts();
         self.seat = Some(seat);
         self.receipts = receipts;
     }
+}
+
+/// A thread's port, and the clock by which it rests.
+#[derive(Drop)]
+struct Seated<'a, L: Run, R: Wait> {
+    rt: &'a R,
+    port: SharedPort<'a, L, R>,
 }
 
 /// What a thread needs of its port. Its users have no clause of the port's to look through.
@@ -101,18 +140,26 @@ trait Desk {
     fn submit(&mut self, what: Command, payload: &str) -> Said;
 
     fn rotate(&mut self) -> Option<Segment>;
+
+    /// Rests for a tenth of a millisecond.
+    fn rest(&self);
 }
 
-impl<L: Run, R: Wait> Desk for SharedPort<'_, L, R> {
+impl<L: Run, R: Wait + Clock> Desk for Seated<'_, L, R> {
     fn submit(&mut self, what: Command, payload: &str) -> Said {
-        match Port::submit(self, Event { now: 0, what }) {
-            Ok(answer) => said_of(&answer.get().outcome, payload),
+        match Port::submit(&mut self.port, Event { now: 0, what }) {
+            Ok(answer) => said_of(answer.get(), payload),
+            Err((_, HubRefusal::NoSession)) => Said::NoSession,
             Err(_) => Said::Otherwise,
         }
     }
 
     fn rotate(&mut self) -> Option<Segment> {
-        SharedPort::rotate(self).ok()
+        self.port.rotate().ok()
+    }
+
+    fn rest(&self) {
+        self.rt.sleep(Duration::from_micros(100));
     }
 }
 
@@ -141,7 +188,95 @@ fn told<D: Desk>(desk: &mut D, alloc: Global, conn: u64, ask: Ask, stock: &mut S
         Ask::Prepare(given) => prepare(alloc, given, &mut stock.policies),
         Ask::Reload => submit(desk, reload(&mut stock.policies), ""),
         Ask::Rotate => keep(desk.rotate(), &mut stock.segments),
+        Ask::Chat(subject, times) => chat(desk, alloc, conn, subject, times),
+        Ask::Races(one, other, times) => race(desk, alloc, [one, other], times, stock),
+        Ask::Meet(other) => meet(desk, other),
+        Ask::Outlive(subject) => outlive(desk, alloc, conn, subject),
     }
+}
+
+fn chat<D: Desk>(desk: &mut D, alloc: Global, conn: u64, subject: &str, times: u64) -> Said {
+    for _ in 0..times {
+        if submit(desk, publish(alloc, conn, subject), "") != Said::Published {
+            return Said::Otherwise;
+        }
+        match desk.submit(Command::Take { conn, most: 5 }, subject) {
+            Said::Took | Said::TookOthers => {}
+            _ => return Said::Otherwise,
+        }
+    }
+    Said::Chatted
+}
+
+fn race<D: Desk>(
+    desk: &mut D,
+    alloc: Global,
+    policies: [Given; 2],
+    times: u64,
+    stock: &mut Stock,
+) -> Said {
+    for time in 0..times {
+        let given = policies[if time % 2 == 0 { 0 } else { 1 }];
+        if !ends_nothing(desk, alloc, given, stock) {
+            return Said::Otherwise;
+        }
+        if time % 10 == 0 && keep(desk.rotate(), &mut stock.segments) != Said::Rotated {
+            return Said::Otherwise;
+        }
+    }
+    Said::Raced
+}
+
+/// Whether a policy comes into force, and closes and ends nothing.
+fn ends_nothing<D: Desk>(desk: &mut D, alloc: Global, given: Given, stock: &mut Stock) -> bool {
+    if prepare(alloc, given, &mut stock.policies) != Said::Prepared {
+        return false;
+    }
+    match submit(desk, reload(&mut stock.policies), "") {
+        Said::InForce { gone, removed, .. } => gone == 0 && removed == 0,
+        _ => false,
+    }
+}
+
+fn meet<D: Desk>(desk: &mut D, other: u64) -> Said {
+    for _ in 0..LOOKS {
+        match desk.submit(
+            Command::Take {
+                conn: other,
+                most: 5,
+            },
+            "",
+        ) {
+            Said::NoSession => desk.rest(),
+            Said::TookOthers => return Said::Met,
+            _ => return Said::Otherwise,
+        }
+    }
+    Said::Otherwise
+}
+
+fn outlive<D: Desk>(desk: &mut D, alloc: Global, conn: u64, subject: &str) -> Said {
+    for sent in 0..MOST {
+        match submit(desk, publish(alloc, conn, subject), "") {
+            Said::Published => {}
+            Said::NoSession => return stay_gone(desk, alloc, conn, subject),
+            _ => return Said::Otherwise,
+        }
+        if sent >= QUICK {
+            desk.rest();
+        }
+    }
+    Said::Otherwise
+}
+
+/// Whether some more messages are each refused, since there is no session.
+fn stay_gone<D: Desk>(desk: &mut D, alloc: Global, conn: u64, subject: &str) -> Said {
+    for _ in 0..QUICK {
+        if submit(desk, publish(alloc, conn, subject), "") != Said::NoSession {
+            return Said::Otherwise;
+        }
+    }
+    Said::Outlived
 }
 
 fn submit<D: Desk>(desk: &mut D, what: Option<Command>, payload: &str) -> Said {
@@ -187,8 +322,8 @@ fn keep(segment: Option<Segment>, segments: &mut Vec<Segment>) -> Said {
     }
 }
 
-fn said_of(outcome: &Outcome, payload: &str) -> Said {
-    match outcome {
+fn said_of(entry: &Entry, payload: &str) -> Said {
+    match &entry.outcome {
         Outcome::Connected => Said::Connected,
         Outcome::Subscribed => Said::Subscribed,
         Outcome::Published(_, _) => Said::Published,
@@ -196,10 +331,15 @@ fn said_of(outcome: &Outcome, payload: &str) -> Said {
             if !*missed && is_one(deliveries.as_slice(), payload) {
                 Said::Took
             } else {
-                Said::Otherwise
+                Said::TookOthers
             }
         }
-        Outcome::Reloaded { gone, removed } => after_reload(gone.len(), removed.len()),
+        Outcome::Reloaded { gone, removed } => Said::InForce {
+            epoch: u64::try_from(entry.epoch).unwrap_or(0),
+            gone: gone.len(),
+            removed: removed.len(),
+        },
+        Outcome::Denied(_) => Said::Denied,
         _ => Said::Otherwise,
     }
 }
@@ -209,16 +349,6 @@ fn is_one(deliveries: &[Delivery], payload: &str) -> bool {
     match deliveries {
         [one] => one.message.payload() == payload.as_bytes(),
         _ => false,
-    }
-}
-
-fn after_reload(gone: usize, removed: usize) -> Said {
-    if gone == 0 && removed == 0 {
-        Said::Reloaded
-    } else if gone == 0 && removed == 1 {
-        Said::RemovedOne
-    } else {
-        Said::Otherwise
     }
 }
 

@@ -1,0 +1,17 @@
+echo 'policy {"accounts":{"Q":{"users":[{"user":"q","password":"q"}],"exports":[{"service":"pubq.C"}]},"R":{"users":[{"user":"r","password":"r"}],"imports":[{"service":{"account":"Q","subject":"pubq.C"},"to":"Q"}]}}}'
+echo 'open 1'
+echo 'send 1 CONNECT {"user":"q","pass":"q","verbose":false}\r\n'
+echo 'open 2'
+echo 'send 2 CONNECT {"user":"r","pass":"r","verbose":false}\r\n'
+echo 'send 1 SUB pubq.C 1\r\n'
+echo 'send 2 SUB inbox.* 2\r\n'
+request='PUB Q inbox.1 0\r\n\r\n'
+for ((i = 0; i < 6; i++)); do request=$request$request; done
+for ((i = 0; i < 1024; i++)); do echo "send 2 $request"; done
+echo 'send 2 PUB Q inbox.1 4\r\nfull\r\nPING\r\n'
+echo 'send 1 PUB _R_.0000000000000000.9 2\r\nok\r\n'
+echo 'send 2 PUB Q inbox.1 4\r\nfits\r\nPUB Q inbox.1 4\r\nfull\r\n'
+echo 'now 120000'
+echo 'send 2 PUB Q inbox.1 4\r\nfull\r\n'
+echo 'now 120001'
+echo 'send 2 PUB Q inbox.1 5\r\nagain\r\n'
