@@ -33,9 +33,12 @@ passes_by_number is_within among queue asked entries index text is numbers j bel
     let i = its.chosen.0 in
     let literal : AreLiteral its.places e.subject = subst (AreLiteral its.places) same its.literal in
     let number : at index.numbers j ≡ number_at its.places (tokens_of text) =
-        its.number_is ∙ ap (number_at its.places) same ∙ numbers e.subject (and_parts (is_looked_at among queue e) (is_within e.subject asked) passes).1 its.places literal in
-    (i, its.chosen.1, (λ before. absurd (omega (arith, before))),
-      number ∙ ap (λ places. number_at places (tokens_of text)) (sym its.chosen.2 ∙ get_or_default index.choices i its.places 0 its.chosen.1))
+    its.number_is ∙ ap (number_at its.places) same ∙ numbers e.subject (and_parts (is_looked_at among queue e) (is_within e.subject asked) passes).1 its.places literal in (
+      i,
+      its.chosen.1,
+      (λ before. absurd (omega (arith, before))),
+      number ∙ ap (λ places. number_at places (tokens_of text)) (sym its.chosen.2 ∙ get_or_default index.choices i its.places 0 its.chosen.1),
+    )
 
 pub subject_numbers : (s : List Token) (text : List ℕ) → IsSubject s → text ≡ text_of s → (entry : List Token) → in_set entry s ≡ true → HasNumbers entry (tokens_of text)
 subject_numbers s text subject is entry has places literal =

@@ -135,7 +135,12 @@ impl Compiled {
     {
         match &self.indexed {
             None => Verdict::Allowed(By::All),
-            Some(indexed) => on_subscribe(&indexed.lists.subscribe, &indexed.subscribe, pattern, queue),
+            Some(indexed) => on_subscribe(
+                &indexed.lists.subscribe,
+                &indexed.subscribe,
+                pattern,
+                queue,
+            ),
         }
     }
 
@@ -171,7 +176,12 @@ impl Compiled {
     {
         match &self.indexed {
             None => Verdict::Allowed(By::All),
-            Some(indexed) => on_delivery(&indexed.lists.subscribe, &indexed.subscribe, subject, queue),
+            Some(indexed) => on_delivery(
+                &indexed.lists.subscribe,
+                &indexed.subscribe,
+                subject,
+                queue,
+            ),
         }
     }
 }

@@ -33,11 +33,7 @@ pub(crate) enum Among {
 }
 
 /// The verdict of a direction's lists on a publish.
-pub(crate) fn on_publish(
-    rules: &Direction,
-    indexes: &Indexes,
-    subject: &SubjectRef<'_>,
-) -> Verdict
+pub(crate) fn on_publish(rules: &Direction, indexes: &Indexes, subject: &SubjectRef<'_>) -> Verdict
     requires { AreIndexesOf rules.now indexes.now }
     ensures { result ≡ publish_by rules.now subject.now }
 {
@@ -132,7 +128,11 @@ pub(crate) fn on_delivery(
 }
 
 /// The index of the first entry that has the whole of what is asked, whatever its queue part.
-fn first_with<A: SubjectSet>(entries: &[PermEntry], index: &PatternIndex, asked: &A) -> Option<usize>
+fn first_with<A: SubjectSet>(
+    entries: &[PermEntry],
+    index: &PatternIndex,
+    asked: &A,
+) -> Option<usize>
     requires { IsIndexOf entries.now index.now }
     ensures { result ≡ position (λ (e : Entry). A.is_within e.subject asked.now) entries.now }
 {

@@ -180,7 +180,12 @@ pub fn publish_in(
 ) -> Result<u64, CostFault> {
     let ready = policy_of(alloc, scenario)?;
     let mut server = Server::new(alloc, keys, ready)?;
-    let played = play(alloc, &mut server, scenario, messages / scenario.piece.max(1));
+    let played = play(
+        alloc,
+        &mut server,
+        scenario,
+        messages / scenario.piece.max(1),
+    );
     let sent = server.sent();
     drop(server);
     match played {

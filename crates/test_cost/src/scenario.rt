@@ -108,10 +108,7 @@ const BESIDE_IMPORTS: Scenario = Scenario {
     ..TO_ONE
 };
 
-const ONE_AT_A_TIME: Scenario = Scenario {
-    piece: 1,
-    ..TO_ONE
-};
+const ONE_AT_A_TIME: Scenario = Scenario { piece: 1, ..TO_ONE };
 
 const REQUESTS: Scenario = Scenario {
     service: true,

@@ -17,7 +17,7 @@ loop-pattern-preserved c =
     let places = c.places_of-places.result in
     let before : List (List Token) = map (λ p. p.now) (take i c.args.patterns.now) in
     let after : map (λ p. p.now) (take (i + 1) c.args.patterns.now) ≡ before ++ pattern.now ∷ [] =
-        map_more (λ p. p.now) c.args.patterns.now i pattern c.loop-pattern-test.true ∙ ap (λ p. before ++ p.now ∷ []) (sym c.pattern-item.is) in
+    map_more (λ p. p.now) c.args.patterns.now i pattern c.loop-pattern-test.true ∙ ap (λ p. before ++ p.now ∷ []) (sym c.pattern-item.is) in
     subst (λ (ps : List (List Token)). AreNumbered ps c.push-in-loop-pattern.new.self.items c.push.new.self.items) (sym after)
     (subst (λ (ns : List ℕ). AreNumbered (before ++ pattern.now ∷ []) ns c.push.new.self.items) (sym c.in_ok-push-2.ensures.items)
     (subst (λ (ms : List ℕ). AreNumbered (before ++ pattern.now ∷ []) (c.loop-pattern.numbers.items ++ c.number_of.result ∷ []) ms) (sym c.in_ok-push.ensures.items)
