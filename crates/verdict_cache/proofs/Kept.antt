@@ -1,5 +1,5 @@
 -- What is kept stays current, and nothing else is found.
-use Rattle.std.proofs.Common.{◌≡◌, ◌∙◌, ◌<◌, ◌≤◌, ◌⊎◌, ◌&&◌, nat_eq, inl, inr, ℕ, Bool, true, false, List, Option, Some, None, Result, Ok, Err, Contains, length, ap, sym, subst, refl, slice_index_or, arith}
+use Rattle.std.proofs.Common.{◌≡◌, ◌∙◌, ◌<◌, ◌⊎◌, ◌&&◌, nat_eq, inl, inr, ℕ, Bool, true, false, List, Some, None, Result, Ok, Err, Contains, ap, sym, subst, refl, slice_index_or, arith}
 use Rattle.std.specs.Prelude.{All, OnOk, if◌then◌else◌}
 use Rattle.std.specs.Result.{is_err}
 use Rattle.std.specs.Cmp.{booleans_Decides}
@@ -11,7 +11,6 @@ use Rattle.std.specs.Map.{lookup}
 use Rattle.std.proofs.lemmas.List.{get_or_default}
 use Rattle.lru.specs.LruCache.{LruCache, promoted, put_entries}
 use Rattle.lru.proofs.CallerLemmas.{Contains-lookup, Contains-promoted, Contains-put_entries}
-use Rattle.permissions.specs.declared.verdict.Verdict.{Verdict}
 use Rattle.verdict_cache.specs.declared.asked.Asked.{Asked}
 use Rattle.verdict_cache.specs.declared.cache.Known.{Known}
 use Rattle.verdict_cache.specs.declared.asked.Action.{Action}

@@ -13,6 +13,21 @@ pub struct Known {
     verdict: Verdict,
 }
 
+impl Known {
+    ghost use Rattle.std.specs.Prelude.{◌≡◌, IfSome};
+
+    /// Returns the verdict if it was given in this epoch.
+    fn verdict_in(&self, epoch: u64) -> Option<Verdict>
+        ensures { IfSome result (λ verdict. (self.now.epoch ≡ epoch) × (verdict ≡ self.now.verdict)) }
+    {
+        if self.epoch == epoch {
+            Some(self.verdict)
+        } else {
+            None
+        }
+    }
+}
+
 /// The verdicts that were used last, at most 4,096.
 ///
 /// An epoch is the number of a policy: each reload raises it. A verdict of an earlier epoch is never answered, and the next one
@@ -65,8 +80,8 @@ impl VerdictCache {
             return None;
         }
         match self.known.get(&self.asked) {
-            Some(known) if known.epoch == epoch => Some(known.verdict),
-            _ => None,
+            Some(known) => known.verdict_in(epoch),
+            None => None,
         }
     }
 

@@ -1,4 +1,4 @@
-use Rattle.std.proofs.Common.{◌∙◌, true, ap, sym, subst, refl}
+use Rattle.std.proofs.Common.{◌∙◌, ap, sym, subst, refl}
 use Rattle.std.specs.Prelude.{All}
 use Rattle.lru.specs.LruCache.{LruCache}
 use Rattle.verdict_cache.specs.declared.asked.Asked.{Asked}
