@@ -1,7 +1,6 @@
 //! A run of a shared hub: threads, each with a seat, and the closing audits.
 ghost use Rattle.std.specs.Prelude.{◌≡◌, length};
 
-use crate::audits::{Totals, audited, has_a_gap, refuses_foreign, refuses_forged};
 use crate::worker::{Place, Row, Site, Stock, Worker};
 use hub::{Caps, Hub};
 use shared_hub::{Blank, Parts, Receipt, Run, Seat, SharedHub, Unlocked};
@@ -12,6 +11,7 @@ use std::sync::Wait;
 use std::thread;
 use std::thread::Threads;
 use std::time::Clock;
+use test_audits::{Totals, audited, has_a_gap, refuses_foreign, refuses_forged};
 use test_samples::{Given, ready_of};
 
 /// Which audits should be refused before that of all parts.

@@ -1,4 +1,3 @@
-use crate::audits::receipt_of;
 use crate::runs::{Plan, run};
 use crate::worker::{Ask, Row, Said};
 use hub::{Entry, Event, Outcome};
@@ -6,6 +5,7 @@ use permissions::Verdict;
 use std::alloc::Global;
 use std::hash::RandomState;
 use std::test::Fail;
+use test_audits::receipt_of;
 use test_samples::{Given, ready_of, sub};
 
 const TALK_A: &[Row] = &[

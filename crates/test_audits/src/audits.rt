@@ -1,4 +1,3 @@
-//! The closing audits of a run. What they judge stays behind one handle, so that nothing large is alive where one is refused.
 ghost use Rattle.std.specs.Prelude.{◌≡◌};
 
 use base::{Copying, Shared as Handle};
@@ -10,7 +9,7 @@ use test_samples::{Given, connect, ready_of, sub};
 
 /// What an audit of all parts tells.
 #[derive(Drop)]
-pub(crate) struct Totals {
+pub struct Totals {
     /// How many entries the history has.
     entries: usize,
     /// How many each seat has made.
@@ -20,12 +19,12 @@ pub(crate) struct Totals {
 }
 
 impl Totals {
-    pub(crate) fn are(&self, entries: usize, counts: &[u64]) -> bool {
+    pub fn are(&self, entries: usize, counts: &[u64]) -> bool {
         self.entries == entries && self.counts.as_slice() == counts
     }
 
     /// Whether the last receipt is that of the last entry, and the seats have made all entries.
-    pub(crate) fn end_with_last_receipt(&self) -> bool {
+    pub fn end_with_last_receipt(&self) -> bool {
         let mut made = 0u64;
         for count in self.counts.as_slice() {
             made = made.saturating_add(*count);
@@ -37,11 +36,7 @@ impl Totals {
 /// Whether audits are refused for receipts that are forged of the second, which is that of a Subscribed, and handed in behind
 /// all others: a copy beside it, one with the number of another entry, one with this number, which no entry has. What is missing
 /// counts first: a seat, and then a segment.
-pub(crate) fn refuses_forged<L: Run>(
-    alloc: Global,
-    slot: &mut Option<Parts<L>>,
-    number: u64,
-) -> bool
+pub fn refuses_forged<L: Run>(alloc: Global, slot: &mut Option<Parts<L>>, number: u64) -> bool
     requires { L.seats ≡ L.parts }
 {
     let (other, own) = (number_of(slot, 0), number_of(slot, 1));
@@ -75,7 +70,7 @@ fn misses_a_seat<L: Run>(alloc: Global, slot: &mut Option<Parts<L>>) -> bool
 }
 
 /// Whether an audit that lacks the last segment is refused for a gap at this number.
-pub(crate) fn has_a_gap<L: Run>(alloc: Global, slot: &mut Option<Parts<L>>, number: u64) -> bool
+pub fn has_a_gap<L: Run>(alloc: Global, slot: &mut Option<Parts<L>>, number: u64) -> bool
     requires { L.seats ≡ L.parts }
 {
     let withheld = take_segment(slot);
@@ -84,7 +79,7 @@ pub(crate) fn has_a_gap<L: Run>(alloc: Global, slot: &mut Option<Parts<L>>, numb
 }
 
 /// Whether an audit is refused for a gap at this number that has a segment of another run in place of the last.
-pub(crate) fn refuses_foreign<L: Run>(
+pub fn refuses_foreign<L: Run>(
     alloc: Global,
     slot: &mut Option<Parts<L>>,
     keys: RandomState,
@@ -129,7 +124,7 @@ fn refuses_remade<L: Run>(alloc: Global, slot: &mut Option<Parts<L>>, number: u6
 }
 
 /// Audits all parts, and returns what that tells, unless it is refused.
-pub(crate) fn audited<L: Run>(alloc: Global, slot: &mut Option<Parts<L>>) -> Option<Totals>
+pub fn audited<L: Run>(alloc: Global, slot: &mut Option<Parts<L>>) -> Option<Totals>
     requires { L.seats ≡ L.parts }
 {
     match slot.take() {
@@ -293,7 +288,7 @@ fn subscribed(number: u64, epoch: u128, what: Command) -> Entry {
 }
 
 /// The receipt of an entry under a policy, if there is one.
-pub(crate) fn receipt_of(alloc: Global, entry: Entry, ready: Ready) -> Option<Receipt> {
+pub fn receipt_of(alloc: Global, entry: Entry, ready: Ready) -> Option<Receipt> {
     match Handle::new(alloc, entry) {
         Ok(answer) => Receipt::from_parts(answer, ready),
         Err(_) => None,
