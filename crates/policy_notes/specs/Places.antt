@@ -12,7 +12,7 @@ use Rattle.policy_doc.specs.declared.fault.PolicyFault.{PolicyFault}
 use Rattle.policy_doc.specs.declared.fault.PolicyFault.TheVariants.{DuplicateUser}
 use Rattle.policy_walk.specs.Path.{Path, at_key, at_index}
 use Rattle.policy_walk.specs.declared.fault.ConfigFault.{ConfigFault}
-use Rattle.policy_walk.specs.declared.fault.ConfigFault.TheVariants.{TooLarge, NotJson, UnknownKey, WrongType, BadSubject, BadDuration, BadMax, BadName, HashedPassword, NoMemory}
+use Rattle.policy_walk.specs.declared.fault.ConfigFault.TheVariants.{TooLarge, NotJson, UnknownKey, WrongType, BadSubject, BadDuration, BadMax, BadName, HashedPassword, BadWeight, BadDestination, NoMemory}
 use Rattle.reload.specs.declared.fault.ReloadFault.{ReloadFault}
 use Rattle.reload.specs.declared.fault.ReloadFault.TheVariants.{Config, Policy}
 use Rattle.policy_places.specs.Names.{at_of}
@@ -27,7 +27,7 @@ use Rattle.policy_notes.specs.declared.place.Named.{Named}
 abbrev pub naming : Path → Bool → Option Named
 naming path is_shown = Some (record { path = path; is_shown = is_shown })
 
--- of a document's fault: a text that is no pattern, no duration or no name is shown
+-- of a document's fault: a text that is no pattern, duration, name, weight or destination is shown
 abbrev pub named_by_config : ConfigFault → Option Named
 named_by_config TooLarge = None
 named_by_config NotJson = None
@@ -38,6 +38,8 @@ named_by_config (BadDuration path) = naming path true
 named_by_config (BadMax path) = naming path false
 named_by_config (BadName path) = naming path true
 named_by_config (HashedPassword path) = naming path false
+named_by_config (BadWeight path) = naming path true
+named_by_config (BadDestination path) = naming path true
 named_by_config NoMemory = None
 
 -- the row of an account that has a policy's fault: of a user that there is already, its name, which is shown

@@ -26,7 +26,7 @@ pub(crate) struct Named {
     is_shown: bool,
 }
 
-/// Returns the path of a fault, if it has one. A text that is no pattern, no duration or no name is shown.
+/// Returns the path of a fault, if it has one. A text that is no pattern, duration, name, weight or destination is shown.
 pub(crate) fn path_of(alloc: Global, fault: &ReloadFault) -> Result<Option<Named>, NoMemory>
     ensures { IfOk result (λ found. found ≡ named_by fault.now) }
 {
@@ -48,6 +48,8 @@ fn path_of_config(alloc: Global, fault: &ConfigFault) -> Result<Option<Named>, N
         ConfigFault::BadSubject(path) => naming(alloc, path, true),
         ConfigFault::BadDuration(path) => naming(alloc, path, true),
         ConfigFault::BadName(path) => naming(alloc, path, true),
+        ConfigFault::BadWeight(path) => naming(alloc, path, true),
+        ConfigFault::BadDestination(path) => naming(alloc, path, true),
         ConfigFault::UnknownKey(path) => naming(alloc, path, false),
         ConfigFault::WrongType(path) => naming(alloc, path, false),
         ConfigFault::BadMax(path) => naming(alloc, path, false),

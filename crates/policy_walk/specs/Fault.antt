@@ -1,7 +1,7 @@
 -- What reading a policy answers: what was read, or the first fault.
 use Rattle.std.specs.Prelude.{◌≡◌, ◌≢◌, ◌++◌, ℕ, List, [], codes, Bool, true, false, Result, Ok, Err}
 use Rattle.policy_walk.specs.declared.fault.ConfigFault.{ConfigFault}
-use Rattle.policy_walk.specs.declared.fault.ConfigFault.TheVariants.{TooLarge, NotJson, UnknownKey, WrongType, BadSubject, BadDuration, BadMax, BadName, HashedPassword, NoMemory}
+use Rattle.policy_walk.specs.declared.fault.ConfigFault.TheVariants.{TooLarge, NotJson, UnknownKey, WrongType, BadSubject, BadDuration, BadMax, BadName, HashedPassword, BadWeight, BadDestination, NoMemory}
 
 -- what reading one part of a policy gives, memory aside
 abbrev pub Read : Type 0 → Type 0
@@ -33,6 +33,8 @@ is_memory (BadDuration _) = false
 is_memory (BadMax _) = false
 is_memory (BadName _) = false
 is_memory (HashedPassword _) = false
+is_memory (BadWeight _) = false
+is_memory (BadDestination _) = false
 is_memory NoMemory = true
 
 -- the name of a fault, with a space where its path follows
@@ -46,6 +48,8 @@ fault_title (BadDuration _) = codes "config BadDuration "
 fault_title (BadMax _) = codes "config BadMax "
 fault_title (BadName _) = codes "config BadName "
 fault_title (HashedPassword _) = codes "config HashedPassword "
+fault_title (BadWeight _) = codes "config BadWeight "
+fault_title (BadDestination _) = codes "config BadDestination "
 fault_title NoMemory = codes "no memory"
 
 -- where a fault stands
@@ -59,6 +63,8 @@ fault_path (BadDuration path) = path
 fault_path (BadMax path) = path
 fault_path (BadName path) = path
 fault_path (HashedPassword path) = path
+fault_path (BadWeight path) = path
+fault_path (BadDestination path) = path
 fault_path NoMemory = []
 
 -- the line that tells an operator of a fault

@@ -26,6 +26,11 @@ pub enum ConfigFault {
     BadName(Path),
     /// A password begins as a hashed one does, with `$2`.
     HashedPassword(Path),
+    /// A weight is no whole number from 1 to 100, and no text of one to three digits, of such a number, and `%`. Or the
+    /// weights of a source add up to more than 100; the path is the source's.
+    BadWeight(Path),
+    /// A destination is no template for the subjects of its source.
+    BadDestination(Path),
     /// Memory could not be had for reading, or for keeping what was read.
     NoMemory,
 }
@@ -59,6 +64,8 @@ impl ConfigFault {
             ConfigFault::BadMax(_) => false,
             ConfigFault::BadName(_) => false,
             ConfigFault::HashedPassword(_) => false,
+            ConfigFault::BadWeight(_) => false,
+            ConfigFault::BadDestination(_) => false,
         }
     }
 
@@ -76,6 +83,8 @@ impl ConfigFault {
             ConfigFault::BadMax(_) => "config BadMax ",
             ConfigFault::BadName(_) => "config BadName ",
             ConfigFault::HashedPassword(_) => "config HashedPassword ",
+            ConfigFault::BadWeight(_) => "config BadWeight ",
+            ConfigFault::BadDestination(_) => "config BadDestination ",
             ConfigFault::NoMemory => "no memory",
         }
     }
@@ -94,6 +103,8 @@ impl ConfigFault {
             ConfigFault::BadMax(path) => path.as_str(),
             ConfigFault::BadName(path) => path.as_str(),
             ConfigFault::HashedPassword(path) => path.as_str(),
+            ConfigFault::BadWeight(path) => path.as_str(),
+            ConfigFault::BadDestination(path) => path.as_str(),
             ConfigFault::NoMemory => "",
         }
     }
