@@ -15,7 +15,8 @@ with_front front read = read >>= λ xs. Ok (front ++ xs)
 abbrev pub from_index : {X : Type 0} → (Path → Data → Read X) → Path → List X → ℕ → List Value → Read (List X)
 from_index reader path front i values = with_front front (each reader path i (items_view (drop i values)))
 
-regroup : {X : Type 0} (front : List X) (x : X) (read : Read (List X)) → with_front front (read >>= λ xs. Ok (x ∷ xs)) ≡ with_front (front ++ x ∷ []) read
+-- one value more in front
+pub regroup : {X : Type 0} (front : List X) (x : X) (read : Read (List X)) → with_front front (read >>= λ xs. Ok (x ∷ xs)) ≡ with_front (front ++ x ∷ []) read
 regroup front x (Ok xs) = ap (λ ys. Ok ys) (sym (append_assoc front (x ∷ []) xs))
 regroup front x (Err e) = refl
 
