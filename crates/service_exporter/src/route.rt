@@ -185,8 +185,7 @@ fn own_subject(alloc: Global, subject: &SubjectRef<'_>) -> Result<Subject, NoMem
     ensures { IfOk result (λ own. own ≡ subject.now) }
 {
     let _known = subject.tokens();
-    match Subject::parse(alloc, subject.bytes()) {
-        Ok(own) => Ok(own),
-        Err(_) => Err(NoMemory),
-    }
+    let text = Vec::from_slice(alloc, subject.bytes())?;
+    let own = Subject::known(alloc, text)?;
+    Ok(own)
 }

@@ -1,6 +1,13 @@
--- it is read of the subject's text
-use Rattle.service_subjects.proofs.Tokens.{read_again}
+-- its text is the subject's
+use Rattle.std.proofs.Common.{◌∙◌, ap, subst, sym}
+use Rattle.subjects.specs.Subject.{IsSubject, tokens_of}
+use Rattle.subjects.proofs.Text.{again}
 use Rattle.service_exporter.proofs.route.own_subject.Goals as goal
 
-pub returns-in-Ok : goal.returns-in-Ok
-returns-in-Ok c = read_again c.args.subject.now c.in-Ok.own c.bytes.result.now _ c.bytes.ensures c.tokens-known.ensures.grammar c.in-Ok.ensures.tokens
+pub known-requires : goal.known-requires
+known-requires c =
+    subst IsSubject (sym (ap tokens_of (c.in_ok-text.ensures.items ∙ c.bytes.ensures) ∙ again c.args.subject.now c.tokens-known.ensures.grammar)) c.tokens-known.ensures.grammar
+
+pub returns : goal.returns
+returns c =
+    c.in_ok-own.ensures ∙ ap tokens_of (c.in_ok-text.ensures.items ∙ c.bytes.ensures) ∙ again c.args.subject.now c.tokens-known.ensures.grammar
