@@ -1,8 +1,8 @@
 //! Response routes: on which subjects an exporter's services may answer the requests of other accounts, and for how long.
 //!
 //! A request that crosses into an exporting account opens a route. A response on the route's subject reaches the account
-//! that asked, on the reply of its request. A route is found by its number, by halves, without a map of texts. What is dead
-//! leaves the memory a few at a time as others come.
+//! that asked, on the reply of its request. A route is found by its number, without a map of texts: where it stands if no number
+//! is missing before it, else by halves. What is dead leaves the memory a few at a time as others come.
 //!
 //! `reserve` counts the routes that live only where an exporter has 65,536 slots or more in memory, and it isn't known already
 //! whether there are too many. One count tells how many live from then on, and up to which moment all of them do, and each

@@ -20,11 +20,25 @@ pub(crate) struct Slot {
     pub route: Option<Route>,
 }
 
-/// The place of a number's slot, by binary search.
+/// The place that a number has if none is missing between it and the first.
+fn near_place(slots: &[Slot], number: u64) -> usize {
+    match slots.first() {
+        None => 0,
+        Some(first) => number.wrapping_sub(first.number) as usize,
+    }
+}
+
+/// The place of a number's slot: mostly the near one, else it is found by binary search.
 fn place_of(slots: &[Slot], number: u64) -> Option<usize>
     requires { AreRising slots.now }
     ensures { MatchOption result (IsAbsent number slots.now) (λ place. IsPlaceOf number slots.now place) }
 {
+    let near = near_place(slots, number);
+    if let Some(slot) = slots.get(near) {
+        if slot.number == number {
+            return Some(near);
+        }
+    }
     match slots.binary_search_by_key(&number, |slot| slot.number) {
         Err(_) => None,
         Ok(place) => Some(place),
