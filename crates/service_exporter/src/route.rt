@@ -34,11 +34,15 @@ pub trait ServiceRows {
 /// What an exporter's response needs of the request that it answers. It keeps nothing of what the request was read from.
 #[derive(Debug, Drop)]
 pub struct Route {
-    word: u64,
-    row: Row,
+    /// The word in its subject.
+    pub(crate) word: u64,
+    /// The import row by which the request came.
+    pub(crate) row: Row,
     reply: Subject,
+    /// The moment of the request, in milliseconds.
     noted: u64,
-    terms: ResponseTerms,
+    /// On what terms it is answered.
+    pub(crate) terms: ResponseTerms,
 }
 
 impl Route {
@@ -68,20 +72,6 @@ impl Route {
         })
     }
 
-    /// The word in its subject.
-    pub fn word(&self) -> u64
-        ensures { result ≡ self.now.word }
-    {
-        self.word
-    }
-
-    /// The import row by which the request came.
-    pub fn row(&self) -> &Row
-        ensures { result.now ≡ self.now.row }
-    {
-        &self.row
-    }
-
     /// The account that asked: the row's importer.
     pub fn requester(&self) -> &Bytes
         ensures { result.now ≡ self.now.row.importer }
@@ -94,20 +84,6 @@ impl Route {
         ensures { result.now ≡ self.now.reply }
     {
         &self.reply
-    }
-
-    /// The moment of the request, in milliseconds.
-    pub fn noted(&self) -> u64
-        ensures { result ≡ self.now.noted }
-    {
-        self.noted
-    }
-
-    /// On what terms it is answered.
-    pub fn terms(&self) -> ResponseTerms
-        ensures { result ≡ self.now.terms }
-    {
-        self.terms
     }
 
     /// The route on its row in another policy, on that row's terms, or none where the policy hasn't got the row.

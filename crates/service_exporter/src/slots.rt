@@ -87,7 +87,7 @@ impl Slot {
     {
         match &self.route {
             None => false,
-            Some(route) => is_on(subject, self.number, route.word()),
+            Some(route) => is_on(subject, self.number, route.word),
         }
     }
 
@@ -110,7 +110,7 @@ impl Slot {
     {
         match &self.route {
             None => false,
-            Some(route) => route.terms().single,
+            Some(route) => route.terms.single,
         }
     }
 
@@ -145,7 +145,7 @@ impl Slot {
         match self.route.take() {
             None => {}
             Some(route) => {
-                let again = rows.again(route.row());
+                let again = rows.again(&route.row);
                 self.route = route.keep(again);
             }
         }
