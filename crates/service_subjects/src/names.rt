@@ -52,10 +52,8 @@ pub fn route_subject(alloc: Global, word: u64, number: u64) -> Result<Subject, N
     ensures { IfOk result (λ subject. subject ≡ route_subject word number) }
 {
     let text = route_text(alloc, word, number)?;
-    match Subject::parse(alloc, text.as_slice()) {
-        Ok(subject) => Ok(subject),
-        Err(_) => Err(NoMemory),
-    }
+    let subject = Subject::known(alloc, text)?;
+    Ok(subject)
 }
 
 /// Whether a token has a number's decimal digits.

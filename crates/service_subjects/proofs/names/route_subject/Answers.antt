@@ -1,9 +1,15 @@
--- it is read of the text of the subject's tokens
-use Rattle.std.proofs.Common.{◌<◌, ◌^◌, ◌∙◌}
-use Rattle.service_subjects.proofs.Tokens.{read_route}
+-- its text has the subject's tokens
+use Rattle.std.proofs.Common.{◌<◌, ◌^◌, ◌∙◌, ap, subst, sym}
+use Rattle.subjects.specs.Subject.{IsSubject, tokens_of}
+use Rattle.service_subjects.proofs.Tokens.{is_subject_of_route, tokens_of_route}
 use Rattle.service_subjects.proofs.names.route_subject.Goals as goal
 
-pub returns-in-Ok : goal.returns-in-Ok
-returns-in-Ok c =
+pub known-requires : goal.known-requires
+known-requires c =
     let fits : c.args.number < 2 ^ 64 = c.ranges.number.fits in
-    read_route c.args.word c.args.number c.in-Ok.subject c.as_slice.result.now _ fits (c.as_slice.ensures.value ∙ c.in_ok-text.ensures) c.in-Ok.ensures.tokens
+    subst IsSubject (sym (ap tokens_of c.in_ok-text.ensures ∙ tokens_of_route c.args.word c.args.number fits)) (is_subject_of_route c.args.word c.args.number fits)
+
+pub returns : goal.returns
+returns c =
+    let fits : c.args.number < 2 ^ 64 = c.ranges.number.fits in
+    c.in_ok-subject.ensures ∙ ap tokens_of c.in_ok-text.ensures ∙ tokens_of_route c.args.word c.args.number fits
