@@ -1,5 +1,5 @@
 -- How much is read and taken at a time.
-use Rattle.std.specs.Prelude.{ℕ, ◌+◌, ◌-◌, ◌*◌, ◌/◌, Bool, true, false, min, max, nat_eq, nat_lt}
+use Rattle.std.specs.Prelude.{ℕ, ◌+◌, ◌-◌, ◌*◌, ◌/◌, Bool, true, false, min, max, nat_eq}
 use Rattle.std.specs.Io.Iter.{u64_saturate}
 use Rattle.server_pacing.specs.declared.awaited.Awaited.{Awaited}
 

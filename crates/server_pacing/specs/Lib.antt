@@ -1,3 +1,4 @@
 pub mod Awaited
+pub mod Bounds
 pub mod Due
 pub mod Slice

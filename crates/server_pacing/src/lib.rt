@@ -3,10 +3,12 @@
 
 mod awaited;
 mod due;
+mod laws;
 mod pending;
 mod slice;
 
 pub use awaited::{Awaited, PIECE, batch, many};
 pub use due::Due;
+pub use laws::bounded;
 pub use pending::Pending;
 pub use slice::Slice;
