@@ -1,14 +1,17 @@
 -- What a seat knows of an event that was entered for it under the lock (docs/GUARANTEE.md, "Threads").
-use Rattle.std.specs.Prelude.{◌≡◌, ◌+◌, ◌≤◌, ◌++◌, ◌∷◌, [], ℕ, List, Result, Ok, Err}
+use Rattle.std.specs.Prelude.{◌≡◌, ◌⊎◌, ◌+◌, ◌≤◌, ◌++◌, ◌∷◌, [], ℕ, List, Result, Ok, Err, IfOk}
 use Rattle.events.specs.declared.event.Event.{Event}
 use Rattle.events.specs.declared.answer.Entry.{Entry}
 use Rattle.events.specs.declared.refusal.HubRefusal.{HubRefusal}
+use Rattle.events.specs.declared.refusal.HubRefusal.TheVariants.{NoMemory}
 use Rattle.events.specs.declared.refusal.PublishRefusal.{PublishRefusal}
 use Rattle.events.specs.declared.refusal.PublishRefusal.TheVariants.{By}
 use Rattle.events.specs.Offers.{IsOffered}
+use Rattle.hub.specs.Guarantee.{IsRouted}
 use Rattle.hub.specs.History.{State, IsStep}
 use Rattle.shared_receipts.specs.Receipts.{Receipt}
 use Rattle.shared_runs.specs.Runs.{Came}
+use Rattle.shared_desk.specs.Entering.{IsEntered}
 use Rattle.shared_desk.specs.Publishing.{Inside, IsPublished}
 
 -- What a seat knows of an answered event: its entry has the event, it is one more of the seat's, and since the run opened
@@ -48,10 +51,15 @@ IsPostedBy opening before e r after = IsAnswered opening before e r after × IsF
 abbrev pub IsOfferedBy : ℕ → ℕ → Event → Result Entry (Event × PublishRefusal) → ℕ → Type 0
 IsOfferedBy opening = IsOffered (IsPostedBy opening) (λ before after. after ≡ before)
 
+-- A receipt has the entry of a step of some hub, which keeps the guarantee, and the policy in force after that step. A refusal is
+-- the step's, or want of memory for the receipt.
+abbrev pub IsReceived : Event → Result Receipt (Event × HubRefusal) → Type 0
+IsReceived e r = (s : State) × ((t : State) × IsEntered s e r t × IfOk r (λ receipt. IsRouted s e receipt.entry t))
+
 -- An event that a seat has submitted: with a receipt it is counted; a refusal hands it back, and the seat is as before.
 abbrev pub IsSubmitted : ℕ → ℕ → Event → Result Receipt (Event × HubRefusal) → ℕ → Type 0
-IsSubmitted opening before e (Ok r) after = IsCounted opening e before r.entry after
-IsSubmitted opening before e (Err refused) after = (refused.0 ≡ e) × (after ≡ before)
+IsSubmitted opening before e (Ok r) after = IsCounted opening e before r.entry after × IsReceived e (Ok r)
+IsSubmitted opening before e (Err refused) after = (refused.0 ≡ e) × (after ≡ before) × IsReceived e (Err refused)
 
 -- What a port keeps: the seat's count, and the receipts of what was answered, oldest first.
 pub record Kept : Type 0 where
@@ -61,9 +69,10 @@ pub record Kept : Type 0 where
 abbrev pub kept : ℕ → List Receipt → Kept
 kept count receipts = record { count = count; receipts = receipts }
 
--- An event that a port has submitted. With an answer, one more receipt is kept behind the others, and has that answer.
+-- An event that a port has submitted. With an answer, one more receipt is kept behind the others, and has that answer. A refusal
+-- is the seat's, or want of memory for one more receipt.
 abbrev pub IsKept : ℕ → Kept → Event → Result Entry (Event × HubRefusal) → Kept → Type 0
 IsKept opening before e (Ok a) after =
     IsCounted opening e before.count a after.count
-    × ((r : Receipt) × (r.entry ≡ a) × (after.receipts ≡ before.receipts ++ r ∷ []))
-IsKept opening before e (Err refused) after = after ≡ before
+    × ((r : Receipt) × (r.entry ≡ a) × (after.receipts ≡ before.receipts ++ r ∷ []) × IsReceived e (Ok r))
+IsKept opening before e (Err refused) after = (after ≡ before) × ((refused.1 ≡ NoMemory) ⊎ IsReceived e (Err refused))
