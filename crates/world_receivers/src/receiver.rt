@@ -30,6 +30,7 @@ impl Receiver {
     }
 
     /// Returns a message on its way to it. It is not copied: the delivery is one more owner.
+    #[inline(always)]
     pub fn address(&self, message: &Message) -> Result<Addressed, NoMemory>
         ensures { IfOk result (λ addressed. addressed ≡ addressed_at message.now self.now) }
     {

@@ -50,7 +50,8 @@ pub(crate) fn address_chosen(
     match chosen_of(receivers, word) {
         None => Ok(()),
         Some(receiver) => {
-            all.push(receiver.address(message)?)?;
+            all.reserve(1)?;
+            all.push_reserved(receiver.address(message)?);
             Ok(())
         }
     }
