@@ -14,7 +14,7 @@ use service_routes::Routes;
 use service_rows::RowsAgain;
 use std::collections::VecDeque;
 use world_receivers::Receivers;
-use world_routing::{Routing, carry_publish, change_routes};
+use world_routing::{Deliveries, Routing, carry_publish, change_routes};
 
 impl World {
     ghost use Rattle.std.specs.Prelude.{◌≡◌, ◌<◌, ◌≤◌, ◌+◌, OnOk, OnErr, All};
@@ -52,27 +52,13 @@ impl World {
                 Ok(())
             }
             Change::Deliver(deliveries) => {
-                carry_publish(
-                    &mut self.sessions,
-                    &mut self.subscriptions,
-                    &mut self.receivers,
-                    deliveries,
-                    items_in(told),
-                    self.moment,
-                );
+                self.deliver(deliveries, told);
                 Ok(())
             }
             Change::Route(routing) => {
                 let Routing { deliveries, routes } = routing.into_inner();
                 change_routes(&mut self.routes, routes, self.moment)?;
-                carry_publish(
-                    &mut self.sessions,
-                    &mut self.subscriptions,
-                    &mut self.receivers,
-                    deliveries,
-                    items_in(told),
-                    self.moment,
-                );
+                self.deliver(deliveries, told);
                 Ok(())
             }
             Change::Drain { conn, most } => {
@@ -88,6 +74,21 @@ impl World {
                 Ok(())
             }
         }
+    }
+
+    /// Hands deliveries over that an outcome tells of.
+    #[inline(always)]
+    fn deliver(&mut self, deliveries: Deliveries, told: &Outcome)
+        ensures { self.new ≡ done self.old (change.Deliver deliveries) told.now }
+    {
+        carry_publish(
+            &mut self.sessions,
+            &mut self.subscriptions,
+            &mut self.receivers,
+            deliveries,
+            items_in(told),
+            self.moment,
+        );
     }
 
     /// Removes a session with its subscriptions.

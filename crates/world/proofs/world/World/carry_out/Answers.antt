@@ -1,18 +1,17 @@
 -- a Take leaves the cache of receivers current
 use Rattle.std.proofs.Common.{◌≡◌, ◌∙◌, List, sym, subst, refl, ap}
-use Rattle.events.specs.declared.answer.Item.{Item}
 use Rattle.service_exporter.specs.Routes.{Exporter}
 use Rattle.service_routes.specs.Routes.{Name, pruned}
 use Rattle.service_routes.proofs.Seen.{dead}
-use Rattle.world_subscriptions.specs.Counting.{entered_ids, in_turn}
 use Rattle.world_routing.specs.World.{World}
 use Rattle.world_routing.specs.Changing.{changed_by}
+use Rattle.world_routing.specs.Handing.{carried}
 use Rattle.world_routing.specs.declared.carrying.Routing.{Routing}
 use Rattle.world.specs.declared.change.Change.TheVariants.{Route}
 use Rattle.imports.specs.Views.{rows_of}
 use Rattle.world_deliveries.specs.Sessions.{drained}
 use Rattle.world_receivers.proofs.Stays.{AreSeated, seats_with, current_taken}
-use Rattle.world.specs.Changes.{done, pruned_world}
+use Rattle.world.specs.Changes.{done, items_in, pruned_world}
 use Rattle.world.specs.declared.change.Change.{Change}
 use Rattle.world.proofs.world.World.carry_out.Goals as goal
 
@@ -31,6 +30,9 @@ returns-in-Leave-clause-ok c = ap pruned_world (c.leave.ensures c.args.told.now)
 pub returns-in-Install-clause-ok : goal.returns-in-Install-clause-ok
 returns-in-Install-clause-ok c = c.install.ensures c.args.told.now ∙ ap (λ (change : Change). done (pruned_world c.args.self.now) change c.args.told.now) (sym c.in-Install.is)
 
+pub returns-in-Deliver-clause-ok : goal.returns-in-Deliver-clause-ok
+returns-in-Deliver-clause-ok c = ap pruned_world c.deliver.ensures ∙ ap (λ (change : Change). done (pruned_world c.args.self.now) change c.args.told.now) (sym c.in-Deliver.is)
+
 -- deliveries are handed over, and routes have changed
 pub returns-in_ok-change_routes-in-Route-clause-ok : goal.returns-in_ok-change_routes-in-Route-clause-ok
 returns-in_ok-change_routes-in-Route-clause-ok c =
@@ -39,13 +41,13 @@ returns-in_ok-change_routes-in-Route-clause-ok c =
     let told = c.args.told.now in
     let r : Routing = c.into_inner-deliveries.result in
     let gone : (all : List (Name × Exporter)) → pruned h.moment (pruned h.routes_at all) ≡ pruned h.moment all = λ all. dead h.routes_at h.moment all c.self-in-Route.invariant.1 in
-    let sessions = c.carry_publish-in-Route.ensures.sessions in
-    let subs = c.carry_publish-in-Route.ensures.subscriptions ∙ ap (λ (is : List Item). in_turn (entered_ids r.deliveries.all is) h.subscriptions) c.items_in-in-Route.ensures in
     let routes : pruned h.moment (pruned h.routes_at c.change_routes.new.routes.exporters) ≡ changed_by r.routes (pruned h.moment (pruned h.routes_at all)) =
     gone c.change_routes.new.routes.exporters ∙ c.in_ok-change_routes-in-Route.ensures.ok ∙ ap (changed_by r.routes) (sym (gone all)) in
     let before : World = record { capacity = h.capacity; policy = h.ready; epoch = h.epoch; moment = h.moment; sessions = h.sessions; subscriptions = h.subscriptions; routes = pruned h.routes_at all; number = h.number } in
+    let by_table : List (Name × Exporter) → World = λ table. record (carried (pruned_world before) r.deliveries.answered r.deliveries.all (items_in told)) { routes = table } in
     let by_routing : Routing → World = λ x. done (pruned_world before) (Route x) told in
-    (λ i. record { capacity = h.capacity; policy = h.ready; epoch = h.epoch; moment = h.moment; sessions = sessions i; subscriptions = subs i; routes = routes i; number = h.number })
+    ap pruned_world c.deliver-in-Route.ensures
+    ∙ ap by_table routes
     ∙ ap by_routing c.into_inner-deliveries.ensures
     ∙ ap (λ (w : World). done (pruned_world w) (Route c.in-Route.routing) told) c.self-in-Route.view_is
     ∙ ap (λ (change : Change). done (pruned_world c.args.self.now) change told) (sym c.in-Route.is)
