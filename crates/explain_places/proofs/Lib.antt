@@ -1,0 +1,4 @@
+pub mod Asked
+pub mod Known
+pub mod Leading
+pub mod Parsing
