@@ -1,62 +1,93 @@
 // What is told on standard error of a policy that a task has read (docs/POLICY.md, "Where a fault stands").
 use crate::policy_input::PolicyInput;
 use base::NoMemory;
+use command_line::{Invocation, Question, Task, WordsFault, read_words};
 use devices::{Sink, write_all};
+use explain_places::deciding_place;
+use policy_doc::Policy;
 use policy_notes::{Notes, notes_of};
 use reload::read_valid_policy;
 use std::alloc::{AllocError, Global};
-use std::io;
+use std::{io, str};
 use tasks::{Start, StartFault};
 
 /// What is told where memory lacks.
 const NO_MEMORY: &[u8] = b"no memory\n";
 
-/// Tells of what a task has read on standard input: why it couldn't, and where a policy's fault stands.
+/// Tells of what a task has read on standard input: why it couldn't, and what is to be known of a policy's text.
 pub fn tell_of_input<R, E: Sink>(
     alloc: Global,
     start: &Result<Start<String>, StartFault>,
     input: &PolicyInput<R>,
     errors: &mut E,
 ) {
+    let Ok(start) = start else {
+        return;
+    };
     if let Some(error) = input.failed() {
         tell_error(alloc, "standard input", error, errors);
-    } else if asks_of_policy(start) {
-        tell_of_text(alloc, input, errors);
+    } else if asks_for(start, "check") {
+        tell_of_text(alloc, None, input, errors);
+    } else if asks_for(start, "explain") {
+        match question_in(alloc, start) {
+            Ok(question) => tell_of_text(alloc, question.as_ref(), input, errors),
+            Err(_) => drop(write_all(errors, NO_MEMORY)),
+        }
     }
 }
 
-/// Returns whether the words ask for a task on a policy.
-fn asks_of_policy(start: &Result<Start<String>, StartFault>) -> bool {
-    match start {
-        Err(_) => false,
-        Ok(start) => match start.words.as_slice().get(1) {
-            None => false,
-            Some(word) => word.as_str() == "check" || word.as_str() == "explain",
-        },
+/// Returns whether the words ask for what this one does.
+fn asks_for(start: &Start<String>, task: &str) -> bool {
+    match start.words.as_slice().get(1) {
+        None => false,
+        Some(word) => word.as_str() == task,
     }
 }
 
-/// Tells of the policy that was read where its fault stands, and which keys stand twice in one object.
-pub fn tell_of_text<R, E: Sink>(alloc: Global, input: &PolicyInput<R>, errors: &mut E) {
+/// Returns the question that the words ask of a policy on standard input, if they ask one. `NoMemory` where memory could not be
+/// had.
+fn question_in(alloc: Global, start: &Start<String>) -> Result<Option<Question>, NoMemory> {
+    match read_words(alloc, start.words.as_slice()) {
+        Ok(Invocation::Task(Task::Explain(question))) => Ok(Some(question)),
+        Err(WordsFault::NoMemory) => Err(NoMemory),
+        _ => Ok(None),
+    }
+}
+
+/// Returns the question that a task answers, if it does.
+pub fn question_of(task: &Task) -> Option<&Question> {
+    match task {
+        Task::Explain(question) => Some(question),
+        _ => None,
+    }
+}
+
+/// Tells of the policy that was read where its fault stands, or else the entry that decides what was asked, and which keys
+/// stand twice in one object.
+pub fn tell_of_text<R, E: Sink>(
+    alloc: Global,
+    asked: Option<&Question>,
+    input: &PolicyInput<R>,
+    errors: &mut E,
+) {
     if input.lacks_memory() {
         drop(write_all(errors, NO_MEMORY));
     } else if let Some(text) = input.text() {
-        tell_notes(alloc, text, errors);
-    }
-}
-
-/// Tells where a policy's fault stands in its text, and which keys stand twice in one object.
-fn tell_notes<E: Sink>(alloc: Global, text: &[u8], errors: &mut E) {
-    match notes_on(alloc, text) {
-        Ok(notes) => write_notes(alloc, &notes, errors),
-        Err(_) => drop(write_all(errors, NO_MEMORY)),
+        match notes_on(alloc, asked, text) {
+            Ok(notes) => write_notes(alloc, &notes, errors),
+            Err(_) => drop(write_all(errors, NO_MEMORY)),
+        }
     }
 }
 
 /// Returns what is told of a policy's text. `NoMemory` where memory could not be had.
-fn notes_on(alloc: Global, text: &[u8]) -> Result<Notes, NoMemory> {
+fn notes_on(alloc: Global, asked: Option<&Question>, text: &[u8]) -> Result<Notes, NoMemory> {
     match read_valid_policy(alloc, text) {
-        Ok(_) => notes_of(alloc, text, None),
+        Ok(policy) => {
+            let mut notes = notes_of(alloc, text, None)?;
+            notes.place = place_if(alloc, asked, &policy, text)?;
+            Ok(notes)
+        }
         Err(fault) => {
             if fault.is_memory() {
                 return Err(NoMemory);
@@ -64,6 +95,23 @@ fn notes_on(alloc: Global, text: &[u8]) -> Result<Notes, NoMemory> {
             let notes = notes_of(alloc, text, Some(&fault));
             notes
         }
+    }
+}
+
+/// Returns where the entry stands that decides what was asked, if something was and an entry does.
+fn place_if(
+    alloc: Global,
+    asked: Option<&Question>,
+    policy: &Policy,
+    text: &[u8],
+) -> Result<Option<String>, NoMemory> {
+    match asked {
+        None => Ok(None),
+        Some(question) => match str::from_utf8(text) {
+            Ok(text) => deciding_place(alloc, text, policy, question),
+            // (what isn't text is no policy)
+            Err(_) => Ok(None),
+        },
     }
 }
 

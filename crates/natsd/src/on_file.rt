@@ -1,5 +1,5 @@
 // A task on the policy of a file, in place of standard input.
-use crate::notes::{tell_error, tell_of_text};
+use crate::notes::{question_of, tell_error, tell_of_text};
 use crate::policy_input::PolicyInput;
 use command_line::Task;
 use devices::Sink;
@@ -9,7 +9,7 @@ use std::hash::RandomState;
 use tasks::run_and_tell;
 
 /// Does a task that reads a file, and returns its status. Where the file can't be read, a line on the error sink tells
-/// why, and the status is 1. There it is also told where a policy's fault stands.
+/// why, and the status is 1. It is also told there what is to be known of the policy's text.
 pub fn run_on_file<R: Files + AllocGlobal, W: Sink, E: Sink>(
     rt: &R,
     keys: RandomState,
@@ -26,7 +26,7 @@ pub fn run_on_file<R: Files + AllocGlobal, W: Sink, E: Sink>(
     if let Some(error) = input.failed() {
         tell_error(alloc, path, error, errors);
     } else {
-        tell_of_text(alloc, &input, errors);
+        tell_of_text(alloc, question_of(task), &input, errors);
     }
     status
 }

@@ -93,7 +93,7 @@ fn split_input<R: Files + AllocGlobal, I: Read, W: Sink, E: Sink>(
     };
     match input.failed() {
         Some(error) => tell_error(alloc, name, error, errors),
-        None => tell_of_text(alloc, input, errors),
+        None => tell_of_text(alloc, None, input, errors),
     }
     status
 }
