@@ -12,7 +12,7 @@ use Rattle.policy_places.specs.Place.{place_words}
 use Rattle.policy_places.specs.Repeats.{repeats_of, Repeated}
 use Rattle.policy_places.specs.Spots.{AreSpots}
 use Rattle.policy_places.specs.declared.spots.Spot.{Spot}
-use Rattle.policy_notes.specs.Places.{named_by, place_of, told_of}
+use Rattle.policy_notes.specs.Places.{place_of, told_fault}
 use Rattle.policy_notes.specs.declared.notes.Notes.{Notes}
 
 -- a key that stands in one object again: the key as JSON writes it, and both places
@@ -33,7 +33,7 @@ pub record IsNotesOfJson (text : List ℕ) (fault : Option ReloadFault) (notes :
   pub spots : List Spot
   pub are_spots : AreSpots text spots
   pub warnings : map string_bytes notes.warnings.items ≡ warnings_of text spots
-  pub place : option_map string_bytes notes.place ≡ option_map (told_of text spots) (option_and_then named_by fault)
+  pub place : option_map string_bytes notes.place ≡ option_and_then (told_fault text spots) fault
 
 abbrev pub IsNone : Notes → Type 0
 IsNone notes = (notes.place ≡ None) × (notes.warnings.items ≡ [])

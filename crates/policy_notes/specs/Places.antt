@@ -20,6 +20,7 @@ use Rattle.policy_places.specs.Spots.{AreSpots}
 use Rattle.policy_places.specs.Place.{column_after, line_after, place_words}
 use Rattle.policy_places.specs.declared.place.Place.{Place}
 use Rattle.policy_places.specs.declared.spots.Spot.{Spot}
+use Rattle.policy_notes.specs.Twins.{twin_path}
 use Rattle.policy_notes.specs.declared.place.Named.{Named}
 
 -- ---- what a fault names: a path, and whether the text that stands there is shown
@@ -81,6 +82,9 @@ abbrev pub begin_or : List ℕ → Option ℕ → ℕ
 begin_or text None = prefix_len is_space text
 begin_or text (Some at) = at
 
+abbrev pub place_under : List ℕ → List Spot → Path → Place
+place_under text spots path = place_of text (begin_or text (at_of spots path))
+
 -- the text that a JSON text has under a path, if one stands there, as JSON writes it
 abbrev pub text_under : List ℕ → Path → Option (List ℕ)
 text_under text path = option_and_then (λ d. option_map quoted (option_and_then as_str (pointer path d))) (read text)
@@ -98,7 +102,15 @@ abbrev pub told : Option (List ℕ) → Place → List ℕ
 told shown place = shown_words shown ++ (codes "at " ++ place_words place)
 
 abbrev pub told_of : List ℕ → List Spot → Named → List ℕ
-told_of text spots n = told (shown_if n.is_shown text n.path) (place_of text (begin_or text (at_of spots n.path)))
+told_of text spots n = told (shown_if n.is_shown text n.path) (place_under text spots n.path)
+
+-- a fault with a place; of a user whose name there is already, the first user's place too
+abbrev pub twin_words : List ℕ → List Spot → Option Path → List ℕ
+twin_words text spots None = []
+twin_words text spots (Some path) = codes " and at " ++ place_words (place_under text spots path)
+
+abbrev pub told_fault : List ℕ → List Spot → ReloadFault → Option (List ℕ)
+told_fault text spots fault = option_map (λ n. told_of text spots n ++ twin_words text spots (twin_path text fault)) (named_by fault)
 
 -- where a path leads among a text's spots, with the text that stands there
 abbrev pub IsToldOf : List ℕ → Path → List ℕ → Type 0

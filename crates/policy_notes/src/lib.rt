@@ -4,6 +4,7 @@
 
 mod notes;
 mod place;
+mod twin;
 
 pub use notes::{Notes, notes_of};
 pub use place::place_of;

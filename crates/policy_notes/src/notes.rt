@@ -2,9 +2,11 @@ ghost use Rattle.std.specs.Prelude.{◌≡◌, ◌++◌, IfOk, [], map, string_b
 ghost use Rattle.std.specs.Option.{option_copied, option_map, option_and_then};
 ghost use Rattle.policy_places.specs.Repeats.{repeated};
 ghost use Rattle.policy_notes.specs.Notes.{key_of, warning, warnings_of, AreNotes, IsNone, IsNotesOfJson};
-ghost use Rattle.policy_notes.specs.Places.{named_by, told_of};
+ghost use Rattle.policy_notes.specs.Places.{told_fault, twin_words};
+ghost use Rattle.policy_notes.specs.Twins.{twin_path};
 
-use crate::place::{path_of, place_text, quoted, to_words};
+use crate::place::{path_of, place_text, place_words, quoted, to_words};
+use crate::twin::twin_path;
 use base::NoMemory;
 use policy_places::{Repeat, Spot, place_at, repeats_of, spots_of};
 use policy_walk::ConfigFault;
@@ -82,14 +84,37 @@ fn place_if(
     spots: &[Spot],
     fault: Option<&ReloadFault>,
 ) -> Result<Option<String>, NoMemory>
-    ensures { IfOk result (λ place. option_map string_bytes place ≡ option_map (told_of text.now spots.now) (option_and_then named_by (option_copied fault.entry))) }
+    ensures { IfOk result (λ place. option_map string_bytes place ≡ option_and_then (told_fault text.now spots.now) (option_copied fault.entry)) }
 {
     match fault {
         None => Ok(None),
         Some(fault) => match path_of(alloc, fault)? {
             None => Ok(None),
-            Some(named) => Ok(Some(place_text(alloc, text, spots, &named)?)),
+            Some(named) => {
+                let place = place_text(alloc, text, spots, &named)?;
+                Ok(Some(with_twin(alloc, text, spots, fault, place)?))
+            }
         },
+    }
+}
+
+/// Returns the place of a fault, and behind it that of the first user of the name, if another has it already.
+fn with_twin(
+    alloc: Global,
+    text: &str,
+    spots: &[Spot],
+    fault: &ReloadFault,
+    place: String,
+) -> Result<String, NoMemory>
+    ensures { IfOk result (λ words. string_bytes words ≡ string_bytes place ++ twin_words text.now spots.now (twin_path text.now fault.now)) }
+{
+    match twin_path(alloc, text, fault)? {
+        None => Ok(place),
+        Some(path) => {
+            let twin = place_words(alloc, text, spots, &path)?;
+            let words = with(place, " and at ", twin.as_str())?;
+            Ok(words)
+        }
     }
 }
 

@@ -7,7 +7,7 @@ ghost use Rattle.serde_json.specs.Find.{as_str, pointer};
 ghost use Rattle.serde_json.specs.View.{view};
 ghost use Rattle.policy_doc.specs.Faults.{fault_place};
 ghost use Rattle.policy_places.specs.Place.{place_words};
-ghost use Rattle.policy_notes.specs.Places.{begin_or, is_space, naming, named_by, named_by_config, is_duplicate, named_row, row_named, shown_if, shown_words, text_under, told, told_of, IsToldOf};
+ghost use Rattle.policy_notes.specs.Places.{begin_or, is_space, naming, named_by, named_by_config, is_duplicate, named_row, place_under, row_named, shown_if, shown_words, text_under, told, told_of, IsToldOf};
 
 use base::NoMemory;
 use json::Writer;
@@ -121,10 +121,29 @@ pub(crate) fn place_text(
 ) -> Result<String, NoMemory>
     ensures { IfOk result (λ told. string_bytes told ≡ told_of text.now spots.now named.now) }
 {
-    let at = begin_or(text.as_bytes(), at_of(spots, &named.path));
-    let place = place_at(text.as_bytes(), at);
+    let place = place_under(text, spots, &named.path);
     let shown = shown_if(alloc, text, named)?;
     told(alloc, shown, place)
+}
+
+/// Returns the place of what a path names in a text, or of the front of it that names something, in words.
+pub(crate) fn place_words(
+    alloc: Global,
+    text: &str,
+    spots: &[Spot],
+    path: &Path,
+) -> Result<String, NoMemory>
+    ensures { IfOk result (λ words. string_bytes words ≡ place_words (place_under text.now spots.now path.now)) }
+{
+    to_words(alloc, place_under(text, spots, path))
+}
+
+/// Returns the place of what a path names in a text, or of the front of it that names something.
+fn place_under(text: &str, spots: &[Spot], path: &Path) -> Place
+    ensures { result ≡ place_under text.now spots.now path.now }
+{
+    let at = begin_or(text.as_bytes(), at_of(spots, path));
+    place_at(text.as_bytes(), at)
 }
 
 /// Returns where what a path names stands in a JSON text, behind the text that it is, if it is one. `NoMemory` where memory could
