@@ -63,6 +63,14 @@ def split(program, room):
     return {name: (parts / name).read_text() for name in SETS}
 
 
+def say(client, text):
+    """Sends a text and a PING, and waits for the PONG, which comes behind all that was accepted for the client before."""
+    client.send(text + b"PING\r\n")
+    before = len(client.got)
+    while b"PONG\r\n" not in client.got[before:]:
+        want(client.more(), "closed")
+
+
 def talk(addresses):
     """Has each tenant say its part, to the server of this address, and returns what each is sent."""
     clients = {user: Client(addresses[user], user=user) for user in TENANTS}
@@ -71,15 +79,11 @@ def talk(addresses):
         clients[user].ping()
     for user, text in (("shop", b"PUB orders.new 2\r\nhi\r\nPUB other 1\r\nx\r\n"), ("guest", b"PUB orders.new 5\r\nguest\r\n"),
                        ("bill", b"PUB bills.void 0\r\n\r\nPUB bills.new 1\r\n1\r\nSUB a..b 3\r\n")):
-        clients[user].send(text + b"PING\r\n")
-        before = len(clients[user].got)
-        while b"PONG\r\n" not in clients[user].got[before:]:
-            want(clients[user].more(), "closed")
-    for user in clients:
-        # (what others have sent has come once each has been answered twice)
-        clients[user].send(b"PING\r\n")
-        while clients[user].got.count(b"PONG\r\n") < 2:
-            want(clients[user].more(), "closed")
+        # (what others have sent comes first: a denial is told at once, so it could stand on either side of it)
+        say(clients[user], b"")
+        say(clients[user], text)
+    for client in clients.values():
+        say(client, b"")
     return {user: bytes(it.got) for user, it in clients.items()}
 
 
