@@ -31,8 +31,9 @@ pub struct Caps {
 /// Some(answer.get().number)
 /// ```
 ///
-/// A step costs what its command does: a publish its subject's look-up and something for each receiver, a reload a look at each
-/// session. An entry more in the history costs no more, however long it is.
+/// A step costs what its command does: a publish its subject's look-up and something for each receiver, a Take its deliveries, a
+/// Close a look at each session, a reload one at each session and subscription. An entry more in the history costs no more,
+/// however long it is.
 pub struct Hub {
     alloc: Global,
     world: World,

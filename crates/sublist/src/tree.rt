@@ -19,7 +19,8 @@ use subjects::{Pattern, SubjectRef};
 /// ```
 ///
 /// `matching` looks up each token of the subject in a table, once for each branch of wildcards that leads to it, and sorts the ids
-/// that it finds. So it costs what the subject and its receivers do, however many other patterns stand.
+/// that it finds. So it costs what the subject and its receivers do, however many other patterns stand. `insert` and `remove` go
+/// down the one branch of their pattern.
 ///
 /// A clause sees which pairs stand. Whoever keeps a list of subscriptions, whose ids rise, says in its own
 /// invariant that the tree is the index of the list (`IsIndexOf`): then `matching` is the list's filter.
