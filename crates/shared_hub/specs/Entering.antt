@@ -51,8 +51,8 @@ IsPostedBy opening before e r after = IsAnswered opening before e r after × IsF
 abbrev pub IsOfferedBy : ℕ → ℕ → Event → Result Entry (Event × PublishRefusal) → ℕ → Type 0
 IsOfferedBy opening = IsOffered (IsPostedBy opening) (λ before after. after ≡ before)
 
--- A receipt has the entry of a step of some hub, which keeps the guarantee, and the policy in force after that step. A refusal is
--- the step's, or want of memory for the receipt.
+-- A receipt has the entry of a step of some hub, which keeps the guarantee, and the policy in force after that step. The step
+-- refuses what is refused, or memory for the receipt lacks.
 abbrev pub IsReceived : Event → Result Receipt (Event × HubRefusal) → Type 0
 IsReceived e r = (s : State) × ((t : State) × IsEntered s e r t × IfOk r (λ receipt. IsRouted s e receipt.entry t))
 
@@ -69,8 +69,8 @@ pub record Kept : Type 0 where
 abbrev pub kept : ℕ → List Receipt → Kept
 kept count receipts = record { count = count; receipts = receipts }
 
--- An event that a port has submitted. With an answer, one more receipt is kept behind the others, and has that answer. A refusal
--- is the seat's, or want of memory for one more receipt.
+-- An event that a port has submitted. With an answer, one more receipt is kept behind the others, and has that answer. The seat
+-- refuses what is refused, or memory for one more receipt lacks.
 abbrev pub IsKept : ℕ → Kept → Event → Result Entry (Event × HubRefusal) → Kept → Type 0
 IsKept opening before e (Ok a) after =
     IsCounted opening e before.count a after.count

@@ -46,6 +46,6 @@ module _ (t : Tenants) (m n word : ℕ) where
       by a None ids = refl
       by a (Some q) ids = chosen_in (text_of q) xs ys P a ids
 
-  -- if those are paired that may be sent a message, so are those whom it is for
+  -- the message is for paired subscriptions, if those that may be sent it are paired
   pub pairs_served : (xs ys : List Subscription) → ArePaired t m n xs ys → ArePaired t m n (served word xs) (served word ys)
   pairs_served xs ys P = pairs_kept t m n (is_served word xs) (is_served word ys) xs ys P (served_in xs ys P)
