@@ -1,4 +1,7 @@
 // What is told on standard error of a policy that a task has read (docs/POLICY.md, "Where a fault stands").
+ghost use Rattle.std.specs.Prelude.{◌≡◌, IfOk, option_copied};
+ghost use Rattle.natsd.specs.Telling.{question_of, IsPlaceIf};
+
 use crate::policy_input::PolicyInput;
 use base::NoMemory;
 use command_line::{Invocation, Question, Task, WordsFault, read_words};
@@ -55,7 +58,9 @@ fn question_in(alloc: Global, start: &Start<String>) -> Result<Option<Question>,
 }
 
 /// Returns the question that a task answers, if it does.
-pub fn question_of(task: &Task) -> Option<&Question> {
+pub fn question_of(task: &Task) -> Option<&Question>
+    ensures { option_copied result ≡ question_of task.now }
+{
     match task {
         Task::Explain(question) => Some(question),
         _ => None,
@@ -104,7 +109,9 @@ fn place_if(
     asked: Option<&Question>,
     policy: &Policy,
     text: &[u8],
-) -> Result<Option<String>, NoMemory> {
+) -> Result<Option<String>, NoMemory>
+    ensures { IfOk result (IsPlaceIf text.now policy.now (option_copied asked.entry)) }
+{
     match asked {
         None => Ok(None),
         Some(question) => match str::from_utf8(text) {

@@ -1,4 +1,6 @@
 // A task on the policy of a file, in place of standard input.
+ghost use Rattle.std.specs.Prelude.{◌≡◌, IfSome, None};
+
 use crate::notes::{question_of, tell_error, tell_of_text};
 use crate::policy_input::PolicyInput;
 use command_line::Task;
@@ -36,7 +38,9 @@ pub fn open_input<R: Files + AllocGlobal, E: Sink>(
     rt: &R,
     path: &str,
     errors: &mut E,
-) -> Option<PolicyInput<R::File>> {
+) -> Option<PolicyInput<R::File>>
+    ensures { IfSome result (λ input. (input.reads ≡ 0) × (input.text ≡ None)) }
+{
     match File::open(rt, path) {
         Ok(file) => Some(PolicyInput::new(rt.alloc(), file)),
         Err(error) => {

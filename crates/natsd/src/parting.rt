@@ -1,5 +1,7 @@
 // `natsd check --split`: the parts of a policy, each in a file of its own (docs/OPERATING.md, "A process for each set of
 // tenants").
+ghost use Rattle.std.specs.Prelude.{◌≤◌};
+
 use crate::notes::{tell_error, tell_of_text};
 use crate::on_file::open_input;
 use crate::policy_input::PolicyInput;
@@ -63,7 +65,9 @@ pub fn split<R: Files + AllocGlobal, I: Read, W: Sink, E: Sink>(
     input: &mut PolicyInput<I>,
     sink: &mut W,
     errors: &mut E,
-) -> u8 {
+) -> u8
+    ensures { result ≤ 1 }
+{
     let folder = options.folder.as_str();
     match &options.policy {
         None => split_input(rt, folder, "standard input", input, sink, errors),
@@ -82,7 +86,9 @@ fn split_input<R: Files + AllocGlobal, I: Read, W: Sink, E: Sink>(
     input: &mut PolicyInput<I>,
     sink: &mut W,
     errors: &mut E,
-) -> u8 {
+) -> u8
+    ensures { result ≤ 1 }
+{
     let alloc = rt.alloc();
     let status = match write_parts(rt, folder, input, sink) {
         Ok(()) => 0,

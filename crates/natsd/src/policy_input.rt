@@ -23,8 +23,14 @@ pub struct PolicyInput<R> {
 }
 
 impl<R> PolicyInput<R> {
+    ghost use Rattle.std.specs.Prelude.{None, false, option_copied, option_map};
+
     /// The input that a reader gives.
-    pub fn new(alloc: Global, reader: R) -> PolicyInput<R> {
+    pub fn new(alloc: Global, reader: R) -> PolicyInput<R>
+        ensures reader { result.reader ≡ reader }
+        ensures unread { (result.reads ≡ 0) × (result.text ≡ None) × (result.lacks_memory ≡ false) }
+        ensures fresh { (result.has_failed ≡ false) × (result.failed ≡ None) }
+    {
         PolicyInput {
             reader,
             reads: 0,
@@ -37,7 +43,9 @@ impl<R> PolicyInput<R> {
     }
 
     /// Returns what was read, where it is known whole.
-    pub fn text(&self) -> Option<&[u8]> {
+    pub fn text(&self) -> Option<&[u8]>
+        ensures { option_map (λ text. text.now) result ≡ option_map (λ text. text.items) self.now.text }
+    {
         match &self.text {
             None => None,
             Some(text) => Some(text.as_slice()),
@@ -45,17 +53,23 @@ impl<R> PolicyInput<R> {
     }
 
     /// Returns whether there was no memory to keep what was read.
-    pub fn lacks_memory(&self) -> bool {
+    pub fn lacks_memory(&self) -> bool
+        ensures { result ≡ self.now.lacks_memory }
+    {
         self.lacks_memory
     }
 
     /// Returns why a read has failed, if one has.
-    pub fn failed(&self) -> Option<&io::Error> {
+    pub fn failed(&self) -> Option<&io::Error>
+        ensures { option_copied result ≡ self.now.failed }
+    {
         self.failed.as_ref()
     }
 
     /// Returns the reader.
-    pub fn into_reader(self) -> R {
+    pub fn into_reader(self) -> R
+        ensures { result ≡ self.reader }
+    {
         let PolicyInput { reader, .. } = self;
         reader
     }

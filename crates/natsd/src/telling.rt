@@ -1,4 +1,7 @@
 // What is told on standard error while clients are served (docs/OPERATING.md, "What the server tells").
+ghost use Rattle.std.specs.Prelude.{◌≡◌};
+ghost use Rattle.natsd.specs.Telling.{level_of};
+
 use command_line::LogChoice;
 use policy_source::Watcher;
 use server_log::{LogLevel, ServerLog, What};
@@ -6,7 +9,9 @@ use std::sync::Wait;
 use std::time::Clock;
 
 /// Returns how much is told, as the command line chooses.
-pub fn level_of(choice: LogChoice) -> LogLevel {
+pub fn level_of(choice: LogChoice) -> LogLevel
+    ensures { result ≡ level_of choice }
+{
     match choice {
         LogChoice::None => LogLevel::None,
         LogChoice::Denials => LogLevel::Denials,
