@@ -1,7 +1,8 @@
 /* Loads a NATS server and prints what it measured, for bench/serve: loader PORT TASK SIZE RECEIVERS COUNT WINDOW
  *
  * TASK is `all` (every receiver gets each of COUNT messages), `stream` (the same, with receivers in another account, that of
- * the user `importer`, which has the publisher's subjects under the prefix `from`), `queue` (the receivers are one queue
+ * the user `importer`, which has the publisher's subjects under the prefix `from`), `mapped` (the same as `all`, where the publisher's
+ * account maps its subject to some below `mapped`), `queue` (the receivers are one queue
  * group), `pairs` (each receiver has a publisher and a subject of its own, and gets COUNT messages), `several` (RECEIVERS
  * publishers send COUNT messages each to one receiver) or `ask` (one asks COUNT times in turn, one answers). A message has SIZE bytes. A publisher writes up to 64 KiB at once, and is no more than WINDOW messages before
  * the slowest of its receivers, or before the group. It prints for `ask` the median and the 99th percentile of the
@@ -399,6 +400,8 @@ int main(int argc, char **argv)
         receiver = "importer";
         wish = "SUB from.load 1\r\n";
     }
+    if (!strcmp(argv[2], "mapped"))
+        wish = "SUB mapped.* 1\r\n";
     if (size < 0 || size > 4096 || count_of_receivers < 1 || count_of_receivers > MOST || count < 1 || window < 1)
         die("a number is out of range");
     if (!strcmp(argv[2], "ask"))

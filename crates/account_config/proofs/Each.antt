@@ -1,19 +1,24 @@
--- Reading each value of a list, and each account.
+-- Reading each value of a list, and each under its name.
 use Rattle.std.proofs.Common.{◌≡◌, ℕ, suc, ◌+◌, ◌≤◌, ◌-◌, List, ◌∷◌, Option, Some, None, Ok, Err, Ordering, Less, Equal, Greater, is_some, inl, inr, refl, ap, sym, subst, true≢false, arith}
+use Rattle.std.specs.Option.{unwrap_or}
 use Rattle.std.specs.Ordering.{match_ordering}
-use Rattle.serde_json.specs.Data.{Data, Items, no_items, item, Members, no_members, member}
-use Rattle.serde_json.specs.Find.{get_item, get_member}
+use Rattle.serde_json.specs.Data.{Data, null, boolean, number, string, array, object, Items, no_items, item, Members, no_members, member}
+use Rattle.serde_json.specs.Find.{as_object, get_item, get_member}
 use Rattle.policy_doc.specs.Accounts.{with_account}
 use Rattle.policy_doc.specs.declared.document.NamedAccount.{NamedAccount}
+use Rattle.policy_doc.specs.declared.document.Version.{Version}
 use Rattle.policy_walk.specs.declared.fault.ConfigFault.{ConfigFault}
 use Rattle.policy_walk.specs.Fault.{Read, ◌>>=◌}
+use Rattle.policy_walk.specs.Object.{members_at}
 use Rattle.policy_walk.specs.Path.{Path, at_key, at_index}
 use Rattle.account_config.specs.Policy.{each, accounts_from, named_account_at}
 use Rattle.account_config.specs.Place.{Place, itself, unknown, missing, under, named, IsBefore, Faults, IsFirst, IsReading}
-use Rattle.account_config.specs.Standing.{in_value, account_faults}
-use Rattle.account_config.specs.Written.{each_in, account_in, accounts_in}
+use Rattle.account_config.specs.Tables.{in_value, members_faults}
+use Rattle.account_config.specs.Standing.{account_faults}
+use Rattle.account_config.specs.Values.{each_in}
+use Rattle.account_config.specs.Written.{account_in, accounts_in}
 use Rattle.account_config.proofs.Order.{IsAbove, IsAscending, IsOrdered, AreOrdered, above_further, absent, compared, same_key, key_is}
-use Rattle.account_config.proofs.First.{IsClear, go_on, whole, same_faults}
+use Rattle.account_config.proofs.First.{IsClear, first_itself, go_on, whole, same_faults}
 
 -- each value that is ordered is read as its faults and what is written say
 abbrev pub Reads : {X : Type 0} → (Path → Data → Faults) → (Data → X) → (Path → Data → Read X) → Type 0
@@ -47,94 +52,120 @@ each_from {X = X} faults written reader reads path F names i (item d ds) up has 
     by (Ok xs) is = (is.0, ap (λ ys. written d ∷ ys) is.1)
     by (Err fault) first = first
 
--- ---- accounts
+-- ---- what stands under names
 
--- the faults of accounts under their names
-abbrev pub in_accounts : Path → Members → Faults
-in_accounts path ms (named name p) = in_value (account_faults name) (at_key path name) (get_member name ms) p
-in_accounts path ms _ = None
+-- the faults of members under their names
+abbrev pub in_members : (List ℕ → Path → Data → Faults) → Path → Members → Faults
+in_members faults path ms (named name p) = in_value (faults name) (at_key path name) (get_member name ms) p
+in_members faults path ms _ = None
 
--- no fault in the first account, and none in the others
-clear_on : (path : Path) (k : List ℕ) (d : Data) (ms : Members) → ((p : Place) → account_faults k (at_key path k) d p ≡ None) →
-    (l : List ℕ) (p : Place) → in_accounts path ms (named l p) ≡ None → in_accounts path (member k d ms) (named l p) ≡ None
-clear_on path k d ms none l p later = by (compared l k) refl
+-- without members there is none
+pub none_in : (faults : List ℕ → Path → Data → Faults) (path : Path) (p : Place) → in_members faults path no_members p ≡ None
+none_in faults path itself = refl
+none_in faults path (unknown k) = refl
+none_in faults path (missing i) = refl
+none_in faults path (under i p) = refl
+none_in faults path (named k p) = refl
+
+-- no fault in the first member, and none in the others
+clear_on : (faults : List ℕ → Path → Data → Faults) (path : Path) (k : List ℕ) (d : Data) (ms : Members) → ((p : Place) → faults k (at_key path k) d p ≡ None) →
+    (l : List ℕ) (p : Place) → in_members faults path ms (named l p) ≡ None → in_members faults path (member k d ms) (named l p) ≡ None
+clear_on faults path k d ms none l p later = by (compared l k) refl
   where
-    by : (o : Ordering) → compared l k ≡ o → in_value (account_faults l) (at_key path l) (match_ordering o (get_member l ms) (Some d) (get_member l ms)) p ≡ None
+    by : (o : Ordering) → compared l k ≡ o → in_value (faults l) (at_key path l) (match_ordering o (get_member l ms) (Some d) (get_member l ms)) p ≡ None
     by Less e = later
     by Equal e = let same : l ≡ k = key_is l k e in rw same (none p)
     by Greater e = later
 
--- a fault behind the first account stands with it in front
-stays : (path : Path) (k : List ℕ) (d : Data) (ms : Members) → IsAbove k ms → (l : List ℕ) (p : Place) (fault : ConfigFault) →
-    in_accounts path ms (named l p) ≡ Some fault → in_accounts path (member k d ms) (named l p) ≡ Some fault
-stays path k d ms above l p fault stands = by (compared l k) refl
+-- a fault behind the first member stands with it in front
+stays : (faults : List ℕ → Path → Data → Faults) (path : Path) (k : List ℕ) (d : Data) (ms : Members) → IsAbove k ms → (l : List ℕ) (p : Place) (fault : ConfigFault) →
+    in_members faults path ms (named l p) ≡ Some fault → in_members faults path (member k d ms) (named l p) ≡ Some fault
+stays faults path k d ms above l p fault stands = by (compared l k) refl
   where
-    by : (o : Ordering) → compared l k ≡ o → in_value (account_faults l) (at_key path l) (match_ordering o (get_member l ms) (Some d) (get_member l ms)) p ≡ Some fault
+    by : (o : Ordering) → compared l k ≡ o → in_value (faults l) (at_key path l) (match_ordering o (get_member l ms) (Some d) (get_member l ms)) p ≡ Some fault
     by Less e = stands
     by Equal e =
         let gone : get_member l ms ≡ None = let same : l ≡ k = key_is l k e in rw same (absent k ms above) in
-        let nothing = subst (λ (o : Option Data). in_value (account_faults l) (at_key path l) o p ≡ Some fault) gone stands in
+        let nothing = subst (λ (o : Option Data). in_value (faults l) (at_key path l) o p ≡ Some fault) gone stands in
         absurd (true≢false (sym (ap is_some nothing)))
     by Greater e = stands
 
--- the accounts are read, each put under its name
-pub accounts_read : ((path : Path) (name : List ℕ) (d : Data) → IsOrdered d →
-    IsReading (account_faults name (at_key path name) d) (record { name = name; account = account_in d }) (named_account_at path name d)) →
-    (before : List NamedAccount) (path : Path) (ms : Members) → IsAscending ms →
-    IsReading (in_accounts path ms) (accounts_in before ms) (accounts_from before path ms)
-accounts_read reads before path no_members up = (none, refl)
+-- the first member is read, and then the others
+pub member_read : {X Y : Type 0} (faults : List ℕ → Path → Data → Faults) (path : Path) (k : List ℕ) (d : Data) (ms : Members) → IsAbove k ms →
+    (x : X) (y : Y) (read : Read X) (more : X → Read Y) → IsReading (faults k (at_key path k) d) x read → IsReading (in_members faults path ms) y (more x) →
+    IsReading (in_members faults path (member k d ms)) y (read >>= more)
+member_read {X = X} {Y = Y} faults path k d ms above x y read more is later = by read is
   where
-    none : (p : Place) → in_accounts path no_members p ≡ None
-    none itself = refl
-    none (unknown k) = refl
-    none (missing i) = refl
-    none (under i p) = refl
-    none (named k p) = refl
-accounts_read reads before path (member k d ms) up = by (named_account_at path k d) (reads path k d up.1) (λ more. accounts_read reads more path ms up.2)
-  where
-    behind : ((p : Place) → account_faults k (at_key path k) d p ≡ None) → (y : List NamedAccount) (read : Read (List NamedAccount)) →
-        IsReading (in_accounts path ms) y read → IsReading (in_accounts path (member k d ms)) y read
-    behind none y (Ok xs) is = (all, is.1)
+    F : Faults
+    F = in_members faults path (member k d ms)
+
+    behind : ((p : Place) → faults k (at_key path k) d p ≡ None) → (others : Read Y) → IsReading (in_members faults path ms) y others → IsReading F y others
+    behind none (Ok ys) is = (all, is.1)
       where
-        all : (p : Place) → in_accounts path (member k d ms) p ≡ None
+        all : (p : Place) → F p ≡ None
         all itself = refl
         all (unknown l) = refl
         all (missing i) = refl
         all (under i p) = refl
-        all (named l p) = clear_on path k d ms none l p (is.0 (named l p))
-    behind none y (Err fault) first = at first.0 first.1 first.2
+        all (named l p) = clear_on faults path k d ms none l p (is.0 (named l p))
+    behind none (Err fault) first = at first.0 first.1 first.2
       where
-        at : (p : Place) → in_accounts path ms p ≡ Some fault → ((q : Place) → IsBefore q p → in_accounts path ms q ≡ None) → IsFirst (in_accounts path (member k d ms)) fault
+        at : (p : Place) → in_members faults path ms p ≡ Some fault → ((q : Place) → IsBefore q p → in_members faults path ms q ≡ None) → IsFirst F fault
         at itself stands none_before = absurd (true≢false (sym (ap is_some stands)))
         at (unknown l) stands none_before = absurd (true≢false (sym (ap is_some stands)))
         at (missing i) stands none_before = absurd (true≢false (sym (ap is_some stands)))
         at (under i p) stands none_before = absurd (true≢false (sym (ap is_some stands)))
-        at (named l p) stands none_before = (named l p, stays path k d ms up.0 l p fault stands, earlier)
+        at (named l p) stands none_before = (named l p, stays faults path k d ms above l p fault stands, earlier)
           where
-            earlier : (q : Place) → IsBefore q (named l p) → in_accounts path (member k d ms) q ≡ None
+            earlier : (q : Place) → IsBefore q (named l p) → F q ≡ None
             earlier itself h = refl
             earlier (unknown j) h = refl
             earlier (missing i) h = refl
             earlier (under i q) h = refl
-            earlier (named j q) h = clear_on path k d ms none j q (none_before (named j q) h)
+            earlier (named j q) h = clear_on faults path k d ms none j q (none_before (named j q) h)
 
-    first_account : (fault : ConfigFault) → IsFirst (account_faults k (at_key path k) d) fault → IsFirst (in_accounts path (member k d ms)) fault
-    first_account fault first = (named k first.0, rw (same_key k) first.1, earlier)
+    first_member : (fault : ConfigFault) → IsFirst (faults k (at_key path k) d) fault → IsFirst F fault
+    first_member fault first = (named k first.0, rw (same_key k) first.1, earlier)
       where
-        earlier : (q : Place) → IsBefore q (named k first.0) → in_accounts path (member k d ms) q ≡ None
+        earlier : (q : Place) → IsBefore q (named k first.0) → F q ≡ None
         earlier itself h = refl
         earlier (unknown j) h = refl
         earlier (missing i) h = refl
         earlier (under i q) h = refl
         earlier (named j q) h = elim h [
-          | inl lt ↦ rw (absent j (member k d ms) (lt, above_further j k ms lt up.0)) refl
+          | inl lt ↦ rw (absent j (member k d ms) (lt, above_further j k ms lt above)) refl
           | inr at ↦ (let e : j ≡ k = at.0 in rw (e, same_key k) (first.2 q at.1))
         ]
 
-    by : (read : Read NamedAccount) → IsReading (account_faults k (at_key path k) d) (record { name = k; account = account_in d }) read →
-        ((more : List NamedAccount) → IsReading (in_accounts path ms) (accounts_in more ms) (accounts_from more path ms)) →
-        IsReading (in_accounts path (member k d ms)) (accounts_in (with_account k (account_in d) before) ms) (read >>= λ named. accounts_from (with_account named.name named.account before) path ms)
-    by (Ok a) is later =
-        subst (λ (b : NamedAccount). IsReading (in_accounts path (member k d ms)) (accounts_in (with_account k (account_in d) before) ms) (accounts_from (with_account b.name b.account before) path ms))
-        (sym is.1) (behind is.0 _ _ (later (with_account k (account_in d) before)))
-    by (Err fault) first later = first_account fault first
+    by : (read : Read X) → IsReading (faults k (at_key path k) d) x read → IsReading F y (read >>= more)
+    by (Ok a) is = subst (λ b. IsReading F y (more b)) (sym is.1) (behind is.0 (more x) later)
+    by (Err fault) first = first_member fault first
+
+-- an object of which each member is read
+pub members_read : {X : Type 0} (faults : List ℕ → Path → Data → Faults) (path : Path) (written : Members → X) (from : Members → Read X) →
+    ((ms : Members) → IsAscending ms → IsReading (in_members faults path ms) (written ms) (from ms)) →
+    (d : Data) → IsOrdered d → IsReading (members_faults faults path d) (written (unwrap_or (as_object d) no_members)) (members_at path d >>= from)
+members_read faults path written from reads null up = first_itself _ _ refl
+members_read faults path written from reads (boolean b) up = first_itself _ _ refl
+members_read faults path written from reads (number n) up = first_itself _ _ refl
+members_read faults path written from reads (string s) up = first_itself _ _ refl
+members_read faults path written from reads (array ds) up = first_itself _ _ refl
+members_read faults path written from reads (object ms) up = same_faults (in_members faults path ms) (members_faults faults path (object ms)) same _ _ (reads ms up)
+  where
+    same : (p : Place) → members_faults faults path (object ms) p ≡ in_members faults path ms p
+    same itself = refl
+    same (unknown k) = refl
+    same (missing i) = refl
+    same (under i p) = refl
+    same (named k p) = refl
+
+-- the accounts are read, each put under its name
+pub accounts_read : (version : Version) → ((path : Path) (name : List ℕ) (d : Data) → IsOrdered d →
+    IsReading (account_faults version name (at_key path name) d) (record { name = name; account = account_in d }) (named_account_at version path name d)) →
+    (path : Path) (before : List NamedAccount) (ms : Members) → IsAscending ms →
+    IsReading (in_members (account_faults version) path ms) (accounts_in before ms) (accounts_from version before path ms)
+accounts_read version reads path before no_members up = (none_in (account_faults version) path, refl)
+accounts_read version reads path before (member k d ms) up =
+    member_read (account_faults version) path k d ms up.0 (record { name = k; account = account_in d }) (accounts_in before (member k d ms)) (named_account_at version path k d)
+    (λ named. accounts_from version (with_account named.name named.account before) path ms) (reads path k d up.1)
+    (accounts_read version reads path (with_account k (account_in d) before) ms up.2)

@@ -9,8 +9,10 @@ use Rattle.policy_rows.specs.Names.{account_name_at, kind_of}
 use Rattle.policy_rows.specs.Exports.{accounts_at, accounts_under, either_rows, export_at, export_by, exports_at, exports_under, neither_at, offered_at, response_at, service_at, single_at, single_from, single_under, stream_at, ttl_under}
 use Rattle.account_config.specs.Policy.{or_empty}
 use Rattle.account_config.specs.Place.{IsReading}
-use Rattle.account_config.specs.Standing.{in_value, object_faults, text_faults, list_faults, duration_faults, name_faults, is_response_type, kindless_faults, stream_export_keys, service_export_keys, export_faults}
-use Rattle.account_config.specs.Written.{text_in, list_in, pattern_under, accounts_list_in, single_in, ttl_in, stream_export_in, service_export_in, export_in}
+use Rattle.account_config.specs.Tables.{in_value, object_faults, text_faults, list_faults}
+use Rattle.account_config.specs.Standing.{duration_faults, name_faults, is_response_type, kindless_faults, stream_export_keys, service_export_keys, export_faults}
+use Rattle.account_config.specs.Values.{text_in, list_in}
+use Rattle.account_config.specs.Written.{pattern_under, accounts_list_in, single_in, ttl_in, stream_export_in, service_export_in, export_in}
 use Rattle.account_config.proofs.Order.{IsOrdered, Meets, under-ordered}
 use Rattle.account_config.proofs.First.{go_on}
 use Rattle.account_config.proofs.Objects.{then_object, none_left, kindless_read}

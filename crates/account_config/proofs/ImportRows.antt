@@ -11,8 +11,10 @@ use Rattle.policy_rows.specs.Names.{kind_of}
 use Rattle.policy_rows.specs.Imports.{account_at, either_rows, import_at, import_by, imports_at, imports_under, neither_at, prefix_under, service_at, source_at, source_in, source_of, stream_at, subject_at, subject_from, to_under}
 use Rattle.account_config.specs.Policy.{or_empty}
 use Rattle.account_config.specs.Place.{IsReading}
-use Rattle.account_config.specs.Standing.{unless_found, in_value, object_faults, text_faults, list_faults, any_text_faults, is_subject_text, source_keys, kindless_faults, stream_import_keys, service_import_keys, import_faults}
-use Rattle.account_config.specs.Written.{text_in, list_in, value_under, pattern_under, stream_import_in, service_import_in, import_in}
+use Rattle.account_config.specs.Tables.{unless_found, in_value, object_faults, text_faults, list_faults}
+use Rattle.account_config.specs.Standing.{any_text_faults, is_subject_text, source_keys, kindless_faults, stream_import_keys, service_import_keys, import_faults}
+use Rattle.account_config.specs.Values.{text_in, list_in, value_under}
+use Rattle.account_config.specs.Written.{pattern_under, stream_import_in, service_import_in, import_in}
 use Rattle.account_config.proofs.Order.{IsOrdered, Meets, under-ordered}
 use Rattle.account_config.proofs.First.{go_on}
 use Rattle.account_config.proofs.Objects.{then_object, none_left, kindless_read}

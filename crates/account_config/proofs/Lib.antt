@@ -6,5 +6,6 @@ pub mod Values
 pub mod Rows
 pub mod ExportRows
 pub mod ImportRows
+pub mod Mapped
 pub mod Parts
 pub mod Law

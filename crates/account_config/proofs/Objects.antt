@@ -1,5 +1,5 @@
 -- What is judged of an object before its keys are read.
-use Rattle.std.proofs.Common.{◌≡◌, ℕ, zero, suc, ◌<◌, ◌≤◌, List, [], ◌∷◌, length, Option, Some, None, Err, Ordering, Less, Equal, Greater, Bool, true, false, ◌&&◌, ◌||◌, not, if◌then◌else◌, is_some, bytes_eq, refl, ap, sym, ◌∙◌, true≢false, arith}
+use Rattle.std.proofs.Common.{◌≡◌, ℕ, zero, suc, ◌<◌, ◌≤◌, List, [], ◌∷◌, length, Option, Some, None, Ok, Err, Ordering, Less, Equal, Greater, Bool, true, false, ◌&&◌, ◌||◌, not, if◌then◌else◌, is_some, bytes_eq, refl, ap, sym, ◌∙◌, subst, true≢false, arith}
 use Rattle.std.specs.Prelude.{⊤}
 use Rattle.std.specs.Ordering.{match_ordering}
 use Rattle.serde_json.specs.Data.{Data, null, boolean, number, string, array, object, Members, no_members, member}
@@ -10,7 +10,8 @@ use Rattle.policy_walk.specs.Fault.{Read, ◌>>=◌}
 use Rattle.policy_walk.specs.Path.{Path, at_key}
 use Rattle.policy_walk.specs.Object.{Row, is_known, unknown_key, missing_key, refuse, judged}
 use Rattle.account_config.specs.Place.{Place, itself, unknown, missing, under, named, IsBefore, Faults, IsFirst, IsReading}
-use Rattle.account_config.specs.Standing.{Key, required, optional, spelled, unless_found, has_key, missing_at, under_at, of_key, object_faults, kindless_faults}
+use Rattle.account_config.specs.Tables.{Key, required, optional, spelled, unless_found, has_key, missing_at, under_at, of_key, object_faults}
+use Rattle.account_config.specs.Standing.{kindless_faults}
 use Rattle.account_config.proofs.Order.{IsAscending, IsOrdered, above_further, absent, compared, same_key, key_is}
 use Rattle.account_config.proofs.First.{IsClear, first_itself, whole}
 
@@ -151,6 +152,23 @@ then_object keys path (array ds) y more up rest = first_itself _ _ refl
 then_object keys path (object ms) y more up rest =
     then_judged path (object_faults keys path (object ms)) y more refl (unknown_key (rows_of keys) ms) (missing_key (rows_of keys) (object ms))
     (unknown_said path (rows_of keys) keys (same_keys keys) ms _ (least_unknown (rows_of keys) ms up)) (first_missing path (object ms) keys) rest
+
+-- an object is judged by rows that say the same as its keys
+pub then_rows : {X : Type 0} (keys : List Key) (rows : List Row) → rows_of keys ≡ rows → (path : Path) (d : Data) (y : X) (more : ⊤ → Read X) → IsOrdered d →
+    (IsClear (object_faults keys path d) 0 → IsReading (object_faults keys path d) y (more tt)) →
+    IsReading (object_faults keys path d) y (judged rows path d >>= more)
+then_rows keys rows same path d y more up rest = subst (λ them. IsReading (object_faults keys path d) y (judged them path d >>= more)) same (then_object keys path d y more up rest)
+
+-- a key that a table doesn't have isn't there, where no key is unknown
+pub not_there : (found : Option Data) (fault : ConfigFault) → (if is_some found && true then Some fault else None) ≡ None → found ≡ None
+not_there None fault e = refl
+not_there (Some d) fault e = absurd (true≢false (ap is_some e))
+
+-- then nothing is read under it
+pub absent_read : {X Y : Type 0} (F : Faults) (written : Option Data → X) (reader : Option Data → Read X) (make : X → Y) → reader None ≡ Ok (written None) →
+    ((p : Place) → F p ≡ None) → (found : Option Data) → found ≡ None → IsReading F (make (written found)) (reader found >>= λ x. Ok (make x))
+absent_read F written reader make is none None e = rw is (none, refl)
+absent_read F written reader make is none (Some d) e = absurd (true≢false (ap is_some e))
 
 -- ---- a row that is of no kind
 

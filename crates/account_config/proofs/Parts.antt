@@ -1,11 +1,17 @@
 -- Each part of a policy is read as its faults and what is written say.
-use Rattle.std.proofs.Common.{◌≡◌, ℕ, negsuc, zero, suc, ◌≤◌, List, [], ◌∷◌, codes, Option, Some, None, option_map, option_and_then, Ok, Err, Bool, true, false, not, if◌then◌else◌, is_some, refl, ap, sym, ◌∙◌, true≢false, arith}
+use Rattle.std.proofs.Common.{◌≡◌, ℕ, negsuc, zero, suc, ◌≤◌, List, [], ◌∷◌, codes, Option, Some, None, option_map, option_and_then, Ok, Err, Bool, true, false, not, if◌then◌else◌, is_some, refl, ap, sym, ◌∙◌, subst, true≢false, arith}
 use Rattle.std.specs.Prelude.{⊤}
 use Rattle.std.specs.Ordering.{int_eq}
 use Rattle.std.specs.Option.{ok_or, option_or, unwrap_or}
 use Rattle.serde_json.specs.Data.{Data, null, boolean, number, string, array, object, Members, no_members, unsigned, negative, float}
 use Rattle.serde_json.specs.Find.{get, as_object}
+use Rattle.account_mappings.specs.Drawing.{SourceMap}
+use Rattle.permission_doc.specs.declared.document.PermDoc.{PermDoc}
+use Rattle.policy_doc.specs.declared.document.AccountDoc.{AccountDoc}
 use Rattle.policy_doc.specs.declared.document.NamedAccount.{NamedAccount}
+use Rattle.policy_doc.specs.declared.document.PolicyDoc.{PolicyDoc}
+use Rattle.policy_doc.specs.declared.document.Version.{Version}
+use Rattle.policy_doc.specs.declared.document.Version.TheVariants.{One, Two}
 use Rattle.policy_walk.specs.declared.fault.ConfigFault.{ConfigFault}
 use Rattle.policy_walk.specs.declared.fault.ConfigFault.TheVariants.{WrongType, BadSubject, BadMax, BadName, HashedPassword}
 use Rattle.policy_permissions.specs.declared.entry.Side.{Side}
@@ -14,18 +20,22 @@ use Rattle.policy_permissions.specs.Entry.{is_entry_text, entry_written}
 use Rattle.policy_walk.specs.Fault.{◌>>=◌}
 use Rattle.policy_walk.specs.Texts.{required_text_at}
 use Rattle.policy_walk.specs.Path.{Path, at_key}
-use Rattle.account_config.specs.Policy.{entry_from, entry_at, entries_at, entries_under, or_empty, lists_at, allow_at, direction_at, spelled_from, is_bound, max_at, max_under, duration_at, expires_under, terms_at, responses_at, responses_under, allow_responses_at, permissions_at, permissions_under, has_name_length, is_hashed, user_name_at, password_at, user_permissions_at, user_at, users_at, users_under, exports_under, imports_under, account_at, is_account_name, named_account_at, accounts_at, is_version, version_under, document_at}
+use Rattle.account_config.specs.Policy.{entry_from, entry_at, entries_at, entries_under, or_empty, lists_at, allow_at, direction_at, spelled_from, is_bound, max_at, max_under, duration_at, expires_under, terms_at, responses_at, responses_under, allow_responses_at, permissions_at, permissions_under, has_name_length, is_hashed, user_name_at, password_at, user_permissions_at, user_at, users_at, users_under, exports_under, imports_under, mappings_under, account_rows, account_at, is_account_name, named_account_at, accounts_from, accounts_at, top_rows, version_in, version_of, version_under, document_at}
 use Rattle.account_config.specs.Place.{Place, itself, unknown, missing, under, named, Faults, IsReading}
-use Rattle.account_config.specs.Standing.{unless_found, in_value, in_spelled, object_faults, list_faults, entry_faults, entries_faults, direction_keys, direction_faults, max_faults, duration_faults, terms_keys, responses_faults, permission_keys, user_keys, account_keys, account_faults, accounts_faults, version_faults, top_keys}
-use Rattle.account_config.specs.Written.{text_in, list_in, entry_in, entries_in, lists_in, direction_in, bound_in, max_in, duration_in, terms_in, responses_in, permissions_in, user_in, export_in, import_in, account_in, accounts_in, document_in}
+use Rattle.account_config.specs.Tables.{unless_found, in_value, in_spelled, object_faults, list_faults}
+use Rattle.account_config.specs.Standing.{entry_faults, entries_faults, direction_keys, direction_faults, max_faults, duration_faults, terms_keys, responses_faults, permission_keys, user_keys, account_keys, account_faults, accounts_faults, version_faults, top_keys}
+use Rattle.account_config.specs.Values.{text_in, list_in, value_under}
+use Rattle.account_config.specs.Mapped.{mappings_in}
+use Rattle.account_config.specs.Written.{entry_in, entries_in, lists_in, direction_in, bound_in, max_in, duration_in, terms_in, responses_in, permissions_in, user_in, export_in, import_in, account_in, accounts_in, document_in}
 use Rattle.account_config.proofs.Order.{IsOrdered, Meets, under-ordered}
 use Rattle.policy_permissions.proofs.Entries.{entry_is}
 use Rattle.account_config.proofs.First.{IsClear, go_on, whole, first_itself, same_faults, mapped}
-use Rattle.account_config.proofs.Objects.{then_object, none_left}
-use Rattle.account_config.proofs.Each.{Reads, in_accounts, accounts_read}
+use Rattle.account_config.proofs.Objects.{absent_read, none_left, not_there, rows_of, then_object, then_rows}
+use Rattle.account_config.proofs.Each.{Reads, accounts_read, members_read}
 use Rattle.account_config.proofs.Values.{text_read, turned, list_read, optional_read, duration_read, required_read}
 use Rattle.account_config.proofs.ExportRows.{exports_under_read}
 use Rattle.account_config.proofs.ImportRows.{imports_under_read}
+use Rattle.account_config.proofs.Mapped.{mappings_under_read}
 
 -- ---- permissions
 
@@ -176,10 +186,36 @@ users_under_read : (path : Path) (found : Option Data) → Meets IsOrdered found
 users_under_read path None up = (λ p. refl, refl)
 users_under_read path (Some d) up = users_read path d up
 
-account_read : Reads (object_faults account_keys) account_in account_at
+account_rows_are : (version : Version) → rows_of (account_keys version) ≡ account_rows version
+account_rows_are One = refl
+account_rows_are Two = refl
+
+-- an account but for its mappings
+abbrev account_with : Data → List SourceMap → AccountDoc
+account_with d mappings = record {
+  users = or_empty (option_map (list_in user_in) (get (codes "users") d));
+  exports = or_empty (option_map (list_in export_in) (get (codes "exports") d));
+  imports = or_empty (option_map (list_in import_in) (get (codes "imports") d));
+  mappings = mappings;
+}
+
+-- its mappings are read last; in the first version there are none
+mappings_last : (version : Version) (path : Path) (d : Data) → IsOrdered d → IsClear (object_faults (account_keys version) path d) 3 →
+    IsReading (object_faults (account_keys version) path d) (account_in d)
+    (mappings_under (at_key path (codes "mappings")) (get (codes "mappings") d) >>= λ mappings. Ok (account_with d mappings))
+mappings_last One path d up clear =
+    absent_read _ (λ found. or_empty (option_map mappings_in found)) (mappings_under (at_key path (codes "mappings"))) (account_with d) refl (none_left (account_keys One) path d clear)
+    (get (codes "mappings") d) (not_there _ _ (clear.at_unknown (codes "mappings")))
+mappings_last Two path d up clear =
+    go_on _ 3 (or_empty (option_map mappings_in (get (codes "mappings") d))) (account_in d)
+    (mappings_under (at_key path (codes "mappings")) (get (codes "mappings") d)) _ clear
+    (mappings_under_read _ _ (under-ordered (codes "mappings") d up)) λ clear.
+    (none_left (account_keys Two) path d clear, refl)
+
+account_read : (version : Version) → Reads (object_faults (account_keys version)) account_in (account_at version)
 unfolding account_at
-account_read path d up =
-    then_object account_keys path d (account_in d) _ up λ clear.
+account_read version path d up =
+    then_rows (account_keys version) (account_rows version) (account_rows_are version) path d (account_in d) _ up λ clear.
     go_on _ 0 (or_empty (option_map (list_in user_in) (get (codes "users") d))) (account_in d) (users_under (at_key path (codes "users")) (get (codes "users") d)) _ clear
     (users_under_read _ _ (under-ordered (codes "users") d up)) λ clear.
     go_on _ 1 (or_empty (option_map (list_in export_in) (get (codes "exports") d))) (account_in d)
@@ -188,15 +224,15 @@ account_read path d up =
     go_on _ 2 (or_empty (option_map (list_in import_in) (get (codes "imports") d))) (account_in d)
     (imports_under (at_key path (codes "imports")) (get (codes "imports") d)) _ clear
     (imports_under_read _ _ (under-ordered (codes "imports") d up)) λ clear.
-    (none_left account_keys path d clear, refl)
+    mappings_last version path d up clear
 
-named_read : (path : Path) (name : List ℕ) (d : Data) → IsOrdered d →
-    IsReading (account_faults name (at_key path name) d) (record { name = name; account = account_in d }) (named_account_at path name d)
+named_read : (version : Version) (path : Path) (name : List ℕ) (d : Data) → IsOrdered d →
+    IsReading (account_faults version name (at_key path name) d) (record { name = name; account = account_in d }) (named_account_at version path name d)
 unfolding named_account_at
-named_read path name d up = by (is_account_name name) refl
+named_read version path name d up = by (is_account_name name) refl
   where
     F : Faults
-    F = account_faults name (at_key path name) d
+    F = account_faults version name (at_key path name) d
 
     named_account : NamedAccount
     named_account = record { name = name; account = account_in d }
@@ -206,29 +242,19 @@ named_read path name d up = by (is_account_name name) refl
     past (suc i) p le = refl
 
     by : (b : Bool) → is_account_name name ≡ b → IsReading F named_account
-        ((if b then Ok name else Err (BadName (at_key path name))) >>= λ n. (account_at (at_key path name) d >>= λ account. Ok (record { name = n; account = account })))
+        ((if b then Ok name else Err (BadName (at_key path name))) >>= λ n. (account_at version (at_key path name) d >>= λ account. Ok (record { name = n; account = account })))
     by false e = first_itself F (BadName (at_key path name)) (rw e refl)
     by true e =
-        go_on F 0 (account_in d) named_account (account_at (at_key path name) d) _
+        go_on F 0 (account_in d) named_account (account_at version (at_key path name) d) _
         (record { at_itself = rw e refl; at_unknown = λ k. refl; at_missing = λ i. refl; at_under = λ i p lt. absurd (omega arith) })
-        (account_read (at_key path name) d up) λ clear.
+        (account_read version (at_key path name) d up) λ clear.
         (whole F 1 clear past (λ k p. refl), refl)
 
-accounts_read_at : (path : Path) (d : Data) → IsOrdered d → IsReading (accounts_faults path d) (accounts_in [] (unwrap_or (as_object d) no_members)) (accounts_at path d)
+accounts_read_at : (version : Version) (path : Path) (d : Data) → IsOrdered d →
+    IsReading (accounts_faults version path d) (accounts_in [] (unwrap_or (as_object d) no_members)) (accounts_at version path d)
 unfolding accounts_at
-accounts_read_at path null up = first_itself _ _ refl
-accounts_read_at path (boolean b) up = first_itself _ _ refl
-accounts_read_at path (number n) up = first_itself _ _ refl
-accounts_read_at path (string s) up = first_itself _ _ refl
-accounts_read_at path (array ds) up = first_itself _ _ refl
-accounts_read_at path (object ms) up = same_faults (in_accounts path ms) (accounts_faults path (object ms)) same _ _ (accounts_read named_read [] path ms up)
-  where
-    same : (p : Place) → accounts_faults path (object ms) p ≡ in_accounts path ms p
-    same itself = refl
-    same (unknown k) = refl
-    same (missing i) = refl
-    same (under i p) = refl
-    same (named k p) = refl
+accounts_read_at version path d up =
+    members_read (account_faults version) path (accounts_in []) (accounts_from version [] path) (accounts_read version (named_read version) path []) d up
 
 -- ---- the whole
 
@@ -237,41 +263,74 @@ nothing = tt
 
 version_read : (path : Path) (found : Option Data) → IsReading (in_value version_faults path found) nothing (version_under path found)
 version_read path None = (λ p. refl, refl)
-version_read path (Some d) = by (is_version d) refl
+version_read path (Some d) = by (is_some (version_of d)) refl
   where
     F : Faults
     F = version_faults path d
 
-    none : is_version d ≡ true → (p : Place) → F p ≡ None
+    none : is_some (version_of d) ≡ true → (p : Place) → F p ≡ None
     none e itself = rw e refl
     none e (unknown k) = refl
     none e (missing i) = refl
     none e (under i p) = refl
     none e (named k p) = refl
 
-    by : (b : Bool) → is_version d ≡ b → IsReading F nothing (if b then Ok nothing else Err (WrongType path))
+    by : (b : Bool) → is_some (version_of d) ≡ b → IsReading F nothing (if b then Ok nothing else Err (WrongType path))
     by true e = (none e, refl)
     by false e = first_itself F (WrongType path) (rw e refl)
 
-pub document_read : Reads (object_faults top_keys) document_in document_at
+top_rows_are : (version : Version) → rows_of (top_keys version) ≡ top_rows version
+top_rows_are One = refl
+top_rows_are Two = refl
+
+-- the document of a version but for its default permissions
+abbrev document_with : Version → Data → Option PermDoc → PolicyDoc
+document_with version d default = record {
+  accounts = accounts_in [] (unwrap_or (as_object (value_under (codes "accounts") d)) no_members);
+  version = version;
+  default_permissions = default;
+}
+
+-- the default permissions are read last; in the first version there are none
+default_last : (version : Version) (path : Path) (d : Data) → IsOrdered d → IsClear (object_faults (top_keys version) path d) 2 →
+    IsReading (object_faults (top_keys version) path d) (document_with version d (option_map permissions_in (get (codes "default_permissions") d)))
+    (permissions_under (at_key path (codes "default_permissions")) (get (codes "default_permissions") d) >>= λ default. Ok (document_with version d default))
+default_last One path d up clear =
+    absent_read _ (option_map permissions_in) (permissions_under (at_key path (codes "default_permissions"))) (document_with One d) refl (none_left (top_keys One) path d clear)
+    (get (codes "default_permissions") d) (not_there _ _ (clear.at_unknown (codes "default_permissions")))
+default_last Two path d up clear =
+    go_on _ 2 (option_map permissions_in (get (codes "default_permissions") d)) _
+    (permissions_under (at_key path (codes "default_permissions")) (get (codes "default_permissions") d)) _ clear
+    (permissions_under_read _ _ (under-ordered (codes "default_permissions") d up)) λ clear.
+    (none_left (top_keys Two) path d clear, refl)
+
+pub document_read : (path : Path) (d : Data) → IsOrdered d → IsReading (object_faults (top_keys (version_in d)) path d) (document_in d) (document_at path d)
 unfolding document_at
 document_read path d up =
-    then_object top_keys path d (document_in d) _ up λ clear.
+    then_rows (top_keys version) (top_rows version) (top_rows_are version) path d (document_in d) _ up λ clear.
     given clear (get (codes "accounts") d) refl (under-ordered (codes "accounts") d up)
   where
+    version : Version
+    version = version_in d
+
     F : Faults
-    F = object_faults top_keys path d
+    F = object_faults (top_keys version) path d
 
     below : Path
     below = at_key path (codes "accounts")
 
     given : IsClear F 0 → (found : Option Data) → get (codes "accounts") d ≡ found → Meets IsOrdered found →
         IsReading F (document_in d)
-        (ok_or found (WrongType below) >>= λ value. (accounts_at below value >>= λ accounts.
-        (version_under (at_key path (codes "version")) (get (codes "version") d) >>= λ version. Ok (record { accounts = accounts }))))
+        (ok_or found (WrongType below) >>= λ value. (accounts_at version below value >>= λ accounts.
+        (version_under (at_key path (codes "version")) (get (codes "version") d) >>= λ allowed.
+        (permissions_under (at_key path (codes "default_permissions")) (get (codes "default_permissions") d) >>= λ default.
+        Ok (record { accounts = accounts; version = version; default_permissions = default })))))
     given clear None e inside = absurd (true≢false (sym (ap (λ (o : Option Data). is_some (unless_found o (WrongType below))) e) ∙ ap is_some (clear.at_missing 0)))
     given clear (Some v) e inside =
-        go_on F 0 (accounts_in [] (unwrap_or (as_object v) no_members)) (document_in d) (accounts_at below v) _ clear
-        (same_faults (accounts_faults below v) (λ p. F (under 0 p)) (λ p. rw e refl) _ _ (accounts_read_at below v inside)) λ clear.
+        go_on F 0 (accounts_in [] (unwrap_or (as_object v) no_members)) (document_in d) (accounts_at version below v) _ clear
+        (same_faults (accounts_faults version below v) (λ p. F (under 0 p)) (λ p. rw e refl) _ _ (accounts_read_at version below v inside)) λ clear.
         go_on F 1 nothing (document_in d) (version_under (at_key path (codes "version")) (get (codes "version") d)) _ clear (version_read (at_key path (codes "version")) (get (codes "version") d)) λ clear.
-        (none_left top_keys path d clear, rw e refl)
+        subst (λ (list : List NamedAccount). IsReading F (document_in d)
+        (permissions_under (at_key path (codes "default_permissions")) (get (codes "default_permissions") d) >>= λ default.
+        Ok (record { accounts = list; version = version; default_permissions = default })))
+        (ap (λ (o : Option Data). accounts_in [] (unwrap_or (as_object (unwrap_or o null)) no_members)) e) (default_last version path d up clear)

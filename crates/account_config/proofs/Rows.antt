@@ -14,8 +14,10 @@ use Rattle.policy_walk.specs.Path.{Path, at_key}
 use Rattle.policy_walk.specs.Texts.{required_text_at}
 use Rattle.policy_rows.specs.Names.{account_name_at, account_name_from, is_account_name}
 use Rattle.account_config.specs.Place.{under, Faults, IsReading}
-use Rattle.account_config.specs.Standing.{Key, unless_found, in_value, object_faults, kindless_faults, row_faults, name_faults, pattern_faults}
-use Rattle.account_config.specs.Written.{text_in, value_under, pattern_under, row_in}
+use Rattle.account_config.specs.Tables.{Key, unless_found, in_value, object_faults}
+use Rattle.account_config.specs.Standing.{kindless_faults, row_faults, name_faults, pattern_faults}
+use Rattle.account_config.specs.Values.{text_in, value_under}
+use Rattle.account_config.specs.Written.{pattern_under, row_in}
 use Rattle.account_config.proofs.First.{IsClear, go_on}
 use Rattle.account_config.proofs.Each.{Reads}
 use Rattle.account_config.proofs.Values.{text_read, turned, required_read}

@@ -11,8 +11,10 @@ use Rattle.policy_walk.specs.Texts.{text_at, items_at}
 use Rattle.policy_walk.specs.Path.{Path, at_index}
 use Rattle.account_config.specs.Policy.{each, duration_from, duration_at}
 use Rattle.account_config.specs.Place.{Place, itself, unknown, missing, under, named, Faults, IsReading}
-use Rattle.account_config.specs.Standing.{unless_found, in_value, text_faults, list_faults, duration_faults}
-use Rattle.account_config.specs.Written.{text_in, list_in, duration_in}
+use Rattle.account_config.specs.Tables.{unless_found, in_value, text_faults, list_faults}
+use Rattle.account_config.specs.Standing.{duration_faults}
+use Rattle.account_config.specs.Values.{text_in, list_in}
+use Rattle.account_config.specs.Written.{duration_in}
 use Rattle.account_config.proofs.Order.{IsOrdered, Meets}
 use Rattle.account_config.proofs.First.{first_itself, mapped}
 use Rattle.account_config.proofs.Each.{Reads, each_from}

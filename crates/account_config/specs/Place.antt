@@ -8,7 +8,8 @@ use Rattle.policy_walk.specs.Fault.{Read}
 
 -- a place in a value: itself, a key that its table doesn't have, a key of the table that isn't there (by its number in
 -- the table; a row that is of no kind lacks the first), and a place in what stands under a key of the table (by its
--- number), at an index of a list or under a name
+-- number), at an index of a list or under a name. Under a name, number 0 has the account or the destinations, and number 1
+-- what the weights of these add up to
 pub data Place : Type 0 where
   itself : Place
   unknown : List ℕ → Place

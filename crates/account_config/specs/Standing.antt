@@ -1,94 +1,25 @@
 -- Which faults a policy's text has, and where (docs/POLICY.md, "Objects" and "Faults"). Nothing here says which comes first.
-use Rattle.std.specs.Prelude.{◌&&◌, ◌||◌, ◌∷◌, ◌++◌, ℕ, negsuc, zero, suc, Bool, true, false, not, List, [], codes, if◌then◌else◌, Option, Some, None, is_some}
+use Rattle.std.specs.Prelude.{◌||◌, ◌∷◌, ◌++◌, ℕ, negsuc, zero, suc, Bool, true, not, List, [], codes, if◌then◌else◌, Option, Some, None, is_some}
 use Rattle.std.specs.Ordering.{int_eq}
 use Rattle.std.specs.Str.{bytes_eq}
 use Rattle.serde_json.specs.Data.{Data, Num, unsigned, negative, float}
-use Rattle.serde_json.specs.Find.{get, at, as_bool, as_number, as_str, as_array, as_object}
+use Rattle.serde_json.specs.Find.{as_bool, as_number, as_str, as_object}
 use Rattle.policy_permissions.specs.declared.entry.Side.{Side}
 use Rattle.policy_permissions.specs.declared.entry.Side.TheVariants.{Publish, Subscribe}
 use Rattle.policy_walk.specs.declared.fault.ConfigFault.{ConfigFault}
-use Rattle.policy_walk.specs.declared.fault.ConfigFault.TheVariants.{UnknownKey, WrongType, BadSubject, BadDuration, BadMax, BadName, HashedPassword}
+use Rattle.policy_walk.specs.declared.fault.ConfigFault.TheVariants.{WrongType, BadSubject, BadDuration, BadMax, BadName, HashedPassword}
 use Rattle.policy_walk.specs.Durations.{duration_of}
 use Rattle.subjects.specs.Fault.{subject_fault}
 use Rattle.exports.specs.declared.document.Kind.{Kind}
 use Rattle.exports.specs.declared.document.Kind.TheVariants.{Stream, Service}
+use Rattle.policy_doc.specs.declared.document.Version.{Version}
 use Rattle.policy_permissions.specs.Entry.{is_entry_text, is_pattern_text}
 use Rattle.policy_rows.specs.Names.{kind_of}
-use Rattle.policy_walk.specs.Path.{Path, at_key, at_index}
+use Rattle.policy_walk.specs.Path.{Path}
 use Rattle.account_config.specs.Place.{itself, unknown, missing, under, named, Faults}
-use Rattle.account_config.specs.Policy.{is_bound, has_name_length, is_account_name, is_hashed, is_version}
-
--- a key of an object with the faults of what stands under it: it has to be there, or it may be, or it has two spellings
-pub data Key : Type 0 where
-  required : List ℕ → (Path → Data → Faults) → Key
-  optional : List ℕ → (Path → Data → Faults) → Key
-  spelled : List ℕ → List ℕ → (Path → Data → Faults) → Key
-
--- a fault where nothing was found
-abbrev pub unless_found : {X : Type 0} → Option X → ConfigFault → Option ConfigFault
-unless_found None fault = Some fault
-unless_found (Some x) fault = None
-
--- the faults of a value, if it is there
-abbrev pub in_value : (Path → Data → Faults) → Path → Option Data → Faults
-in_value faults path None p = None
-in_value faults path (Some d) p = faults path d p
-
--- the faults under one of two spellings. That both are there is a fault of the direction itself, at the shorter
-abbrev pub in_spelled : (Path → Data → Faults) → Path → Path → Option Data → Option Data → Faults
-in_spelled faults long short None found p = in_value faults short found p
-in_spelled faults long short (Some d) None p = faults long d p
-in_spelled faults long short (Some d) (Some e) itself = Some (WrongType short)
-in_spelled faults long short (Some d) (Some e) _ = None
-
--- ---- objects by their tables
-
-abbrev pub has_key : List Key → List ℕ → Bool
-has_key [] key = false
-has_key (required k faults ∷ keys) key = bytes_eq k key || has_key keys key
-has_key (optional k faults ∷ keys) key = bytes_eq k key || has_key keys key
-has_key (spelled k l faults ∷ keys) key = bytes_eq k key || (bytes_eq l key || has_key keys key)
-
-abbrev pub missing_at : Path → Data → Key → Option ConfigFault
-missing_at path d (required k faults) = unless_found (get k d) (WrongType (at_key path k))
-missing_at path d (optional k faults) = None
-missing_at path d (spelled k l faults) = None
-
-abbrev pub under_at : Path → Data → Key → Faults
-under_at path d (required k faults) p = in_value faults (at_key path k) (get k d) p
-under_at path d (optional k faults) p = in_value faults (at_key path k) (get k d) p
-under_at path d (spelled k l faults) p = in_spelled faults (at_key path k) (at_key path l) (get k d) (get l d) p
-
--- of the key with a number
-abbrev pub of_key : (Key → Option ConfigFault) → List Key → ℕ → Option ConfigFault
-of_key fault [] i = None
-of_key fault (key ∷ keys) zero = fault key
-of_key fault (key ∷ keys) (suc i) = of_key fault keys i
-
--- an object with a table of keys
-abbrev pub object_faults : List Key → Path → Data → Faults
-object_faults keys path d itself = unless_found (as_object d) (WrongType path)
-object_faults keys path d (unknown key) = if is_some (get key d) && not (has_key keys key) then Some (UnknownKey (at_key path key)) else None
-object_faults keys path d (missing i) = of_key (missing_at path d) keys i
-object_faults keys path d (under i p) = of_key (λ key. under_at path d key p) keys i
-object_faults keys path d (named key p) = None
-
--- ---- texts and lists
-
-abbrev pub text_fault : (List ℕ → Bool) → (Path → ConfigFault) → Path → Option (List ℕ) → Option ConfigFault
-text_fault is_allowed fault path None = Some (WrongType path)
-text_fault is_allowed fault path (Some text) = if is_allowed text then None else Some (fault path)
-
--- a text that may not be any
-abbrev pub text_faults : (List ℕ → Bool) → (Path → ConfigFault) → Path → Data → Faults
-text_faults is_allowed fault path d itself = text_fault is_allowed fault path (as_str d)
-text_faults is_allowed fault path d _ = None
-
--- a list of values
-abbrev pub list_faults : (Path → Data → Faults) → Path → Data → Faults
-list_faults faults path d itself = unless_found (as_array d) (WrongType path)
-list_faults faults path d (under i p) = in_value faults (at_index path i) (at i d) p
-list_faults faults path d _ = None
+use Rattle.account_config.specs.Tables.{Key, required, optional, spelled, object_faults, text_faults, list_faults, members_faults}
+use Rattle.account_config.specs.Mapped.{mappings_faults}
+use Rattle.account_config.specs.Policy.{is_bound, has_name_length, is_account_name, is_hashed, since_second, version_in, version_of}
 
 -- ---- what a policy has, from the inside out
 
@@ -208,31 +139,33 @@ import_faults path d = row_faults stream_import_keys service_import_keys (kind_o
 
 -- ---- accounts
 
-abbrev pub account_keys : List Key
-account_keys =
+abbrev pub account_keys : Version → List Key
+account_keys version =
     optional (codes "users") (list_faults (object_faults user_keys))
     ∷ optional (codes "exports") (list_faults export_faults)
-    ∷ optional (codes "imports") (list_faults import_faults) ∷ []
+    ∷ optional (codes "imports") (list_faults import_faults)
+    ∷ since_second version (optional (codes "mappings") mappings_faults)
 
 -- an account's name, and then the account
-abbrev pub account_faults : List ℕ → Path → Data → Faults
-account_faults name path d itself = if is_account_name name then None else Some (BadName path)
-account_faults name path d (under zero p) = object_faults account_keys path d p
-account_faults name path d _ = None
+abbrev pub account_faults : Version → List ℕ → Path → Data → Faults
+account_faults version name path d itself = if is_account_name name then None else Some (BadName path)
+account_faults version name path d (under zero p) = object_faults (account_keys version) path d p
+account_faults version name path d _ = None
 
 -- an object with an account under each name
-abbrev pub accounts_faults : Path → Data → Faults
-accounts_faults path d itself = unless_found (as_object d) (WrongType path)
-accounts_faults path d (named name p) = in_value (account_faults name) (at_key path name) (get name d) p
-accounts_faults path d _ = None
+abbrev pub accounts_faults : Version → Path → Data → Faults
+accounts_faults version = members_faults (account_faults version)
 
 abbrev pub version_faults : Path → Data → Faults
-version_faults path d itself = if is_version d then None else Some (WrongType path)
+version_faults path d itself = if is_some (version_of d) then None else Some (WrongType path)
 version_faults path d _ = None
 
-abbrev pub top_keys : List Key
-top_keys = required (codes "accounts") accounts_faults ∷ optional (codes "version") version_faults ∷ []
+abbrev pub top_keys : Version → List Key
+top_keys version =
+    required (codes "accounts") (accounts_faults version)
+    ∷ optional (codes "version") version_faults
+    ∷ since_second version (optional (codes "default_permissions") (object_faults permission_keys))
 
--- the whole has no path
+-- the whole has no path, and the keys of its version
 abbrev pub policy_faults : Data → Faults
-policy_faults = object_faults top_keys []
+policy_faults d = object_faults (top_keys (version_in d)) [] d

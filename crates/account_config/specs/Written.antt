@@ -2,8 +2,8 @@
 use Rattle.std.specs.Prelude.{◌≡◌, ◌≢◌, ◌∷◌, ℕ, Bool, true, false, List, [], codes, length, if◌then◌else◌, nat_lt, Option, Some, None, Ok, Err, is_some, option_and_then}
 use Rattle.std.specs.Option.{option_map, option_or, unwrap_or}
 use Rattle.std.specs.Str.{bytes_eq}
-use Rattle.serde_json.specs.Data.{Data, null, Items, no_items, item, Members, no_members, member}
-use Rattle.serde_json.specs.Find.{get, as_bool, as_number, as_u64, as_str, as_array, as_object}
+use Rattle.serde_json.specs.Data.{Data, Members, no_members, member}
+use Rattle.serde_json.specs.Find.{get, as_bool, as_number, as_u64, as_str, as_object}
 use Rattle.subjects.specs.Subject.{Token, tokens_of}
 use Rattle.exports.specs.declared.document.Kind.{Kind}
 use Rattle.exports.specs.declared.document.Kind.TheVariants.{Stream, Service}
@@ -29,22 +29,10 @@ use Rattle.policy_permissions.specs.Entry.{entry_written}
 use Rattle.policy_walk.specs.Fault.{Read}
 use Rattle.account_config.specs.Place.{IsReading}
 use Rattle.account_config.specs.Standing.{policy_faults}
-use Rattle.account_config.specs.Policy.{or_empty}
+use Rattle.account_config.specs.Policy.{or_empty, version_in}
+use Rattle.account_config.specs.Values.{text_in, list_in, value_under}
+use Rattle.account_config.specs.Mapped.{mappings_in}
 use Rattle.json_text.specs.Json.{json_of}
-
-abbrev pub text_in : Data → List ℕ
-text_in d = unwrap_or (as_str d) []
-
-abbrev pub each_in : {X : Type 0} → (Data → X) → Items → List X
-each_in written no_items = []
-each_in written (item d ds) = written d ∷ each_in written ds
-
-abbrev pub list_in : {X : Type 0} → (Data → X) → Data → List X
-list_in written d = each_in written (unwrap_or (as_array d) no_items)
-
--- what stands under a key that has to be there
-abbrev pub value_under : List ℕ → Data → Data
-value_under key d = unwrap_or (get key d) null
 
 abbrev pub entry_in : Side → Data → PermEntry
 entry_in side d = entry_written side (text_in d)
@@ -163,6 +151,7 @@ account_in d = record {
   users = or_empty (option_map (list_in user_in) (get (codes "users") d));
   exports = or_empty (option_map (list_in export_in) (get (codes "exports") d));
   imports = or_empty (option_map (list_in import_in) (get (codes "imports") d));
+  mappings = or_empty (option_map mappings_in (get (codes "mappings") d));
 }
 
 -- accounts, each put under its name
@@ -171,7 +160,11 @@ accounts_in before no_members = before
 accounts_in before (member name d ms) = accounts_in (with_account name (account_in d) before) ms
 
 abbrev pub document_in : Data → PolicyDoc
-document_in d = record { accounts = accounts_in [] (unwrap_or (as_object (value_under (codes "accounts") d)) no_members) }
+document_in d = record {
+  accounts = accounts_in [] (unwrap_or (as_object (value_under (codes "accounts") d)) no_members);
+  version = version_in d;
+  default_permissions = option_map permissions_in (get (codes "default_permissions") d);
+}
 
 -- the answer to a text: whether it is too large, and the JSON value that it has
 abbrev pub IsAnswerBy : Bool → Option Data → Read PolicyDoc → Type 0

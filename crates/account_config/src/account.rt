@@ -2,40 +2,50 @@
 ghost use Rattle.std.specs.Prelude.{◌≡◌, [], option_map};
 ghost use Rattle.serde_json.specs.View.{view, items_view, members_view};
 ghost use Rattle.policy_walk.specs.Fault.{Gives};
-ghost use Rattle.account_config.specs.Policy.{account_at, account_name_from, accounts_at, accounts_from, each, exports_under, imports_under, named_account_at, user_at, users_at, users_under};
+ghost use Rattle.account_config.specs.Policy.{account_at, account_name_from, account_rows, accounts_at, accounts_from, each, exports_under, imports_under, mappings_under, named_account_at, user_at, users_at, users_under};
+ghost use Rattle.policy_walk.specs.Object.{judged};
 
 use crate::user::user_of;
 use base::Items;
-use policy_doc::{AccountDoc, Accounts, NamedAccount, UserDoc};
+use policy_doc::{AccountDoc, Accounts, NamedAccount, UserDoc, Version};
+use policy_mappings::mappings_under;
 use policy_rows::{account_name_from, exports_under, imports_under};
 use policy_walk::{ConfigFault, Path, items_of, judge, members_of};
 use serde_json::{Map, Value};
 use std::alloc::Global;
 
-/// The accounts of an object, name by name.
+/// The accounts of an object, name by name, each with the keys of a version.
 #[tactic(auto, unfolding(crate::specs::Policy::accounts_at))]
 pub(crate) fn accounts_of(
     alloc: Global,
+    version: Version,
     path: &Path,
     value: &Value,
 ) -> Result<Accounts, ConfigFault>
-    ensures { Gives (λ x. x) result (accounts_at path.now (view value.now)) }
+    ensures { Gives (λ x. x) result (accounts_at version path.now (view value.now)) }
 {
     let members = members_of(alloc, path, value)?;
-    Ok(each_account(alloc, path, members)?)
+    Ok(each_account(alloc, version, path, members)?)
 }
 
 /// The accounts of an object's members, in the order of their names.
 fn each_account(
     alloc: Global,
+    version: Version,
     path: &Path,
     members: &Map<String, Value>,
 ) -> Result<Accounts, ConfigFault>
-    ensures { Gives (λ x. x) result (accounts_from [] path.now (members_view members.now.entries)) }
+    ensures { Gives (λ x. x) result (accounts_from version [] path.now (members_view members.now.entries)) }
 {
     let mut accounts = Accounts::new(alloc);
     for (key, value) in members.iter() {
-        let NamedAccount { name, account } = named_account_of(alloc, path, key.as_str(), value)?;
+        let NamedAccount { name, account } = named_account_of(
+            alloc,
+            version,
+            path,
+            key.as_str(),
+            value,
+        )?;
         accounts.insert(name, account)?;
     }
     Ok(accounts)
@@ -45,36 +55,65 @@ fn each_account(
 #[tactic(auto, unfolding(crate::specs::Policy::named_account_at))]
 fn named_account_of(
     alloc: Global,
+    version: Version,
     path: &Path,
     key: &str,
     value: &Value,
 ) -> Result<NamedAccount, ConfigFault>
-    ensures { Gives (λ x. x) result (named_account_at path.now key.now (view value.now)) }
+    ensures { Gives (λ x. x) result (named_account_at version path.now key.now (view value.now)) }
 {
     let below = path.key(alloc, key)?;
     let name = account_name_from(alloc, &below, key.as_bytes())?;
-    let account = account_of(alloc, &below, value)?;
+    let account = account_of(alloc, version, &below, value)?;
     Ok(NamedAccount { name, account })
 }
 
-/// What an account has: its users, its exports and its imports, each if they are there.
+/// What an account has: its users, its exports, its imports and its mappings, each if they are there.
 #[tactic(auto, unfolding(crate::specs::Policy::account_at))]
-fn account_of(alloc: Global, path: &Path, value: &Value) -> Result<AccountDoc, ConfigFault>
-    ensures { Gives (λ x. x) result (account_at path.now (view value.now)) }
+fn account_of(
+    alloc: Global,
+    version: Version,
+    path: &Path,
+    value: &Value,
+) -> Result<AccountDoc, ConfigFault>
+    ensures { Gives (λ x. x) result (account_at version path.now (view value.now)) }
 {
-    let rows = [("users", false), ("exports", false), ("imports", false)];
-    judge(alloc, &rows, path, value)?;
+    judge_account(alloc, version, path, value)?;
     let below = path.key(alloc, "users")?;
     let users = users_under(alloc, &below, value.get("users"))?;
     let below = path.key(alloc, "exports")?;
     let exports = exports_under(alloc, &below, value.get("exports"))?;
     let below = path.key(alloc, "imports")?;
     let imports = imports_under(alloc, &below, value.get("imports"))?;
+    let below = path.key(alloc, "mappings")?;
+    let mappings = mappings_under(alloc, &below, value.get("mappings"))?;
     Ok(AccountDoc {
         users,
         exports,
         imports,
+        mappings,
     })
+}
+
+/// Refuses a value that is no object with the keys of an account. Those of the first version have no mappings.
+fn judge_account(
+    alloc: Global,
+    version: Version,
+    path: &Path,
+    value: &Value,
+) -> Result<(), ConfigFault>
+    ensures { Gives (λ x. x) result (judged (account_rows version) path.now (view value.now)) }
+{
+    let rows = [
+        ("users", false),
+        ("exports", false),
+        ("imports", false),
+        ("mappings", false),
+    ];
+    match version {
+        Version::One => Ok(judge(alloc, &rows[..3], path, value)?),
+        Version::Two => Ok(judge(alloc, &rows, path, value)?),
+    }
 }
 
 /// The users of a list, if it is there.

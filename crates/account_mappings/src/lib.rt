@@ -9,6 +9,7 @@ mod choosing;
 mod destination;
 mod drawing;
 mod laws;
+mod mappings;
 
 pub use account_map::AccountMap;
 pub use destination::Destination;
@@ -16,3 +17,4 @@ pub use drawing::{Mapped, mapped_by, source_of};
 pub use laws::fair_draws;
 pub use mapping_one_way::MappingError;
 pub use mapping_weights::Weight;
+pub use mappings::Mappings;

@@ -50,7 +50,7 @@ pub struct Addressed {
     pub noted: Option<Boxed<Note>>,
 }
 
-/// What a message met at one subscription, or at an import row.
+/// What a message met at one subscription, at an import row, or in its account's mappings.
 #[derive(Debug, Drop)]
 pub enum Item {
     /// It is in the outbox of that connection's session, for that subscription.
@@ -61,6 +61,11 @@ pub enum Item {
     RouteFull(Shared<Row>),
     /// It doesn't cross this import row, since its subject there would have more than 512 tokens.
     MapTooLong(Shared<Row>),
+    /// Its account's mappings drop it: the draw falls in a rest that is dropped. It is the only item of its message.
+    Unmapped,
+    /// The destination with this index, of those of the source that has its subject, would give it a subject of more than 512
+    /// tokens. It is the only item of its message.
+    MappedTooLong(usize),
 }
 
 /// What a message met at the subscriptions that it is for. A clause sees the items, oldest subscription first. A

@@ -57,6 +57,11 @@ impl Alike for Item {
                 Item::MapTooLong(same) => row.is_like(same),
                 _ => false,
             },
+            Item::Unmapped => matches!(other, Item::Unmapped),
+            Item::MappedTooLong(index) => match other {
+                Item::MappedTooLong(same) => *index == *same,
+                _ => false,
+            },
         }
     }
 }

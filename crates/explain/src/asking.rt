@@ -8,13 +8,14 @@ ghost use Rattle.permissions.specs.Lists.{lists_of};
 
 use crate::reason::{delivery_reason, publish_reason, subscribe_reason};
 use crate::{ExplainFault, Explanation};
+use base::NoMemory;
 use permissions::Compiled;
 use policy_doc::{Policy, UserDoc};
 use std::alloc::Global;
 use subjects::{Pattern, Subject};
 
-/// Returns whether a user may publish on a subject, and why: the verdict of its lists, with the text of the entry that it
-/// names; of `NoAllow` all allow entries, each with the subject.
+/// Returns whether a user may publish on a subject, and why: the verdict of the lists that hold for it, with the text of the
+/// entry that it names; of `NoAllow` all allow entries, each with the subject.
 ///
 /// `NoSuchUser` where no user has the name, else `NoMemory` where memory could not be had.
 pub fn explain_publish(
@@ -23,21 +24,21 @@ pub fn explain_publish(
     user: &[u8],
     subject: &Subject,
 ) -> Result<Explanation, ExplainFault>
-    ensures { Answers fault.NoSuchUser (option_map (λ u. publish_reason (lists_of u) subject.now) (user_named policy.now user.now)) result }
+    ensures { Answers fault.NoSuchUser (option_map (λ u. publish_reason (lists_of u policy.now.default_permissions) subject.now) (user_named policy.now user.now)) result }
 {
     match user_named(policy, user) {
         None => Err(ExplainFault::NoSuchUser),
         Some(user) => {
-            let lists = Compiled::of(alloc, user)?;
+            let lists = lists_of(alloc, policy, user)?;
             let reason = publish_reason(alloc, &lists, subject)?;
             Ok(reason)
         }
     }
 }
 
-/// Returns whether a user may subscribe to a pattern, with a queue or without one, and why: the verdict of its lists, with
-/// the text of the entry that it names; of `NoAllow` the allow entries that were looked at, each with a subject of the
-/// pattern that the entry hasn't. With a queue all of them are looked at, else the plain ones.
+/// Returns whether a user may subscribe to a pattern, with a queue or without one, and why: the verdict of the lists that hold
+/// for it, with the text of the entry that it names; of `NoAllow` the allow entries that were looked at, each with a subject of
+/// the pattern that the entry hasn't. With a queue all of them are looked at, else the plain ones.
 ///
 /// `NoSuchUser` where no user has the name, else `NoMemory` where memory could not be had.
 pub fn explain_subscribe(
@@ -48,12 +49,12 @@ pub fn explain_subscribe(
     queue: Option<&Subject>,
 ) -> Result<Explanation, ExplainFault>
     ensures { Answers fault.NoSuchUser
-        (option_map (λ u. subscribe_reason (lists_of u) pattern.now (option_copied queue.entry)) (user_named policy.now user.now)) result }
+        (option_map (λ u. subscribe_reason (lists_of u policy.now.default_permissions) pattern.now (option_copied queue.entry)) (user_named policy.now user.now)) result }
 {
     match user_named(policy, user) {
         None => Err(ExplainFault::NoSuchUser),
         Some(user) => {
-            let lists = Compiled::of(alloc, user)?;
+            let lists = lists_of(alloc, policy, user)?;
             let reason = subscribe_reason(alloc, &lists, pattern, queue)?;
             Ok(reason)
         }
@@ -61,7 +62,7 @@ pub fn explain_subscribe(
 }
 
 /// Returns whether a message on a subject may be sent to a subscription of a user that has a queue or none, and why: the
-/// verdict of its deny list, with the text of the entry that it names.
+/// verdict of the deny list that holds for it, with the text of the entry that it names.
 ///
 /// `NoSuchUser` where no user has the name, else `NoMemory` where memory could not be had.
 pub fn explain_delivery(
@@ -72,16 +73,23 @@ pub fn explain_delivery(
     queue: Option<&Subject>,
 ) -> Result<Explanation, ExplainFault>
     ensures { Answers fault.NoSuchUser
-        (option_map (λ u. delivery_reason (lists_of u) subject.now (option_copied queue.entry)) (user_named policy.now user.now)) result }
+        (option_map (λ u. delivery_reason (lists_of u policy.now.default_permissions) subject.now (option_copied queue.entry)) (user_named policy.now user.now)) result }
 {
     match user_named(policy, user) {
         None => Err(ExplainFault::NoSuchUser),
         Some(user) => {
-            let lists = Compiled::of(alloc, user)?;
+            let lists = lists_of(alloc, policy, user)?;
             let reason = delivery_reason(alloc, &lists, subject, queue)?;
             Ok(reason)
         }
     }
+}
+
+/// Returns the lists that hold for a user of a policy.
+fn lists_of(alloc: Global, policy: &Policy, user: &UserDoc) -> Result<Compiled, NoMemory>
+    ensures { IfOk result (λ lists. lists ≡ lists_of user.now policy.now.default_permissions) }
+{
+    Compiled::of(alloc, user, policy.doc().default_permissions.as_ref())
 }
 
 /// Returns the user of a name, if there is one.

@@ -54,22 +54,22 @@ fn write_verdict(out: &mut Vec<u8>, verdict: Verdict) -> Result<(), NoMemory>
     match verdict {
         Verdict::Allowed(by) => match by {
             By::All => Ok(out.extend_from_slice(b"allowed all")?),
-            By::Index(index) => write_counted(out, b"allowed ", index),
+            By::Index(index) => write_counted(out, b"allowed ", index as u64),
             By::Grant => Ok(out.extend_from_slice(b"allowed by a reply grant")?),
         },
-        Verdict::DeniedBy(index) => write_counted(out, b"denied ", index),
+        Verdict::DeniedBy(index) => write_counted(out, b"denied ", index as u64),
         Verdict::NoAllow => Ok(out.extend_from_slice(b"no allow")?),
-        Verdict::NoQueueAllow(index) => write_counted(out, b"no queue allow ", index),
+        Verdict::NoQueueAllow(index) => write_counted(out, b"no queue allow ", index as u64),
     }
 }
 
 /// Appends words and a number.
-fn write_counted(out: &mut Vec<u8>, words: &[u8], index: usize) -> Result<(), NoMemory>
-    ensures { OnOk result (out.new.items ≡ out.old.items ++ (words.now ++ decimal index)) }
+pub(crate) fn write_counted(out: &mut Vec<u8>, words: &[u8], number: u64) -> Result<(), NoMemory>
+    ensures { OnOk result (out.new.items ≡ out.old.items ++ (words.now ++ decimal number)) }
 {
     out.extend_from_slice(words)?;
     let mut digits = Buffer::new();
-    out.extend_from_slice(digits.format(index).as_bytes())?;
+    out.extend_from_slice(digits.format(number).as_bytes())?;
     Ok(())
 }
 
@@ -101,7 +101,7 @@ fn write_outside(out: &mut Vec<u8>, all: &[Uncovered]) -> Result<(), NoMemory>
 fn write_uncovered(out: &mut Vec<u8>, one: &Uncovered) -> Result<(), NoMemory>
     ensures { OnOk result (out.new.items ≡ out.old.items ++ uncovered_line one.now) }
 {
-    write_counted(out, b"outside ", one.index)?;
+    write_counted(out, b"outside ", one.index as u64)?;
     out.push(b' ')?;
     out.extend_from_slice(one.entry.as_slice())?;
     out.push(b' ')?;

@@ -5,11 +5,15 @@ mod asking;
 mod explanation;
 mod fault;
 mod laws;
+mod lines;
 mod path;
 mod reason;
+mod view;
 
 pub use asking::{explain_delivery, explain_publish, explain_subscribe};
 pub use explanation::{Explanation, Uncovered};
 pub use fault::ExplainFault;
 pub use laws::shows_what_entries_lack;
-pub use path::{View, ViewKind, explain_path, view_lines};
+pub use lines::path_lines;
+pub use path::{PathShare, SentAs, explain_path};
+pub use view::{View, ViewKind};

@@ -1,55 +1,48 @@
-//! The accounts that a published message is seen in.
-ghost use Rattle.std.specs.Prelude.{◌≡◌, ◌++◌, [], flat_map, map, IfOk, OnOk};
+//! Where a published message is sent on and seen.
+ghost use Rattle.std.specs.Prelude.{◌≡◌, IfOk, Some, map};
 ghost use Rattle.std.specs.Option.{option_copied};
+ghost use Rattle.account_mappings.specs.Drawing.{source_of};
+ghost use Rattle.imports.specs.Views.{rows_of};
 ghost use Rattle.explain.specs.Fault.{Answers};
-ghost use Rattle.explain.specs.Lines.{kind_words, view_line};
-ghost use Rattle.imports.specs.Across.{views};
-ghost use Rattle.explain.specs.Path.{account_named, kind_of, path_of, view_of};
+ghost use Rattle.explain.specs.Path.{account_named, left_by, path_of, share_of, share_to, shares_by, unsent};
 ghost use Rattle.explain.specs.declared.fault.ExplainFault.TheVariants as fault;
 
-use crate::ExplainFault;
+use crate::view::seen;
+use crate::{ExplainFault, View};
+use account_mappings::{AccountMap, Destination, Mapped, source_of};
 use base::{Items, NoMemory};
 use bytes::Bytes;
-use imports::{Rows, ViewItem, Way};
-use itoa::Buffer;
+use imports::Rows;
 use policy_doc::{NamedAccount, Policy};
 use std::alloc::Global;
 use subjects::Subject;
 
-/// An account in which a message is seen, and under which subject; or why it isn't seen there.
+/// Where a share of the messages on a subject goes.
 #[derive(Debug, Drop)]
-pub enum View {
-    /// The message is seen in an account.
-    At {
-        /// The account's name.
-        account: Items<u8>,
-        /// The text of the subject that the message has there.
-        subject: Items<u8>,
-        /// How it comes there.
-        kind: ViewKind,
-    },
-    /// An import doesn't take the message, since its subject would have more than 512 tokens there.
-    TooLong {
-        /// The name of the importing account.
-        importer: Items<u8>,
-        /// The index of the import.
-        row: usize,
-    },
+pub struct PathShare {
+    /// How many of a hundred messages they are.
+    pub weight: u64,
+    /// Under which subject they are sent on.
+    pub sent: SentAs,
+    /// Where they are seen.
+    pub views: Items<View>,
 }
 
-/// How a message comes into an account. A row is an index of the importing account's imports.
-#[derive(Clone, Copy, Debug, PartialEq, Eq)]
-pub enum ViewKind {
-    /// It was published there.
-    Own,
-    /// By the import of a stream.
-    Stream(usize),
-    /// By the import of a service.
-    Service(usize),
+/// Under which subject messages are sent on.
+#[derive(Debug, Drop)]
+pub enum SentAs {
+    /// The one on which they were published, which no mapping has.
+    Same,
+    /// The one with this text: a destination's, or the published one of those that no destination takes.
+    To(Items<u8>),
+    /// None, since a destination's would have more than 512 tokens.
+    TooLong,
 }
 
-/// Returns the views of a message that is published in an account: where it is seen, under which subject, and by which
-/// import row; and the rows that don't take it, since its subject would be too long there.
+/// Returns where the messages go that are published on a subject in an account: a share for each destination of the source that
+/// has the subject, and last one of those that no destination takes, unless they are dropped; or one share of all where no source
+/// has the subject. What the weights of the shares leave of a hundred is dropped. Each has its views: where it is seen, under
+/// which subject, and by which import row; and the rows that don't take it, since its subject would be too long there.
 ///
 /// `NoSuchAccount` where no account has the name, else `NoMemory` where memory could not be had.
 pub fn explain_path(
@@ -57,74 +50,15 @@ pub fn explain_path(
     policy: &Policy,
     account: &[u8],
     subject: &Subject,
-) -> Result<Items<View>, ExplainFault>
+) -> Result<Items<PathShare>, ExplainFault>
     ensures { Answers fault.NoSuchAccount (path_of policy.now account.now subject.now) result }
 {
     match account_named(policy.doc().accounts.as_slice(), account) {
         None => Err(ExplainFault::NoSuchAccount),
         Some(named) => {
-            let views = views_from(alloc, policy, &named.name, subject)?;
-            Ok(views)
+            let shares = shares_in(alloc, policy, named, subject)?;
+            Ok(shares)
         }
-    }
-}
-
-/// Returns the views of a message that is published in the account of a name.
-fn views_from(
-    alloc: Global,
-    policy: &Policy,
-    account: &Bytes,
-    subject: &Subject,
-) -> Result<Items<View>, NoMemory>
-    ensures { IfOk result (λ found. found ≡ map view_of (views policy.now account.now subject.now [])) }
-{
-    let rows = Rows::of(alloc, policy)?;
-    let items = rows.views(alloc, account, subject, None)?;
-    let found = views_of(alloc, items.as_slice())?;
-    Ok(found)
-}
-
-/// Returns these views, as they are told.
-fn views_of(alloc: Global, items: &[ViewItem]) -> Result<Items<View>, NoMemory>
-    ensures { IfOk result (λ found. found ≡ map view_of items.now) }
-{
-    let mut found = Vec::with_capacity(alloc, items.len())?;
-    for item in items {
-        found.push(view_of(alloc, item)?)?;
-    }
-    Ok(Items::from_vec(found))
-}
-
-/// Returns a view, as it is told.
-fn view_of(alloc: Global, item: &ViewItem) -> Result<View, NoMemory>
-    ensures { IfOk result (λ view. view ≡ view_of item.now) }
-{
-    match item {
-        ViewItem::At {
-            account,
-            subject,
-            way,
-        } => Ok(View::At {
-            account: Items::from_vec(Vec::from_slice(alloc, account.as_slice())?),
-            subject: Items::from_vec(Vec::from_slice(alloc, subject.bytes())?),
-            kind: kind_of(way),
-        }),
-        ViewItem::TooLong(row) => Ok(View::TooLong {
-            importer: Items::from_vec(Vec::from_slice(alloc, row.get().importer.as_slice())?),
-            row: row.get().index,
-        }),
-    }
-}
-
-/// Returns how a view comes about, as it is told.
-fn kind_of(way: &Way) -> ViewKind
-    ensures { result ≡ kind_of way.now }
-{
-    match way {
-        Way::Own => ViewKind::Own,
-        Way::Stream(row) => ViewKind::Stream(row.get().index),
-        Way::Service(row) => ViewKind::Service(row.get().index),
-        Way::Response(row) => ViewKind::Service(row.get().index),
     }
 }
 
@@ -135,65 +69,135 @@ fn account_named<'a>(accounts: &'a [NamedAccount], name: &[u8]) -> Option<&'a Na
     accounts.iter().find(|named| named.name.as_slice() == name)
 }
 
-/// Returns the lines of views, one each. `NoMemory` where memory could not be had.
-pub fn view_lines(alloc: Global, views: &[View]) -> Result<Vec<u8>, NoMemory>
-    ensures { IfOk result (λ lines. lines.items ≡ flat_map view_line views.now) }
+/// Returns the shares of the messages on a subject in an account.
+fn shares_in(
+    alloc: Global,
+    policy: &Policy,
+    named: &NamedAccount,
+    subject: &Subject,
+) -> Result<Items<PathShare>, NoMemory>
+    ensures { IfOk result (λ shares. shares ≡ shares_by (rows_of policy.now) named.now.name subject.now (source_of named.now.account.mappings subject.now)) }
 {
-    let mut out = Vec::new(alloc);
-    for view in views {
-        write_view(&mut out, view)?;
-    }
-    Ok(out)
+    let rows = Rows::of(alloc, policy)?;
+    let source = source_of(named.account.mappings.as_slice(), &subject.lend());
+    let shares = shares_by(alloc, &rows, &named.name, source, subject)?;
+    Ok(shares)
 }
 
-/// Appends the line of a view.
-fn write_view(out: &mut Vec<u8>, view: &View) -> Result<(), NoMemory>
-    ensures { OnOk result (out.new.items ≡ out.old.items ++ view_line view.now) }
+/// Returns the shares of the messages on a subject, by the source that has it, if one has.
+fn shares_by(
+    alloc: Global,
+    rows: &Rows,
+    account: &Bytes,
+    source: Option<&AccountMap>,
+    subject: &Subject,
+) -> Result<Items<PathShare>, NoMemory>
+    ensures { IfOk result (λ shares. shares ≡ shares_by rows.now account.now subject.now (option_copied source.entry)) }
 {
-    match view {
-        View::At {
-            account,
-            subject,
-            kind,
-        } => {
-            out.extend_from_slice(b"view ")?;
-            out.extend_from_slice(account.as_slice())?;
-            out.push(b' ')?;
-            out.extend_from_slice(subject.as_slice())?;
-            out.push(b' ')?;
-            write_kind(out, *kind)?;
-            out.push(b'\n')?;
-            Ok(())
+    match source {
+        None => {
+            let mut shares = Vec::new(alloc);
+            shares.push(PathShare {
+                weight: 100,
+                sent: SentAs::Same,
+                views: seen(alloc, rows, account, subject)?,
+            })?;
+            Ok(Items::from_vec(shares))
         }
-        View::TooLong { importer, row } => {
-            out.extend_from_slice(b"too long ")?;
-            out.extend_from_slice(importer.as_slice())?;
-            out.push(b' ')?;
-            let mut digits = Buffer::new();
-            out.extend_from_slice(digits.format(*row).as_bytes())?;
-            out.push(b'\n')?;
-            Ok(())
-        }
+        Some(map) => shares_from(alloc, rows, account, map, subject),
     }
 }
 
-/// Appends how a view came about.
-fn write_kind(out: &mut Vec<u8>, kind: ViewKind) -> Result<(), NoMemory>
-    ensures { OnOk result (out.new.items ≡ out.old.items ++ kind_words kind) }
+/// Returns the shares of the messages on a subject of a source.
+fn shares_from(
+    alloc: Global,
+    rows: &Rows,
+    account: &Bytes,
+    map: &AccountMap,
+    subject: &Subject,
+) -> Result<Items<PathShare>, NoMemory>
+    ensures { IfOk result (λ shares. shares ≡ shares_by rows.now account.now subject.now (Some map.now)) }
 {
-    match kind {
-        ViewKind::Own => Ok(out.extend_from_slice(b"own")?),
-        ViewKind::Stream(row) => {
-            let mut digits = Buffer::new();
-            out.extend_from_slice(b"stream ")?;
-            out.extend_from_slice(digits.format(row).as_bytes())?;
-            Ok(())
-        }
-        ViewKind::Service(row) => {
-            let mut digits = Buffer::new();
-            out.extend_from_slice(b"service ")?;
-            out.extend_from_slice(digits.format(row).as_bytes())?;
-            Ok(())
-        }
+    let mut shares = taken(alloc, rows, account, map.destinations(), subject)?;
+    let left = left_by(shares.as_slice());
+    if left == 0 || map.is_dropped() {
+        return Ok(Items::from_vec(shares));
     }
+    shares.push(share_to(alloc, rows, account, left, subject)?)?;
+    Ok(Items::from_vec(shares))
+}
+
+/// Returns the shares that destinations take.
+fn taken(
+    alloc: Global,
+    rows: &Rows,
+    account: &Bytes,
+    destinations: &[Destination],
+    subject: &Subject,
+) -> Result<Vec<PathShare>, NoMemory>
+    ensures { IfOk result (λ shares. shares.items ≡ map (share_of rows.now account.now subject.now) destinations.now) }
+{
+    let mut shares = Vec::with_capacity(alloc, destinations.len())?;
+    for destination in destinations {
+        shares.push(share_of(alloc, rows, account, destination, subject)?)?;
+    }
+    Ok(shares)
+}
+
+/// Returns the share that a destination takes.
+fn share_of(
+    alloc: Global,
+    rows: &Rows,
+    account: &Bytes,
+    destination: &Destination,
+    subject: &Subject,
+) -> Result<PathShare, NoMemory>
+    ensures { IfOk result (λ share. share ≡ share_of rows.now account.now subject.now destination.now) }
+{
+    let weight = destination.percent();
+    match destination.reached(alloc, 0, &subject.lend())? {
+        Mapped::Same => share_to(alloc, rows, account, weight, subject),
+        Mapped::To(onward) => share_to(alloc, rows, account, weight, &onward),
+        Mapped::Unmapped => Ok(unsent(alloc, weight)),
+        Mapped::TooLong(_) => Ok(unsent(alloc, weight)),
+    }
+}
+
+/// Returns the share of messages that are sent on under a subject.
+fn share_to(
+    alloc: Global,
+    rows: &Rows,
+    account: &Bytes,
+    weight: u64,
+    subject: &Subject,
+) -> Result<PathShare, NoMemory>
+    ensures { IfOk result (λ share. share ≡ share_to rows.now account.now weight subject.now) }
+{
+    Ok(PathShare {
+        weight,
+        sent: SentAs::To(Items::from_vec(Vec::from_slice(alloc, subject.bytes())?)),
+        views: seen(alloc, rows, account, subject)?,
+    })
+}
+
+/// Returns the share of messages whose subject would be too long.
+fn unsent(alloc: Global, weight: u64) -> PathShare
+    ensures { result ≡ unsent weight }
+{
+    PathShare {
+        weight,
+        sent: SentAs::TooLong,
+        views: Items::new(alloc),
+    }
+}
+
+/// Returns how many of a hundred messages aren't among these shares.
+pub(crate) fn left_by(shares: &[PathShare]) -> u64
+    ensures { result ≡ left_by shares.now }
+{
+    let mut left: u64 = 100;
+    for share in shares {
+        left = left.saturating_sub(share.weight);
+    }
+    left
 }

@@ -20,13 +20,13 @@ verdict_of known = option_map (λ (e : Explanation). e.verdict) known
 
 -- of a user: a publish, a subscription with a queue or without one, and a message to such a subscription
 abbrev pub publish_of : PolicyDoc → Name → List Token → Option Verdict
-publish_of doc who s = verdict_of (option_map (λ (u : UserDoc). publish_reason (lists_of u) s) (user_named doc who))
+publish_of doc who s = verdict_of (option_map (λ (u : UserDoc). publish_reason (lists_of u doc.default_permissions) s) (user_named doc who))
 
 abbrev pub subscribe_of : PolicyDoc → Name → List Token → Queue → Option Verdict
-subscribe_of doc who pattern queue = verdict_of (option_map (λ (u : UserDoc). subscribe_reason (lists_of u) pattern queue) (user_named doc who))
+subscribe_of doc who pattern queue = verdict_of (option_map (λ (u : UserDoc). subscribe_reason (lists_of u doc.default_permissions) pattern queue) (user_named doc who))
 
 abbrev pub delivery_of : PolicyDoc → Name → List Token → Queue → Option Verdict
-delivery_of doc who s queue = verdict_of (option_map (λ (u : UserDoc). delivery_reason (lists_of u) s queue) (user_named doc who))
+delivery_of doc who s queue = verdict_of (option_map (λ (u : UserDoc). delivery_reason (lists_of u doc.default_permissions) s queue) (user_named doc who))
 
 -- the queue of a question, if it asks for none or for one that is a subject
 abbrev pub queue_if : Option Word → Option Queue

@@ -20,7 +20,7 @@ use Rattle.events.specs.Messages.{Message}
 use Rattle.events.specs.declared.event.Command.{Command}
 use Rattle.events.specs.declared.event.Command.TheVariants.{Connect, Sub, Unsub, Pub, Take, Close, Reload}
 use Rattle.events.specs.declared.answer.Item.{Item}
-use Rattle.events.specs.declared.answer.Item.TheVariants.{Entered, Full, RouteFull, MapTooLong}
+use Rattle.events.specs.declared.answer.Item.TheVariants.{Entered, Full, RouteFull, MapTooLong, Unmapped as UnmappedItem, MappedTooLong}
 use Rattle.events.specs.declared.answer.Entry.{Entry}
 use Rattle.events.specs.declared.answer.Outcome.{Outcome}
 use Rattle.events.specs.declared.answer.Outcome.TheVariants.{Connected, AuthViolation, Subscribed, SameSid, SubLimit, Denied, Published, Taken}
@@ -34,10 +34,13 @@ use Rattle.world_rows.specs.declared.subscription.Subscription.{Subscription}
 use Rattle.world.specs.World.{World, opening_world, advanced}
 use Rattle.service_routes.specs.Routes.{spent}
 use Rattle.world.specs.Granting.{verdict_on, ended_on}
-use Rattle.world.specs.Routing.{view_of, is_admitted}
+use Rattle.world.specs.Routing.{view_of, is_admitted, under_subject}
 use Rattle.world.specs.Reload.{stands_on}
 use Rattle.world.specs.Changes.{items_in}
-use Rattle.world.specs.Transition.{connected, subscribed, unsubscribed, published, taken, closed, in_session, in_new_session, moved, numbered}
+use Rattle.account_mappings.specs.Drawing.{mapped_by}
+use Rattle.account_mappings.specs.declared.drawing.Mapped.{Mapped}
+use Rattle.account_mappings.specs.declared.drawing.Mapped.TheVariants.{Same, To, Unmapped, TooLong}
+use Rattle.world.specs.Transition.{connected, subscribed, unsubscribed, mapped_to, published, seen_nowhere, seen_as, taken, closed, in_session, in_new_session, moved, numbered}
 use Rattle.hub.specs.Sound.{has_same_sid, is_to_receive}
 use Rattle.hub.specs.History.{IsEntry, IsLegalRun}
 use Rattle.hub.specs.Guarantee.{times_entered, received_more}
@@ -46,7 +49,7 @@ use Rattle.hub.proofs.Finds.{any-none, AllPairs-map}
 use Rattle.hub.proofs.Soundness.{KeepsSubscription, HasCount, IsStillToReceive, either, apart-again, unended-same}
 use Rattle.hub.proofs.Entering.{received-keeps}
 use Rattle.hub.proofs.Guaranteed.{limited-keeps}
-use Rattle.hub.proofs.Views.{Setting, standing, last_stage, told_of, standing-first, published-is}
+use Rattle.hub.proofs.Views.{Setting, standing, last_stage, told_of, standing-first, seen-is}
 
 -- ---- one entry
 
@@ -95,6 +98,8 @@ same-item s (Entered conn sid) = refl
 same-item s (Full conn sid) = refl
 same-item s (RouteFull row) = refl
 same-item s (MapTooLong row) = refl
+same-item s (MappedTooLong index) = refl
+same-item s UnmappedItem = refl
 
 told-times : (a : Entry) (s : Subscription) → told s.conn s.sid a ≡ times_entered (items_told a) s
 told-times a s = ap (λ (l : List Item). length l) (filter_agree (is_entered_for s.conn s.sid) (is_entry_for s) (same-item s) (items_told a))
@@ -114,13 +119,19 @@ abbrev Told : List Entry → List Subscription → Type 0
 Told es subs = All (IsCounted es) subs × AllPairs (λ (s t : Subscription). has_same_sid s t ≡ false) subs × All IsStillToReceive subs
 
 -- the entry tells of nobody
-counts-same : (a : Entry) (s : Subscription) → items_told a ≡ [] → Counts a s s
-counts-same a s none =
-    record { id = refl; conn = refl; subject = refl; queue = refl; sid = refl; received = λ n is. same-count _ _ n _ (nothing-told a s.conn s.sid none) is }
+abbrev TellsNobody : Entry → Type 0
+TellsNobody a = (conn : ℕ) (sid : List ℕ) → told conn sid a ≡ 0
+
+counts-same : (a : Entry) (s : Subscription) → TellsNobody a → Counts a s s
+counts-same a s nobody =
+    record { id = refl; conn = refl; subject = refl; queue = refl; sid = refl; received = λ n is. same-count _ _ n _ (nobody s.conn s.sid) is }
+
+all-kept : (es : List Entry) (a : Entry) (subs : List Subscription) → TellsNobody a → Told es subs → Told (es ++ a ∷ []) subs
+all-kept es a subs nobody t =
+    (All-weaker (IsCounted es) (IsCounted (es ++ a ∷ [])) (λ s is. counts-more es a s s (counts-same a s nobody) is) subs t.0, t.1, t.2)
 
 kept : (es : List Entry) (a : Entry) (subs : List Subscription) → items_told a ≡ [] → Told es subs → Told (es ++ a ∷ []) subs
-kept es a subs none t =
-    (All-weaker (IsCounted es) (IsCounted (es ++ a ∷ [])) (λ s is. counts-more es a s s (counts-same a s none) is) subs t.0, t.1, t.2)
+kept es a subs none = all-kept es a subs (λ conn sid. nothing-told a conn sid none)
 
 -- some have gone
 left : (es : List Entry) (p : Subscription → Bool) (subs : List Subscription) → Told es subs → Told es (filter p subs)
@@ -257,28 +268,45 @@ pub-told es w now conn m word = by_session (session_of w.sessions conn)
     c : Command
     c = Pub conn m word
 
-    setting : Session → Setting
-    setting z = record { world = advanced w now; publisher = z; message = m; word = word; may = λ account subject sub. is_admitted w.sessions z (view_of account subject m) sub }
+    setting : Session → Message → Setting
+    setting z sent = record { world = advanced w now; publisher = z; asked = m.subject; message = sent; word = word; may = λ account subject sub. is_admitted w.sessions z (view_of account subject sent) sub }
 
     few : (s : Subscription) → IsCounted es s → HasCount s
     few s is = let e = is.received in let l = min-le_left 18446744073709551615 (entered_for s.conn s.sid is.since) in omega (arith, e, l)
 
-    after : By → Session → World
-    after by z = record (advanced w now) {
-      sessions = ended_on by z.conn m.subject (last_stage (setting z) by).sessions;
-      subscriptions = standing (setting z) (told_of (setting z) by);
-      routes = spent z.user.account m.subject (last_stage (setting z) by).routes;
+    after : By → Session → Message → World
+    after by z sent = record (advanced w now) {
+      sessions = ended_on by z.conn m.subject (last_stage (setting z sent) by).sessions;
+      subscriptions = standing (setting z sent) (told_of (setting z sent) by);
+      routes = spent z.user.account sent.subject (last_stage (setting z sent) by).routes;
     }
 
-    sent-is : (by : By) (z : Session) → Told es w.subscriptions → published (advanced w now) z m word (Allowed by) ≡ (Published by (told_of (setting z) by), after by z)
-    sent-is by z t =
-        published-is (setting z) (record { admits = λ account subject k d h. refl; apart = t.1 }) (standing-first (setting z) (All-weaker (IsCounted es) HasCount few w.subscriptions t.0) t.2) by
+    sent-is : (by : By) (z : Session) (sent : Message) → Told es w.subscriptions → seen_as (advanced w now) z by m.subject sent word ≡ (Published by (told_of (setting z sent) by), after by z sent)
+    sent-is by z sent t =
+        seen-is (setting z sent) (record { admits = λ account subject k d h. refl; apart = t.1 }) (standing-first (setting z sent) (All-weaker (IsCounted es) HasCount few w.subscriptions t.0) t.2) by
+
+    sent_on : (by : By) (z : Session) (sent : Message) → Keeps es w c (numbered (w.number + 1) (Ok (seen_as (advanced w now) z by m.subject sent word)))
+    sent_on by z sent = λ a command outcome number t.
+        let told : List Item = told_of (setting z sent) by in
+        subst (λ (r : Outcome × World). a.outcome ≡ r.0 → Told (es ++ a ∷ []) r.1.subscriptions) (sym (sent-is by z sent t))
+        (λ tells. changed es a (received_more told) w.subscriptions (received-keeps told) (λ s. counts-published a told s (ap items_in tells)) t)
+        outcome
+
+    -- what is told of a message that is seen nowhere counts for no subscription
+    nowhere : (by : By) (z : Session) (item : Item) → ((conn : ℕ) (sid : List ℕ) → is_entered_for conn sid item ≡ false) →
+        Keeps es w c (numbered (w.number + 1) (Ok (seen_nowhere (advanced w now) z by m.subject item)))
+    nowhere by z item other = λ a command outcome number t.
+        all-kept es a w.subscriptions
+        (λ conn sid. ap (λ (o : Outcome). length (filter (is_entered_for conn sid) (items_in o))) outcome ∙ ap (λ (b : Bool). length (cond b (item ∷ []) [])) (other conn sid)) t
+
+    by_mapping : (by : By) (z : Session) (mapped : Mapped) → Keeps es w c (numbered (w.number + 1) (Ok (mapped_to (advanced w now) z by m word mapped)))
+    by_mapping by z Same = sent_on by z m
+    by_mapping by z (To s) = sent_on by z (under_subject s m)
+    by_mapping by z Unmapped = nowhere by z UnmappedItem (λ conn sid. refl)
+    by_mapping by z (TooLong index) = nowhere by z (MappedTooLong index) (λ conn sid. refl)
 
     by_verdict : (v : Verdict) (z : Session) → Keeps es w c (numbered (w.number + 1) (Ok (published (advanced w now) z m word v)))
-    by_verdict (Allowed by) z = λ a command outcome number t.
-        subst (λ (r : Outcome × World). a.outcome ≡ r.0 → Told (es ++ a ∷ []) r.1.subscriptions) (sym (sent-is by z t))
-        (λ tells. changed es a (received_more (told_of (setting z) by)) w.subscriptions (received-keeps (told_of (setting z) by)) (λ s. counts-published a (told_of (setting z) by) s (ap items_in tells)) t)
-        outcome
+    by_verdict (Allowed by) z = by_mapping by z (mapped_by z.user.mappings m.subject word)
     by_verdict (DeniedBy i) z = silent es w c (Denied (DeniedBy i)) refl
     by_verdict NoAllow z = silent es w c (Denied NoAllow) refl
     by_verdict (NoQueueAllow i) z = silent es w c (Denied (NoQueueAllow i)) refl

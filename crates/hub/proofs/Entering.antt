@@ -8,7 +8,7 @@ use Rattle.std.proofs.lemmas.List.{length-append}
 use Rattle.std.proofs.lemmas.List.Elements.{All-head, All-tail, filter-append}
 use Rattle.std.proofs.lemmas.Slice.Eq.{bytes_eq-Decides}
 use Rattle.events.specs.declared.answer.Item.{Item}
-use Rattle.events.specs.declared.answer.Item.TheVariants.{Entered, Full, RouteFull, MapTooLong}
+use Rattle.events.specs.declared.answer.Item.TheVariants.{Entered, Full, RouteFull, MapTooLong, Unmapped, MappedTooLong}
 use Rattle.world_subscriptions.specs.Limit.{is_entry_for, has_entered, counted}
 use Rattle.world_rows.specs.declared.subscription.Subscription.{Subscription}
 use Rattle.hub.specs.Sound.{has_same_sid, is_below, is_to_receive}
@@ -54,6 +54,8 @@ none-of s conn sid (Entered c b) t same_conn same_sid names apart =
 none-of s conn sid (Full c b) t same_conn same_sid names apart = refl
 none-of s conn sid (RouteFull row) t same_conn same_sid names apart = refl
 none-of s conn sid (MapTooLong row) t same_conn same_sid names apart = refl
+none-of s conn sid Unmapped t same_conn same_sid names apart = refl
+none-of s conn sid (MappedTooLong index) t same_conn same_sid names apart = refl
 
 and-both : (a b : Bool) → (a && b) ≡ true → (a ≡ true) × (b ≡ true)
 and-both true b h = (refl, h)
@@ -70,6 +72,8 @@ is-of s (Entered c b) t names is =
 is-of s (Full c b) t names is = absurd (cc)
 is-of s (RouteFull row) t names is = absurd (cc)
 is-of s (MapTooLong row) t names is = absurd (cc)
+is-of s Unmapped t names is = absurd (cc)
+is-of s (MappedTooLong index) t names is = absurd (cc)
 
 -- the subscriptions that items name
 abbrev pub named : Subscription → Option (ℕ × List ℕ)
@@ -127,6 +131,8 @@ entry-again told s (Entered conn sid) = refl
 entry-again told s (Full conn sid) = refl
 entry-again told s (RouteFull row) = refl
 entry-again told s (MapTooLong row) = refl
+entry-again told s Unmapped = refl
+entry-again told s (MappedTooLong index) = refl
 
 entered-again : (told items : List Item) (s : Subscription) → has_entered items (received_more told s) ≡ has_entered items s
 entered-again told [] s = refl

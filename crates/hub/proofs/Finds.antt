@@ -6,14 +6,7 @@ use Rattle.std.specs.Option.{option_map}
 use Rattle.std.proofs.lemmas.List.{get_or-map, length-map}
 use Rattle.std.proofs.lemmas.List.Elements.{All-head, All-tail, All-cons, All-nil}
 pub use Rattle.world_receivers.proofs.Tests.{find-passes}
-
-pub find-All : {X : Type 0} (P : X → Type 0) (t : X → Bool) (xs : List X) (y : X) → All P xs → find t xs ≡ Some y → P y
-find-All P t [] y all e = absurd (cc)
-find-All {X} P t (x ∷ xs) y all e = here (t x) e (find-All P t xs y (All-tail P x xs all))
-  where
-    here : (b : Bool) → cond b (Some x) (find t xs) ≡ Some y → (find t xs ≡ Some y → P y) → P y
-    here true e' later = let same : x ≡ y = cc in subst P same (All-head P x xs all)
-    here false e' later = later e'
+pub use Rattle.world_routing.proofs.Remembered.{find-All}
 
 pub find-none : {X : Type 0} (t : X → Bool) (xs : List X) → find t xs ≡ None → All (λ x. t x ≡ false) xs
 find-none t [] e = All-nil (λ x. t x ≡ false)

@@ -1,6 +1,6 @@
 -- The transition keeps the guarantee, command by command.
 use Rattle.std.proofs.Common.{◌||◌, ◌≡◌, ◌∙◌, ◌==◌, ◌&&◌, ℕ, ◌+◌, ◌≤◌, Bool, true, false, not, cond, List, [], ◌∷◌, ◌++◌, map, filter, length, take, drop, Option, Some, None, Result, Ok, Err, ap, sym, refl, subst, arith, max}
-use Rattle.std.specs.Prelude.{IfSome, IsSomeAnd, is_some, nat_le, IfOk}
+use Rattle.std.specs.Prelude.{IfSome, IsSomeAnd, is_some, min, nat_le, IfOk}
 use Rattle.std.proofs.lemmas.List.{length-drop}
 use Rattle.subjects.specs.Subject.{Token}
 use Rattle.permissions.specs.Verdicts.{publish_verdict, subscribe_verdict, is_allowed, IsJustifiedPublish, IsJustifiedSubscribe}
@@ -18,6 +18,11 @@ use Rattle.events.specs.declared.event.Command.TheVariants.{Connect, Sub, Unsub,
 use Rattle.events.specs.declared.answer.Delivery.{Delivery}
 use Rattle.events.specs.declared.answer.Entry.{Entry}
 use Rattle.events.specs.declared.answer.Item.{Item}
+use Rattle.events.specs.declared.answer.Item.TheVariants.{Unmapped as UnmappedItem, MappedTooLong}
+use Rattle.account_mappings.specs.Drawing.{mapped_by}
+use Rattle.account_mappings.specs.declared.drawing.Mapped.{Mapped}
+use Rattle.account_mappings.specs.declared.drawing.Mapped.TheVariants.{Same, To, Unmapped, TooLong}
+use Rattle.world.specs.Routing.{under_subject}
 use Rattle.events.specs.declared.answer.Outcome.{Outcome}
 use Rattle.events.specs.declared.answer.Outcome.TheVariants.{Connected, AuthViolation, Subscribed, SameSid, SubLimit, Denied, Unsubscribed, Published, Taken, Closed}
 use Rattle.events.specs.declared.refusal.HubRefusal.{HubRefusal}
@@ -31,19 +36,19 @@ use Rattle.world_deliveries.specs.Delivered.{delivered}
 use Rattle.world_deliveries.specs.Replying.{terms_of, is_granted}
 use Rattle.world_deliveries.specs.declared.session.Session.{Session}
 use Rattle.world_subscriptions.specs.Subscriptions.{is_under, stands, has_all, subscription_of}
-use Rattle.world_subscriptions.specs.Limit.{unended, limit_of, limited}
+use Rattle.world_subscriptions.specs.Limit.{is_entry_for, unended, limit_of, limited}
 use Rattle.world_rows.specs.declared.subscription.Subscription.{Subscription}
 use Rattle.world.specs.World.{World, advanced}
 use Rattle.world.specs.Granting.{or_granted, verdict_on, counted_on, ended_on}
 use Rattle.imports.specs.declared.view.ViewItem.{ViewItem}
 use Rattle.world_routing.proofs.Publishing.{same_met}
-use Rattle.world.specs.Transition.{IsReasoned, IsRefusal, connected, subscribed, unsubscribed, published, taken, closed, in_session, in_new_session, moved, numbered, transition}
-use Rattle.hub.specs.Sound.{IsSound, user_at, account_of, may_subscribe, HasAllowance}
+use Rattle.world.specs.Transition.{IsReasoned, IsRefusal, connected, subscribed, unsubscribed, mapped_to, published, seen_as, seen_nowhere, taken, closed, in_session, in_new_session, moved, numbered, transition}
+use Rattle.hub.specs.Sound.{IsSound, is_to_receive, user_at, account_of, may_subscribe, HasAllowance}
 use Rattle.hub.specs.InForce.{policy_after, epoch_after}
 use Rattle.hub.specs.History.{State, is_history_full, remembered, stepped, IsStep}
 use Rattle.hub.specs.Routes.{EachRoute, IsOfRow}
 use Rattle.hub.specs.Replies.{terms_in, grants_at, has_grant, may_respond}
-use Rattle.hub.specs.Guarantee.{items_of, received_more, Sending, sendings, routes_behind, IsPart, IsSent, IsAllowance, accepts, allows, may_publish, IsDenial, HasReason, IsUntouched, IsEffect, is_connect, is_nobodys, has_session, is_fit, is_in_order, is_due, is_at_limit, IsRouted, KeepsGuarantee, IsGuarded}
+use Rattle.hub.specs.Guarantee.{items_of, received_more, Sending, sendings, routes_behind, IsPart, IsMapped, IsSeenNowhere, IsSent, IsAllowance, accepts, allows, may_publish, IsDenial, HasReason, IsUntouched, IsEffect, is_connect, is_nobodys, has_session, is_fit, is_in_order, is_due, is_at_limit, IsRouted, KeepsGuarantee, IsGuarded}
 use Rattle.std.proofs.Math.Bool.{or-true}
 use Rattle.std.proofs.lemmas.Bool.{eqb-true}
 use Rattle.hub.proofs.Finds.{find-passes}
@@ -55,9 +60,9 @@ use Rattle.hub.proofs.Sent.{receives-keeps, setting_of, is_setting, is_part, sta
 use Rattle.hub.proofs.Routes.{EachRouted, routed-pruned, routed-spent}
 use Rattle.hub.proofs.Rows.{each-pruned, each-spent, views-by_rows}
 use Rattle.world_deliveries.proofs.Changes.{only, with_session-map}
-use Rattle.hub.proofs.Deliveries.{sent, receives_of, outboxes, with_room}
+use Rattle.hub.proofs.Deliveries.{sent as addressed, receives_of, outboxes, with_room}
 use Rattle.hub.proofs.Entering.{received-keeps}
-use Rattle.hub.proofs.Views.{Setting, Stage, standing, views_of, first_stage, last_stage, parts_of, told_of, standing-first, published-is, sessions-are, items-are, items-of, routes-are, parts-views, each-part, each-in}
+use Rattle.hub.proofs.Views.{Setting, Stage, standing, views_of, first_stage, last_stage, parts_of, told_of, standing-first, seen-is, sessions-are, items-are, items-of, routes-are, parts-views, each-part, each-in}
 
 -- where the tables turn a command away
 abbrev turns_away : World → Command → HubRefusal → Bool
@@ -251,81 +256,126 @@ pub-keeps w now conn m word sound = by_session (session_of w.sessions conn) refl
         subst (λ o. IsSomeAnd o (λ (user : User). IsAllowance w later conn m.subject user Grant)) (sym u)
         (ap is_allowed e ∙ refuses, justified (publish_verdict z.user.rules m.subject) z refl at reasoned, may_respond-is z at u ∙ live)
 
-    -- the message on its way, whatever its views are
-    setting : Session → Setting
-    setting z = setting_of w now conn z m word
+    -- the message on its way as it is sent on, whatever its views are
+    setting : Session → Message → Setting
+    setting z sent = setting_of w now conn z m.subject sent word
 
-    ss : By → Session → List Sending
-    ss by z = sendings (parts_of (setting z) by)
+    ss : By → Session → Message → List Sending
+    ss by z sent = sendings (parts_of (setting z sent) by)
 
-    items : By → Session → List Item
-    items by z = told_of (setting z) by
+    items : By → Session → Message → List Item
+    items by z sent = told_of (setting z sent) by
 
-    routes : By → Session → List (Name × Exporter)
-    routes by z = spent z.user.account m.subject (routes_behind (pruned later w.routes) (parts_of (setting z) by))
+    routes : By → Session → Message → List (Name × Exporter)
+    routes by z sent = spent z.user.account sent.subject (routes_behind (pruned later w.routes) (parts_of (setting z sent) by))
 
-    after : By → Session → World
-    after by z = next_with w now (map (receives_of later by conn m.subject (ss by z)) w.sessions) (standing (setting z) (items by z)) (routes by z)
+    after : By → Session → Message → World
+    after by z sent = next_with w now (map (receives_of later by conn m.subject (ss by z sent)) w.sessions) (standing (setting z sent) (items by z sent)) (routes by z sent)
 
     -- it is what the transition makes of it
-    sent-is : (by : By) (z : Session) → session_of w.sessions conn ≡ Some z →
-        numbered (w.number + 1) (Ok (published (advanced w now) z m word (Allowed by))) ≡ Ok (Published by (items by z), after by z)
-    sent-is by z at =
+    sent-is : (by : By) (z : Session) (sent : Message) → session_of w.sessions conn ≡ Some z →
+        numbered (w.number + 1) (Ok (seen_as (advanced w now) z by m.subject sent word)) ≡ Ok (Published by (items by z sent), after by z sent)
+    sent-is by z sent at =
         let own : z.conn ≡ conn = eqb-true z.conn conn (find-passes (λ (y : Session). y.conn == conn) w.sessions z at) in
-        let all : List Addressed = map (sent w.sessions) (ss by z) in
-        ap (λ (r : Outcome × World). numbered (w.number + 1) (Ok r)) (published-is (setting z) (is_setting w now conn z m word sound at) (standing-first (setting z) sound.counts sound.limits) by)
-        ∙ ap (λ (zs : List Session). Ok (Published by (items by z), next_with w now (ended_on by z.conn m.subject zs) (standing (setting z) (items by z)) (spent z.user.account m.subject (last_stage (setting z) by).routes))) (sym (sessions-are (setting z) (first_stage (setting z) by) (views_of (setting z))))
-        ∙ ap (λ (zs : List Session). Ok (Published by (items by z), next_with w now zs (standing (setting z) (items by z)) (spent z.user.account m.subject (last_stage (setting z) by).routes)))
+        let all : List Addressed = map (addressed w.sessions) (ss by z sent) in
+        ap (λ (r : Outcome × World). numbered (w.number + 1) (Ok r)) (seen-is (setting z sent) (is_setting w now conn z m.subject sent word sound at) (standing-first (setting z sent) sound.counts sound.limits) by)
+        ∙ ap (λ (zs : List Session). Ok (Published by (items by z sent), next_with w now (ended_on by z.conn m.subject zs) (standing (setting z sent) (items by z sent)) (spent z.user.account sent.subject (last_stage (setting z sent) by).routes))) (sym (sessions-are (setting z sent) (first_stage (setting z sent) by) (views_of (setting z sent))))
+        ∙ ap (λ (zs : List Session). Ok (Published by (items by z sent), next_with w now zs (standing (setting z sent) (items by z sent)) (spent z.user.account sent.subject (last_stage (setting z sent) by).routes)))
         (ap (λ n. ended_on by n m.subject (delivered later all (counted_on by n m.subject w.sessions)).0) own
-        ∙ outboxes later conn m.subject (ss by z) w.sessions by sound.connections)
-        ∙ ap (λ (left : List (Name × Exporter)). Ok (Published by (items by z), next_with w now (after by z).sessions (standing (setting z) (items by z)) (spent z.user.account m.subject left))) (routes-are (setting z) (first_stage (setting z) by) (views_of (setting z)))
+        ∙ outboxes later conn m.subject (ss by z sent) w.sessions by sound.connections)
+        ∙ ap (λ (left : List (Name × Exporter)). Ok (Published by (items by z sent), next_with w now (after by z sent).sessions (standing (setting z sent) (items by z sent)) (spent z.user.account sent.subject left))) (routes-are (setting z sent) (first_stage (setting z sent) by) (views_of (setting z sent)))
 
     -- and what the guarantee says of it
-    is_sent : (by : By) (z : Session) → session_of w.sessions conn ≡ Some z → IsSent w later by conn m word z.user.account (items by z) (after by z)
-    is_sent by z at =
-        let first : Stage = first_stage (setting z) by in
-        let vs : List ViewItem = views_of (setting z) in
+    is_sent : (by : By) (z : Session) (sent : Message) → session_of w.sessions conn ≡ Some z → IsSent w later by conn m.subject sent word z.user.account (items by z sent) (after by z sent)
+    is_sent by z sent at =
+        let first : Stage = first_stage (setting z sent) by in
+        let vs : List ViewItem = views_of (setting z sent) in
         record {
-          parts = parts_of (setting z) by;
-          in_views = parts-views (setting z) first vs;
-          each = each-part (IsPart w later conn m word) [] (parts_of (setting z) by) (each-in (IsPart w later conn m word) (setting z) (λ done at v is. is_part w now conn z m word sound done at is v) [] first vs record { told = refl; routes = refl });
+          parts = parts_of (setting z sent) by;
+          in_views = parts-views (setting z sent) first vs;
+          each = each-part (IsPart w later conn sent word) [] (parts_of (setting z sent) by) (each-in (IsPart w later conn sent word) (setting z sent) (λ done at v is. is_part w now conn z m.subject sent word sound done at is v) [] first vs record { told = refl; routes = refl });
           items_are = refl;
           delivered = record {
             with_room = λ c.
-                items-of c (items by z)
-                ∙ ap (items_of c) (sym (items-are (setting z) first vs) ∙ same_met by z.conn m.subject later (map (sent w.sessions) (ss by z)) w.sessions)
-                ∙ with_room w.sessions later (ss by z) w.sessions c;
+                items-of c (items by z sent)
+                ∙ ap (items_of c) (sym (items-are (setting z sent) first vs) ∙ same_met by z.conn m.subject later (map (addressed w.sessions) (ss by z sent)) w.sessions)
+                ∙ with_room w.sessions later (ss by z sent) w.sessions c;
             outboxes = refl;
           };
           routes = refl;
         }
 
-    routed : (by : By) (z : Session) → EachRouted later (routes by z)
-    routed by z =
-        routed-spent later z.user.account m.subject (routes_behind (pruned later w.routes) (parts_of (setting z) by))
-        (subst (EachRouted later) (routes-are (setting z) (first_stage (setting z) by) (views_of (setting z)))
-        (stages-routed (setting z) (first_stage (setting z) by) (views_of (setting z)) (routed-pruned w.moment later w.routes (omega arith) sound.routes)))
+    routed : (by : By) (z : Session) (sent : Message) → EachRouted later (routes by z sent)
+    routed by z sent =
+        routed-spent later z.user.account sent.subject (routes_behind (pruned later w.routes) (parts_of (setting z sent) by))
+        (subst (EachRouted later) (routes-are (setting z sent) (first_stage (setting z sent) by) (views_of (setting z sent)))
+        (stages-routed (setting z sent) (first_stage (setting z sent) by) (views_of (setting z sent)) (routed-pruned w.moment later w.routes (omega arith) sound.routes)))
 
-    of_rows : (by : By) (z : Session) → EachRoute (IsOfRow w.policy) (routes by z)
-    of_rows by z =
-        each-spent (IsOfRow w.policy) z.user.account m.subject (routes_behind (pruned later w.routes) (parts_of (setting z) by))
-        (subst (EachRoute (IsOfRow w.policy)) (routes-are (setting z) (first_stage (setting z) by) (views_of (setting z)))
-        (stages-rows (setting z) (first_stage (setting z) by) (views_of (setting z)) (views-by_rows w.policy sound.names (pruned later w.routes) z.user.account m.subject)
+    of_rows : (by : By) (z : Session) (sent : Message) → EachRoute (IsOfRow w.policy) (routes by z sent)
+    of_rows by z sent =
+        each-spent (IsOfRow w.policy) z.user.account sent.subject (routes_behind (pruned later w.routes) (parts_of (setting z sent) by))
+        (subst (EachRoute (IsOfRow w.policy)) (routes-are (setting z sent) (first_stage (setting z sent) by) (views_of (setting z sent)))
+        (stages-rows (setting z sent) (first_stage (setting z sent) by) (views_of (setting z sent)) (views-by_rows w.policy sound.names (pruned later w.routes) z.user.account sent.subject)
         (each-pruned (IsOfRow w.policy) later w.routes sound.rows)))
 
-    -- the message goes to whom it is for
+    -- what the guarantee says of it, as its account's mappings say
+    IsMappedBy : By → List Item → World → Session → Type 0
+    IsMappedBy by items after z = IsMapped w later by conn m word z.user.account items after (mapped_by z.user.mappings m.subject word)
+
+    -- a message that is sent on keeps the guarantee
+    sends_as : (by : By) (z : Session) (sent : Message) → session_of w.sessions conn ≡ Some z → user_at w conn ≡ Some z.user → (may_publish (user_at w conn) m.subject || may_respond w later conn m.subject) ≡ true → (Reasoned → Allows by) → is_fit w command ≡ true →
+        (IsSent w later by conn m.subject sent word z.user.account (items by z sent) (after by z sent) → IsMappedBy by (items by z sent) (after by z sent) z) →
+        Keeps w (event now command) (numbered (w.number + 1) (Ok (seen_as (advanced w now) z by m.subject sent word)))
+    sends_as by z sent at u may reason fit mapped =
+        let zs : List Session = (after by z sent).sessions in
+        let subs : List Subscription = (after by z sent).subscriptions in
+        subst (Keeps w (event now command)) (sym (sent-is by z sent at))
+        (answered_with w now command (Published by (items by z sent)) zs subs (routes by z sent) (refl, refl) fit (sym may) reason
+        (subst (λ o. IsSomeAnd o (λ (user : User). IsMapped w later by conn m word user.account (items by z sent) (after by z sent) (mapped_by user.mappings m.subject word))) (sym u) (mapped (is_sent by z sent at)), refl)
+        (λ _. sound-routes (next w now zs subs) (routes by z sent) (routed by z sent) (of_rows by z sent)
+        (subst (λ (l : List Subscription). IsSound (next w now zs l)) (unended-same (map (received_more (items by z sent)) w.subscriptions))
+        (sound-limits (next w now zs w.subscriptions) (received_more (items by z sent)) (received-keeps (items by z sent))
+        (sound-map w now (receives_of later by conn m.subject (ss by z sent)) (receives-keeps w.capacity later by conn m.subject (ss by z sent)) sound)))))
+
+    -- or to nobody, where it isn't sent on
+    received_by : Item → Subscription → Bool → Subscription
+    received_by item sub tells = record sub { received = min 18446744073709551615 (sub.received + length (cond tells (item ∷ []) [])) }
+
+    nowhere : (by : By) (z : Session) (item : Item) → ((sub : Subscription) → is_entry_for sub item ≡ false) → session_of w.sessions conn ≡ Some z → user_at w conn ≡ Some z.user → (may_publish (user_at w conn) m.subject || may_respond w later conn m.subject) ≡ true → (Reasoned → Allows by) → is_fit w command ≡ true →
+        ((after : World) → IsSeenNowhere w later by conn m.subject item (item ∷ []) after → IsMappedBy by (item ∷ []) after z) →
+        Keeps w (event now command) (numbered (w.number + 1) (Ok (seen_nowhere (advanced w now) z by m.subject item)))
+    nowhere by z item other at u may reason fit mapped =
+        let own : z.conn ≡ conn = eqb-true z.conn conn (find-passes (λ (y : Session). y.conn == conn) w.sessions z at) in
+        let zs : List Session = map (receives_of later by conn m.subject []) w.sessions in
+        let left : List (Name × Exporter) = pruned later w.routes in
+        let after : World = next_with w now zs w.subscriptions left in
+        let sessions_are : ended_on by z.conn m.subject (counted_on by z.conn m.subject w.sessions) ≡ zs =
+        ap (λ n. ended_on by n m.subject (counted_on by n m.subject w.sessions)) own ∙ outboxes later conn m.subject [] w.sessions by sound.connections in
+        let same : w.subscriptions ≡ filter is_to_receive (map (received_more (item ∷ [])) w.subscriptions) =
+        sym (standing-first (setting z m) sound.counts sound.limits)
+        ∙ ap (λ (f : Subscription → Subscription). filter is_to_receive (map f w.subscriptions)) (λ i sub. received_by item sub (sym (other sub) i)) in
+        subst (λ (xs : List Session). Keeps w (event now command) (Ok (Published by (item ∷ []), next_with w now xs w.subscriptions left))) (sym sessions_are)
+        (answered_with w now command (Published by (item ∷ [])) zs w.subscriptions left (refl, refl) fit (sym may) reason (
+          subst (λ o. IsSomeAnd o (λ (user : User). IsMapped w later by conn m word user.account (item ∷ []) after (mapped_by user.mappings m.subject word))) (sym u)
+              (mapped after (record { single = refl; outboxes = refl; routes = refl })),
+          same,
+        )
+        (λ _. sound-map w now (receives_of later by conn m.subject []) (receives-keeps w.capacity later by conn m.subject []) sound))
+
+    sends_mapped : (by : By) (z : Session) (mapped : Mapped) → mapped_by z.user.mappings m.subject word ≡ mapped → session_of w.sessions conn ≡ Some z → user_at w conn ≡ Some z.user → (may_publish (user_at w conn) m.subject || may_respond w later conn m.subject) ≡ true → (Reasoned → Allows by) → is_fit w command ≡ true →
+        Keeps w (event now command) (numbered (w.number + 1) (Ok (mapped_to (advanced w now) z by m word mapped)))
+    sends_mapped by z Same e at u may reason fit = sends_as by z m at u may reason fit (λ is. subst (IsMapped w later by conn m word z.user.account (items by z m) (after by z m)) (sym e) is)
+    sends_mapped by z (To s) e at u may reason fit =
+        let sent : Message = under_subject s m in
+        sends_as by z sent at u may reason fit (λ is. subst (IsMapped w later by conn m word z.user.account (items by z sent) (after by z sent)) (sym e) is)
+    sends_mapped by z Unmapped e at u may reason fit =
+        nowhere by z UnmappedItem (λ sub. refl) at u may reason fit (λ after is. subst (IsMapped w later by conn m word z.user.account (UnmappedItem ∷ []) after) (sym e) is)
+    sends_mapped by z (TooLong index) e at u may reason fit =
+        nowhere by z (MappedTooLong index) (λ sub. refl) at u may reason fit (λ after is. subst (IsMapped w later by conn m word z.user.account (MappedTooLong index ∷ []) after) (sym e) is)
+
     sends : (by : By) (z : Session) → session_of w.sessions conn ≡ Some z → user_at w conn ≡ Some z.user → (may_publish (user_at w conn) m.subject || may_respond w later conn m.subject) ≡ true → (Reasoned → Allows by) → is_fit w command ≡ true →
         Keeps w (event now command) (numbered (w.number + 1) (Ok (published (advanced w now) z m word (Allowed by))))
-    sends by z at u may reason fit =
-        let zs : List Session = (after by z).sessions in
-        let subs : List Subscription = (after by z).subscriptions in
-        subst (Keeps w (event now command)) (sym (sent-is by z at))
-        (answered_with w now command (Published by (items by z)) zs subs (routes by z) (refl, refl) fit (sym may) reason
-        (subst (λ o. IsSomeAnd o (λ (user : User). IsSent w later by conn m word user.account (items by z) (after by z))) (sym u) (is_sent by z at), refl)
-        (λ _. sound-routes (next w now zs subs) (routes by z) (routed by z) (of_rows by z)
-        (subst (λ (l : List Subscription). IsSound (next w now zs l)) (unended-same (map (received_more (items by z)) w.subscriptions))
-        (sound-limits (next w now zs w.subscriptions) (received_more (items by z)) (received-keeps (items by z))
-        (sound-map w now (receives_of later by conn m.subject (ss by z)) (receives-keeps w.capacity later by conn m.subject (ss by z)) sound)))))
+    sends by z = sends_mapped by z (mapped_by z.user.mappings m.subject word) refl
 
     refused : (v : Verdict) (z : Session) → publish_verdict z.user.rules m.subject ≡ v → is_allowed v ≡ false → is_granted later m.subject z ≡ false → session_of w.sessions conn ≡ Some z → user_at w conn ≡ Some z.user → is_fit w command ≡ true →
         Keeps w (event now command) (Ok (Denied v, next w now w.sessions w.subscriptions))

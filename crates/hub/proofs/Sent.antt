@@ -102,12 +102,12 @@ receiver-reason w s sub = here (user_at w sub.conn)
     here (Some u) = delivery_justified u.rules s sub.queue
 
 -- the message of a session's connection, in a world of this policy
-abbrev pub setting_of : World → ℕ → ℕ → Session → Message → ℕ → Setting
-setting_of w now conn z m word =
-    record { world = advanced w now; publisher = z; message = m; word = word; may = λ (account : List ℕ) (s : List Token) (sub : Subscription). is_for w conn account s sub }
+abbrev pub setting_of : World → ℕ → ℕ → Session → List Token → Message → ℕ → Setting
+setting_of w now conn z asked m word =
+    record { world = advanced w now; publisher = z; asked = asked; message = m; word = word; may = λ (account : List ℕ) (s : List Token) (sub : Subscription). is_for w conn account s sub }
 
-pub is_setting : (w : World) (now conn : ℕ) (z : Session) (m : Message) (word : ℕ) → IsSound w → session_of w.sessions conn ≡ Some z → IsSetting (setting_of w now conn z m word)
-is_setting w now conn z m word sound at = record {
+pub is_setting : (w : World) (now conn : ℕ) (z : Session) (asked : List Token) (m : Message) (word : ℕ) → IsSound w → session_of w.sessions conn ≡ Some z → IsSetting (setting_of w now conn z asked m word)
+is_setting w now conn z asked m word sound at = record {
   admits = λ account s.
       All-weaker (λ (sub : Subscription). account_of (user_at w sub.conn) ≡ Some sub.account) (λ sub. is_admitted w.sessions z (view_of account s m) sub ≡ is_for w conn account s sub)
       (λ sub owned. admitted-same w conn z m account s sub sound at owned) w.subscriptions sound.accounts;
@@ -121,9 +121,9 @@ some-is : (subs : List Subscription) → has_some subs ≡ not (is_nil subs)
 some-is [] = refl
 some-is (sub ∷ subs) = refl
 
-module _ (w : World) (at conn : ℕ) (z : Session) (m : Message) (word : ℕ) (sound : IsSound w) (done : List Part) (now : Stage) (is : IsBehind (setting_of w at conn z m word) done now) where
+module _ (w : World) (at conn : ℕ) (z : Session) (asked : List Token) (m : Message) (word : ℕ) (sound : IsSound w) (done : List Part) (now : Stage) (is : IsBehind (setting_of w at conn z asked m word) done now) where
   abbrev c : Setting
-  c = setting_of w at conn z m word
+  c = setting_of w at conn z asked m word
 
   abbrev later : ℕ
   later = max w.moment at

@@ -18,7 +18,7 @@ use Rattle.permissions.specs.declared.verdict.Verdict.TheVariants.{Allowed}
 use Rattle.events.specs.Messages.{Message}
 use Rattle.events.specs.declared.answer.Addressed.{Addressed}
 use Rattle.events.specs.declared.answer.Item.{Item}
-use Rattle.events.specs.declared.answer.Item.TheVariants.{Entered, Full, RouteFull, MapTooLong}
+use Rattle.events.specs.declared.answer.Item.TheVariants.{Entered, Full, RouteFull, MapTooLong, Unmapped, MappedTooLong}
 use Rattle.events.specs.declared.answer.Outcome.{Outcome}
 use Rattle.events.specs.declared.answer.Outcome.TheVariants.{Published}
 use Rattle.exports.specs.declared.document.Row.{Row}
@@ -47,7 +47,7 @@ use Rattle.world.specs.Granting.{counted_on, ended_on}
 use Rattle.world_routing.specs.Handing.{is_of_delivery, of_deliveries}
 use Rattle.world.specs.Routing.{View, view_of, view_with, is_admitted, routed, responses_on, route_for, next_subject, in_view, in_views}
 use Rattle.world_routing.specs.Routing.{is_nil, requested, requested_by}
-use Rattle.world.specs.Transition.{published}
+use Rattle.world.specs.Transition.{seen_as}
 use Rattle.hub.specs.Sound.{is_to_receive}
 use Rattle.hub.specs.Guarantee.{Opening, Part, Sending, told_by, sendings, item_names, names_of, items_of, received_more, times_entered, with_opening, routes_behind}
 use Rattle.hub.proofs.Lists.{filter_same_on}
@@ -116,11 +116,12 @@ module _ (told : List Item) where
 
 -- ---- the views
 
--- what stays the same over the views of one message: the world before it, who has published it, the message and its word,
--- and who may be sent it in an account, on a subject
+-- what stays the same over the views of one message: the world before it, who has published it and on which subject, the message as
+-- it is sent on and its word, and who may be sent it in an account, on a subject
 pub record Setting : Type 0 where
   pub world : World
   pub publisher : Session
+  pub asked : List Token
   pub message : Message
   pub word : ℕ
   pub may : List ℕ → List Token → Subscription → Bool
@@ -377,12 +378,12 @@ standing-first c counts limits =
     ap (filter is_to_receive) (map_fixed (received_more []) c.world.subscriptions (λ k d h. received-none (get_or c.world.subscriptions k d) (counts k d h)))
     ∙ all_pass is_to_receive c.world.subscriptions limits
 
--- the views of the message that is published, what they give, and what is told of it
+-- the views of the message, what they give, and what is told of it
 abbrev pub views_of : Setting → List ViewItem
 views_of c = views c.world.policy c.publisher.user.account c.message.subject (responses_on c.world.routes c.publisher.user.account c.message.subject)
 
 abbrev pub first_stage : Setting → By → Stage
-first_stage c by = record { told = []; sessions = counted_on by c.publisher.conn c.message.subject c.world.sessions; routes = c.world.routes }
+first_stage c by = record { told = []; sessions = counted_on by c.publisher.conn c.asked c.world.sessions; routes = c.world.routes }
 
 abbrev pub last_stage : Setting → By → Stage
 last_stage c by = stage_in c (first_stage c by) (views_of c)
@@ -394,23 +395,23 @@ abbrev pub told_of : Setting → By → List Item
 told_of c by = flat_map items_in (parts_of c by)
 
 -- it is what the transition makes of it
-pub published-is : (c : Setting) → IsSetting c → standing c [] ≡ c.world.subscriptions → (by : By) →
-    published c.world c.publisher c.message c.word (Allowed by)
+pub seen-is : (c : Setting) → IsSetting c → standing c [] ≡ c.world.subscriptions → (by : By) →
+    seen_as c.world c.publisher by c.asked c.message c.word
     ≡ (
       Published by (told_of c by),
       record c.world {
-        sessions = ended_on by c.publisher.conn c.message.subject (last_stage c by).sessions;
+        sessions = ended_on by c.publisher.conn c.asked (last_stage c by).sessions;
         subscriptions = standing c (told_of c by);
         routes = spent c.publisher.user.account c.message.subject (last_stage c by).routes;
       },
     )
-published-is c is first by =
+seen-is c is first by =
     ap (λ (subs : List Subscription). finished (in_views c.world.sessions (record c.world { sessions = (first_stage c by).sessions; subscriptions = subs }) c.publisher c.message c.word (views_of c))) (sym first)
     ∙ ap finished (views-are c is (first_stage c by) (views_of c))
     ∙ ap (λ (told : List Item). finished (told_of c by, record c.world { sessions = (last_stage c by).sessions; subscriptions = standing c told; routes = (last_stage c by).routes })) (told-are c (first_stage c by) (views_of c))
   where
     finished : List Item × World → Outcome × World
-    finished r = (Published by r.0, record r.1 { sessions = ended_on by c.publisher.conn c.message.subject r.1.sessions; routes = spent c.publisher.user.account c.message.subject r.1.routes })
+    finished r = (Published by r.0, record r.1 { sessions = ended_on by c.publisher.conn c.asked r.1.sessions; routes = spent c.publisher.user.account c.message.subject r.1.routes })
 
 -- the deliveries of all views are one list, delivered at once
 pub sessions-are : (c : Setting) (now : Stage) (vs : List ViewItem) →
@@ -469,6 +470,8 @@ items-of conn (Entered c sid ∷ items) = ap (λ l. cond (c == conn) (Entered c 
 items-of conn (Full c sid ∷ items) = ap (λ l. cond (c == conn) (Full c sid ∷ l) l) (items-of conn items)
 items-of conn (RouteFull row ∷ items) = items-of conn items
 items-of conn (MapTooLong row ∷ items) = items-of conn items
+items-of conn (Unmapped ∷ items) = items-of conn items
+items-of conn (MappedTooLong index ∷ items) = items-of conn items
 
 -- there is a part for each view
 pub parts-views : (c : Setting) (now : Stage) (vs : List ViewItem) → map (λ (p : Part). p.view) (parts_in c now vs) ≡ vs

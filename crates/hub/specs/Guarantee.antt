@@ -18,7 +18,10 @@ use Rattle.events.specs.declared.event.Command.{Command}
 use Rattle.events.specs.declared.event.Command.TheVariants.{Connect, Sub, Unsub, Pub, Take, Close, Reload}
 use Rattle.events.specs.declared.answer.Delivery.{Delivery}
 use Rattle.events.specs.declared.answer.Item.{Item}
-use Rattle.events.specs.declared.answer.Item.TheVariants.{Entered, Full, RouteFull, MapTooLong}
+use Rattle.events.specs.declared.answer.Item.TheVariants.{Entered, Full, RouteFull, MapTooLong, Unmapped as UnmappedItem, MappedTooLong}
+use Rattle.account_mappings.specs.Drawing.{mapped_by}
+use Rattle.account_mappings.specs.declared.drawing.Mapped.{Mapped}
+use Rattle.account_mappings.specs.declared.drawing.Mapped.TheVariants.{Same, To, Unmapped, TooLong}
 use Rattle.events.specs.declared.answer.Outcome.{Outcome}
 use Rattle.events.specs.declared.answer.Outcome.TheVariants.{Connected, AuthViolation, Subscribed, SameSid, SubLimit, Denied, Unsubscribed, Published, Taken, Closed, Reloaded}
 use Rattle.events.specs.declared.answer.Entry.{Entry}
@@ -33,7 +36,7 @@ use Rattle.queue_choice.specs.Choices.{chosen}
 use Rattle.world.specs.World.{World}
 use Rattle.imports.specs.Across.{views}
 use Rattle.imports.specs.declared.view.ViewItem.{ViewItem}
-use Rattle.imports.specs.declared.view.ViewItem.TheVariants.{At, TooLong}
+use Rattle.imports.specs.declared.view.ViewItem.TheVariants.{At, TooLong as NotCrossed}
 use Rattle.imports.specs.declared.view.Way.{Way}
 use Rattle.imports.specs.declared.view.Way.TheVariants.{Own, Stream, Service, Response}
 use Rattle.exports.specs.declared.document.Row.{Row}
@@ -41,7 +44,7 @@ use Rattle.service_exporter.specs.Limit.{is_full}
 use Rattle.service_exporter.specs.Routes.{Exporter}
 use Rattle.service_exporter.specs.declared.route.Route.{Route}
 use Rattle.service_routes.specs.Routes.{Name, exporter_of, opened, pruned, spent}
-use Rattle.world.specs.Routing.{View, view_of, view_with, next_subject, responses_on, route_for}
+use Rattle.world.specs.Routing.{View, view_of, view_with, next_subject, responses_on, route_for, under_subject}
 use Rattle.world_groups.specs.Served.{is_member, members}
 use Rattle.world_subscriptions.specs.Addressing.{delivery_to}
 use Rattle.hub.specs.Sound.{IsSound, user_at, may_subscribe, HasAllowance, is_to_receive}
@@ -285,7 +288,7 @@ IsGivenBy w now conn m word before p account s (Response row) = (p.seen ≡ view
 -- nobody.
 abbrev pub IsGiven : World → ℕ → ℕ → Message → ℕ → List Part → Part → ViewItem → Type 0
 IsGiven w now conn m word before p (At account s way) = IsGivenBy w now conn m word before p account s way
-IsGiven w now conn m word before p (TooLong row) = (p.subs ≡ []) × (p.items ≡ MapTooLong row ∷ []) × (p.opens ≡ None)
+IsGiven w now conn m word before p (NotCrossed row) = (p.subs ≡ []) × (p.items ≡ MapTooLong row ∷ []) × (p.opens ≡ None)
 
 abbrev pub IsPart : World → ℕ → ℕ → Message → ℕ → List Part → Part → Type 0
 IsPart w now conn m word before p = IsGiven w now conn m word before p p.view
@@ -319,9 +322,9 @@ pub record IsDelivered (w : World) (now : ℕ) (by : By) (publisher : ℕ) (subj
   -- and these deliveries are what came into the outboxes, and what was noted
   pub outboxes : after ≡ map (λ (z : Session). receives now by publisher subject (map delivery_of (sent_to z.conn ss)) z) w.sessions
 
--- A message that a user of the account has published: what each of its views gives, by the policy in force and the routes that
--- live, and what comes of all.
-pub record IsSent (w : World) (now : ℕ) (by : By) (conn : ℕ) (m : Message) (word : ℕ) (account : List ℕ) (items : List Item) (after : World) : Type 0 where
+-- A message that a user of the account has published on a subject, as it is sent on: what each of its views gives, by the policy in
+-- force and the routes that live, and what comes of all.
+pub record IsSent (w : World) (now : ℕ) (by : By) (conn : ℕ) (asked : List Token) (m : Message) (word : ℕ) (account : List ℕ) (items : List Item) (after : World) : Type 0 where
   pub parts : List Part
   -- each view of the message, in order, and no other: across the rows of the policy, and where the account has a live route on
   -- the subject, the response
@@ -330,10 +333,23 @@ pub record IsSent (w : World) (now : ℕ) (by : By) (conn : ℕ) (m : Message) (
   pub each : (before : List Part) (p : Part) (later : List Part) → parts ≡ before ++ p ∷ later → IsPart w now conn m word before p
   -- what is told is what they tell
   pub items_are : items ≡ told_by parts
-  pub delivered : IsDelivered w now by conn m.subject (sendings parts) items after.sessions
+  pub delivered : IsDelivered w now by conn asked (sendings parts) items after.sessions
   -- the routes that live stand, and behind them those that the message has opened; one of the account on its subject has ended,
   -- if it was for a single response
   pub routes : after.routes ≡ spent account m.subject (routes_behind (pruned now w.routes) parts)
+
+-- One that isn't sent on: this is its single item, it has come into no outbox, and of the response routes those stand that live.
+pub record IsSeenNowhere (w : World) (now : ℕ) (by : By) (conn : ℕ) (asked : List Token) (item : Item) (items : List Item) (after : World) : Type 0 where
+  pub single : items ≡ item ∷ []
+  pub outboxes : after.sessions ≡ map (receives now by conn asked []) w.sessions
+  pub routes : after.routes ≡ pruned now w.routes
+
+-- It is sent on under the subject that its account's mappings give it, if they give it one.
+abbrev pub IsMapped : World → ℕ → By → ℕ → Message → ℕ → List ℕ → List Item → World → Mapped → Type 0
+IsMapped w now by conn m word account items after Same = IsSent w now by conn m.subject m word account items after
+IsMapped w now by conn m word account items after (To s) = IsSent w now by conn m.subject (under_subject s m) word account items after
+IsMapped w now by conn m word account items after Unmapped = IsSeenNowhere w now by conn m.subject UnmappedItem items after
+IsMapped w now by conn m word account items after (TooLong index) = IsSeenNowhere w now by conn m.subject (MappedTooLong index) items after
 
 -- ---- what a step does
 
@@ -364,11 +380,11 @@ IsEffect w now (Sub conn p queue sid) (Denied v) after = IsUntouched w now after
 -- it has received as many; no other changes
 IsEffect w now (Unsub conn sid most) Unsubscribed after =
     (after.sessions ≡ w.sessions) × (after.subscriptions ≡ filter is_to_receive (map (limited conn sid most) w.subscriptions)) × (after.routes ≡ pruned now w.routes)
--- the message, in each of its views to those that it is for there, and to nobody else: of those that may be sent it the
+-- the message, as it is sent on, in each of its views to those that it is for there, and to nobody else: of those that may be sent it the
 -- plain ones, and of each queue group the one that the word chooses, room or not; each subscription counts it as often
 -- as it has entered for it, and ends where that was the last that it was to receive
 IsEffect w now (Pub conn m word) (Published by items) after =
-    IsSomeAnd (user_at w conn) (λ (u : User). IsSent w now by conn m word u.account items after)
+    IsSomeAnd (user_at w conn) (λ (u : User). IsMapped w now by conn m word u.account items after (mapped_by u.mappings m.subject word))
     × (after.subscriptions ≡ filter is_to_receive (map (received_more items) w.subscriptions))
 IsEffect w now (Pub conn m word) (Denied v) after = IsUntouched w now after
 -- the oldest deliveries of the connection's session leave its outbox, and what was missed has been told

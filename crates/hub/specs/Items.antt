@@ -1,7 +1,7 @@
 -- What an item tells, read in one place (docs/GUARANTEE.md, "The guarantee").
 use Rattle.std.specs.Prelude.{ℕ, List, Bool, true, false, Option, Some, None}
 use Rattle.events.specs.declared.answer.Item.{Item}
-use Rattle.events.specs.declared.answer.Item.TheVariants.{Entered, Full, RouteFull, MapTooLong}
+use Rattle.events.specs.declared.answer.Item.TheVariants.{Entered, Full, RouteFull, MapTooLong, Unmapped, MappedTooLong}
 
 -- a delivery of which an item tells: the connection and the id of its subscription, and whether it has entered
 pub record DeliveryItem : Type 0 where
@@ -15,6 +15,8 @@ delivery_item (Entered conn sid) = Some (record { conn = conn; sid = sid; entere
 delivery_item (Full conn sid) = Some (record { conn = conn; sid = sid; entered = false })
 delivery_item (RouteFull row) = None
 delivery_item (MapTooLong row) = None
+delivery_item Unmapped = None
+delivery_item (MappedTooLong index) = None
 
 abbrev pub passes : (DeliveryItem → Bool) → Option DeliveryItem → Bool
 passes test None = false

@@ -33,7 +33,7 @@ use Rattle.imports.specs.Across.{crossing, crossings_in, first_by, views, way_by
 use Rattle.imports.specs.Views.{is_route, rows_of}
 use Rattle.imports.specs.declared.rows.ImportRow.{ImportRow}
 use Rattle.imports.specs.declared.view.ViewItem.{ViewItem}
-use Rattle.imports.specs.declared.view.ViewItem.TheVariants.{At, TooLong}
+use Rattle.imports.specs.declared.view.ViewItem.TheVariants.{At, TooLong as Uncrossed}
 use Rattle.imports.specs.declared.view.Way.TheVariants.{Own, Stream, Service, Response}
 use Rattle.imports.proofs.Crossed.{seen_by}
 use Rattle.service_exporter.specs.Limit.{is_full}
@@ -45,9 +45,12 @@ use Rattle.service_routes.proofs.Seen.{entered, others, seen}
 use Rattle.service_rows.specs.Rows.{again}
 use Rattle.world.specs.World.{World, advanced, opening_world}
 use Rattle.world.specs.Granting.{counted_on, verdict_on}
-use Rattle.world.specs.Routing.{admitted, in_view, in_views, response_by, responses_on, route_for, view_of}
+use Rattle.world.specs.Routing.{admitted, in_view, in_views, response_by, responses_on, route_for, view_of, under_subject}
 use Rattle.world_routing.specs.Routing.{is_nil, requested, requested_by}
-use Rattle.world.specs.Transition.{connected, in_new_session, in_session, moved, numbered, published, subscribed, transition}
+use Rattle.account_mappings.specs.Drawing.{mapped_by}
+use Rattle.account_mappings.specs.declared.drawing.Mapped.{Mapped}
+use Rattle.account_mappings.specs.declared.drawing.Mapped.TheVariants.{Same, To, Unmapped, TooLong}
+use Rattle.world.specs.Transition.{connected, in_new_session, in_session, moved, numbered, published, subscribed, transition, mapped_to, seen_as}
 use Rattle.hub.specs.History.{IsEntry, IsLegalRun}
 use Rattle.hub.specs.Routes.{EachRoute}
 use Rattle.hub.proofs.Routes.{given-All}
@@ -112,13 +115,13 @@ IsOfImporter from (At account s Own) = ⊤
 IsOfImporter from (At account s (Stream row)) = ⊤
 IsOfImporter from (At account s (Service row)) = from ≡ row.importer
 IsOfImporter from (At account s (Response row)) = ⊤
-IsOfImporter from (TooLong row) = ⊤
+IsOfImporter from (Uncrossed row) = ⊤
 
 crossing-of : (from : Name) (s : List Token) (r : ImportRow) (v : ViewItem) → crossing from s r ≡ Some v → IsOfImporter from v
 crossing-of from s r (At b t Own) given = tt
 crossing-of from s r (At b t (Stream row)) given = tt
 crossing-of from s r (At b t (Response row)) given = tt
-crossing-of from s r (TooLong row) given = tt
+crossing-of from s r (Uncrossed row) given = tt
 crossing-of from s r (At b t (Service row)) given = let it = seen_by r from b s t (Service row) given in by_kind r.kind it.0 it.1.source
   where
     by_kind : (k : Kind) → way_by k r.row ≡ Service row → first_by k r.exporter r.row.importer ≡ from → from ≡ row.importer
@@ -145,7 +148,7 @@ module _ (zs : List Session) (z : Session) (m : Message) (word : ℕ) where
   view-moment w (At account s Own) = refl
   view-moment w (At account s (Stream row)) = refl
   view-moment w (At account s (Response row)) = refl
-  view-moment w (TooLong row) = refl
+  view-moment w (Uncrossed row) = refl
   view-moment w (At account s (Service row)) = by_reply m.reply
     where
       by_reply : (reply : Option (List Token)) → (requested zs w z m word account s row reply).1.moment ≡ w.moment
@@ -161,7 +164,7 @@ module _ (zs : List Session) (z : Session) (m : Message) (word : ℕ) where
   view-rises w (At account s Own) name = same_last name w.routes
   view-rises w (At account s (Stream row)) name = same_last name w.routes
   view-rises w (At account s (Response row)) name = same_last name w.routes
-  view-rises w (TooLong row) name = same_last name w.routes
+  view-rises w (Uncrossed row) name = same_last name w.routes
   view-rises w (At account s (Service row)) name = by_reply m.reply
     where
       by_reply : (reply : Option (List Token)) → (exporter_of name w.routes).last ≤ (exporter_of name (requested zs w z m word account s row reply).1.routes).last
@@ -184,7 +187,7 @@ module _ (zs : List Session) (z : Session) (m : Message) (word : ℕ) where
     view-each w (At account s Own) at up down of are = are
     view-each w (At account s (Stream row)) at up down of are = are
     view-each w (At account s (Response row)) at up down of are = are
-    view-each w (TooLong row) at up down of are = are
+    view-each w (Uncrossed row) at up down of are = are
     view-each w (At account s (Service row)) at up down of are = by_reply m.reply refl down
       where
         by_reply : (reply : Option (List Token)) → m.reply ≡ reply → Rises (requested zs w z m word account s row reply).1.routes final → EachRoute P (requested zs w z m word account s row reply).1.routes
@@ -252,14 +255,23 @@ module _ (P : Name → Numbered → Type 0) (w : World) (final : Routes)
   publish conn m word opens z at (DeniedBy i) = λ _. are
   publish conn m word opens z at NoAllow = λ _. are
   publish conn m word opens z at (NoQueueAllow i) = λ _. are
-  publish conn m word opens z at (Allowed by) = λ down.
-      let counted : World = record w { sessions = counted_on by z.conn m.subject w.sessions } in
-      let vs : List ViewItem = views w.policy z.user.account m.subject (responses_on w.routes z.user.account m.subject) in
-      let left : Routes = (in_views w.sessions counted z m word vs).1.routes in
-      each-spent P z.user.account m.subject left
-      (views-each w.sessions z m word P w.moment w.routes final (opens z at) counted vs refl (λ name. same_last name w.routes)
-      (rises_on left (spent z.user.account m.subject left) final (rises-spent z.user.account m.subject left) down)
-      (views-of w.policy w.routes z.user.account m.subject) are)
+  publish conn m word opens z at (Allowed by) = by_mapping (mapped_by z.user.mappings m.subject word)
+    where
+      sends : (sent : Message) → sent.reply ≡ m.reply → After (seen_as w z by m.subject sent word)
+      sends sent same = λ down.
+          let counted : World = record w { sessions = counted_on by z.conn m.subject w.sessions } in
+          let vs : List ViewItem = views w.policy z.user.account sent.subject (responses_on w.routes z.user.account sent.subject) in
+          let left : Routes = (in_views w.sessions counted z sent word vs).1.routes in
+          each-spent P z.user.account sent.subject left
+          (views-each w.sessions z sent word P w.moment w.routes final (λ account row reply doc n wants. opens z at account row reply doc n (sym same ∙ wants)) counted vs refl (λ name. same_last name w.routes)
+          (rises_on left (spent z.user.account sent.subject left) final (rises-spent z.user.account sent.subject left) down)
+          (views-of w.policy w.routes z.user.account sent.subject) are)
+
+      by_mapping : (mapped : Mapped) → After (mapped_to w z by m word mapped)
+      by_mapping Same = sends m refl
+      by_mapping (To s) = sends (under_subject s m) refl
+      by_mapping Unmapped = λ _. are
+      by_mapping (TooLong index) = λ _. are
 
   abbrev OpensBy : Command → Type 0
   OpensBy c = (conn : ℕ) (m : Message) (word : ℕ) → c ≡ Pub conn m word → Opens conn m word

@@ -1,7 +1,7 @@
 -- In every legal run from an opening each grant was noted at the last request on its subject, whatever is sent in the views of
 -- a message.
 use Rattle.std.proofs.Common.{◌≡◌, ◌∙◌, ◌==◌, ◌&&◌, ◌||◌, ℕ, ◌+◌, ◌≤◌, suc, zero, Bool, true, false, true≢false, not, cond, List, [], ◌∷◌, ◌++◌, map, filter, length, take, drop, get_or, Option, Some, None, Result, Ok, Err, ap, sym, refl, subst, arith, max}
-use Rattle.std.specs.Prelude.{All, AllPairs, nat_le}
+use Rattle.std.specs.Prelude.{All, AllPairs, IfSome, nat_le}
 use Rattle.std.specs.List.{list_any, filter_map}
 use Rattle.std.specs.Option.{option_map}
 use Rattle.std.proofs.lemmas.Bool.{eqb-true, eqb-false, ne_eqb}
@@ -47,7 +47,8 @@ use Rattle.world_rows.specs.declared.subscription.Subscription.{Subscription}
 use Rattle.world.specs.World.{World, opening_world, advanced}
 use Rattle.world.specs.Granting.{verdict_on, counted_on}
 use Rattle.world.specs.Reload.{removal_after, stands_on}
-use Rattle.world.specs.Transition.{transition, connected, subscribed, unsubscribed, published, taken, closed, in_session, in_new_session, moved, numbered, entry_with}
+use Rattle.account_mappings.specs.Drawing.{mapped_by}
+use Rattle.world.specs.Transition.{transition, sent_on, connected, subscribed, unsubscribed, published, taken, closed, in_session, in_new_session, moved, numbered, entry_with}
 use Rattle.hub.specs.History.{IsEntry, IsLegalRun}
 use Rattle.hub.specs.Guarantee.{Sending, sent_to, delivery_of, room_in}
 use Rattle.hub.specs.Kept.{IsKeptTable}
@@ -59,7 +60,7 @@ use Rattle.hub.proofs.Deliveries.{found, receives_of}
 use Rattle.hub_grant_laws.specs.Dropping.{world_after}
 use Rattle.hub_grant_laws.specs.Noted.{Step, step_of, steps_of, asks_on, waiting_in, entered_between, is_request, is_publish, responds_by, ends_for, latest, IsNoted, AreNoted, RequestsArePublished}
 use Rattle.hub_grant_laws.proofs.Noted.{latest-more, after-publish, after-other, after-judged}
-use Rattle.hub_grant_laws.proofs.Sends.{Start, IsOf, IsOfRequest, publishes}
+use Rattle.hub_grant_laws.proofs.Sends.{Start, IsOf, IsOfRequest, publishes, AreOf}
 
 -- ---- what a step brings into outboxes
 
@@ -401,16 +402,20 @@ module _ (steps : List Step) (w : World) (now : ℕ) (t : Told steps w.moment w.
       start : By → Session → Start
       start by z = record { before = w.sessions; begun = counted_on by z.conn m.subject w.sessions; world = advanced w now }
 
-      asked : (by : By) (z : Session) (account : List ℕ) (subject : List Token) (reply : Option (List Token)) → IsOfRequest (start by z) z m word (λ s. Unit {0}) account subject reply
-      asked by z account subject None = λ s. tt
-      asked by z account subject (Some reply) = λ route s. tt
+      asked : (by : By) (z : Session) (as_sent : Message) (account : List ℕ) (subject : List Token) (reply : Option (List Token)) → IsOfRequest (start by z) z as_sent word (λ s. Unit {0}) account subject reply
+      asked by z as_sent account subject None = λ s. tt
+      asked by z as_sent account subject (Some reply) = λ route s. tt
 
-      whatever : (by : By) (z : Session) (v : ViewItem) → IsOf (start by z) z m word (λ s. Unit {0}) v
-      whatever by z (At account subject Own) = λ s. tt
-      whatever by z (At account subject (Stream row)) = λ s. tt
-      whatever by z (At account subject (Service row)) = asked by z account subject m.reply
-      whatever by z (At account subject (Response row)) = λ s. tt
-      whatever by z (TooLong row) = tt
+      whatever : (by : By) (z : Session) (as_sent : Message) (v : ViewItem) → IsOf (start by z) z as_sent word (λ s. Unit {0}) v
+      whatever by z as_sent (At account subject Own) = λ s. tt
+      whatever by z as_sent (At account subject (Stream row)) = λ s. tt
+      whatever by z as_sent (At account subject (Service row)) = asked by z as_sent account subject as_sent.reply
+      whatever by z as_sent (At account subject (Response row)) = λ s. tt
+      whatever by z as_sent (TooLong row) = tt
+
+      if_sent : (by : By) (z : Session) (o : Option Message) → IfSome o (AreOf (λ s. Unit {0}) w now z m.subject word by)
+      if_sent by z None = tt
+      if_sent by z (Some as_sent) = λ k d h. whatever by z as_sent _
 
       sent : (by : By) (ss : List Sending) (items : List Item) (left : List Subscription) (routes : List (Name × Exporter)) (sender : ℕ) → sender ≡ conn →
           Leaves c (Published by items) (next_with w now (map (receives_of M by sender m.subject ss) w.sessions) left routes)
@@ -442,7 +447,7 @@ module _ (steps : List Step) (w : World) (now : ℕ) (t : Told steps w.moment w.
 
       by_verdict : (z : Session) (v : Verdict) → z.conn ≡ conn → Keeps c (numbered (w.number + 1) (Ok (published (advanced w now) z m word v)))
       by_verdict z (Allowed by) sender_is =
-          let p = publishes (λ s. Unit {0}) w now z m word by t.apart (λ k d h. whatever by z _) in
+          let p = publishes (λ s. Unit {0}) w now z m word by t.apart (if_sent by z (sent_on (mapped_by z.user.mappings m.subject word) m)) in
           subst (λ (r : Outcome × World). Keeps c (numbered (w.number + 1) (Ok r))) (sym p.is) (sent by p.ss p.items p.left p.routes z.conn sender_is)
       by_verdict z (DeniedBy i) from = denied (DeniedBy i)
       by_verdict z NoAllow from = denied NoAllow

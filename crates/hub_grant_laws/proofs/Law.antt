@@ -21,6 +21,7 @@ use Rattle.events.specs.declared.event.Command.{Command}
 use Rattle.events.specs.declared.event.Command.TheVariants.{Connect, Sub, Unsub, Pub, Take, Close, Reload}
 use Rattle.events.specs.declared.answer.Addressed.{Addressed}
 use Rattle.events.specs.declared.answer.Item.{Item}
+use Rattle.events.specs.declared.answer.Item.TheVariants.{Unmapped as UnmappedItem, MappedTooLong}
 use Rattle.events.specs.declared.answer.Outcome.{Outcome}
 use Rattle.events.specs.declared.answer.Outcome.TheVariants.{Connected, AuthViolation, Subscribed, SameSid, SubLimit, Denied, Unsubscribed, Published, Taken, Closed, Reloaded}
 use Rattle.events.specs.declared.refusal.HubRefusal.TheVariants.{SessionLimit}
@@ -39,9 +40,12 @@ use Rattle.world.specs.World.{World, advanced}
 use Rattle.world.specs.Granting.{or_granted, verdict_on, counted_on, ended_on}
 use Rattle.service_routes.specs.Routes.{kept, pruned, spent}
 use Rattle.service_rows.specs.Rows.{again}
-use Rattle.world.specs.Routing.{may_hear, lets_through}
+use Rattle.world.specs.Routing.{may_hear, lets_through, under_subject}
 use Rattle.world.specs.Reload.{user_after, verdict_for, may_stand, stands_on, removal, removal_after}
-use Rattle.world.specs.Transition.{connected, subscribed, published, in_session, in_new_session, moved, numbered, transition}
+use Rattle.account_mappings.specs.Drawing.{mapped_by}
+use Rattle.account_mappings.specs.declared.drawing.Mapped.{Mapped}
+use Rattle.account_mappings.specs.declared.drawing.Mapped.TheVariants.{Same, To, Unmapped, TooLong}
+use Rattle.world.specs.Transition.{connected, subscribed, published, in_session, in_new_session, moved, numbered, transition, mapped_to, seen_as, seen_nowhere}
 use Rattle.hub.specs.Replies.{is_response}
 use Rattle.hub.specs.Guarantee.{Sending, sent_to, delivery_of}
 use Rattle.world_routing.proofs.Publishing.{same_met}
@@ -285,32 +289,51 @@ module _ (w : World) (moment : ℕ) where
       apart : AllPairs IsApart ts
       apart = AllPairs-map IsApart (with_live (max w.moment moment)) zs (λ y z ne e. ne e) connections
 
-      sends : (z : Session) (by : By) →
-          AreAlike (numbered n (Ok (published whole z m word (Allowed by)))) (numbered n (Ok (published left (with_live (max w.moment moment) z) m word (Allowed by))))
-      sends z by =
+      sends : (z : Session) (by : By) (sent : Message) →
+          AreAlike (numbered n (Ok (seen_as whole z by m.subject sent word))) (numbered n (Ok (seen_as left (with_live (max w.moment moment) z) by m.subject sent word)))
+      sends z by sent =
           let M : ℕ = max w.moment moment in
           let begin : Start = record { before = zs; begun = counted_on by z.conn m.subject zs; world = whole } in
           let us : List Session = counted_on by z.conn m.subject ts in
           let same = as_before M by z.conn m.subject whole z in
           let first : Behind = record { done = []; subs = w.subscriptions; routes = whole.routes } in
-          let of = send-alike begin z ts us (with_live M z) same m word first (views_of whole z m) in
+          let of = send-alike begin z ts us (with_live M z) same sent word first (views_of whole z sent) in
           let items : List Item = of.items in
           let ss : List Sending = of.last.done in
           let xs : List Session = ended_on by z.conn m.subject (sessions_behind begin ss) in
           let ys : List Session = ended_on by z.conn m.subject (sessions_behind (from begin us) ss) in
-          let finished : List Item × World → Outcome × World = λ r. (Published by r.0, record r.1 { sessions = ended_on by z.conn m.subject r.1.sessions; routes = spent z.user.account m.subject r.1.routes }) in
+          let finished : List Item × World → Outcome × World = λ r. (Published by r.0, record r.1 { sessions = ended_on by z.conn m.subject r.1.sessions; routes = spent z.user.account sent.subject r.1.routes }) in
           let xs_is : xs ≡ map (receives_of M by z.conn m.subject ss) zs = outboxes M z.conn m.subject ss zs by connections in
           let ys_is : ys ≡ map (receives_of M by z.conn m.subject ss) ts =
           ap (λ (all : List Addressed). ended_on by z.conn m.subject (delivered M all us).0) (sym (sent-as begin z ts us (with_live M z) same ss))
           ∙ outboxes M z.conn m.subject ss ts by apart in
           let same_sessions : map (with_live M) ys ≡ map (with_live M) xs =
           ap (map (with_live M)) ys_is ∙ received_same M by z.conn m.subject ss zs tables ∙ sym (ap (map (with_live M)) xs_is) in
-          subst (λ (r : Outcome × World). AreAlike (numbered n (Ok r)) (numbered n (Ok (published left (with_live M z) m word (Allowed by))))) (sym (ap finished of.is))
+          subst (λ (r : Outcome × World). AreAlike (numbered n (Ok r)) (numbered n (Ok (seen_as left (with_live M z) by m.subject sent word)))) (sym (ap finished of.is))
           (subst (λ (r : Outcome × World). AreAlike (numbered n (Ok (finished (items, world_behind begin of.last)))) (numbered n (Ok r))) (sym (ap finished of.also))
-          (alike M (record whole { routes = spent z.user.account m.subject of.last.routes }) n (Published by items) xs ys of.last.subs refl same_sessions))
+          (alike M (record whole { routes = spent z.user.account sent.subject of.last.routes }) n (Published by items) xs ys of.last.subs refl same_sessions))
+
+      nowhere : (z : Session) (by : By) (item : Item) →
+          AreAlike (numbered n (Ok (seen_nowhere whole z by m.subject item))) (numbered n (Ok (seen_nowhere left (with_live (max w.moment moment) z) by m.subject item)))
+      nowhere z by item =
+          let M : ℕ = max w.moment moment in
+          let xs : List Session = ended_on by z.conn m.subject (counted_on by z.conn m.subject zs) in
+          let ys : List Session = ended_on by z.conn m.subject (counted_on by z.conn m.subject ts) in
+          let xs_is : xs ≡ map (receives_of M by z.conn m.subject []) zs = outboxes M z.conn m.subject [] zs by connections in
+          let ys_is : ys ≡ map (receives_of M by z.conn m.subject []) ts = outboxes M z.conn m.subject [] ts by apart in
+          let same_sessions : map (with_live M) ys ≡ map (with_live M) xs =
+          ap (map (with_live M)) ys_is ∙ received_same M by z.conn m.subject [] zs tables ∙ sym (ap (map (with_live M)) xs_is) in
+          alike M whole n (Published by (item ∷ [])) xs ys w.subscriptions refl same_sessions
+
+      by_mapping : (z : Session) (by : By) (mapped : Mapped) →
+          AreAlike (numbered n (Ok (mapped_to whole z by m word mapped))) (numbered n (Ok (mapped_to left (with_live (max w.moment moment) z) by m word mapped)))
+      by_mapping z by Same = sends z by m
+      by_mapping z by (To s) = sends z by (under_subject s m)
+      by_mapping z by Unmapped = nowhere z by UnmappedItem
+      by_mapping z by (TooLong index) = nowhere z by (MappedTooLong index)
 
       by_verdict : (z : Session) (v : Verdict) → AreAlike (numbered n (Ok (published whole z m word v))) (numbered n (Ok (published left (with_live (max w.moment moment) z) m word v)))
-      by_verdict z (Allowed by) = sends z by
+      by_verdict z (Allowed by) = by_mapping z by (mapped_by z.user.mappings m.subject word)
       by_verdict z (DeniedBy i) = told (Denied (DeniedBy i)) w.subscriptions
       by_verdict z NoAllow = told (Denied NoAllow) w.subscriptions
       by_verdict z (NoQueueAllow i) = told (Denied (NoQueueAllow i)) w.subscriptions

@@ -16,11 +16,11 @@ use Rattle.events.specs.declared.event.Command.TheVariants.{Connect, Sub, Unsub,
 use Rattle.events.specs.declared.answer.Entry.{Entry}
 use Rattle.events.specs.declared.answer.Delivery.{Delivery}
 use Rattle.events.specs.declared.answer.Item.{Item}
-use Rattle.events.specs.declared.answer.Item.TheVariants.{Entered, Full, RouteFull, MapTooLong}
+use Rattle.events.specs.declared.answer.Item.TheVariants.{Entered, Full, RouteFull, MapTooLong, Unmapped as UnmappedItem, MappedTooLong}
 use Rattle.events.specs.declared.answer.Outcome.{Outcome}
 use Rattle.events.specs.declared.refusal.HubRefusal.{HubRefusal}
 use Rattle.imports.specs.declared.view.ViewItem.{ViewItem}
-use Rattle.imports.specs.declared.view.ViewItem.TheVariants.{At, TooLong}
+use Rattle.imports.specs.declared.view.ViewItem.TheVariants.{At, TooLong as Uncrossed}
 use Rattle.imports.specs.declared.view.Way.TheVariants.{Own, Stream, Service, Response}
 use Rattle.world_deliveries.specs.Sessions.{session_of}
 use Rattle.world_deliveries.specs.declared.session.Session.{Session}
@@ -28,14 +28,18 @@ use Rattle.world_rows.specs.declared.subscription.Subscription.{Subscription}
 use Rattle.world.specs.World.{World, opening_world, advanced}
 use Rattle.world.specs.Changes.{items_in}
 use Rattle.world.specs.Granting.{verdict_on, counted_on}
-use Rattle.world.specs.Transition.{published, in_session, moved, numbered}
+use Rattle.account_mappings.specs.Drawing.{mapped_by}
+use Rattle.account_mappings.specs.declared.drawing.Mapped.{Mapped}
+use Rattle.account_mappings.specs.declared.drawing.Mapped.TheVariants.{Same, To, Unmapped, TooLong}
+use Rattle.world.specs.Routing.{under_subject}
+use Rattle.world.specs.Transition.{published, sent_on, in_session, moved, numbered}
 use Rattle.world_routing.specs.Handing.{of_deliveries}
 use Rattle.hub.specs.History.{IsEntry}
 use Rattle.hub.specs.Guarantee.{Sending, sent_to, delivery_of, receiver, room_in, items_of, items_with_room, found_full}
 use Rattle.hub.proofs.Views.{items-of}
 use Rattle.hub.proofs.Deliveries.{items_after, receives_of, with_room}
 use Rattle.hub_grant_laws.specs.Noted.{Step, step_of, is_reply, asks_on, entered_between, is_request, is_publish, publishes_with, is_entered_at, tells_request, has_own_reply, HasOwnReplies, RequestsAreTold}
-use Rattle.hub_grant_laws.proofs.Sends.{Start, IsOf, IsOfRequest, views_of, publishes}
+use Rattle.hub_grant_laws.proofs.Sends.{Start, IsOf, IsOfRequest, views_of, publishes, AreOf}
 use Rattle.hub_grant_laws.proofs.History.{quiet-same, none-entered, entered-is, Told, Keeps, step-told, run-each, told-opening}
 
 -- ---- what items tell of deliveries
@@ -46,6 +50,8 @@ is_entering (Entered c sid) = true
 is_entering (Full c sid) = false
 is_entering (RouteFull row) = false
 is_entering (MapTooLong row) = false
+is_entering UnmappedItem = false
+is_entering (MappedTooLong index) = false
 
 any-own : (conn : ℕ) (items : List Item) → list_any (is_entered_at conn) items ≡ list_any is_entering (items_of conn items)
 any-own conn [] = refl
@@ -63,6 +69,8 @@ any-own conn (Full c sid ∷ items) = here (c == conn) (any-own conn items)
     here false rest = rest
 any-own conn (RouteFull row ∷ items) = any-own conn items
 any-own conn (MapTooLong row ∷ items) = any-own conn items
+any-own conn (UnmappedItem ∷ items) = any-own conn items
+any-own conn (MappedTooLong index ∷ items) = any-own conn items
 
 none-full : (subs : List Subscription) → list_any is_entering (map found_full subs) ≡ false
 none-full [] = refl
@@ -107,7 +115,7 @@ module _ (b : Start) (publisher : Session) (m : Message) (word : ℕ) where
   own_replies (At account subject (Stream row)) is = λ s. refl
   own_replies (At account subject (Service row)) is = own_request account subject m.reply is
   own_replies (At account subject (Response row)) is = λ s. no-reply m.reply is
-  own_replies (TooLong row) is = tt
+  own_replies (Uncrossed row) is = tt
 
 -- ---- a step
 
@@ -137,6 +145,9 @@ module _ (steps : List Step) (w : World) (now : ℕ) (t : Told steps w.moment w.
       M : ℕ
       M = max w.moment now
 
+      begin : By → Session → Start
+      begin by z = record { before = w.sessions; begun = counted_on by z.conn m.subject w.sessions; world = advanced w now }
+
       -- the deliveries that enter for a connection are told
       entered-told : (to : ℕ) (ss : List Sending) (items : List Item) → of_deliveries items ≡ items_after w.sessions M ss w.sessions →
           list_any (is_entered_at to) items ≡ nat_lt 0 (length (take (room_in (session_of w.sessions to)) (map delivery_of (sent_to to ss))))
@@ -158,13 +169,19 @@ module _ (steps : List Step) (w : World) (now : ℕ) (t : Told steps w.moment w.
       denied own to s = none-entered w.sessions w.sessions (quiet-same w.sessions t.apart) to s ∙ sym (and-false (is_reply s m.reply))
 
       OwnOf : Session → Type 0
-      OwnOf z = All (λ v. has_own_reply m.reply v ≡ true) (views_of (advanced w now) z m)
+      OwnOf z = IfSome (sent_on (mapped_by z.user.mappings m.subject word) m) (λ (as_sent : Message). All (λ v. has_own_reply m.reply v ≡ true) (views_of (advanced w now) z as_sent))
+
+      asks-own : (by : By) (z : Session) (mapped : Mapped) → IfSome (sent_on mapped m) (λ (as_sent : Message). All (λ v. has_own_reply m.reply v ≡ true) (views_of (advanced w now) z as_sent)) →
+          IfSome (sent_on mapped m) (AreOf (AsksOn m.reply) w now z m.subject word by)
+      asks-own by z Same all = λ k d h. own_replies (begin by z) z m word _ (all k d h)
+      asks-own by z (To s) all = λ k d h. own_replies (begin by z) z (under_subject s m) word _ (all k d h)
+      asks-own by z Unmapped all = tt
+      asks-own by z (TooLong index) all = tt
 
       by_verdict : (z : Session) (v : Verdict) → session_of w.sessions conn ≡ Some z → Tells c (numbered (w.number + 1) (Ok (published (advanced w now) z m word v)))
       by_verdict z (Allowed by) at = λ own.
           let all : OwnOf z = subst (λ o. IfSome o OwnOf) at own in
-          let begin : Start = record { before = w.sessions; begun = counted_on by z.conn m.subject w.sessions; world = advanced w now } in
-          let p = publishes (AsksOn m.reply) w now z m word by t.apart (λ k d h. own_replies begin z m word _ (all k d h)) in
+          let p = publishes (AsksOn m.reply) w now z m word by t.apart (asks-own by z (mapped_by z.user.mappings m.subject word) all) in
           subst (λ (r : Outcome × World). (to : ℕ) (s : List Token) → list_any (asks_on s) (entered_between to w.sessions r.1.sessions) ≡ (is_reply s m.reply && list_any (is_entered_at to) (items_in r.0))) (sym p.is)
           (λ to s. sent by z.conn p.ss p.items to s p.met p.each)
       by_verdict z (DeniedBy i) at = denied

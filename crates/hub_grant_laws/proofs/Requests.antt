@@ -26,7 +26,10 @@ use Rattle.world_deliveries.specs.Replying.{terms_of, is_granted}
 use Rattle.world_deliveries.specs.declared.session.Session.{Session}
 use Rattle.world.specs.World.{World, opening_world, advanced}
 use Rattle.world.specs.Granting.{or_granted, verdict_on}
-use Rattle.world.specs.Transition.{published, in_session, moved, numbered}
+use Rattle.account_mappings.specs.Drawing.{mapped_by}
+use Rattle.account_mappings.specs.declared.drawing.Mapped.{Mapped}
+use Rattle.account_mappings.specs.declared.drawing.Mapped.TheVariants.{Same, To, Unmapped, TooLong}
+use Rattle.world.specs.Transition.{mapped_to, published, in_session, moved, numbered}
 use Rattle.hub.specs.Kept.{is_open}
 use Rattle.hub.specs.Replies.{is_by_grant, terms_in, grants_at, is_young, is_live_for, has_grant}
 use Rattle.hub.specs.Sound.{user_at}
@@ -166,8 +169,14 @@ module _ (steps : List Step) (w : World) (now : ℕ) (t : Told steps w.moment w.
           (subst (λ r. IsSomeAnd (terms_at (session_of w.sessions conn)) (IsOpenRequest steps M conn r)) is.2
           (by_terms steps M conn m.subject (terms_at (session_of w.sessions conn)) (grants_at (session_of w.sessions conn)) (noted_at-conn steps w.sessions conn t.noted) whole))
 
+      by_mapping : (z : Session) (by : By) (mapped : Mapped) → session_of w.sessions conn ≡ Some z → verdict_on M z m.subject ≡ Allowed by → HasRequestIn (Pub conn m word) (numbered (w.number + 1) (Ok (mapped_to (advanced w now) z by m word mapped)))
+      by_mapping z by Same e verdict = sent z by e verdict
+      by_mapping z by (To s) e verdict = sent z by e verdict
+      by_mapping z by Unmapped e verdict = sent z by e verdict
+      by_mapping z by (TooLong index) e verdict = sent z by e verdict
+
       by_verdict : (z : Session) (v : Verdict) → session_of w.sessions conn ≡ Some z → verdict_on M z m.subject ≡ v → HasRequestIn (Pub conn m word) (numbered (w.number + 1) (Ok (published (advanced w now) z m word v)))
-      by_verdict z (Allowed by) e verdict = sent z by e verdict
+      by_verdict z (Allowed by) e verdict = by_mapping z by (mapped_by z.user.mappings m.subject word) e verdict
       by_verdict z (DeniedBy i) e verdict = λ n s h. absurd (cc)
       by_verdict z NoAllow e verdict = λ n s h. absurd (cc)
       by_verdict z (NoQueueAllow i) e verdict = λ n s h. absurd (cc)

@@ -1,12 +1,12 @@
 -- A message on its way in whatever views it has: all that is sent is one list, delivered at once.
-use Rattle.std.proofs.Common.{◌≡◌, ◌∙◌, ℕ, Bool, true, false, List, [], ◌∷◌, ◌++◌, Option, Some, None, map, filter, ap, sym, refl}
-use Rattle.std.specs.Prelude.{All, AllPairs, max}
+use Rattle.std.proofs.Common.{◌≡◌, ◌∙◌, ℕ, Bool, true, false, List, [], ◌∷◌, ◌++◌, Option, Some, None, cond, map, filter, ap, sym, refl}
+use Rattle.std.specs.Prelude.{All, AllPairs, IfSome, max}
 use Rattle.std.proofs.lemmas.List.{append_assoc, append-nil, append_cancel_left, map-append}
 use Rattle.std.proofs.lemmas.List.Elements.{All-nil, All-head, All-tail, All-append, All-map, filter_agree, filter-append}
 use Rattle.events.specs.declared.answer.Addressed.{Addressed}
 use Rattle.events.specs.Messages.{Message}
 use Rattle.events.specs.declared.answer.Item.{Item}
-use Rattle.events.specs.declared.answer.Item.TheVariants.{RouteFull, MapTooLong}
+use Rattle.events.specs.declared.answer.Item.TheVariants.{RouteFull, MapTooLong, Unmapped as UnmappedItem, MappedTooLong}
 use Rattle.events.specs.declared.answer.Outcome.{Outcome}
 use Rattle.events.specs.declared.answer.Outcome.TheVariants.{Published}
 use Rattle.permissions.specs.declared.verdict.By.{By}
@@ -15,7 +15,7 @@ use Rattle.subjects.specs.Subject.{Token}
 use Rattle.exports.specs.declared.document.Row.{Row}
 use Rattle.imports.specs.Across.{views}
 use Rattle.imports.specs.declared.view.ViewItem.{ViewItem}
-use Rattle.imports.specs.declared.view.ViewItem.TheVariants.{At, TooLong}
+use Rattle.imports.specs.declared.view.ViewItem.TheVariants.{At, TooLong as Uncrossed}
 use Rattle.imports.specs.declared.view.Way.TheVariants.{Own, Stream, Service, Response}
 use Rattle.service_exporter.specs.Limit.{is_full}
 use Rattle.service_exporter.specs.Routes.{Exporter}
@@ -29,8 +29,11 @@ use Rattle.world_rows.specs.declared.subscription.Subscription.{Subscription}
 use Rattle.world_groups.specs.Served.{served}
 use Rattle.world.specs.World.{World, advanced}
 use Rattle.world.specs.Granting.{counted_on, ended_on}
-use Rattle.world.specs.Transition.{published}
-use Rattle.world.specs.Routing.{View, view_of, view_with, is_admitted, routed, responses_on, route_for, next_subject, in_view, in_views}
+use Rattle.account_mappings.specs.Drawing.{mapped_by}
+use Rattle.account_mappings.specs.declared.drawing.Mapped.{Mapped}
+use Rattle.account_mappings.specs.declared.drawing.Mapped.TheVariants.{Same, To, Unmapped, TooLong}
+use Rattle.world.specs.Transition.{mapped_to, published, seen_as, seen_nowhere, sent_on}
+use Rattle.world.specs.Routing.{View, view_of, view_with, under_subject, is_admitted, routed, responses_on, route_for, next_subject, in_view, in_views}
 use Rattle.world_routing.specs.Routing.{is_nil, requested, requested_by}
 use Rattle.world_routing.specs.Handing.{is_of_delivery, of_deliveries}
 use Rattle.hub.specs.Guarantee.{Opening, Sending, with_opening}
@@ -88,7 +91,7 @@ world_behind b at = record b.world { sessions = sessions_behind b at.done; subsc
 
 -- the message among these sessions
 abbrev pub setting : Start → Session → Message → ℕ → Setting
-setting b publisher m word = record { world = b.world; publisher = publisher; message = m; word = word; may = λ (account : List ℕ) (s : List Token) (sub : Subscription). is_admitted b.before publisher (view_of account s m) sub }
+setting b publisher m word = record { world = b.world; publisher = publisher; asked = m.subject; message = m; word = word; may = λ (account : List ℕ) (s : List Token) (sub : Subscription). is_admitted b.before publisher (view_of account s m) sub }
 
 module _ (b : Start) (publisher : Session) (m : Message) (word : ℕ) where
   abbrev pub of_request : Behind → List ℕ → List Token → Row → Option (List Token) → Fate
@@ -101,7 +104,7 @@ module _ (b : Start) (publisher : Session) (m : Message) (word : ℕ) where
   fate at (At account subject (Stream row)) = Delivered (view_of account subject m) None
   fate at (At account subject (Service row)) = of_request at account subject row m.reply
   fate at (At account subject (Response row)) = Delivered (view_with account subject None m) None
-  fate at (TooLong row) = NotCrossed row
+  fate at (Uncrossed row) = NotCrossed row
 
   -- what is sent, what is told of it, and what is left
   abbrev pub sent_by : Behind → Fate → List Sending
@@ -163,7 +166,7 @@ module _ (b : Start) (publisher : Session) (m : Message) (word : ℕ) where
   IsOf Q (At account subject (Stream row)) = (s : Subscription) → Q record { message = (view_of account subject m).message; to = s }
   IsOf Q (At account subject (Service row)) = IsOfRequest Q account subject m.reply
   IsOf Q (At account subject (Response row)) = (s : Subscription) → Q record { message = (view_with account subject None m).message; to = s }
-  IsOf Q (TooLong row) = Unit {0}
+  IsOf Q (Uncrossed row) = Unit {0}
 
   seen-each : (Q : Sending → Type 0) (at : Behind) (seen : View) → ((s : Subscription) → Q record { message = seen.message; to = s }) → All Q (whom b.before publisher word at.subs seen)
   seen-each Q at seen of =
@@ -186,7 +189,7 @@ module _ (b : Start) (publisher : Session) (m : Message) (word : ℕ) where
   view-each Q at (At account subject (Stream row)) of = seen-each Q at (view_of account subject m) of
   view-each Q at (At account subject (Service row)) of = request-each Q at account subject row m.reply of
   view-each Q at (At account subject (Response row)) of = seen-each Q at (view_with account subject None m) of
-  view-each Q at (TooLong row) of = All-nil Q
+  view-each Q at (Uncrossed row) of = All-nil Q
 
   pub sent-each : (Q : Sending → Type 0) (at : Behind) (vs : List ViewItem) → All (IsOf Q) vs → All Q at.done → All Q (last at vs).done
   sent-each Q at [] of all = all
@@ -277,7 +280,7 @@ module _ (b : Start) (publisher : Session) (ts us : List Session) (other : Sessi
   view-is at (At account subject (Stream row)) = routed-is at (view_of account subject m) None
   view-is at (At account subject (Service row)) = request-is at account subject row m.reply
   view-is at (At account subject (Response row)) = routed-is at (view_with account subject None m) None
-  view-is at (TooLong row) = nothing-is at (MapTooLong row ∷ [])
+  view-is at (Uncrossed row) = nothing-is at (MapTooLong row ∷ [])
 
   pub views-are : (at : Behind) (vs : List ViewItem) →
       in_views ts (world_behind (from b us) at) other m word vs ≡ (told_in b publisher m word at vs, world_behind (from b us) (last b publisher m word at vs))
@@ -292,36 +295,65 @@ module _ (b : Start) (publisher : Session) (ts us : List Session) (other : Sessi
 abbrev pub views_of : World → Session → Message → List ViewItem
 views_of w publisher m = views w.policy publisher.user.account m.subject (responses_on w.routes publisher.user.account m.subject)
 
--- what is sent of a message that is published, each of which is so, what is told of it, and the world after it
-pub record Publishes (Q : Sending → Type 0) (w : World) (now : ℕ) (publisher : Session) (m : Message) (word : ℕ) (by : By) : Type 0 where
+-- what is sent of a message that is published on a subject, each of which is so, what is told of it, and the world after it
+pub record Publishes (Q : Sending → Type 0) (w : World) (now : ℕ) (publisher : Session) (asked : List Token) (by : By) (come : Outcome × World) : Type 0 where
   pub ss : List Sending
   pub each : All Q ss
   pub left : List Subscription
   pub routes : List (Name × Exporter)
   pub items : List Item
   pub met : of_deliveries items ≡ items_after w.sessions (max w.moment now) ss w.sessions
-  pub is : published (advanced w now) publisher m word (Allowed by)
-      ≡ (Published by items, record (advanced w now) { sessions = map (receives_of (max w.moment now) by publisher.conn m.subject ss) w.sessions; subscriptions = left; routes = routes })
+  pub is : come ≡ (Published by items, record (advanced w now) { sessions = map (receives_of (max w.moment now) by publisher.conn asked ss) w.sessions; subscriptions = left; routes = routes })
 
-pub publishes : (Q : Sending → Type 0) (w : World) (now : ℕ) (publisher : Session) (m : Message) (word : ℕ) (by : By) → AllPairs IsApart w.sessions →
-    All (IsOf record { before = w.sessions; begun = counted_on by publisher.conn m.subject w.sessions; world = advanced w now } publisher m word Q) (views_of (advanced w now) publisher m) → Publishes Q w now publisher m word by
-publishes Q w now publisher m word by apart of =
-    let begin : Start = record { before = w.sessions; begun = counted_on by publisher.conn m.subject w.sessions; world = advanced w now } in
+-- what is sent of it as it is sent on is so
+abbrev pub AreOf : (Sending → Type 0) → World → ℕ → Session → List Token → ℕ → By → Message → Type 0
+AreOf Q w now publisher asked word by m =
+    All (IsOf record { before = w.sessions; begun = counted_on by publisher.conn asked w.sessions; world = advanced w now } publisher m word Q) (views_of (advanced w now) publisher m)
+
+publishes-as : (Q : Sending → Type 0) (w : World) (now : ℕ) (publisher : Session) (asked : List Token) (m : Message) (word : ℕ) (by : By) → AllPairs IsApart w.sessions →
+    AreOf Q w now publisher asked word by m → Publishes Q w now publisher asked by (seen_as (advanced w now) publisher by asked m word)
+publishes-as Q w now publisher asked m word by apart of =
+    let begin : Start = record { before = w.sessions; begun = counted_on by publisher.conn asked w.sessions; world = advanced w now } in
     let first : Behind = record { done = []; subs = w.subscriptions; routes = (advanced w now).routes } in
     let vs : List ViewItem = views_of (advanced w now) publisher m in
     let all : Behind = last begin publisher m word first vs in
     let items : List Item = told_in begin publisher m word first vs in
-    let finished : List Item × World → Outcome × World = λ r. (Published by r.0, record r.1 { sessions = ended_on by publisher.conn m.subject r.1.sessions; routes = spent publisher.user.account m.subject r.1.routes }) in
+    let finished : List Item × World → Outcome × World = λ r. (Published by r.0, record r.1 { sessions = ended_on by publisher.conn asked r.1.sessions; routes = spent publisher.user.account m.subject r.1.routes }) in
     record {
       ss = all.done;
       each = sent-each begin publisher m word Q first vs of (All-nil Q);
       left = all.subs;
       routes = spent publisher.user.account m.subject all.routes;
       items = items;
-      met = met-in begin publisher m word first vs ∙ same_met by publisher.conn m.subject (max w.moment now) (map (sent w.sessions) all.done) w.sessions;
+      met = met-in begin publisher m word first vs ∙ same_met by publisher.conn asked (max w.moment now) (map (sent w.sessions) all.done) w.sessions;
       is = ap finished (views-are begin publisher begin.before begin.begun publisher (itself begin publisher) m word first vs)
-          ∙ ap (λ (zs : List Session). (Published by items, record (advanced w now) { sessions = zs; subscriptions = all.subs; routes = spent publisher.user.account m.subject all.routes })) (outboxes (max w.moment now) publisher.conn m.subject all.done w.sessions by apart);
+          ∙ ap (λ (zs : List Session). (Published by items, record (advanced w now) { sessions = zs; subscriptions = all.subs; routes = spent publisher.user.account m.subject all.routes })) (outboxes (max w.moment now) publisher.conn asked all.done w.sessions by apart);
     }
+
+-- nothing is sent of one that isn't sent on
+publishes-nowhere : (Q : Sending → Type 0) (w : World) (now : ℕ) (publisher : Session) (asked : List Token) (by : By) (item : Item) → is_of_delivery item ≡ false → AllPairs IsApart w.sessions →
+    Publishes Q w now publisher asked by (seen_nowhere (advanced w now) publisher by asked item)
+publishes-nowhere Q w now publisher asked by item plain apart = record {
+  ss = [];
+  each = All-nil Q;
+  left = w.subscriptions;
+  routes = (advanced w now).routes;
+  items = item ∷ [];
+  met = ap (λ (b : Bool). cond b (item ∷ []) []) plain;
+  is = ap (λ (zs : List Session). (Published by (item ∷ []), record (advanced w now) { sessions = zs })) (outboxes (max w.moment now) publisher.conn asked [] w.sessions by apart);
+}
+
+publishes-mapped : (Q : Sending → Type 0) (w : World) (now : ℕ) (publisher : Session) (m : Message) (word : ℕ) (by : By) → AllPairs IsApart w.sessions → (mapped : Mapped) →
+    IfSome (sent_on mapped m) (AreOf Q w now publisher m.subject word by) → Publishes Q w now publisher m.subject by (mapped_to (advanced w now) publisher by m word mapped)
+publishes-mapped Q w now publisher m word by apart Same of = publishes-as Q w now publisher m.subject m word by apart of
+publishes-mapped Q w now publisher m word by apart (To s) of = publishes-as Q w now publisher m.subject (under_subject s m) word by apart of
+publishes-mapped Q w now publisher m word by apart Unmapped of = publishes-nowhere Q w now publisher m.subject by UnmappedItem refl apart
+publishes-mapped Q w now publisher m word by apart (TooLong index) of = publishes-nowhere Q w now publisher m.subject by (MappedTooLong index) refl apart
+
+pub publishes : (Q : Sending → Type 0) (w : World) (now : ℕ) (publisher : Session) (m : Message) (word : ℕ) (by : By) → AllPairs IsApart w.sessions →
+    IfSome (sent_on (mapped_by publisher.user.mappings m.subject word) m) (AreOf Q w now publisher m.subject word by) →
+    Publishes Q w now publisher m.subject by (published (advanced w now) publisher m word (Allowed by))
+publishes Q w now publisher m word by apart of = publishes-mapped Q w now publisher m word by apart (mapped_by publisher.user.mappings m.subject word) of
 
 -- ---- two of them
 

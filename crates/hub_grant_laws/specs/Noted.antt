@@ -23,7 +23,9 @@ use Rattle.imports.specs.declared.view.Way.TheVariants.{Own, Stream, Service, Re
 use Rattle.service_routes.specs.Routes.{pruned}
 use Rattle.world.specs.Routing.{responses_on as on_routes}
 use Rattle.world.specs.World.{World, opening_world}
-use Rattle.world.specs.Transition.{transition}
+use Rattle.world.specs.Transition.{sent_on, transition}
+use Rattle.account_mappings.specs.Drawing.{mapped_by}
+use Rattle.events.specs.Messages.{Message}
 use Rattle.hub.specs.Counts.{items_told}
 use Rattle.hub.specs.History.{IsEntry, IsLegalRun}
 use Rattle.hub.specs.Items.{DeliveryItem, tells_of}
@@ -192,10 +194,11 @@ has_own_reply reply (At account s (Service row)) = not (is_some reply)
 has_own_reply reply (At account s (Response row)) = not (is_some reply)
 has_own_reply reply (TooLong row) = true
 
--- a message that is published, at a moment, has its own reply in all its views
+-- a message that is published, at a moment, has its own reply in all its views, as it is sent on
 abbrev pub HasOwnReplies : World → ℕ → Command → Type 0
 HasOwnReplies w now (Pub conn m word) =
-    IfSome (session_of w.sessions conn) (λ (z : Session). All (λ v. has_own_reply m.reply v ≡ true) (views w.policy z.user.account m.subject (on_routes (pruned now w.routes) z.user.account m.subject)))
+    IfSome (session_of w.sessions conn) (λ (z : Session). IfSome (sent_on (mapped_by z.user.mappings m.subject word) m) (λ (sent : Message).
+    All (λ v. has_own_reply m.reply v ≡ true) (views w.policy z.user.account sent.subject (on_routes (pruned now w.routes) z.user.account sent.subject))))
 HasOwnReplies w now _ = Unit {0}
 
 -- Of steps whose message has in every view the reply that it was published with, the requests are those that their entries tell.

@@ -11,7 +11,7 @@ use Rattle.subjects.specs.Subject.{Token}
 use Rattle.exports.specs.declared.document.Row.{Row}
 use Rattle.policy_doc.specs.Document.{IsValidPolicy}
 use Rattle.imports.specs.declared.view.ViewItem.{ViewItem}
-use Rattle.imports.specs.declared.view.ViewItem.TheVariants.{At, TooLong}
+use Rattle.imports.specs.declared.view.ViewItem.TheVariants.{At, TooLong as NotCrossed}
 use Rattle.imports.specs.declared.view.Way.{Way}
 use Rattle.imports.specs.declared.view.Way.TheVariants.{Own, Stream, Service, Response}
 use Rattle.service_subjects.specs.Names.{route_subject}
@@ -26,40 +26,61 @@ use Rattle.events.specs.declared.event.Command.TheVariants.{Pub}
 use Rattle.events.specs.declared.answer.Delivery.{Delivery}
 use Rattle.events.specs.declared.answer.Entry.{Entry}
 use Rattle.events.specs.declared.answer.Item.{Item}
-use Rattle.events.specs.declared.answer.Item.TheVariants.{Entered, Full, RouteFull, MapTooLong}
+use Rattle.events.specs.declared.answer.Item.TheVariants.{Entered, Full, RouteFull, MapTooLong, Unmapped as UnmappedItem, MappedTooLong}
+use Rattle.account_mappings.specs.Drawing.{mapped_by}
+use Rattle.account_mappings.specs.declared.drawing.Mapped.{Mapped}
+use Rattle.account_mappings.specs.declared.drawing.Mapped.TheVariants.{Same, To, Unmapped, TooLong}
 use Rattle.events.specs.declared.answer.Outcome.TheVariants.{Published}
 use Rattle.world_deliveries.specs.Sessions.{session_of}
 use Rattle.world_deliveries.specs.declared.session.Session.{Session}
 use Rattle.world_rows.specs.declared.subscription.Subscription.{Subscription}
 use Rattle.world_groups.specs.Served.{members}
 use Rattle.world.specs.World.{World}
-use Rattle.world.specs.Routing.{View, view_of, view_with}
+use Rattle.world.specs.Routing.{View, view_of, view_with, under_subject}
+use Rattle.world.specs.Transition.{sent_on}
 use Rattle.hub.specs.Sound.{IsSound, user_at, is_below, is_to_receive}
 use Rattle.hub.specs.History.{State}
-use Rattle.hub.specs.Guarantee.{IsRouted, IsEffect, IsSent, IsPart, IsGiven, IsGivenBy, IsGivenTo, IsRequest, IsRequestTo, Part, told_by, routes_behind, Sending, eligible, has_some, is_plain, is_for, may_receive, item_names, names_of, received_more, receives, room_in, sendings_in, sendings, sent_to, delivery_of}
+use Rattle.hub.specs.Guarantee.{IsRouted, IsEffect, IsMapped, IsSent, IsPart, IsGiven, IsGivenBy, IsGivenTo, IsRequest, IsRequestTo, Part, told_by, routes_behind, Sending, eligible, has_some, is_plain, is_for, may_receive, item_names, names_of, received_more, receives, room_in, sendings_in, sendings, sent_to, delivery_of}
 use Rattle.hub.proofs.Finds.{find-map, find-passes}
 use Rattle.hub.proofs.Rows.{All-flat_map}
 use Rattle.hub_routing_laws.specs.Seen.{Routes, views_by, IsReported, IsRequested, HasRouteReply, IsSeenAs, ComesBy}
-use Rattle.hub_routing_laws.specs.Reach.{OfEachPublish, AreNew, IsTold, live_routes, IsAdmitted, NamesAdmitted, IsDeliveryToAdmitted, NothingUnadmitted, HasNoRoute, NobodyLeftOut, IsOfAccount, IsToOne, IsDeliveryToOne, HasView, ReachesItsViews, AccountsApart, HasOneOfEachAt, HasOneOfEach, OneOfEachGroup}
+use Rattle.hub_routing_laws.specs.Reach.{OfEachPublished, OfEachPublish, UnsentReachesNobody, AreNew, IsTold, live_routes, IsAdmitted, NamesAdmitted, IsDeliveryToAdmitted, NothingUnadmitted, HasNoRoute, NobodyLeftOut, IsOfAccount, IsToOne, IsDeliveryToOne, HasView, ReachesItsViews, AccountsApart, HasOneOfEachAt, HasOneOfEach, OneOfEachGroup}
 use Rattle.hub_routing_laws.proofs.Lists.{front, back, from_some, each_split, All-in_map, Contains-head, Contains-filter, Contains-map, Contains-flat_map, Contains-split, IsSplit, split_at}
 use Rattle.hub_routing_laws.proofs.Seen.{seen_by_ways, reported_by_rows}
 
--- what follows from what each publish sends holds of each publish
-pub of_each : (Holds : World → World → ℕ → User → Message → List Item → Type 0) →
-    ((w after : World) (by : By) (conn : ℕ) (m : Message) (word : ℕ) (u : User) (items : List Item) → IsSent w after.moment by conn m word u.account items after → Holds w after conn u m items) → OfEachPublish Holds
-of_each Holds follows s e a after routed conn m word by items asked answered =
-    from_some _ _ (user_at s.world conn) (λ u _ sent. follows s.world after.world by conn m word u items sent) effect.0
+-- what follows from what comes of each publish, sent on or not, holds of each publish
+of_each_mapped : (Holds : World → World → ℕ → User → Option Message → List Item → Type 0) →
+    ((w after : World) (by : By) (conn : ℕ) (m : Message) (word : ℕ) (u : User) (items : List Item) (mapped : Mapped) → IsMapped w after.moment by conn m word u.account items after mapped → Holds w after conn u (sent_on mapped m) items) →
+    OfEachPublished Holds
+of_each_mapped Holds follows s e a after routed conn m word by items asked answered =
+    from_some _ _ (user_at s.world conn) (λ u _ sent. follows s.world after.world by conn m word u items (mapped_by u.mappings m.subject word) sent) effect.0
   where
     effect : IsEffect s.world after.world.moment (Pub conn m word) (Published by items) after.world
     effect =
         subst (λ now. IsEffect s.world now (Pub conn m word) (Published by items) after.world) (sym (ap (λ (w : World). w.moment) routed.others))
         (subst₂ (λ c o. IsEffect s.world (max s.world.moment e.now) c o after.world) asked answered routed.effect)
 
+-- so does what follows from what is sent of each that is sent on
+pub of_each : (Holds : World → World → ℕ → User → Message → List Item → Type 0) →
+    ((w after : World) (by : By) (conn : ℕ) (asked : List Token) (m : Message) (word : ℕ) (u : User) (items : List Item) → IsSent w after.moment by conn asked m word u.account items after → Holds w after conn u m items) → OfEachPublish Holds
+of_each Holds follows = of_each_mapped (λ w after conn u sent items. IfSome sent (λ (m : Message). Holds w after conn u m items)) by_mapping
+  where
+    by_mapping : (w after : World) (by : By) (conn : ℕ) (m : Message) (word : ℕ) (u : User) (items : List Item) (mapped : Mapped) → IsMapped w after.moment by conn m word u.account items after mapped →
+        IfSome (sent_on mapped m) (λ (m : Message). Holds w after conn u m items)
+    by_mapping w after by conn m word u items Same sent = follows w after by conn m.subject m word u items sent
+    by_mapping w after by conn m word u items (To s) sent = follows w after by conn m.subject (under_subject s m) word u items sent
+    by_mapping w after by conn m word u items Unmapped sent = tt
+    by_mapping w after by conn m word u items (TooLong index) sent = tt
+
 -- what holds of each publish, as far as it follows in a world as every hub keeps it
 pub weaker : (Holds Follows : World → World → ℕ → User → Message → List Item → Type 0) →
     ((w after : World) (conn : ℕ) (u : User) (m : Message) (items : List Item) → IsSound w → Holds w after conn u m items → Follows w after conn u m items) → OfEachPublish Holds → OfEachPublish Follows
 weaker Holds Follows follows each s e a after routed conn m word by items asked answered =
-    from_some _ _ (user_at s.world conn) (λ u _ holds. follows s.world after.world conn u m items routed.before holds) (each s e a after routed conn m word by items asked answered)
+    from_some _ _ (user_at s.world conn) (λ u _ holds. if_sent u (sent_on (mapped_by u.mappings m.subject word) m) holds) (each s e a after routed conn m word by items asked answered)
+  where
+    if_sent : (u : User) (sent : Option Message) → IfSome sent (λ (m : Message). Holds s.world after.world conn u m items) → IfSome sent (λ (m : Message). Follows s.world after.world conn u m items)
+    if_sent u None holds = tt
+    if_sent u (Some m) holds = follows s.world after.world conn u m items routed.before holds
 
 -- ---- the parts
 
@@ -81,7 +102,7 @@ IsWithoutRoute w routes account m p = (row : Row) × IsRequested w.policy routes
 
 abbrev IsAdmittedIn : World → Routes → ℕ → List ℕ → Message → Part → ViewItem → Type 0
 IsAdmittedIn w routes conn account m p (At into local way) = IsGivenToAdmitted w routes conn account m into local p ⊎ IsWithoutRoute w routes account m p
-IsAdmittedIn w routes conn account m p (TooLong row) = IsReported w.policy routes account m.subject row × (p.subs ≡ []) × (p.items ≡ MapTooLong row ∷ [])
+IsAdmittedIn w routes conn account m p (NotCrossed row) = IsReported w.policy routes account m.subject row × (p.subs ≡ []) × (p.items ≡ MapTooLong row ∷ [])
 
 abbrev IsAdmittedPart : World → Routes → ℕ → List ℕ → Message → Part → Type 0
 IsAdmittedPart w routes conn account m p = IsAdmittedIn w routes conn account m p p.view
@@ -145,11 +166,11 @@ module _ (w : World) (now conn word : ℕ) (account : List ℕ) (m : Message) (b
   part_is (At into local (Stream row)) has given = inl (given_as into local (Stream row) (view_of into local m) has given.0 refl refl (refl, refl) given.2)
   part_is (At into local (Service row)) has given = request_is into local row m.reply refl has given
   part_is (At into local (Response row)) has given = inl (given_as into local (Response row) (view_with into local None m) has given.0 refl refl (refl, refl) given.2)
-  part_is (TooLong row) has given = (has, given.0, given.1)
+  part_is (NotCrossed row) has given = (has, given.0, given.1)
 
-parts_are : (w : World) (now : ℕ) (by : By) (conn : ℕ) (m : Message) (word : ℕ) (account : List ℕ) (items : List Item) (after : World) → (sent : IsSent w now by conn m word account items after) →
+parts_are : (w : World) (now : ℕ) (by : By) (conn : ℕ) (asked : List Token) (m : Message) (word : ℕ) (account : List ℕ) (items : List Item) (after : World) → (sent : IsSent w now by conn asked m word account items after) →
     All (IsAdmittedPart w (pruned now w.routes) conn account m) sent.parts
-parts_are w now by conn m word account items after sent k d below =
+parts_are w now by conn asked m word account items after sent k d below =
     let at = each_split Parted sent.parts (λ before p later at. (before, sent.each before p later at)) k d below in
     part_is w now conn word account m at.0 (get_or sent.parts k d) (get_or sent.parts k d).view (All-in_map (λ (p : Part). p.view) sent.parts (views_by w.policy (pruned now w.routes) account m.subject) sent.in_views k d below) at.1
   where
@@ -178,13 +199,15 @@ module _ (w : World) (routes : Routes) (conn : ℕ) (account : List ℕ) (m : Me
   item_is into local (Full to sid) sub admitted names = let same : names_of sub ≡ (to, sid) = cc in (into, local, sub, admitted, same)
   item_is into local (RouteFull row) sub admitted names = absurd (cc)
   item_is into local (MapTooLong row) sub admitted names = absurd (cc)
+  item_is into local UnmappedItem sub admitted names = absurd (cc)
+  item_is into local (MappedTooLong index) sub admitted names = absurd (cc)
 
   pub items_in : (p : Part) (v : ViewItem) → IsAdmittedIn w routes conn account m p v → All IsItemOfAdmitted p.items
   items_in p (At into local way) (inl part) =
       (λ k d below. let is = names_each (IsAdmittedAs w routes conn account m into local p.seen.message) p.items p.subs part.1 part.0 k d below in item_is into local (get_or p.items k d) is.0 is.1.0 is.2)
   items_in p (At into local way) (inr full) =
       subst (All IsItemOfAdmitted) (sym full.3) (All-cons IsItemOfAdmitted (RouteFull full.0) [] full.1 (All-nil IsItemOfAdmitted))
-  items_in p (TooLong row) part =
+  items_in p (NotCrossed row) part =
       subst (All IsItemOfAdmitted) (sym part.2) (All-cons IsItemOfAdmitted (MapTooLong row) [] part.0 (All-nil IsItemOfAdmitted))
 
   -- a message as it is seen, for a subscription that may be sent it there
@@ -199,7 +222,7 @@ module _ (w : World) (routes : Routes) (conn : ℕ) (account : List ℕ) (m : Me
   sendings_of p (At into local way) (inl part) =
       All-map IsAdmittedSending (λ (sub : Subscription). record { message = p.seen.message; to = sub }) p.subs (λ k d below. (into, local, part.0 k d below))
   sendings_of p (At into local way) (inr full) = no_sendings p full.2
-  sendings_of p (TooLong row) part = no_sendings p part.1
+  sendings_of p (NotCrossed row) part = no_sendings p part.1
 
   pub sendings_are : (parts : List Part) → All (IsAdmittedPart w routes conn account m) parts → All IsAdmittedSending (sendings parts)
   sendings_are parts all =
@@ -217,12 +240,12 @@ module _ (w : World) (routes : Routes) (conn : ℕ) (account : List ℕ) (m : Me
       is_to s = s.to.conn == to
 
 -- the sessions after a publish have what came in behind what they held
-new_in : (P : ℕ → Delivery → Type 0) (now : ℕ) (by : By) (conn : ℕ) (m : Message) (ss : List Sending) (before after : List Session) → ((to : ℕ) → All (P to) (map delivery_of (sent_to to ss))) →
-    after ≡ map (λ (z : Session). receives now by conn m.subject (map delivery_of (sent_to z.conn ss)) z) before → AreNew P before after
-new_in P now by conn m ss before after all is to = subst (λ o. IfSome o (Has (session_of before to))) (sym found) (here (session_of before to) refl)
+new_in : (P : ℕ → Delivery → Type 0) (now : ℕ) (by : By) (conn : ℕ) (asked : List Token) (ss : List Sending) (before after : List Session) → ((to : ℕ) → All (P to) (map delivery_of (sent_to to ss))) →
+    after ≡ map (λ (z : Session). receives now by conn asked (map delivery_of (sent_to z.conn ss)) z) before → AreNew P before after
+new_in P now by conn asked ss before after all is to = subst (λ o. IfSome o (Has (session_of before to))) (sym found) (here (session_of before to) refl)
   where
     received : Session → Session
-    received z = receives now by conn m.subject (map delivery_of (sent_to z.conn ss)) z
+    received z = receives now by conn asked (map delivery_of (sent_to z.conn ss)) z
 
     found : session_of after to ≡ option_map received (session_of before to)
     found = ap (λ zs. session_of zs to) is ∙ find-map (λ z. z.conn == to) received before (λ z. refl)
@@ -237,13 +260,13 @@ new_in P now by conn m ss before after all is to = subst (λ o. IfSome o (Has (s
         (_, refl, All-take (P to) (room_in (Some y)) _ (subst (λ n. All (P to) (map delivery_of (sent_to n ss))) (sym same) (all to)))
 
 pub nothing_unadmitted : NothingUnadmitted
-nothing_unadmitted = of_each _ (λ w after by conn m word u items sent.
+nothing_unadmitted = of_each _ (λ w after by conn asked m word u items sent.
     let routes : Routes = live_routes w after in
-    let all = parts_are w after.moment by conn m word u.account items after sent in record {
+    let all = parts_are w after.moment by conn asked m word u.account items after sent in record {
       told = subst (All (IsItemOfAdmitted w routes conn u.account m)) (sym sent.items_are)
           (All-flat_map (IsItemOfAdmitted w routes conn u.account m) (λ (p : Part). p.items) sent.parts
           (λ k d below. items_in w routes conn u.account m (get_or sent.parts k d) (get_or sent.parts k d).view (all k d below)));
-      sent = new_in (IsDeliveryToAdmitted w routes conn u.account m) after.moment by conn m (sendings sent.parts) w.sessions after.sessions
+      sent = new_in (IsDeliveryToAdmitted w routes conn u.account m) after.moment by conn asked (sendings sent.parts) w.sessions after.sessions
           (λ to. deliveries_to w routes conn u.account m to (sendings sent.parts) (sendings_are w routes conn u.account m sent.parts all))
           sent.delivered.outboxes;
     })
@@ -307,10 +330,10 @@ module _ (w : World) (now conn word : ℕ) (m : Message) (before : List Part) (p
   view_has into local (Service row) may given = request_has into local row m.reply may given
   view_has into local (Response row) may given = has_item (Response row) (view_with into local None m) given.0 may given.2
 
-left_out : (w : World) (now : ℕ) (by : By) (conn : ℕ) (m : Message) (word : ℕ) (account : List ℕ) (items : List Item) (after : World) → IsSent w now by conn m word account items after →
+left_out : (w : World) (now : ℕ) (by : By) (conn : ℕ) (asked : List Token) (m : Message) (word : ℕ) (account : List ℕ) (items : List Item) (after : World) → IsSent w now by conn asked m word account items after →
     (into : List ℕ) (local : List Token) (sub : Subscription) → (admitted : IsAdmitted w (pruned now w.routes) conn account m into local sub) → sub.queue ≡ None → sub.most ≡ None →
     Contains (map item_names items) (named sub) ⊎ HasNoRoute admitted.seen.way items
-left_out w now by conn m word account items after sent into local sub admitted plain unlimited =
+left_out w now by conn asked m word account items after sent into local sub admitted plain unlimited =
     here (view_has w now conn word m part.before part.here sub admitted.stood plain unlimited into local admitted.seen.way admitted.may given)
   where
     v : ViewItem
@@ -333,8 +356,24 @@ left_out w now by conn m word account items after sent into local sub admitted p
         inl (subst (λ n. Contains (map item_names items) n) item.makes (Contains-map item_names items item.here (told item.here (Contains-split item_names part.here.items (named sub) item))))
     here (inr none) = inr (none.0, none.1, told (RouteFull none.0) none.2)
 
+-- what isn't sent on comes to nobody
+pub unsent_reaches_nobody : UnsentReachesNobody
+unsent_reaches_nobody = of_each_mapped
+    (λ w after conn u sent items. sent ≡ None → ((items ≡ UnmappedItem ∷ []) ⊎ ((index : ℕ) × (items ≡ MappedTooLong index ∷ []))) × AreNew (λ to d. ⊥) w.sessions after.sessions)
+    by_mapping
+  where
+    nobody : (w after : World) (by : By) (conn : ℕ) (asked : List Token) → after.sessions ≡ map (receives after.moment by conn asked []) w.sessions → AreNew (λ to d. ⊥) w.sessions after.sessions
+    nobody w after by conn asked is = new_in (λ to d. ⊥) after.moment by conn asked [] w.sessions after.sessions (λ to. All-nil _) is
+
+    by_mapping : (w after : World) (by : By) (conn : ℕ) (m : Message) (word : ℕ) (u : User) (items : List Item) (mapped : Mapped) → IsMapped w after.moment by conn m word u.account items after mapped → sent_on mapped m ≡ None →
+        ((items ≡ UnmappedItem ∷ []) ⊎ ((index : ℕ) × (items ≡ MappedTooLong index ∷ []))) × AreNew (λ to d. ⊥) w.sessions after.sessions
+    by_mapping w after by conn m word u items Same is none = absurd (cc)
+    by_mapping w after by conn m word u items (To s) is none = absurd (cc)
+    by_mapping w after by conn m word u items Unmapped is none = (inl is.single, nobody w after by conn m.subject is.outboxes)
+    by_mapping w after by conn m word u items (TooLong index) is none = (inr (index, is.single), nobody w after by conn m.subject is.outboxes)
+
 pub nobody_left_out : NobodyLeftOut
-nobody_left_out = of_each _ (λ w after by conn m word u items sent. left_out w after.moment by conn m word u.account items after sent)
+nobody_left_out = of_each _ (λ w after by conn asked m word u items sent. left_out w after.moment by conn asked m word u.account items after sent)
 
 -- ---- what follows for each
 
@@ -346,6 +385,8 @@ told_weaker P Q R S T U names long full items all k d below = here (get_or items
     here (Full conn sid) is = names conn sid is
     here (RouteFull row) is = full row is
     here (MapTooLong row) is = long row is
+    here UnmappedItem is = absurd is
+    here (MappedTooLong index) is = absurd is
 
 pub new_weaker : (P Q : ℕ → Delivery → Type 0) (before after : List Session) → ((to : ℕ) (d : Delivery) → P to d → Q to d) → AreNew P before after → AreNew Q before after
 new_weaker P Q before after follows new to = here (session_of after to) (session_of before to) (new to)
@@ -428,10 +469,10 @@ module _ (w : World) (now conn word : ℕ) (m : Message) (before : List Part) (p
   one_of_each (At into local (Stream row)) given = one_at into local (view_of into local m) given.0 refl refl given.2
   one_of_each (At into local (Service row)) given = one_request into local row m.reply given
   one_of_each (At into local (Response row)) given = one_at into local (view_with into local None m) given.0 refl refl given.2
-  one_of_each (TooLong row) given = given.1
+  one_of_each (NotCrossed row) given = given.1
 
 pub one_of_each_group : OneOfEachGroup
-one_of_each_group = of_each _ (λ w after by conn m word u items sent. record {
+one_of_each_group = of_each _ (λ w after by conn asked m word u items sent. record {
   parts = sent.parts;
   in_views = sent.in_views;
   items_are = sent.items_are;

@@ -1,5 +1,5 @@
 -- Whom a published message reaches (docs/GUARANTEE.md, "Laws of routing").
-use Rattle.std.specs.Prelude.{◌≡◌, ◌⊎◌, ◌∷◌, ◌++◌, ℕ, List, [], true, length, map, Some, None, All, Contains, IfSome, IsSomeAnd}
+use Rattle.std.specs.Prelude.{◌≡◌, ◌⊎◌, ◌∷◌, ◌++◌, ℕ, List, [], true, length, map, Option, Some, None, All, Contains, IfSome, IsSomeAnd}
 use Rattle.std.specs.List.{list_any}
 use Rattle.subjects.specs.Subject.{Token}
 use Rattle.exports.specs.declared.document.Row.{Row}
@@ -16,7 +16,8 @@ use Rattle.events.specs.declared.event.Command.TheVariants.{Pub}
 use Rattle.events.specs.declared.answer.Delivery.{Delivery}
 use Rattle.events.specs.declared.answer.Entry.{Entry}
 use Rattle.events.specs.declared.answer.Item.{Item}
-use Rattle.events.specs.declared.answer.Item.TheVariants.{Entered, Full, RouteFull, MapTooLong}
+use Rattle.events.specs.declared.answer.Item.TheVariants.{Entered, Full, RouteFull, MapTooLong, Unmapped, MappedTooLong}
+use Rattle.account_mappings.specs.Drawing.{mapped_by}
 use Rattle.events.specs.declared.answer.Outcome.TheVariants.{Published}
 use Rattle.permissions.specs.declared.verdict.By.{By}
 use Rattle.world_deliveries.specs.Sessions.{session_of}
@@ -26,17 +27,22 @@ use Rattle.world_rows.specs.declared.subscription.Subscription.{Subscription}
 use Rattle.world_groups.specs.Served.{is_member, members}
 use Rattle.world.specs.World.{World}
 use Rattle.world.specs.Routing.{view_of}
+use Rattle.world.specs.Transition.{sent_on}
 use Rattle.hub.specs.Sound.{user_at}
 use Rattle.hub.specs.History.{State}
 use Rattle.hub.specs.Guarantee.{IsRouted, Part, told_by, eligible, is_for, item_names, names_of}
 use Rattle.hub_routing_laws.specs.Seen.{Routes, views_by, IsSeen, IsReported, IsRequested, IsSeenAs, IsTaken, ComesBy, IsTooLong}
 
--- What holds whenever a message is published: of the worlds before and after, the connection, its user in the policy in
--- force, the message, and what is told.
-abbrev pub OfEachPublish : (World → World → ℕ → User → Message → List Item → Type 0) → Type 0
-OfEachPublish Holds =
+-- What holds whenever a message is published, by its user in the policy in force, and as it is sent on, if it is.
+abbrev pub OfEachPublished : (World → World → ℕ → User → Option Message → List Item → Type 0) → Type 0
+OfEachPublished Holds =
     (s : State) (e : Event) (a : Entry) (after : State) → IsRouted s e a after → (conn : ℕ) (m : Message) (word : ℕ) (by : By) (items : List Item) →
-    e.what ≡ Pub conn m word → a.outcome ≡ Published by items → IsSomeAnd (user_at s.world conn) (λ (u : User). Holds s.world after.world conn u m items)
+    e.what ≡ Pub conn m word → a.outcome ≡ Published by items → IsSomeAnd (user_at s.world conn) (λ (u : User). Holds s.world after.world conn u (sent_on (mapped_by u.mappings m.subject word) m) items)
+
+-- What holds whenever a message is published and sent on: of the worlds before and after, the connection, its user in the policy in
+-- force, the message as it is sent on, and what is told.
+abbrev pub OfEachPublish : (World → World → ℕ → User → Message → List Item → Type 0) → Type 0
+OfEachPublish Holds = OfEachPublished (λ w after conn u sent items. IfSome sent (λ (m : Message). Holds w after conn u m items))
 
 -- Each session had stood before, and what its outbox has beyond what it held is so.
 abbrev pub AreNew : (ℕ → Delivery → Type 0) → List Session → List Session → Type 0
@@ -51,6 +57,8 @@ IsTold OfNames OfLong OfFull (Entered conn sid) = OfNames conn sid
 IsTold OfNames OfLong OfFull (Full conn sid) = OfNames conn sid
 IsTold OfNames OfLong OfFull (RouteFull row) = OfFull row
 IsTold OfNames OfLong OfFull (MapTooLong row) = OfLong row
+IsTold OfNames OfLong OfFull Unmapped = ⊥
+IsTold OfNames OfLong OfFull (MappedTooLong index) = ⊥
 
 pub record Reaches (OfNames : ℕ → List ℕ → Type 0) (OfLong OfFull : Row → Type 0) (OfDelivery : ℕ → Delivery → Type 0) (items : List Item) (before after : List Session) : Type 0 where
   pub told : All (IsTold OfNames OfLong OfFull) items
@@ -88,6 +96,11 @@ abbrev pub NothingUnadmitted : Type 0
 NothingUnadmitted = OfEachPublish (λ w after conn u m items. let routes = live_routes w after in
     Reaches (NamesAdmitted w routes conn u.account m) (IsReported w.policy routes u.account m.subject) (IsRequested w.policy routes u.account m.subject)
     (IsDeliveryToAdmitted w routes conn u.account m) items w.sessions after.sessions)
+
+-- A message that its account's mappings don't send on reaches nobody: its one item tells so, and nothing comes into an outbox.
+abbrev pub UnsentReachesNobody : Type 0
+UnsentReachesNobody = OfEachPublished (λ w after conn u sent items. sent ≡ None →
+    ((items ≡ Unmapped ∷ []) ⊎ ((index : ℕ) × (items ≡ MappedTooLong index ∷ []))) × AreNew (λ to d. ⊥) w.sessions after.sessions)
 
 -- ---- nobody is left out
 

@@ -1,6 +1,6 @@
 //! What follows from the routing guarantee of each step.
 ghost use Rattle.hub_routing_laws.specs.Denied.{DenyOverridesPublish, DenyOverridesSubscribe, DenyOverridesDelivery, DeniedReachesNobody};
-ghost use Rattle.hub_routing_laws.specs.Reach.{NothingUnadmitted, NobodyLeftOut, ReachesItsViews, AccountsApart, OneOfEachGroup};
+ghost use Rattle.hub_routing_laws.specs.Reach.{NothingUnadmitted, NobodyLeftOut, UnsentReachesNobody, ReachesItsViews, AccountsApart, OneOfEachGroup};
 ghost use Rattle.hub_routing_laws.specs.Seen.{SeenByWays, ReportedByRows};
 ghost use Rattle.hub_routing_laws.specs.Within.{RoutesWithin, SeenWithin, ReachesItsSet};
 ghost use Rattle.hub_routing_laws.specs.Standing.{RefusedChangesNothing, ReloadLeavesNoneRefused};
@@ -18,6 +18,12 @@ pub fn deny_overrides()
 /// for a subscription that stood before and may be sent the message in one of its views.
 pub fn nothing_unadmitted()
     ensures { NothingUnadmitted }
+{}
+
+/// Tells that a message that its account's mappings don't send on reaches nobody: its one item tells so, and nothing comes into an
+/// outbox.
+pub fn unsent_reaches_nobody()
+    ensures { UnsentReachesNobody }
 {}
 
 /// Tells that nobody is left out. Who may be sent a message in one of its views, for a subscription of no queue group and

@@ -61,6 +61,13 @@ impl PatternIndex {
         })
     }
 
+    /// Returns how many searches a question makes.
+    pub fn searches(&self) -> usize
+        ensures { result ≡ length self.now.choices }
+    {
+        self.choices.len()
+    }
+
     /// Returns the least index of a pattern that passes. Only those are asked that have one of the text's numbers. It takes no
     /// memory.
     #[inline(always)]

@@ -1,6 +1,6 @@
 -- A user's permission lists (NATS documentation, "Authorization"; docs/POLICY.md, "Permissions").
 use Rattle.std.specs.Prelude.{◌||◌, Bool, false, not, List, [], Option, Some, None, is_some}
-use Rattle.std.specs.Option.{option_map}
+use Rattle.std.specs.Option.{option_map, option_or}
 use Rattle.subjects.specs.Subject.{Token, in_set}
 use Rattle.permission_doc.specs.declared.document.Terms.{Terms}
 use Rattle.policy_doc.specs.declared.document.UserDoc.{UserDoc}
@@ -42,9 +42,13 @@ allow_with (Some terms) (Some entries) = Some entries
 abbrev pub with_allow_list : PermDoc → PermDoc
 with_allow_list p = record p { publish = record p.publish { allow = allow_with p.allow_responses p.publish.allow } }
 
--- the lists of a user: those of its permissions, with the publish allow list that its terms bring
-abbrev pub lists_of : UserDoc → Lists
-lists_of user = lists_of_permissions (option_map with_allow_list user.permissions)
+-- the lists of permissions, with the publish allow list that their terms bring
+abbrev pub lists_with : Option PermDoc → Lists
+lists_with permissions = lists_of_permissions (option_map with_allow_list permissions)
+
+-- the lists of a user: those of its permissions, or of the default ones where it has none of its own
+abbrev pub lists_of : UserDoc → Option PermDoc → Lists
+lists_of user default = lists_with (option_or user.permissions default)
 
 -- ---- entries by their queue parts
 

@@ -13,7 +13,7 @@ use subjects::{Pattern, Subject, SubjectRef};
 /// A user's permission lists, ready to be asked. Copies share them. A clause sees the lists.
 ///
 /// ```
-/// let rules = Compiled::of(rt.alloc(), &user)?;
+/// let rules = Compiled::of(rt.alloc(), &user, None)?;
 /// assert_eq!(rt; rules.publish(&foo.lend()), Verdict::Allowed(By::Index(0)));
 /// assert_eq!(rt; rules.publish(&secret.lend()), Verdict::DeniedBy(0));
 /// assert_eq!(rt; rules.publish(&bar.lend()), Verdict::NoAllow);
@@ -51,15 +51,33 @@ impl Compiled {
     ghost use Rattle.std.specs.Prelude.{◌≡◌, IfOk};
     ghost use Rattle.std.specs.Bool.{Decides};
     ghost use Rattle.std.specs.Option.{option_copied};
-    ghost use Rattle.permissions.specs.Lists.{lists_of, lists_of_permissions};
+    ghost use Rattle.permissions.specs.Lists.{lists_of, lists_of_permissions, lists_with};
     ghost use Rattle.permissions.specs.Verdicts.{publish_verdict, subscribe_verdict, delivery_verdict, IsJustifiedPublish, IsJustifiedSubscribe, IsJustifiedDelivery};
 
-    /// The lists of a user's permissions; a user without permissions may do everything. Terms to answer on bring the
-    /// empty publish allow list where none is given. `NoMemory` where memory could not be had.
-    pub fn of(alloc: Global, user: &UserDoc) -> Result<Compiled, NoMemory>
-        ensures { IfOk result (λ compiled. compiled ≡ lists_of user.now) }
+    /// The lists of a user's permissions, or of the default ones, which hold for whoever has none of its own. Without both the user
+    /// may do everything. `NoMemory` where memory could not be had.
+    pub fn of(
+        alloc: Global,
+        user: &UserDoc,
+        default: Option<&PermDoc>,
+    ) -> Result<Compiled, NoMemory>
+        ensures { IfOk result (λ compiled. compiled ≡ lists_of user.now (option_copied default.entry)) }
     {
         match &user.permissions {
+            None => Compiled::of_permissions(alloc, default),
+            Some(permissions) => Compiled::of_permissions(alloc, Some(permissions)),
+        }
+    }
+
+    /// The lists of permissions; without them everything is allowed. Terms to answer on bring the empty publish allow list where
+    /// none is given. `NoMemory` where memory could not be had.
+    pub fn of_permissions(
+        alloc: Global,
+        permissions: Option<&PermDoc>,
+    ) -> Result<Compiled, NoMemory>
+        ensures { IfOk result (λ compiled. compiled ≡ lists_with (option_copied permissions.entry)) }
+    {
+        match permissions {
             None => Ok(Compiled { indexed: None }),
             Some(permissions) => {
                 let mut copy = permissions.copy(alloc)?;
@@ -101,6 +119,15 @@ impl Compiled {
         ensures justified { IsJustifiedPublish subject.now self.now.publish result }
     {
         self.judge_publish(subject)
+    }
+
+    /// Whether a verdict on a publish takes so many searches in the lists that it is cheaper to look up one that is remembered.
+    #[inline(always)]
+    pub fn is_dear(&self) -> bool {
+        match &self.indexed {
+            None => false,
+            Some(indexed) => indexed.is_dear,
+        }
     }
 
     /// The verdict of `publish`.

@@ -33,6 +33,7 @@ pub(crate) enum Among {
 }
 
 /// The verdict of a direction's lists on a publish.
+#[inline(always)]
 pub(crate) fn on_publish(rules: &Direction, indexes: &Indexes, subject: &SubjectRef<'_>) -> Verdict
     requires { AreIndexesOf rules.now indexes.now }
     ensures { result ≡ publish_by rules.now subject.now }
@@ -206,8 +207,15 @@ fn is_looked_at(among: Among, entry: &PermEntry, queue: Option<&Subject>) -> boo
         Among::Plain => entry.queue.is_none(),
         Among::Queued => entry.queue.is_some(),
         Among::Named => has_queue(entry, queue),
-        Among::PlainAndNamed => entry.queue.is_none() || has_queue(entry, queue),
+        Among::PlainAndNamed => is_for(entry, queue),
     }
+}
+
+/// Whether an entry is for a subscription with that queue name, or with none: it is plain, or its queue part has the queue.
+pub fn is_for(entry: &PermEntry, queue: Option<&Subject>) -> bool
+    ensures { result ≡ is_for (option_copied queue.entry) entry.now }
+{
+    entry.queue.is_none() || has_queue(entry, queue)
 }
 
 /// Whether an entry's queue part has the queue.

@@ -16,12 +16,17 @@ pub(crate) struct Indexes {
     pub deny: PatternIndex,
 }
 
+/// From so many searches on, a verdict that is remembered is cheaper than the lists'.
+const DEAR: usize = 8;
+
 /// A user's permissions with the indexes of its lists.
 #[derive(Debug, Drop)]
 pub(crate) struct Indexed {
     pub lists: PermDoc,
     pub publish: Indexes,
     pub subscribe: Indexes,
+    /// Whether a verdict on a publish takes many searches.
+    pub is_dear: bool,
 }
 
 impl Indexed {
@@ -32,15 +37,22 @@ impl Indexed {
     {
         let publish = Indexes::of(alloc, &lists.publish)?;
         let subscribe = Indexes::of(alloc, &lists.subscribe)?;
+        let is_dear = DEAR <= publish.searches();
         Ok(Indexed {
             lists,
             publish,
             subscribe,
+            is_dear,
         })
     }
 }
 
 impl Indexes {
+    /// How many searches a question makes in both lists.
+    fn searches(&self) -> usize {
+        self.allow.searches().saturating_add(self.deny.searches())
+    }
+
     /// The indexes of a direction's lists.
     fn of(alloc: Global, rules: &Direction) -> Result<Indexes, NoMemory>
         ensures { IfOk result (AreIndexesOf rules.now) }

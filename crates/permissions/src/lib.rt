@@ -10,5 +10,6 @@ mod subject_set;
 mod verdict;
 
 pub use compiled::Compiled;
+pub use decision::is_for;
 pub use laws::{each_has_reason, one_verdict};
 pub use verdict::{By, Verdict};

@@ -12,6 +12,8 @@ use Rattle.policy_doc.specs.declared.document.PolicyDoc.{PolicyDoc}
 use Rattle.policy_doc.specs.declared.document.NamedAccount.{NamedAccount}
 use Rattle.policy_doc.specs.declared.document.UserDoc.{UserDoc}
 use Rattle.policy_doc.specs.declared.document.ImportDoc.{ImportDoc}
+use Rattle.policy_doc.specs.declared.document.Version.TheVariants.{One}
+use Rattle.account_mappings.specs.Drawing.{SourceMap}
 use Rattle.policy_doc.specs.declared.document.Counts.{Counts}
 use Rattle.exports.specs.declared.document.ExportDoc.{ExportDoc}
 use Rattle.permission_doc.specs.declared.document.Direction.{Direction}
@@ -21,15 +23,18 @@ use Rattle.permission_doc.specs.Entries.{entry_of}
 abbrev pub users_of : List NamedAccount → List UserDoc
 users_of accounts = flat_map (λ (a : NamedAccount). a.account.users) accounts
 
--- the exports of accounts, account by account, and their imports
+-- the exports of accounts, account by account, their imports, and the sources of their mappings
 abbrev pub exports_of : List NamedAccount → List ExportDoc
 exports_of accounts = flat_map (λ (a : NamedAccount). a.account.exports) accounts
 
 abbrev pub imports_of : List NamedAccount → List ImportDoc
 imports_of accounts = flat_map (λ (a : NamedAccount). a.account.imports) accounts
 
+abbrev pub mappings_of : List NamedAccount → List SourceMap
+mappings_of accounts = flat_map (λ (a : NamedAccount). a.account.mappings) accounts
+
 abbrev pub counts_of : List NamedAccount → Counts
-counts_of accounts = record { users = length (users_of accounts); exports = length (exports_of accounts); imports = length (imports_of accounts) }
+counts_of accounts = record { users = length (users_of accounts); exports = length (exports_of accounts); imports = length (imports_of accounts); mappings = length (mappings_of accounts) }
 
 abbrev pub user_name : UserDoc → Name
 user_name u = u.user
@@ -108,12 +113,12 @@ limited_user = record {
 abbrev pub builtin_account : NamedAccount
 builtin_account = record {
   name = codes "DEMO";
-  account = record { users = demo_user ∷ limited_user ∷ []; exports = []; imports = [] };
+  account = record { users = demo_user ∷ limited_user ∷ []; exports = []; imports = []; mappings = [] };
 }
 
 -- the policy that holds where none is given: one account with a free user and a limited one
 abbrev pub builtin_doc : PolicyDoc
-builtin_doc = record { accounts = builtin_account ∷ [] }
+builtin_doc = record { accounts = builtin_account ∷ []; version = One; default_permissions = None }
 
 -- the name of the account at an index
 abbrev pub name_at : List NamedAccount → ℕ → Name

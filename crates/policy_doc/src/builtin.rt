@@ -5,7 +5,7 @@ ghost use Rattle.subjects.specs.Fault.{pattern_fault};
 ghost use Rattle.policy_doc.specs.Document.{limited_direction, limited_user, demo_user, builtin_doc};
 ghost use Rattle.permission_doc.specs.Entries.{entry_of};
 
-use crate::{AccountDoc, Accounts, Direction, PermDoc, PermEntry, PolicyDoc, UserDoc};
+use crate::{AccountDoc, Accounts, Direction, PermDoc, PermEntry, PolicyDoc, UserDoc, Version};
 use base::{Items, NoMemory};
 use bytes::Bytes;
 use std::alloc::Global;
@@ -22,10 +22,15 @@ pub(crate) fn builtin_document(alloc: Global) -> Result<PolicyDoc, NoMemory>
         users: Items::from_vec(users),
         exports: Items::new(alloc),
         imports: Items::new(alloc),
+        mappings: Items::new(alloc),
     };
     let mut accounts = Accounts::new(alloc);
     accounts.insert(Bytes::from_static(b"DEMO"), account)?;
-    Ok(PolicyDoc { accounts })
+    Ok(PolicyDoc {
+        accounts,
+        version: Version::One,
+        default_permissions: None,
+    })
 }
 
 /// The user that may do everything.

@@ -1,4 +1,5 @@
 use crate::Accounts;
+use account_mappings::AccountMap;
 use base::{Copying, Items, NoMemory};
 use bytes::Bytes;
 use exports::{ExportDoc, Kind};
@@ -11,19 +12,36 @@ use subjects::{Pattern, Subject};
 pub struct PolicyDoc {
     /// The accounts, each name once.
     pub accounts: Accounts,
+    /// The version of the format in which it is written.
+    pub version: Version,
+    /// The permissions of each user that has none of its own, or none.
+    pub default_permissions: Option<PermDoc>,
 }
 
 impl Drop for PolicyDoc {
     fn drop(self) {
-        let Self { accounts: _ } = self;
+        let Self {
+            accounts: _,
+            version: _,
+            default_permissions: _,
+        } = self;
     }
+}
+
+/// A version of the format of policies.
+#[derive(Clone, Copy, Debug, PartialEq, Eq)]
+pub enum Version {
+    /// Without default permissions and mappings.
+    One,
+    /// With both.
+    Two,
 }
 
 impl PolicyDoc {
     ghost use Rattle.std.specs.Prelude.{◌≡◌};
     ghost use Rattle.policy_doc.specs.Document.{counts_of};
 
-    /// How many users, exports and imports the accounts have together.
+    /// How many users, exports, imports and mapped sources the accounts have together.
     pub fn counts(&self) -> Counts
         ensures { result ≡ counts_of self.now.accounts }
     {
@@ -31,7 +49,7 @@ impl PolicyDoc {
     }
 }
 
-/// How many users, exports and imports there are. A number has 128 bits, since no list of lists has more elements.
+/// How many users, exports, imports and mapped sources there are. A number has 128 bits, since no list of lists has more elements.
 #[derive(Clone, Copy, Debug, PartialEq, Eq)]
 pub struct Counts {
     /// The users.
@@ -40,6 +58,8 @@ pub struct Counts {
     pub exports: u128,
     /// The imports.
     pub imports: u128,
+    /// The sources of mappings.
+    pub mappings: u128,
 }
 
 ghost use Rattle.std.specs.Prelude.{◌≡◌};
@@ -51,15 +71,18 @@ fn counts_of(accounts: &[NamedAccount]) -> Counts
     let mut users: u128 = 0;
     let mut exports: u128 = 0;
     let mut imports: u128 = 0;
+    let mut mappings: u128 = 0;
     for named in accounts {
         users += named.account.users.len() as u128;
         exports += named.account.exports.len() as u128;
         imports += named.account.imports.len() as u128;
+        mappings += named.account.mappings.len() as u128;
     }
     Counts {
         users,
         exports,
         imports,
+        mappings,
     }
 }
 
@@ -72,7 +95,8 @@ pub struct NamedAccount {
     pub account: AccountDoc,
 }
 
-/// What one account has: its users, exports and imports, each in the order in which they are written.
+/// What one account has: its users, exports and imports, each in the order in which they are written, and its mappings in the
+/// order of their sources' bytes.
 #[derive(Debug)]
 pub struct AccountDoc {
     /// The users; a valid document has each name once over all accounts.
@@ -81,6 +105,8 @@ pub struct AccountDoc {
     pub exports: Items<ExportDoc>,
     /// What it takes of other accounts.
     pub imports: Items<ImportDoc>,
+    /// Under which subjects its users' messages are sent on.
+    pub mappings: Items<AccountMap>,
 }
 
 impl Drop for AccountDoc {
@@ -89,6 +115,7 @@ impl Drop for AccountDoc {
             users: _,
             exports: _,
             imports: _,
+            mappings: _,
         } = self;
     }
 }
@@ -121,7 +148,7 @@ impl Drop for ImportDoc {
     }
 }
 
-/// A user with its password. Without permissions it may do everything in its account.
+/// A user with its password. Without permissions it has the default ones, and without those it may do everything in its account.
 #[derive(Debug)]
 pub struct UserDoc {
     /// The bytes of its name.
@@ -144,8 +171,14 @@ impl Drop for UserDoc {
 
 impl Copying for PolicyDoc {
     fn copy(&self, alloc: Global) -> Result<PolicyDoc, NoMemory> {
+        let default_permissions = match &self.default_permissions {
+            Some(permissions) => Some(permissions.copy(alloc)?),
+            None => None,
+        };
         Ok(PolicyDoc {
             accounts: self.accounts.copy(alloc)?,
+            version: self.version,
+            default_permissions,
         })
     }
 }
@@ -165,6 +198,7 @@ impl Copying for AccountDoc {
             users: self.users.copy(alloc)?,
             exports: self.exports.copy(alloc)?,
             imports: self.imports.copy(alloc)?,
+            mappings: self.mappings.copy(alloc)?,
         })
     }
 }

@@ -5,6 +5,8 @@ use base::{Alike, are_alike};
 impl Alike for PolicyDoc {
     fn is_like(&self, other: &PolicyDoc) -> bool {
         are_alike(self.accounts.as_slice(), other.accounts.as_slice())
+            && self.version == other.version
+            && self.default_permissions.is_like(&other.default_permissions)
     }
 }
 
@@ -19,6 +21,7 @@ impl Alike for AccountDoc {
         self.users.is_like(&other.users)
             && self.exports.is_like(&other.exports)
             && self.imports.is_like(&other.imports)
+            && self.mappings.is_like(&other.mappings)
     }
 }
 

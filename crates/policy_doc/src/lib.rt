@@ -11,8 +11,9 @@ mod import_rows;
 mod policy;
 mod unique;
 
+pub use account_mappings::AccountMap;
 pub use accounts::Accounts;
-pub use document::{AccountDoc, Counts, ImportDoc, NamedAccount, PolicyDoc, UserDoc};
+pub use document::{AccountDoc, Counts, ImportDoc, NamedAccount, PolicyDoc, UserDoc, Version};
 pub use exports::{ExportDoc, Kind, ResponseTerms, Row};
 pub use fault::{Place, PolicyFault};
 pub use permission_doc::{Direction, PermDoc, PermEntry, Terms};

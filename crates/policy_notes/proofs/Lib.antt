@@ -1,4 +1,5 @@
 pub mod Few
+pub mod Keys
 pub mod Quotes
 pub mod Spaces
 pub mod Texts

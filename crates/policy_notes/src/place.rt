@@ -1,16 +1,17 @@
 //! The place of a fault.
-ghost use Rattle.std.specs.Prelude.{◌≡◌, IfOk, Some, string_bytes};
+ghost use Rattle.std.specs.Prelude.{◌≡◌, IfOk, Some, drop, string_bytes};
 ghost use Rattle.std.specs.List.{prefix_len};
 ghost use Rattle.std.specs.Option.{option_and_then, option_map};
+ghost use Rattle.json.specs.Lex.{tokens};
 ghost use Rattle.json.specs.Print.{quoted};
 ghost use Rattle.serde_json.specs.Find.{as_str, pointer};
 ghost use Rattle.serde_json.specs.View.{view};
 ghost use Rattle.policy_doc.specs.Faults.{fault_place};
 ghost use Rattle.policy_places.specs.Place.{place_words};
-ghost use Rattle.policy_notes.specs.Places.{begin_or, is_space, naming, named_by, named_by_config, is_duplicate, named_row, place_under, row_named, shown_if, shown_words, text_under, told, told_of, IsToldOf};
+ghost use Rattle.policy_notes.specs.Places.{begin_or, byte_under, first_key, is_account, is_duplicate, is_space, key_at, named_by, named_by_config, named_row, naming, place_under, row_named, shown_if, shown_name, shown_words, text_under, told, told_of, IsToldOf};
 
 use base::NoMemory;
-use json::Writer;
+use json::{Reader, Scratch, Token, Writer};
 use policy_doc::PolicyFault;
 use policy_places::{Place, Spot, at_of, place_at, spots_of};
 use policy_walk::{ConfigFault, Path};
@@ -19,11 +20,21 @@ use serde_json::Value;
 use std::alloc::Global;
 use std::str;
 
-/// A fault's path in the text, and whether the text that stands there is shown.
+/// What is shown of what a path names.
+#[derive(Clone, Copy, Debug)]
+pub(crate) enum Shown {
+    Nothing,
+    /// The text that stands there, if one does.
+    Text,
+    /// The key that stands there.
+    Key,
+}
+
+/// A fault's path in the text, and what is shown of what it names.
 #[derive(Debug, Drop)]
 pub(crate) struct Named {
     path: Path,
-    is_shown: bool,
+    shown: Shown,
 }
 
 /// Returns the path of a fault, if it has one. A text that is no pattern, duration, name, weight or destination is shown.
@@ -45,24 +56,45 @@ fn path_of_config(alloc: Global, fault: &ConfigFault) -> Result<Option<Named>, N
 {
     match fault {
         ConfigFault::TooLarge | ConfigFault::NotJson | ConfigFault::NoMemory => Ok(None),
-        ConfigFault::BadSubject(path) => naming(alloc, path, true),
-        ConfigFault::BadDuration(path) => naming(alloc, path, true),
-        ConfigFault::BadName(path) => naming(alloc, path, true),
-        ConfigFault::BadWeight(path) => naming(alloc, path, true),
-        ConfigFault::BadDestination(path) => naming(alloc, path, true),
-        ConfigFault::UnknownKey(path) => naming(alloc, path, false),
-        ConfigFault::WrongType(path) => naming(alloc, path, false),
-        ConfigFault::BadMax(path) => naming(alloc, path, false),
-        ConfigFault::HashedPassword(path) => naming(alloc, path, false),
+        ConfigFault::BadSubject(path) => naming(alloc, path, Shown::Text),
+        ConfigFault::BadDuration(path) => naming(alloc, path, Shown::Text),
+        ConfigFault::BadName(path) => naming(alloc, path, shown_name(path)),
+        ConfigFault::BadWeight(path) => naming(alloc, path, Shown::Text),
+        ConfigFault::BadDestination(path) => naming(alloc, path, Shown::Text),
+        ConfigFault::UnknownKey(path) => naming(alloc, path, Shown::Nothing),
+        ConfigFault::WrongType(path) => naming(alloc, path, Shown::Nothing),
+        ConfigFault::BadMax(path) => naming(alloc, path, Shown::Nothing),
+        ConfigFault::HashedPassword(path) => naming(alloc, path, Shown::Nothing),
     }
 }
 
-/// Returns a copy of a path, and whether the text that stands there is shown.
-fn naming(alloc: Global, path: &Path, is_shown: bool) -> Result<Option<Named>, NoMemory>
-    ensures { IfOk result (λ found. found ≡ naming path.now is_shown) }
+/// Returns what is shown of a name: of an account its key, and else the text that stands there.
+fn shown_name(path: &Path) -> Shown
+    ensures { result ≡ shown_name path.now }
+{
+    if is_account(path.as_str().as_bytes()) {
+        Shown::Key
+    } else {
+        Shown::Text
+    }
+}
+
+/// Whether a path is that of an account.
+fn is_account(path: &[u8]) -> bool
+    ensures { result ≡ is_account path.now }
+{
+    match path.strip_prefix(b"/accounts/") {
+        None => false,
+        Some(name) => !name.contains(&b'/'),
+    }
+}
+
+/// Returns a copy of a path, and what is shown of what it names.
+fn naming(alloc: Global, path: &Path, shown: Shown) -> Result<Option<Named>, NoMemory>
+    ensures { IfOk result (λ found. found ≡ naming path.now shown) }
 {
     let path = path.copy(alloc)?;
-    Ok(Some(Named { path, is_shown }))
+    Ok(Some(Named { path, shown }))
 }
 
 /// Returns the path of the row of an account that has a policy's fault: of a user that there is already, its name's.
@@ -94,13 +126,13 @@ fn row_named(
             .key(alloc, "user")?;
         return Ok(Named {
             path,
-            is_shown: true,
+            shown: Shown::Text,
         });
     }
     let path = rows.key(alloc, "imports")?.index(alloc, row)?;
     Ok(Named {
         path,
-        is_shown: false,
+        shown: Shown::Nothing,
     })
 }
 
@@ -111,8 +143,8 @@ fn is_duplicate(fault: PolicyFault) -> bool
     matches!(fault, PolicyFault::DuplicateUser(_))
 }
 
-/// Returns the place of what a path names in a text, or of the front of it that names something, with what stands there, if it
-/// is a text that is shown.
+/// Returns the place of what a path names in a text, or of the front of it that names something, with the text that stands there
+/// or its key, if that is shown.
 pub(crate) fn place_text(
     alloc: Global,
     text: &str,
@@ -121,9 +153,9 @@ pub(crate) fn place_text(
 ) -> Result<String, NoMemory>
     ensures { IfOk result (λ told. string_bytes told ≡ told_of text.now spots.now named.now) }
 {
-    let place = place_under(text, spots, &named.path);
-    let shown = shown_if(alloc, text, named)?;
-    told(alloc, shown, place)
+    let at = byte_under(text, spots, &named.path);
+    let shown = shown_if(alloc, text, named, at)?;
+    told(alloc, shown, place_at(text.as_bytes(), at))
 }
 
 /// Returns the place of what a path names in a text, or of the front of it that names something, in words.
@@ -142,8 +174,14 @@ pub(crate) fn place_words(
 fn place_under(text: &str, spots: &[Spot], path: &Path) -> Place
     ensures { result ≡ place_under text.now spots.now path.now }
 {
-    let at = begin_or(text.as_bytes(), at_of(spots, path));
-    place_at(text.as_bytes(), at)
+    place_at(text.as_bytes(), byte_under(text, spots, path))
+}
+
+/// Returns where begins what a path names in a text, or the front of it that names something.
+fn byte_under(text: &str, spots: &[Spot], path: &Path) -> usize
+    ensures { result ≡ byte_under text.now spots.now path.now }
+{
+    begin_or(text.as_bytes(), at_of(spots, path))
 }
 
 /// Returns where what a path names stands in a JSON text, behind the text that it is, if it is one. `NoMemory` where memory could
@@ -154,7 +192,7 @@ pub fn place_of(alloc: Global, text: &str, path: Path) -> Result<String, NoMemor
     let spots = spots_of(alloc, text)?;
     let named = Named {
         path,
-        is_shown: true,
+        shown: Shown::Text,
     };
     place_text(alloc, text, spots.as_slice(), &named)
 }
@@ -215,14 +253,43 @@ fn shown_words(alloc: Global, shown: Option<String>) -> Result<String, NoMemory>
     }
 }
 
-/// Returns the text that stands under a path, quoted, if one does and is shown.
-fn shown_if(alloc: Global, text: &str, named: &Named) -> Result<Option<String>, NoMemory>
-    ensures { IfOk result (λ shown. option_map string_bytes shown ≡ shown_if named.now.is_shown text.now named.now.path) }
+/// Returns what is shown, quoted: the text that stands under a path, or the key that begins at this byte, if there is one.
+fn shown_if(alloc: Global, text: &str, named: &Named, at: usize) -> Result<Option<String>, NoMemory>
+    ensures { IfOk result (λ shown. option_map string_bytes shown ≡ shown_if named.now.shown text.now named.now.path at) }
 {
-    if named.is_shown {
-        text_under(alloc, text, named.path.as_str())
-    } else {
-        Ok(None)
+    match named.shown {
+        Shown::Nothing => Ok(None),
+        Shown::Text => text_under(alloc, text, named.path.as_str()),
+        Shown::Key => key_at(alloc, text, at),
+    }
+}
+
+/// Returns the key that begins at a byte of a JSON text, quoted, if one does.
+fn key_at(alloc: Global, text: &str, at: usize) -> Result<Option<String>, NoMemory>
+    ensures { IfOk result (λ shown. option_map string_bytes shown ≡ key_at text.now at) }
+{
+    match str::from_utf8(rest_of(text.as_bytes(), at)) {
+        Ok(rest) => first_key(alloc, rest),
+        Err(_) => Ok(None),
+    }
+}
+
+/// Returns the bytes of a text from this one on.
+fn rest_of(text: &[u8], at: usize) -> &[u8]
+    ensures { result.now ≡ drop at text.now }
+{
+    if at < text.len() { &text[at..] } else { &[] }
+}
+
+/// Returns the key that a text begins with, quoted, if it begins with one.
+fn first_key(alloc: Global, text: &str) -> Result<Option<String>, NoMemory>
+    ensures { IfOk result (λ shown. option_map string_bytes shown ≡ option_map quoted (first_key (tokens text.now))) }
+{
+    let mut scratch = Scratch::new(alloc);
+    let mut reader = Reader::new(text, &mut scratch)?;
+    match reader.next() {
+        Some(Token::Key(key)) => Ok(Some(quoted(alloc, key)?)),
+        _ => Ok(None),
     }
 }
 

@@ -1,5 +1,5 @@
--- Where in a policy's text an entry of a user's permissions stands (docs/POLICY.md, "Objects").
-use Rattle.std.specs.Prelude.{ℕ, Bool, List, Option, Some, None, codes, is_some, if◌then◌else◌}
+-- Where in a policy's text an entry stands of the permissions that hold for a user (docs/POLICY.md, "Objects").
+use Rattle.std.specs.Prelude.{ℕ, Bool, List, [], Option, Some, None, codes, is_some, if◌then◌else◌}
 use Rattle.std.specs.Option.{option_map}
 use Rattle.serde_json.specs.Data.{Data}
 use Rattle.serde_json.specs.Find.{pointer}
@@ -33,13 +33,17 @@ is_there d path = is_some (pointer path d)
 abbrev pub either : Data → Path → Path → Path
 either d path other = if is_there d path then path else other
 
+-- a user's permissions, or the default ones where it has none of its own
+abbrev pub permissions_path : Data → Path → Path
+permissions_path d user = either d (at_key user (codes "permissions")) (at_key [] (codes "default_permissions"))
+
 -- a direction has two spellings of its key
 abbrev pub spelled : Data → Path → List ℕ → List ℕ → Path
 spelled d permissions long short = either d (at_key permissions long) (at_key permissions short)
 
 abbrev pub direction_path : Data → Path → Side → Path
-direction_path d user Publish = spelled d (at_key user (codes "permissions")) (codes "publish") (codes "pub")
-direction_path d user Subscribe = spelled d (at_key user (codes "permissions")) (codes "subscribe") (codes "sub")
+direction_path d permissions Publish = spelled d permissions (codes "publish") (codes "pub")
+direction_path d permissions Subscribe = spelled d permissions (codes "subscribe") (codes "sub")
 
 -- a list stands under its key, or is the direction itself; its one entry may be the list itself
 abbrev pub list_key : EntryList → List ℕ
@@ -55,6 +59,6 @@ item_path d list i = either d (at_index list i) list
 abbrev pub named_path : Data → Path → NamedEntry → Path
 named_path d direction entry = item_path d (list_path d direction entry.list) entry.index
 
--- the entry that a verdict of a user's lists names
+-- the entry that a verdict names, of the lists that hold for a user
 abbrev pub entry_path : Data → Path → Side → Verdict → Option Path
-entry_path d user side verdict = option_map (named_path d (direction_path d user side)) (entry_named verdict)
+entry_path d user side verdict = option_map (named_path d (direction_path d (permissions_path d user) side)) (entry_named verdict)

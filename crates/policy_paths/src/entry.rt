@@ -1,7 +1,7 @@
-//! The path of an entry of a user's permissions.
+//! The path of an entry of the permissions that hold for a user.
 ghost use Rattle.std.specs.Prelude.{◌≡◌, IfOk};
 ghost use Rattle.serde_json.specs.View.{view};
-ghost use Rattle.policy_paths.specs.Entries.{direction_path, either, entry_named, entry_path, is_there, list_path, named_path};
+ghost use Rattle.policy_paths.specs.Entries.{direction_path, either, entry_named, entry_path, is_there, list_path, named_path, permissions_path};
 
 use base::NoMemory;
 use permissions::{By, Verdict};
@@ -24,9 +24,9 @@ pub(crate) struct NamedEntry {
     index: usize,
 }
 
-/// Returns the path of the entry that a verdict of a user's lists names, if it names one, in the JSON value of the policy, where
-/// the user's path is known. A list of one entry may be that entry, and a direction its allow list. `NoMemory` where memory could
-/// not be had.
+/// Returns the path of the entry that a verdict on a user names, if it names one, in the JSON value of the policy, where the
+/// user's path is known. A user without permissions has the default ones. A list of one entry may be that entry, and a direction
+/// its allow list. `NoMemory` where memory could not be had.
 pub fn entry_path(
     alloc: Global,
     value: &Value,
@@ -39,7 +39,8 @@ pub fn entry_path(
     match entry_named(verdict) {
         None => Ok(None),
         Some(entry) => {
-            let direction = direction_path(alloc, value, user, side)?;
+            let permissions = permissions_path(alloc, value, user)?;
+            let direction = direction_path(alloc, value, &permissions, side)?;
             Ok(Some(named_path(alloc, value, direction, entry)?))
         }
     }
@@ -70,11 +71,24 @@ fn entry_named(verdict: Verdict) -> Option<NamedEntry>
     }
 }
 
-/// Returns the path of a direction of a user's permissions, by that of its spellings which is there.
-fn direction_path(alloc: Global, value: &Value, user: &Path, side: Side) -> Result<Path, NoMemory>
-    ensures { IfOk result (λ path. path ≡ direction_path (view value.now) user.now side) }
+/// Returns the path of a user's permissions, or of the default ones where it has none of its own.
+fn permissions_path(alloc: Global, value: &Value, user: &Path) -> Result<Path, NoMemory>
+    ensures { IfOk result (λ path. path ≡ permissions_path (view value.now) user.now) }
 {
-    let permissions = user.key(alloc, "permissions")?;
+    let own = user.key(alloc, "permissions")?;
+    let usual = Path::whole(alloc).key(alloc, "default_permissions")?;
+    Ok(either(value, own, usual))
+}
+
+/// Returns the path of a direction of permissions, by that of its spellings which is there.
+fn direction_path(
+    alloc: Global,
+    value: &Value,
+    permissions: &Path,
+    side: Side,
+) -> Result<Path, NoMemory>
+    ensures { IfOk result (λ path. path ≡ direction_path (view value.now) permissions.now side) }
+{
     match side {
         Side::Publish => {
             let short = permissions.key(alloc, "pub")?;

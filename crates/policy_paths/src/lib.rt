@@ -1,4 +1,4 @@
-//! Where in a policy's text a user stands, and an entry of its permissions: their paths.
+//! Where in a policy's text a user stands, and an entry of the permissions that hold for it: their paths.
 #![tactic(auto)]
 
 mod entry;

@@ -1,5 +1,5 @@
 -- In a valid policy no two users have one name.
-use Rattle.std.proofs.Common.{◌≡◌, ◌∙◌, ◌&&◌, ◌<◌, ℕ, zero, suc, Bool, true, false, cond, List, [], ◌∷◌, ◌++◌, length, map, Some, ap, sym, refl, subst, arith}
+use Rattle.std.proofs.Common.{◌≡◌, ◌∙◌, ◌&&◌, ◌<◌, ℕ, zero, suc, Bool, true, false, cond, List, [], ◌∷◌, ◌++◌, length, map, Option, Some, ap, sym, refl, subst, arith}
 use Rattle.std.specs.Prelude.{find, All, nat_eq}
 use Rattle.std.specs.List.{flat_map, IsDistinct, AllByRecursion, slice_index_or}
 use Rattle.std.specs.Str.{bytes_eq}
@@ -12,27 +12,29 @@ use Rattle.policy_doc.specs.Document.{users_of as users_of_accounts, user_name, 
 use Rattle.policy_doc.specs.declared.document.PolicyDoc.{PolicyDoc}
 use Rattle.policy_doc.specs.declared.document.NamedAccount.{NamedAccount}
 use Rattle.policy_doc.specs.declared.document.UserDoc.{UserDoc}
+use Rattle.permission_doc.specs.declared.document.PermDoc.{PermDoc}
+use Rattle.account_mappings.specs.Drawing.{SourceMap}
 use Rattle.policy_ready.specs.Users.{user_in, users_in, users_of, is_same_user}
 use Rattle.policy_ready.specs.declared.ready.User.{User}
 
 abbrev pub name_of : User → List ℕ
 name_of u = u.user
 
-names-in : (account : List ℕ) (us : List UserDoc) → map name_of (map (user_in account) us) ≡ map user_name us
-names-in account [] = refl
-names-in account (u ∷ us) = ap (λ rest. u.user ∷ rest) (names-in account us)
+names-in : (default : Option PermDoc) (account : List ℕ) (mappings : List SourceMap) (us : List UserDoc) → map name_of (map (user_in default account mappings) us) ≡ map user_name us
+names-in default account mappings [] = refl
+names-in default account mappings (u ∷ us) = ap (λ rest. u.user ∷ rest) (names-in default account mappings us)
 
 -- the names are those of the document
-names : (accounts : List NamedAccount) → map name_of (flat_map users_in accounts) ≡ map user_name (users_of_accounts accounts)
-names [] = refl
-names (a ∷ more) =
-    map-append name_of (users_in a) (flat_map users_in more)
-    ∙ ap (λ front. front ++ map name_of (flat_map users_in more)) (names-in a.name a.account.users)
-    ∙ ap (λ rest. map user_name a.account.users ++ rest) (names more)
+names : (default : Option PermDoc) (accounts : List NamedAccount) → map name_of (flat_map (users_in default) accounts) ≡ map user_name (users_of_accounts accounts)
+names default [] = refl
+names default (a ∷ more) =
+    map-append name_of (users_in default a) (flat_map (users_in default) more)
+    ∙ ap (λ front. front ++ map name_of (flat_map (users_in default) more)) (names-in default a.name a.account.mappings a.account.users)
+    ∙ ap (λ rest. map user_name a.account.users ++ rest) (names default more)
     ∙ sym (map-append user_name a.account.users (users_of_accounts more))
 
 pub are_named_once : (doc : PolicyDoc) → IsValidPolicy doc → IsDistinct bytes_eq (map name_of (users_of doc))
-are_named_once doc valid = subst (IsDistinct bytes_eq) (sym (names doc.accounts)) valid.names
+are_named_once doc valid = subst (IsDistinct bytes_eq) (sym (names doc.default_permissions doc.accounts)) valid.names
 
 pub unlike : (name : List ℕ) (us : List User) → AllByRecursion (λ y. bytes_eq name y ≡ false) (map name_of us) → All (λ (u : User). bytes_eq name u.user ≡ false) us
 unlike name [] all = All-nil (λ (u : User). bytes_eq name u.user ≡ false)

@@ -5,20 +5,22 @@ use Rattle.std.specs.Cmp.Lexicographic.{pointwise}
 use Rattle.policy_doc.specs.declared.document.PolicyDoc.{PolicyDoc}
 use Rattle.policy_doc.specs.declared.document.NamedAccount.{NamedAccount}
 use Rattle.policy_doc.specs.declared.document.UserDoc.{UserDoc}
+use Rattle.permission_doc.specs.declared.document.PermDoc.{PermDoc}
+use Rattle.account_mappings.specs.Drawing.{SourceMap}
 use Rattle.permissions.specs.Lists.{lists_of}
 use Rattle.policy_ready.specs.declared.ready.User.{User}
 
--- a user of an account, with its permissions
-abbrev pub user_in : List ℕ → UserDoc → User
-user_in account u = record { account = account; user = u.user; password = u.password; rules = lists_of u }
+-- a user of an account, with its permissions or the default ones, and with the account's mappings
+abbrev pub user_in : Option PermDoc → List ℕ → List SourceMap → UserDoc → User
+user_in default account mappings u = record { account = account; user = u.user; password = u.password; rules = lists_of u default; mappings = mappings }
 
 -- the users of an account, in order
-abbrev pub users_in : NamedAccount → List User
-users_in a = map (user_in a.name) a.account.users
+abbrev pub users_in : Option PermDoc → NamedAccount → List User
+users_in default a = map (user_in default a.name a.account.mappings) a.account.users
 
 -- the users of a document, account by account
 abbrev pub users_of : PolicyDoc → List User
-users_of doc = flat_map users_in doc.accounts
+users_of doc = flat_map (users_in doc.default_permissions) doc.accounts
 
 -- the user with that name and password; no name is nobody's
 abbrev pub user_with_password : PolicyDoc → Option (List ℕ) → List ℕ → Option User

@@ -1,15 +1,16 @@
 ghost use Rattle.std.specs.Prelude.{◌≡◌, ◌++◌, IfOk, OnOk};
 
+use account_mappings::Mappings;
 use base::{Alike, Copying, NoMemory, SharedText};
 use bytes::Bytes;
 use imports::Rows;
 use permissions::Compiled;
-use policy_doc::{NamedAccount, Policy, PolicyDoc, UserDoc};
+use policy_doc::{NamedAccount, PermDoc, Policy, PolicyDoc, UserDoc};
 use std::alloc::Global;
 use std::marker::Model;
 use std::sync::Arc;
 
-/// A user of a policy, with its permissions compiled.
+/// A user of a policy, with its permissions compiled, and with its account's mappings.
 #[derive(Debug)]
 pub struct User {
     /// The name of its account.
@@ -20,6 +21,8 @@ pub struct User {
     pub password: Bytes,
     /// What it may publish and subscribe to.
     pub rules: Compiled,
+    /// Under which subjects what it publishes is sent on.
+    pub mappings: Mappings,
 }
 
 impl Drop for User {
@@ -29,6 +32,7 @@ impl Drop for User {
             user: _,
             password: _,
             rules: _,
+            mappings: _,
         } = self;
     }
 }
@@ -40,6 +44,7 @@ impl Copying for User {
             user: self.user.clone()?,
             password: self.password.clone()?,
             rules: self.rules.copy(alloc)?,
+            mappings: self.mappings.copy(alloc)?,
         })
     }
 }
@@ -50,6 +55,7 @@ impl Alike for User {
             && self.user.is_like(&other.user)
             && self.password.is_like(&other.password)
             && self.rules.is_like(&other.rules)
+            && self.mappings.is_like(&other.mappings)
     }
 }
 
@@ -204,7 +210,9 @@ impl Alike for Ready {
 
 ghost use Rattle.std.specs.Prelude.{◌<◌, IfErr, IfSome, true, length};
 ghost use Rattle.std.specs.List.{HoldsAt};
-ghost use Rattle.policy_ready.specs.Users.{is_same_user, user_in, users_in, users_of as all_users_of};
+ghost use Rattle.std.specs.Option.{option_copied};
+ghost use Rattle.permissions.specs.Lists.{lists_of, lists_with};
+ghost use Rattle.policy_ready.specs.Users.{is_same_user, users_in, users_of as all_users_of};
 ghost use Rattle.imports.specs.Views.{rows_of};
 
 /// Shares what was made ready. Where memory could not be had, the policy is handed back.
@@ -261,29 +269,64 @@ fn names_of(alloc: Global, users: &[User]) -> Result<Vec<Named>, NoMemory> {
 fn users_of(alloc: Global, doc: &PolicyDoc) -> Result<Vec<User>, NoMemory>
     ensures { IfOk result (λ users. users.items ≡ all_users_of doc.now) }
 {
+    let default = doc.default_permissions.as_ref();
+    let usual = Compiled::of_permissions(alloc, default)?;
     let mut users = Vec::new(alloc);
     for account in doc.accounts.as_slice() {
-        add_users(alloc, &mut users, account)?;
+        add_users(alloc, &mut users, default, &usual, account)?;
     }
     Ok(users)
 }
 
-fn add_users(alloc: Global, users: &mut Vec<User>, account: &NamedAccount) -> Result<(), NoMemory>
-    ensures { OnOk result (users.new.items ≡ users.old.items ++ users_in account.now) }
+/// Appends the users of an account. Those that have the default permissions share them, made ready.
+fn add_users(
+    alloc: Global,
+    users: &mut Vec<User>,
+    default: Option<&PermDoc>,
+    usual: &Compiled,
+    account: &NamedAccount,
+) -> Result<(), NoMemory>
+    requires { usual.now ≡ lists_with (option_copied default) }
+    ensures { OnOk result (users.new.items ≡ users.old.items ++ users_in (option_copied default.entry) account.now) }
 {
+    let mappings = Mappings::of(alloc, &account.account.mappings)?;
     for user in account.account.users.as_slice() {
-        users.push(user_of(alloc, &account.name, user)?)?;
+        let rules = rules_of(alloc, default, usual, user)?;
+        users.push(user_of(alloc, &account.name, user, rules, &mappings)?)?;
     }
     Ok(())
 }
 
-fn user_of(alloc: Global, account: &Bytes, user: &UserDoc) -> Result<User, NoMemory>
-    ensures { IfOk result (λ made. made ≡ user_in account.now user.now) }
+/// The permissions of a user, made ready.
+fn rules_of(
+    alloc: Global,
+    default: Option<&PermDoc>,
+    usual: &Compiled,
+    user: &UserDoc,
+) -> Result<Compiled, NoMemory>
+    requires { usual.now ≡ lists_with (option_copied default) }
+    ensures { IfOk result (λ rules. rules ≡ lists_of user.now (option_copied default.entry)) }
+{
+    match &user.permissions {
+        None => usual.copy(alloc),
+        Some(_) => Compiled::of(alloc, user, default),
+    }
+}
+
+fn user_of(
+    alloc: Global,
+    account: &Bytes,
+    user: &UserDoc,
+    rules: Compiled,
+    mappings: &Mappings,
+) -> Result<User, NoMemory>
+    ensures { IfOk result (λ made. made ≡ record { account = account.now; user = user.now.user; password = user.now.password; rules = rules; mappings = mappings.now }) }
 {
     Ok(User {
         account: account.clone()?,
         user: user.user.clone()?,
         password: user.password.clone()?,
-        rules: Compiled::of(alloc, user)?,
+        rules,
+        mappings: mappings.copy(alloc)?,
     })
 }

@@ -221,4 +221,4 @@ one_more n =
 
 -- an account that has nothing
 pub no_account : NamedAccount
-no_account = record { name = []; account = record { users = []; exports = []; imports = [] } }
+no_account = record { name = []; account = record { users = []; exports = []; imports = []; mappings = [] } }

@@ -1,3 +1,7 @@
+ghost use Rattle.std.specs.Prelude.{◌≡◌};
+ghost use Rattle.std.specs.List.{list_any};
+ghost use Rattle.server_log.specs.Noting.{is_full, is_told, noted_refusal, noted_stop, IsAdded, IsAnswerNoted, IsNoted, IsOfferNoted};
+
 use base::NoMemory;
 use events::{Answer, Event, HubRefusal, InvalidFrame, Item, Outcome, PublishRefusal};
 use server_lines::LogLevel;
@@ -26,8 +30,10 @@ pub struct Noted {
     pub(crate) is_gone: bool,
     /// The frames that were none. A port hears of them while it is lent to be read alone.
     invalid: RefCell<Vec<InvalidTexts>>,
-    /// How many answers and frames found no room.
-    left_out: Cell<u64>,
+    /// How many answers found no room.
+    left_out: u64,
+    /// How many frames found none.
+    frames_left_out: Cell<u64>,
 }
 
 impl Drop for Noted {
@@ -39,6 +45,7 @@ impl Drop for Noted {
             is_gone: _,
             invalid: _,
             left_out: _,
+            frames_left_out: _,
         } = self;
     }
 }
@@ -52,7 +59,8 @@ impl Noted {
             answers: Vec::new(alloc),
             is_gone: false,
             invalid: RefCell::new(Vec::new(alloc)),
-            left_out: Cell::new(0),
+            left_out: 0,
+            frames_left_out: Cell::new(0),
         }
     }
 
@@ -70,7 +78,9 @@ impl Noted {
 
     /// Notes an answer, or a refusal, if it is to be told.
     #[inline(always)]
-    pub fn note(&mut self, came: &Result<Answer, (Event, HubRefusal)>) {
+    pub fn note(&mut self, came: &Result<Answer, (Event, HubRefusal)>)
+        ensures { IsNoted came.now self.old self.new }
+    {
         match came {
             Ok(answer) => self.note_answer(answer),
             Err((_, refusal)) => self.note_refusal(*refusal),
@@ -79,7 +89,9 @@ impl Noted {
 
     /// Notes the answer to a message, or why it wasn't entered, if that is to be told.
     #[inline(always)]
-    pub fn note_offer(&mut self, came: &Result<Answer, (Event, PublishRefusal)>) {
+    pub fn note_offer(&mut self, came: &Result<Answer, (Event, PublishRefusal)>)
+        ensures { IsOfferNoted came.now self.old self.new }
+    {
         match came {
             Ok(answer) => self.note_answer(answer),
             Err((_, refusal)) => self.note_stop(*refusal),
@@ -87,7 +99,9 @@ impl Noted {
     }
 
     /// Notes why a message wasn't entered, if that is to be told.
-    pub fn note_stop(&mut self, refusal: PublishRefusal) {
+    pub fn note_stop(&mut self, refusal: PublishRefusal)
+        ensures { self.new ≡ noted_stop refusal self.old }
+    {
         match refusal {
             PublishRefusal::By(refusal) => self.note_refusal(refusal),
             PublishRefusal::Held => {}
@@ -96,14 +110,18 @@ impl Noted {
 
     /// Notes an answer, if it is to be told.
     #[inline(always)]
-    pub fn note_answer(&mut self, answer: &Answer) {
+    pub fn note_answer(&mut self, answer: &Answer)
+        ensures { IsAnswerNoted answer.now self.old self.new }
+    {
         if is_told(self.level, &answer.get().outcome) {
             self.add(answer);
         }
     }
 
     /// Notes a refusal, if it says that a reload has ended the session.
-    fn note_refusal(&mut self, refusal: HubRefusal) {
+    fn note_refusal(&mut self, refusal: HubRefusal)
+        ensures { self.new ≡ noted_refusal refusal self.old }
+    {
         if refusal == HubRefusal::NoSession && self.level != LogLevel::None {
             self.is_gone = true;
         }
@@ -112,7 +130,8 @@ impl Noted {
     /// Notes a frame that was none, if that is to be told.
     pub fn note_invalid(&self, frame: &InvalidFrame<'_>) {
         if self.level != LogLevel::None && !self.keeps(frame) {
-            self.leave_out();
+            self.frames_left_out
+                .set(self.frames_left_out.get().saturating_add(1));
         }
     }
 
@@ -132,19 +151,17 @@ impl Noted {
         self.invalid.try_replace(Vec::new(self.alloc)).ok()
     }
 
-    /// Counts something that found no room.
-    fn leave_out(&self) {
-        self.left_out.set(self.left_out.get().saturating_add(1));
-    }
-
     /// Returns how many answers and frames found no room.
     pub(crate) fn left_out(&self) -> u64 {
-        self.left_out.get()
+        self.left_out.saturating_add(self.frames_left_out.get())
     }
 
     /// Adds one more owner of an answer.
     #[inline(never)]
-    fn add(&mut self, answer: &Answer) {
+    fn add(&mut self, answer: &Answer)
+        ensures level { self.new.level ≡ self.old.level }
+        ensures added { IsAdded answer.now self.old self.new }
+    {
         if self.answers.len() < MOST {
             if let Ok(again) = answer.again() {
                 if self.answers.push(again).is_ok() {
@@ -152,7 +169,7 @@ impl Noted {
                 }
             }
         }
-        self.leave_out();
+        self.left_out = self.left_out.saturating_add(1);
     }
 }
 
@@ -176,7 +193,9 @@ fn copy_of(alloc: Global, text: Option<&[u8]>) -> Result<Option<Vec<u8>>, NoMemo
 
 /// Returns whether an outcome is to be told, or says who a client is.
 #[inline(always)]
-fn is_told(level: LogLevel, outcome: &Outcome) -> bool {
+fn is_told(level: LogLevel, outcome: &Outcome) -> bool
+    ensures { result ≡ is_told level outcome.now }
+{
     match outcome {
         Outcome::Connected | Outcome::AuthViolation => level != LogLevel::None,
         Outcome::Denied(_) => level != LogLevel::None,
@@ -189,6 +208,8 @@ fn is_told(level: LogLevel, outcome: &Outcome) -> bool {
 
 /// Returns whether a message found no response route at an exporter.
 #[inline(always)]
-fn lacks_route(items: &[Item]) -> bool {
+fn lacks_route(items: &[Item]) -> bool
+    ensures { result ≡ list_any is_full items.now }
+{
     items.iter().any(|item| matches!(item, Item::RouteFull(_)))
 }

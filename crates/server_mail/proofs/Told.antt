@@ -9,7 +9,7 @@ use Rattle.server_pacing.specs.declared.pending.Pending.{Pending}
 use Rattle.server_mail.specs.declared.mailbox.Mail.{Mail}
 use Rattle.server_mail.specs.Mails.{is_awaited, is_drained, awaits, drains, frees, is_told, StaysTold, IsMore, AreMore, IsSaid, IsSaidBySome, IsItemTold}
 use Rattle.events.specs.declared.answer.Item.{Item}
-use Rattle.events.specs.declared.answer.Item.TheVariants.{Entered, Full, RouteFull, MapTooLong}
+use Rattle.events.specs.declared.answer.Item.TheVariants.{Entered, Full, RouteFull, MapTooLong, Unmapped, MappedTooLong}
 
 or-true : (b : Bool) → (b || true) ≡ true
 or-true true = refl
@@ -130,6 +130,8 @@ item_more before after more (Entered conn sid) e = more.awaits conn e
 item_more before after more (Full conn sid) e = more.drains conn e
 item_more before after more (RouteFull row) e = e
 item_more before after more (MapTooLong row) e = e
+item_more before after more Unmapped e = e
+item_more before after more (MappedTooLong index) e = e
 
 pub items_more : (before after : List Mail) → AreMore before after → (items : List Item) → All (IsItemTold before) items → All (IsItemTold after) items
 items_more before after more items all = λ k d l. item_more before after more (get_or items k d) (all k d l)

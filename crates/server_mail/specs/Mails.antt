@@ -2,7 +2,7 @@
 use Rattle.std.specs.Prelude.{ℕ, ◌≡◌, ◌<◌, ◌||◌, ◌&&◌, Bool, true, List, All, length, nat_eq, nat_lt}
 use Rattle.std.specs.List.{list_any}
 use Rattle.events.specs.declared.answer.Item.{Item}
-use Rattle.events.specs.declared.answer.Item.TheVariants.{Entered, Full, RouteFull, MapTooLong}
+use Rattle.events.specs.declared.answer.Item.TheVariants.{Entered, Full, RouteFull, MapTooLong, Unmapped, MappedTooLong}
 use Rattle.events.specs.declared.answer.Outcome.{Outcome}
 use Rattle.events.specs.declared.answer.Outcome.TheVariants.{Published, Reloaded}
 use Rattle.server_pacing.specs.declared.pending.Pending.{Pending}
@@ -65,6 +65,8 @@ IsItemTold mails (Entered conn sid) = is_told awaits mails conn ≡ true
 IsItemTold mails (Full conn sid) = is_told drains mails conn ≡ true
 IsItemTold mails (RouteFull row) = Unit {0}
 IsItemTold mails (MapTooLong row) = Unit {0}
+IsItemTold mails Unmapped = Unit {0}
+IsItemTold mails (MappedTooLong index) = Unit {0}
 
 -- and so is whoever's session a reload has ended
 abbrev pub IsOutcomeTold : List Mail → Outcome → Type 0

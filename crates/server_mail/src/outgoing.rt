@@ -133,6 +133,8 @@ impl OutgoingMail {
             Item::Full { conn, .. } => self.add_drain(*conn),
             Item::RouteFull(_) => {}
             Item::MapTooLong(_) => {}
+            Item::Unmapped => {}
+            Item::MappedTooLong(_) => {}
         }
     }
 

@@ -1,3 +1,4 @@
 mod Followed
 mod Offers
+mod Passing
 mod SeatRuns

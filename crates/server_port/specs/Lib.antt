@@ -1,3 +1,4 @@
 pub mod Courses
 pub mod Histories
 pub mod Ends
+pub mod Points

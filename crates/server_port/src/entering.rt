@@ -33,6 +33,7 @@ impl<L: Run, R: Wait, G: Gate + Drop> ServerPort<'_, L, R, G> {
         ensures tried { self.new.rotation.tries ≡ tried (was_same result.1) (tried (passed result.0) self.old.rotation.tries) }
         ensures course { self.new.course ≡ followed answer.now self.old.course }
         ensures seat { self.new.seat ≡ self.old.seat }
+        ensures kept { (self.new.gate ≡ self.old.gate) × (self.new.is_spent ≡ self.old.is_spent) × (self.new.noted ≡ self.old.noted) }
     {
         let work = self.outgoing.add_answer(answer, size);
         self.course.share = self.course.share.saturating_sub(work);
@@ -45,6 +46,7 @@ impl<L: Run, R: Wait, G: Gate + Drop> ServerPort<'_, L, R, G> {
     fn free(&mut self)
         ensures seat { self.new.seat ≡ self.old.seat }
         ensures course { self.new.course ≡ self.old.course }
+        ensures kept { (self.new.gate ≡ self.old.gate) × (self.new.is_spent ≡ self.old.is_spent) × (self.new.noted ≡ self.old.noted) }
     {
         for conn in self.context.told.freed.as_slice() {
             self.outgoing.add_freed(*conn);
@@ -59,6 +61,7 @@ impl<L: Run, R: Wait, G: Gate + Drop> ServerPort<'_, L, R, G> {
         ensures course { self.new.course ≡ entered result self.old.course }
         ensures full { IfErr result (λ back. back.1 ≡ HistoryFull → self.new.rotation.tries ≡ tried true self.old.rotation.tries) }
         ensures err { IfErr result (λ back. back.0 ≡ event) }
+        ensures kept { (self.new.gate ≡ self.old.gate) × (self.new.is_spent ≡ self.old.is_spent) × (self.new.noted ≡ self.old.noted) }
     {
         self.rotation.drop_some();
         match self.step(event) {
@@ -80,6 +83,7 @@ impl<L: Run, R: Wait, G: Gate + Drop> ServerPort<'_, L, R, G> {
         ensures course { self.new.course ≡ entered result self.old.course }
         ensures same { OnErr result (self.new.rotation ≡ self.old.rotation) }
         ensures err { IfErr result (λ back. back.0 ≡ event) }
+        ensures kept { (self.new.gate ≡ self.old.gate) × (self.new.is_spent ≡ self.old.is_spent) × (self.new.noted ≡ self.old.noted) }
     {
         let shared = self.shared;
         match shared.submit_without_receipt(
@@ -106,6 +110,7 @@ impl<L: Run, R: Wait, G: Gate + Drop> ServerPort<'_, L, R, G> {
         ensures course { self.new.course ≡ offered result self.new.context.told.slow self.new.context.told.until self.old.course }
         ensures full { IfErr result (λ back. back.1 ≡ By HistoryFull → self.new.rotation.tries ≡ tried true self.old.rotation.tries) }
         ensures err { IfErr result (λ back. back.0 ≡ event) }
+        ensures kept { (self.new.gate ≡ self.old.gate) × (self.new.is_spent ≡ self.old.is_spent) × (self.new.noted ≡ self.old.noted) }
     {
         self.rotation.drop_some();
         match self.offer_once(event) {
@@ -138,6 +143,7 @@ impl<L: Run, R: Wait, G: Gate + Drop> ServerPort<'_, L, R, G> {
         ensures course { self.new.course ≡ offered result self.new.context.told.slow self.new.context.told.until self.old.course }
         ensures tried { OnErr result (self.new.rotation.tries ≡ tried true self.old.rotation.tries) }
         ensures err { IfErr result (λ back. back.0 ≡ event) }
+        ensures kept { (self.new.gate ≡ self.old.gate) × (self.new.is_spent ≡ self.old.is_spent) × (self.new.noted ≡ self.old.noted) }
     {
         let _ = self.rotate();
         match self.offer_once(event) {
@@ -155,6 +161,7 @@ impl<L: Run, R: Wait, G: Gate + Drop> ServerPort<'_, L, R, G> {
         ensures course { self.new.course ≡ offered result self.new.context.told.slow self.new.context.told.until self.old.course }
         ensures same { OnErr result (self.new.rotation ≡ self.old.rotation) }
         ensures err { IfErr result (λ back. back.0 ≡ event) }
+        ensures kept { (self.new.gate ≡ self.old.gate) × (self.new.is_spent ≡ self.old.is_spent) × (self.new.noted ≡ self.old.noted) }
     {
         let shared = self.shared;
         match shared.offer(self.rt, &mut self.seat, event, &mut self.context.told) {
@@ -176,6 +183,7 @@ impl<L: Run, R: Wait, G: Gate + Drop> ServerPort<'_, L, R, G> {
         ensures context { self.new.context ≡ self.old.context }
         ensures rotation { self.new.rotation ≡ self.old.rotation }
         ensures seat { self.new.seat ≡ self.old.seat }
+        ensures kept { (self.new.gate ≡ self.old.gate) × (self.new.is_spent ≡ self.old.is_spent) × (self.new.noted ≡ self.old.noted) }
     {
         match refusal {
             PublishRefusal::By(_) => {}
@@ -192,11 +200,14 @@ impl<L: Run, R: Wait, G: Gate + Drop> ServerPort<'_, L, R, G> {
 }
 
 impl<L: Run, R: Wait, G: Gate + Drop> Port for ServerPort<'_, L, R, G> {
-    ghost use Rattle.std.specs.Prelude.{◌≢◌, ℕ, Err, IfErr, Some, false, true};
+    ghost use Rattle.std.specs.Prelude.{◌≢◌, ◌∷◌, [], ℕ, Err, IfErr, Some, false, true};
     ghost use Rattle.events.specs.Offers.{IsOffered};
     ghost use Rattle.events.specs.declared.refusal.PublishRefusal.TheVariants.{Held};
     ghost use Rattle.server_port.specs.Courses.{entered, offered};
     ghost use Rattle.server_port.specs.declared.course.Why.TheVariants.{Share};
+    ghost use Rattle.server_port.specs.Points.{ArePassed, offer_points};
+    ghost use Rattle.server_gates.specs.declared.gate.Point.TheVariants.{Answered, FrameRead};
+    ghost use Rattle.server_log.specs.Noting.{IsNoted, IsOfferNoted};
     ghost use Rattle.shared_hub.specs.Entering.{IsAnswered, IsPostedBy};
 
     ghost place = { λ port. 0 };
@@ -213,6 +224,8 @@ impl<L: Run, R: Wait, G: Gate + Drop> Port for ServerPort<'_, L, R, G> {
         ensures step { IsAnswered L.opening self.old.seat.count event result self.new.seat.count }
         ensures err { IfErr result (λ back. back.0 ≡ event) }
         ensures course { self.new.course ≡ entered result (record self.old.course { has_passed = false }) }
+        ensures noted { IsNoted result self.old.noted self.new.noted }
+        ensures points { ArePassed G.passes (FrameRead ∷ Answered ∷ []) self.old.gate self.old.is_spent self.new.gate self.new.is_spent }
     {
         self.course.has_passed = false;
         self.pass(Point::FrameRead);
@@ -229,7 +242,10 @@ impl<L: Run, R: Wait, G: Gate + Drop> Port for ServerPort<'_, L, R, G> {
         ensures offered { IsOffered (λ old e r new. IsPostedBy L.opening old.seat.count e r new.seat.count) (λ old new. new.seat.count ≡ old.seat.count) self.old event result self.new }
         ensures err { IfErr result (λ back. back.0 ≡ event) }
         ensures spent { self.old.course.share ≡ 0 → (result ≡ Err (event, Held)) × (self.new.course ≡ record self.old.course { why = Some Share }) × (self.new.context ≡ self.old.context) × (self.new.rotation ≡ self.old.rotation) }
+        ensures unasked { self.old.course.share ≡ 0 → (self.new.gate ≡ self.old.gate) × (self.new.is_spent ≡ self.old.is_spent) × (self.new.noted ≡ self.old.noted) }
         ensures course { self.old.course.share ≢ 0 → self.new.course ≡ offered result self.new.context.told.slow self.new.context.told.until (record self.old.course { has_passed = false }) }
+        ensures noted { self.old.course.share ≢ 0 → IsOfferNoted result self.old.noted self.new.noted }
+        ensures points { self.old.course.share ≢ 0 → ArePassed G.passes (offer_points self.new.course.why) self.old.gate self.old.is_spent self.new.gate self.new.is_spent }
     {
         if self.course.share == 0 {
             self.course.why = Some(Why::Share);
@@ -239,9 +255,7 @@ impl<L: Run, R: Wait, G: Gate + Drop> Port for ServerPort<'_, L, R, G> {
         self.pass(Point::FrameRead);
         let result = self.enter_message(event);
         self.noted.note_offer(&result);
-        if self.course.why.is_none() {
-            self.pass(Point::Answered);
-        }
+        self.pass_answered();
         result
     }
 

@@ -20,6 +20,7 @@ impl<L: Run, R: Wait, G: Gate + Drop> ServerPort<'_, L, R, G> {
         ensures taken { (part : ℕ) × (self.new.rotation ≡ taken_over segment.entries part self.old.rotation) }
         ensures seat { self.new.seat ≡ self.old.seat }
         ensures course { self.new.course ≡ self.old.course }
+        ensures kept { (self.new.gate ≡ self.old.gate) × (self.new.is_spent ≡ self.old.is_spent) × (self.new.noted ≡ self.old.noted) }
     {
         self.rotation.keep(segment.into_entries(), self.kept);
     }
@@ -32,6 +33,7 @@ impl<L: Run, R: Wait, G: Gate + Drop> ServerPort<'_, L, R, G> {
         ensures tried { IsTried true self.old.rotation self.new.rotation }
         ensures seat { self.new.seat ≡ self.old.seat }
         ensures course { self.new.course ≡ self.old.course }
+        ensures kept { (self.new.gate ≡ self.old.gate) × (self.new.is_spent ≡ self.old.is_spent) × (self.new.noted ≡ self.old.noted) }
     {
         match self.shared.rotate_as(self.rt, &self.seat) {
             Ok(segment) => {
@@ -52,6 +54,7 @@ impl<L: Run, R: Wait, G: Gate + Drop> ServerPort<'_, L, R, G> {
         ensures tried { IsTried (is_passed telling.now.half telling.now.before telling.now.bytes telling.now.taken) self.old.rotation self.new.rotation }
         ensures seat { self.new.seat ≡ self.old.seat }
         ensures course { self.new.course ≡ self.old.course }
+        ensures kept { (self.new.gate ≡ self.old.gate) × (self.new.is_spent ≡ self.old.is_spent) × (self.new.noted ≡ self.old.noted) }
     {
         if telling.is_passed() {
             if !self.rotate() {
@@ -66,6 +69,7 @@ impl<L: Run, R: Wait, G: Gate + Drop> ServerPort<'_, L, R, G> {
         ensures tried { IsTried (passed told.now) self.old.rotation self.new.rotation }
         ensures seat { self.new.seat ≡ self.old.seat }
         ensures course { self.new.course ≡ self.old.course }
+        ensures kept { (self.new.gate ≡ self.old.gate) × (self.new.is_spent ≡ self.old.is_spent) × (self.new.noted ≡ self.old.noted) }
     {
         match told {
             None => {}
@@ -79,6 +83,7 @@ impl<L: Run, R: Wait, G: Gate + Drop> ServerPort<'_, L, R, G> {
         ensures tried { self.new.rotation.tries ≡ tried (passed result) self.old.rotation.tries }
         ensures seat { self.new.seat ≡ self.old.seat }
         ensures course { self.new.course ≡ self.old.course }
+        ensures kept { (self.new.gate ≡ self.old.gate) × (self.new.is_spent ≡ self.old.is_spent) × (self.new.noted ≡ self.old.noted) }
     {
         let told = self.rotation.count_bytes(bytes, self.kept);
         self.heed_told(&told);
@@ -94,6 +99,7 @@ impl<L: Run, R: Wait, G: Gate + Drop> ServerPort<'_, L, R, G> {
         ensures tried { self.new.rotation.tries ≡ tried (was_same result.1) (tried (passed result.0) self.old.rotation.tries) }
         ensures seat { self.new.seat ≡ self.old.seat }
         ensures course { self.new.course ≡ self.old.course }
+        ensures kept { (self.new.gate ≡ self.old.gate) × (self.new.is_spent ≡ self.old.is_spent) × (self.new.noted ≡ self.old.noted) }
     {
         let told = self.rotation.count(answer, self.kept);
         self.heed_told(&told);
@@ -114,6 +120,7 @@ impl<L: Run, R: Wait, G: Gate + Drop> ServerPort<'_, L, R, G> {
         ensures uncounted { self.new.rotation.uncounted ≡ self.old.rotation.uncounted }
         ensures seat { self.new.seat ≡ self.old.seat }
         ensures course { self.new.course ≡ self.old.course }
+        ensures kept { (self.new.gate ≡ self.old.gate) × (self.new.is_spent ≡ self.old.is_spent) × (self.new.noted ≡ self.old.noted) }
     {
         let seen = self.rotation.look(number, self.kept);
         if let Some(look) = &seen {

@@ -64,6 +64,7 @@ impl<'a, L: Run, R: Wait, G: Gate + Drop> ServerPort<'a, L, R, G> {
     ghost use Rattle.server_history.specs.Bytes.{IsCounted};
     ghost use Rattle.server_history.specs.Rotating.{but_last, fresh};
     ghost use Rattle.server_port.specs.Histories.{passed, tried};
+    ghost use Rattle.server_port.specs.Points.{ArePassed, answered_if};
 
     /// Makes the port of a thread with such access. It has no share yet.
     pub fn new(
@@ -220,10 +221,27 @@ impl<'a, L: Run, R: Wait, G: Gate + Drop> ServerPort<'a, L, R, G> {
         ensures course { self.new.course ≡ self.old.course }
         ensures rotation { self.new.rotation ≡ self.old.rotation }
         ensures context { self.new.context ≡ self.old.context }
+        ensures noted { self.new.noted ≡ self.old.noted }
         ensures seat { self.new.seat ≡ self.old.seat }
     {
         if self.gate.pass(point).is_err() {
             self.is_spent = true;
+        }
+    }
+
+    /// A message passes the gate once it has its answer, unless it is held back.
+    #[inline(always)]
+    pub(crate) fn pass_answered(&mut self)
+        ensures points { ArePassed G.passes (answered_if self.old.course.why) self.old.gate self.old.is_spent self.new.gate self.new.is_spent }
+        ensures course { self.new.course ≡ self.old.course }
+        ensures rotation { self.new.rotation ≡ self.old.rotation }
+        ensures context { self.new.context ≡ self.old.context }
+        ensures noted { self.new.noted ≡ self.old.noted }
+        ensures seat { self.new.seat ≡ self.old.seat }
+    {
+        match self.course.why {
+            None => self.pass(Point::Answered),
+            Some(_) => {}
         }
     }
 }

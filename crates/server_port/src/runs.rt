@@ -83,6 +83,7 @@ impl<L: Run, R: Wait, G: Gate + Drop> ServerPort<'_, L, R, G> {
         ensures context { self.new.context ≡ self.old.context }
         ensures rotation { self.new.rotation ≡ self.old.rotation }
         ensures seat { self.new.seat ≡ self.old.seat }
+        ensures kept { (self.new.gate ≡ self.old.gate) × (self.new.is_spent ≡ self.old.is_spent) × (self.new.noted ≡ self.old.noted) }
     {
         let Some(message) = messages.pop_front() else {
             return RunEnd::Published;
@@ -114,6 +115,7 @@ impl<L: Run, R: Wait, G: Gate + Drop> ServerPort<'_, L, R, G> {
     ) -> Option<Result<Answer, (Event, PublishRefusal)>>
         ensures run { (answers : List Entry) × (self.new.context.hold.answers.items ≡ self.old.context.hold.answers.items ++ answers) × IsRun (λ s e r after. IsOfferedBy L.opening s.count e r after.count) W.draws posts.conn posts.now messages.old.items self.old.seat words.old answers result messages.new.items self.new.seat words.new }
         ensures course { self.new.course ≡ self.old.course }
+        ensures kept { (self.new.gate ≡ self.old.gate) × (self.new.is_spent ≡ self.old.is_spent) × (self.new.noted ≡ self.old.noted) }
     {
         let shared = self.shared;
         self.context.posts = posts;
@@ -216,9 +218,7 @@ impl<L: Run, R: Wait, G: Gate + Drop> ServerPort<'_, L, R, G> {
         let word = word_of(&event.what);
         drop(event);
         self.noted.note_stop(refusal);
-        if self.course.why.is_none() {
-            self.pass(Point::Answered);
-        }
+        self.pass_answered();
         RunEnd::Stopped(word, refusal)
     }
 }

@@ -31,7 +31,7 @@ use Rattle.hub.specs.contracts.hub.Hub.TheInside as hub_in
 use Rattle.hub.specs.contracts.hub.Hub as hub
 use Rattle.policy_ready.proofs.ready.Ready.TheSendSync as ready
 use Rattle.world_sessions.proofs.sessions.Sessions.TheSendSync as sessions
-use Rattle.world_receivers.proofs.receivers.Receivers.TheSendSync as receivers
+use Rattle.world_routing.proofs.caches.Caches.TheSendSync as caches
 use Rattle.service_routes.proofs.routes.Routes.TheSendSync as routes
 use Rattle.events.proofs.answer.Entry.TheSendSync as entry
 use Rattle.base.proofs.shared.Shared.TheSendSync as shared
@@ -76,7 +76,7 @@ subs_out_send t = search (sendable, t) depth 6
 
 world_send : IsSend subs.the_row → IsSend world_in.the_row
 world_send t = recorded_send _ _ _ (world_in.the_type).to_one (struct_send (shape world_in.the_type)
-    (global.the_field_send, (state.the_field_send, (ready.the_send, (search sendable, (search sendable, (search sendable, (search sendable, (sessions.the_send, (t, (receivers.the_field_send, (routes.the_send, (search sendable, tt)))))))))))))
+    (global.the_field_send, (state.the_field_send, (ready.the_send, (search sendable, (search sendable, (search sendable, (search sendable, (sessions.the_send, (t, (caches.the_field_send, (routes.the_send, (search sendable, tt)))))))))))))
 
 world_out_send : IsSend world_in.the_row → IsSend world.the_row
 world_out_send t = search (sendable, t) depth 6

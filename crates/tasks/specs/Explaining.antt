@@ -1,5 +1,5 @@
 -- What `natsd explain` prints, and its status (docs/POLICY.md, "Explaining a verdict").
-use Rattle.std.specs.Prelude.{◌≡◌, ◌++◌, ⊤, ℕ, List, codes, flat_map, string_bytes, Option, Some, None, Result, Ok, Err}
+use Rattle.std.specs.Prelude.{◌≡◌, ◌++◌, ⊤, ℕ, List, codes, string_bytes, Option, Some, None, Result, Ok, Err}
 use Rattle.std.specs.Global.{Vec}
 use Rattle.std.specs.Option.{option_map}
 use Rattle.subjects.specs.Subject.{Token}
@@ -14,13 +14,13 @@ use Rattle.command_line.specs.Question.{Word}
 use Rattle.command_line.specs.declared.question.Question.{Question}
 use Rattle.command_line.specs.declared.question.QuestionKind.{QuestionKind}
 use Rattle.command_line.specs.declared.question.QuestionKind.TheVariants.{Publish, Subscribe, Delivery, Path}
-use Rattle.explain.specs.Lines.{explanation_text, view_line}
+use Rattle.explain.specs.Lines.{explanation_text, path_text}
 use Rattle.explain.specs.Path.{path_of}
 use Rattle.explain.specs.Reason.{delivery_reason, publish_reason, subscribe_reason, user_named}
 use Rattle.explain.specs.declared.explanation.Explanation.{Explanation}
 use Rattle.explain.specs.declared.fault.ExplainFault.{ExplainFault}
 use Rattle.explain.specs.declared.fault.ExplainFault.TheVariants as explaining
-use Rattle.explain.specs.declared.path.View.{View}
+use Rattle.explain.specs.declared.path.PathShare.{PathShare}
 use Rattle.reload.specs.Fault.{fault_line}
 use Rattle.reload.specs.Reload.{prepared}
 use Rattle.reload.specs.declared.fault.ReloadFault.{ReloadFault}
@@ -57,7 +57,7 @@ with_queue (Err fault) answer = Err fault
 
 -- a publish on a subject
 abbrev pub publish_known : PolicyDoc → Name → List Token → Option Explanation
-publish_known doc who subject = option_map (λ (u : UserDoc). publish_reason (lists_of u) subject) (user_named doc who)
+publish_known doc who subject = option_map (λ (u : UserDoc). publish_reason (lists_of u doc.default_permissions) subject) (user_named doc who)
 
 abbrev pub publish_told : Question → PolicyDoc → List Token → Answer
 publish_told q doc subject = told (publish_known doc (string_bytes q.who) subject)
@@ -67,7 +67,7 @@ publish_answer q doc = from_text (subject_asked q.subject) (publish_told q doc)
 
 -- a subscription to a pattern, with a queue or without one
 abbrev pub subscribe_known : PolicyDoc → Name → List Token → Option (List Token) → Option Explanation
-subscribe_known doc who pattern queue = option_map (λ (u : UserDoc). subscribe_reason (lists_of u) pattern queue) (user_named doc who)
+subscribe_known doc who pattern queue = option_map (λ (u : UserDoc). subscribe_reason (lists_of u doc.default_permissions) pattern queue) (user_named doc who)
 
 abbrev pub subscribe_told : Question → PolicyDoc → List Token → Answer
 subscribe_told q doc pattern = with_queue (queue_asked q.queue) (λ queue. told (subscribe_known doc (string_bytes q.who) pattern queue))
@@ -77,7 +77,7 @@ subscribe_answer q doc = from_text (pattern_if (string_bytes q.subject)) (subscr
 
 -- a message on a subject, to a subscription with a queue or without one
 abbrev pub delivery_known : PolicyDoc → Name → List Token → Option (List Token) → Option Explanation
-delivery_known doc who subject queue = option_map (λ (u : UserDoc). delivery_reason (lists_of u) subject queue) (user_named doc who)
+delivery_known doc who subject queue = option_map (λ (u : UserDoc). delivery_reason (lists_of u doc.default_permissions) subject queue) (user_named doc who)
 
 abbrev pub delivery_told : Question → PolicyDoc → List Token → Answer
 delivery_told q doc subject = with_queue (queue_asked q.queue) (λ queue. told (delivery_known doc (string_bytes q.who) subject queue))
@@ -86,9 +86,9 @@ abbrev pub delivery_answer : Question → PolicyDoc → Answer
 delivery_answer q doc = from_text (subject_asked q.subject) (delivery_told q doc)
 
 -- a path: its lines, where the account is known
-abbrev pub shown : Option (List View) → Answer
+abbrev pub shown : Option (List PathShare) → Answer
 shown None = Err NoSuchAccount
-shown (Some views) = Ok (flat_map view_line views)
+shown (Some shares) = Ok (path_text shares)
 
 abbrev pub path_shown : Question → PolicyDoc → List Token → Answer
 path_shown q doc subject = shown (path_of doc (string_bytes q.who) subject)

@@ -7,7 +7,7 @@ use crate::check::Report;
 use base::{Items, NoMemory};
 use command_line::{Question, QuestionKind};
 use explain::{
-    ExplainFault, explain_delivery, explain_path, explain_publish, explain_subscribe, view_lines,
+    ExplainFault, explain_delivery, explain_path, explain_publish, explain_subscribe, path_lines,
 };
 use policy_doc::Policy;
 use std::alloc::Global;
@@ -144,13 +144,13 @@ fn on_delivery(alloc: Global, question: &Question, policy: &Policy) -> Result<Ve
     Ok(lines)
 }
 
-/// Returns the lines that say where a message is seen.
+/// Returns the lines that say where a message is sent on and seen.
 fn on_path(alloc: Global, question: &Question, policy: &Policy) -> Result<Vec<u8>, AnswerFault>
     ensures { IsAnswered (path_answer question.now policy.now) result }
 {
     let subject = Subject::parse(alloc, question.subject.as_bytes())?;
-    let views = explain_path(alloc, policy, question.who.as_bytes(), &subject)?;
-    let lines = view_lines(alloc, views.as_slice())?;
+    let shares = explain_path(alloc, policy, question.who.as_bytes(), &subject)?;
+    let lines = path_lines(alloc, shares.as_slice())?;
     Ok(lines)
 }
 

@@ -1,9 +1,9 @@
 // `natsd check`: what a policy comes to (docs/POLICY.md, "Checking a policy").
-ghost use Rattle.std.specs.Prelude.{◌≡◌, ◌≢◌, ◌<◌, ◌||◌, ◌++◌, Err, false, codes, List, ℕ, length, IfOk, OnErr, IfSome};
+ghost use Rattle.std.specs.Prelude.{◌≡◌, ◌≢◌, ◌<◌, ◌||◌, ◌++◌, Err, false, codes, decimal, List, ℕ, length, IfOk, OnErr, OnOk, IfSome};
 ghost use Rattle.std.specs.Io.KnownBytes.{Appends};
 ghost use Rattle.devices.specs.Device.{AppendsFront};
 ghost use Rattle.reload.specs.Fault.{fault_line, is_memory};
-ghost use Rattle.tasks.specs.Check.{counts_line, report_of};
+ghost use Rattle.tasks.specs.Check.{counts_line, report_of, sources_word};
 ghost use Rattle.tasks.specs.Fault.{is_read_failed, is_write_failed};
 
 use crate::fault::TaskFault;
@@ -11,7 +11,7 @@ use account_config::MOST_BYTES;
 use base::{Items, NoMemory};
 use devices::{Sink, Source, read_within, write_all};
 use itoa::Buffer;
-use policy_doc::Policy;
+use policy_doc::{Policy, Version};
 use policy_walk::ConfigFault;
 use reload::{ReloadFault, read_valid_policy};
 use std::alloc::Global;
@@ -56,26 +56,40 @@ pub(crate) fn report_too_large(alloc: Global) -> Result<Report, NoMemory>
     })
 }
 
-/// The line that says how much a policy has, with its LF: `ok`, then how many accounts, users, exports and imports.
+/// The line that says how much a policy has, with its LF: `ok`, then how many accounts, users, exports and imports, and in
+/// version 2 how many sources of mappings.
 fn counts_line(alloc: Global, policy: &Policy) -> Result<Items<u8>, NoMemory>
     ensures { IfOk result (λ line. line ≡ counts_line policy.now) }
 {
     let doc = policy.doc();
     let counts = doc.counts();
-    let mut line = Vec::from_slice(alloc, b"ok ")?;
-    line.extend_from_slice(
-        Buffer::new()
-            .format(doc.accounts.as_slice().len())
-            .as_bytes(),
-    )?;
-    line.extend_from_slice(b" ")?;
-    line.extend_from_slice(Buffer::new().format(counts.users).as_bytes())?;
-    line.extend_from_slice(b" ")?;
-    line.extend_from_slice(Buffer::new().format(counts.exports).as_bytes())?;
-    line.extend_from_slice(b" ")?;
-    line.extend_from_slice(Buffer::new().format(counts.imports).as_bytes())?;
+    let mut line = Vec::from_slice(alloc, b"ok")?;
+    write_number(&mut line, doc.accounts.as_slice().len() as u128)?;
+    write_number(&mut line, counts.users)?;
+    write_number(&mut line, counts.exports)?;
+    write_number(&mut line, counts.imports)?;
+    write_sources(&mut line, doc.version, counts.mappings)?;
     line.extend_from_slice(b"\n")?;
     Ok(Items::from_vec(line))
+}
+
+/// Appends how many sources of mappings there are, where there may be some.
+fn write_sources(line: &mut Vec<u8>, version: Version, sources: u128) -> Result<(), NoMemory>
+    ensures { OnOk result (line.new.items ≡ line.old.items ++ sources_word version sources) }
+{
+    match version {
+        Version::One => Ok(()),
+        Version::Two => write_number(line, sources),
+    }
+}
+
+/// Appends a number behind a space.
+fn write_number(line: &mut Vec<u8>, number: u128) -> Result<(), NoMemory>
+    ensures { OnOk result (line.new.items ≡ line.old.items ++ (codes " " ++ decimal number)) }
+{
+    line.extend_from_slice(b" ")?;
+    line.extend_from_slice(Buffer::new().format(number).as_bytes())?;
+    Ok(())
 }
 
 /// The line of a fault of a text, with its LF. `NoMemory` comes also where that is the fault, which says nothing of
@@ -93,7 +107,8 @@ pub(crate) fn fault_line(alloc: Global, fault: &ReloadFault) -> Result<Items<u8>
 }
 
 /// Checks a policy: reads the source to its end, or until the text is too large for a policy, and writes a line,
-/// `ok` with how many accounts, users, exports and imports it has, or its first fault (docs/POLICY.md, "Faults").
+/// `ok` with how many accounts, users, exports and imports it has, and in version 2 how many sources of mappings, or its first
+/// fault (docs/POLICY.md, "Faults").
 /// Returns the status, 0 or 1.
 ///
 /// `ReadFailed` and `WriteFailed` come where the device failed in this call, `NoMemory` where memory could not be

@@ -23,7 +23,7 @@ use Rattle.policy_doc.specs.declared.document.PolicyDoc.{PolicyDoc}
 use Rattle.service_exporter.specs.Routes.{Exporter, Numbered}
 use Rattle.service_exporter.specs.declared.route.NewRow.{NewRow}
 use Rattle.service_rows.specs.Rows.{again, again_for, again_in, import_at, is_same_service, is_service, new_row, no_terms, same_template, terms_at, terms_by, terms_for, terms_in, terms_of}
-use Rattle.tenant_parts.specs.Part.{exporters_of, part_of}
+use Rattle.tenant_parts.specs.Part.{account_held, exporters_of, part_of}
 use Rattle.tenant_parts.specs.Least.{AgainByLeast, HasItself, LeastInPart, all_on_least, exporter_on_least, exporters_on_least, index_by, least_row, on_least}
 use Rattle.tenant_parts.proofs.Policy.{account_kept, import_kept}
 
@@ -202,7 +202,7 @@ index_in K doc importer is i index =
     at None = refl
     at (Some k) = refl
 
-    by : (o : Option NamedAccount) → index_by (option_and_then (again_in (part_of K doc) importer i) o) index ≡ index_by (option_and_then (again_in doc importer i) o) index
+    by : (o : Option NamedAccount) → index_by (option_and_then (again_in (part_of K doc) importer i) (option_map (account_held doc.default_permissions) o)) index ≡ index_by (option_and_then (again_in doc importer i) o) index
     by None = refl
     by (Some a) = at (position (is_same_service i) a.account.imports)
 

@@ -2,6 +2,7 @@
 use Rattle.std.proofs.Common.{◌≡◌, ◌∙◌, Bool, true, false, cond, List, [], ◌∷◌, ◌++◌, filter, map, Option, Some, None, ap, sym, refl}
 use Rattle.std.specs.Prelude.{All, IfSome, find}
 use Rattle.std.specs.List.{filter_map, flat_map, cons_option}
+use Rattle.std.specs.Option.{option_map}
 use Rattle.std.proofs.lemmas.List.Elements.{All-head, All-tail, filter-append}
 
 -- what a test finds is the same, where all that it passes is kept
@@ -53,3 +54,23 @@ all_or_none f j true [] is = refl
 all_or_none f j false [] is = refl
 all_or_none f j true (x ∷ xs) is = rw (is x) (ap (λ l. f x ∷ l) (all_or_none f j true xs is))
 all_or_none f j false (x ∷ xs) is = rw (is x) (all_or_none f j false xs is)
+
+-- ---- lists of which each element is changed
+
+-- what a test finds, where it doesn't see the change
+pub find_changed : {X : Type 0} (p : X → Bool) (f : X → X) (xs : List X) → ((x : X) → p (f x) ≡ p x) → find p (map f xs) ≡ option_map f (find p xs)
+find_changed p f [] blind = refl
+find_changed {X} p f (x ∷ xs) blind = ap (λ b. cond b (Some (f x)) (find p (map f xs))) (blind x) ∙ by (p x) (find_changed p f xs blind)
+  where
+    by : (b : Bool) → find p (map f xs) ≡ option_map f (find p xs) → cond b (Some (f x)) (find p (map f xs)) ≡ option_map f (cond b (Some x) (find p xs))
+    by true later = refl
+    by false later = later
+
+-- what the changed ones have is what others have of the unchanged
+pub flat_changed : {X Y : Type 0} (g h : X → List Y) (f : X → X) (xs : List X) → ((x : X) → g (f x) ≡ h x) → flat_map g (map f xs) ≡ flat_map h xs
+flat_changed g h f [] same = refl
+flat_changed g h f (x ∷ xs) same = ap (λ l. l ++ flat_map g (map f xs)) (same x) ∙ ap (λ l. h x ++ l) (flat_changed g h f xs same)
+
+pub map_changed : {X Y : Type 0} (g h : X → Y) (f : X → X) (xs : List X) → ((x : X) → g (f x) ≡ h x) → map g (map f xs) ≡ map h xs
+map_changed g h f [] same = refl
+map_changed g h f (x ∷ xs) same = ap (λ y. y ∷ map g (map f xs)) (same x) ∙ ap (λ l. h x ∷ l) (map_changed g h f xs same)

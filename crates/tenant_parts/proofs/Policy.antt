@@ -2,7 +2,7 @@
 use Rattle.std.proofs.Common.{◌≡◌, ◌∙◌, ◌&&◌, ◌+◌, ℕ, zero, suc, Bool, true, false, not, cond, List, [], ◌∷◌, ◌++◌, filter, map, length, Option, Some, None, ap, sym, refl, subst, nat_lt}
 use Rattle.std.specs.Prelude.{All, IfSome, find, nat_eq, position, slice_get}
 use Rattle.std.specs.List.{filter_map, flat_map, cons_option}
-use Rattle.std.specs.Option.{option_map, option_and_then, option_map_or}
+use Rattle.std.specs.Option.{option_map, option_and_then, option_map_or, option_or}
 use Rattle.std.specs.Str.{bytes_eq}
 use Rattle.std.specs.Cmp.Lexicographic.{bytes_decides, pointwise}
 use Rattle.std.proofs.lemmas.Bool.{and_parts}
@@ -18,6 +18,10 @@ use Rattle.policy_doc.specs.declared.document.ImportDoc.{ImportDoc}
 use Rattle.policy_doc.specs.declared.document.NamedAccount.{NamedAccount}
 use Rattle.policy_doc.specs.declared.document.PolicyDoc.{PolicyDoc}
 use Rattle.policy_sets.specs.Sets.{Ends, IsClosed, ends_at, ends_in, ends_of}
+use Rattle.policy_doc.specs.declared.document.UserDoc.{UserDoc}
+use Rattle.account_mappings.specs.Drawing.{SourceMap}
+use Rattle.permission_doc.specs.declared.document.PermDoc.{PermDoc}
+use Rattle.permissions.specs.Lists.{lists_with}
 use Rattle.policy_ready.specs.Users.{is_same_user, user_in, users_in, users_of}
 use Rattle.policy_ready.specs.declared.ready.User.{User}
 use Rattle.imports.specs.Across.{across, crossed, crossing, crossings_in, first_by, last_by, source_of, target_of, way_by, way_of}
@@ -27,20 +31,33 @@ use Rattle.imports.specs.declared.view.ViewItem.{ViewItem}
 use Rattle.imports.specs.declared.view.ViewItem.TheVariants.{At, TooLong}
 use Rattle.imports.specs.declared.view.Way.TheVariants.{Own}
 use Rattle.service_rows.specs.Rows.{again_for, again_in, import_at, is_same_service, new_row, no_terms, terms_at, terms_by, terms_for}
-use Rattle.tenant_parts.specs.Laws.{AgainInPart, LoginsInPart, TermsInPart, UsersInPart, ViewsInPart, ViewsStay, IsViewWithin, IsWayWithin}
-use Rattle.tenant_parts.specs.Part.{part_of}
-use Rattle.tenant_parts.proofs.Lists.{all_or_none, find_if_kept, find_kept, flat_kept, given_kept}
+use Rattle.tenant_parts.specs.Laws.{AgainInPart, LoginsInPart, TermsInPart, UsersArePart, UsersInPart, ViewsInPart, ViewsStay, IsViewWithin, IsWayWithin}
+use Rattle.tenant_parts.specs.Part.{account_held, part_of, user_held}
+use Rattle.tenant_parts.proofs.Lists.{all_or_none, find_changed, find_if_kept, find_kept, flat_changed, flat_kept, given_kept, map_changed}
 
 -- ---- users
 
-users_kept : (K : Name → Bool) (accounts : List NamedAccount) → flat_map users_in (filter (λ (a : NamedAccount). K a.name) accounts) ≡ filter (λ (u : User). K u.account) (flat_map users_in accounts)
-users_kept K accounts =
-    flat_kept users_in (λ (a : NamedAccount). K a.name) (λ (u : User). K u.account) accounts
-    (λ (a : NamedAccount). all_or_none (user_in a.name) (λ (u : User). K u.account) (K a.name) a.account.users (λ u. refl))
+-- with the permissions that hold for it, a user is the same without default ones
+user_same : (default : Option PermDoc) (account : Name) (mappings : List SourceMap) (u : UserDoc) → user_in None account mappings (user_held default u) ≡ user_in default account mappings u
+user_same default account mappings u = ap (λ permissions. record { account = account; user = u.user; password = u.password; rules = lists_with permissions; mappings = mappings }) (by (option_or u.permissions default))
+  where
+    by : (o : Option PermDoc) → option_or o None ≡ o
+    by None = refl
+    by (Some p) = refl
+
+users_same : (default : Option PermDoc) (a : NamedAccount) → users_in None (account_held default a) ≡ users_in default a
+users_same default a = map_changed (user_in None a.name a.account.mappings) (user_in default a.name a.account.mappings) (user_held default) a.account.users (user_same default a.name a.account.mappings)
+
+-- the users of the part are those of the whole whose accounts are in the set
+pub users_kept : UsersArePart
+users_kept K doc =
+    flat_changed (users_in None) (users_in doc.default_permissions) (account_held doc.default_permissions) (filter (λ (a : NamedAccount). K a.name) doc.accounts) (users_same doc.default_permissions)
+    ∙ flat_kept (users_in doc.default_permissions) (λ (a : NamedAccount). K a.name) (λ (u : User). K u.account) doc.accounts
+    (λ (a : NamedAccount). all_or_none (user_in doc.default_permissions a.name a.account.mappings) (λ (u : User). K u.account) (K a.name) a.account.users (λ u. refl))
 
 pub users_in_part : UsersInPart
 users_in_part K doc v is =
-    ap (find (λ u. is_same_user u v)) (users_kept K doc.accounts)
+    ap (find (λ u. is_same_user u v)) (users_kept K doc)
     ∙ find_kept (λ u. is_same_user u v) (λ (u : User). K u.account) (users_of doc)
     (λ u same. ap K ((bytes_decides u.account v.account).0 (and_parts (pointwise nat_eq u.user v.user && pointwise nat_eq u.password v.password) (pointwise nat_eq u.account v.account) same).1) ∙ is)
 
@@ -48,7 +65,7 @@ pub logins_in_part : LoginsInPart
 logins_in_part K doc None password is = refl
 logins_in_part K doc (Some name) password is =
     let p : User → Bool = λ u. pointwise nat_eq u.user name && pointwise nat_eq u.password password in
-    ap (find p) (users_kept K doc.accounts) ∙ find_if_kept p (λ (u : User). K u.account) (users_of doc) is
+    ap (find p) (users_kept K doc) ∙ find_if_kept p (λ (u : User). K u.account) (users_of doc) is
 
 -- ---- import rows
 
@@ -67,7 +84,8 @@ rows_of_importer K importer index (i ∷ is) = by (K importer) refl (rows_of_imp
 
 rows_kept : (K : Name → Bool) (doc : PolicyDoc) → rows_of (part_of K doc) ≡ filter (λ (r : ImportRow). K r.row.importer) (rows_of doc)
 rows_kept K doc =
-    flat_kept rows_in (λ (a : NamedAccount). K a.name) (λ (r : ImportRow). K r.row.importer) doc.accounts
+    flat_changed rows_in rows_in (account_held doc.default_permissions) (filter (λ (a : NamedAccount). K a.name) doc.accounts) (λ a. refl)
+    ∙ flat_kept rows_in (λ (a : NamedAccount). K a.name) (λ (r : ImportRow). K r.row.importer) doc.accounts
     (λ (a : NamedAccount). rows_of_importer K a.name 0 a.account.imports)
 
 -- both ends of each row are in a closed set, or neither
@@ -193,11 +211,18 @@ views_stay K doc closed account s responses within =
 named : (name : Name) (a : NamedAccount) → has_name name a ≡ true → a.name ≡ name
 named name a has = same_from a.name name (sym (is_eq-slice_cmp a.name name) ∙ has)
 
-pub account_kept : (K : Name → Bool) (name : Name) (doc : PolicyDoc) → K name ≡ true → find (has_name name) (part_of K doc).accounts ≡ find (has_name name) doc.accounts
-account_kept K name doc is = find_kept (has_name name) (λ (a : NamedAccount). K a.name) doc.accounts (λ a has. ap K (named name a has) ∙ is)
+-- an account of the set is in the part, with the permissions that hold for its users
+pub account_kept : (K : Name → Bool) (name : Name) (doc : PolicyDoc) → K name ≡ true → find (has_name name) (part_of K doc).accounts ≡ option_map (account_held doc.default_permissions) (find (has_name name) doc.accounts)
+account_kept K name doc is =
+    find_changed (has_name name) (account_held doc.default_permissions) (filter (λ (a : NamedAccount). K a.name) doc.accounts) (λ a. refl)
+    ∙ ap (option_map (account_held doc.default_permissions)) (find_kept (has_name name) (λ (a : NamedAccount). K a.name) doc.accounts (λ a has. ap K (named name a has) ∙ is))
 
 pub import_kept : (K : Name → Bool) (doc : PolicyDoc) (importer : Name) (index : ℕ) → K importer ≡ true → import_at (part_of K doc) importer index ≡ import_at doc importer index
-import_kept K doc importer index is = ap (option_and_then (λ (a : NamedAccount). slice_get a.account.imports index)) (account_kept K importer doc is)
+import_kept K doc importer index is = ap (option_and_then (λ (a : NamedAccount). slice_get a.account.imports index)) (account_kept K importer doc is) ∙ by (find (has_name importer) doc.accounts)
+  where
+    by : (o : Option NamedAccount) → option_and_then (λ (a : NamedAccount). slice_get a.account.imports index) (option_map (account_held doc.default_permissions) o) ≡ option_and_then (λ (a : NamedAccount). slice_get a.account.imports index) o
+    by None = refl
+    by (Some a) = refl
 
 -- the exporter of an import is in a closed set exactly where its importer is
 abbrev IsFrom : (Name → Bool) → Name → ImportDoc → Type 0
@@ -230,7 +255,11 @@ terms_kept K doc closed importer index is =
   where
     by : (o : Option ImportDoc) → IfSome o (IsFrom K importer) → option_map_or (terms_for (part_of K doc) importer) o no_terms ≡ option_map_or (terms_for doc importer) o no_terms
     by None from = refl
-    by (Some i) from = ap (λ o. option_map_or (terms_by importer i) o no_terms) (account_kept K i.account doc (sym from ∙ is))
+    by (Some i) from = ap (λ o. option_map_or (terms_by importer i) o no_terms) (account_kept K i.account doc (sym from ∙ is)) ∙ on_account (find (has_name i.account) doc.accounts)
+      where
+        on_account : (a : Option NamedAccount) → option_map_or (terms_by importer i) (option_map (account_held doc.default_permissions) a) no_terms ≡ option_map_or (terms_by importer i) a no_terms
+        on_account None = refl
+        on_account (Some a) = refl
 
 pub terms_in_part : TermsInPart
 terms_in_part K doc closed row is = terms_kept K doc closed row.importer row.index is
@@ -244,7 +273,7 @@ again_in_part K old new closed row is =
     each i None = refl
     each i (Some index) = ap (λ terms. Some record { index = index; terms = terms }) (terms_kept K new closed row.importer index is)
 
-    found : (i : ImportDoc) (o : Option NamedAccount) → option_and_then (again_in (part_of K new) row.importer i) o ≡ option_and_then (again_in new row.importer i) o
+    found : (i : ImportDoc) (o : Option NamedAccount) → option_and_then (again_in (part_of K new) row.importer i) (option_map (account_held new.default_permissions) o) ≡ option_and_then (again_in new row.importer i) o
     found i None = refl
     found i (Some a) = each i (position (is_same_service i) a.account.imports)
 

@@ -1,11 +1,11 @@
 -- What a set of accounts meets goes by its own part of the policy and of the response routes alone.
-use Rattle.std.specs.Prelude.{◌≡◌, ℕ, Bool, true, List, Option, if◌then◌else◌, IfSome, All}
+use Rattle.std.specs.Prelude.{◌≡◌, ℕ, Bool, true, List, Option, filter, if◌then◌else◌, IfSome, All}
 use Rattle.subjects.specs.Subject.{Token}
 use Rattle.exports.specs.declared.document.Row.{Row}
 use Rattle.policy_doc.specs.Accounts.{Name}
 use Rattle.policy_doc.specs.declared.document.PolicyDoc.{PolicyDoc}
 use Rattle.policy_sets.specs.Sets.{IsClosed}
-use Rattle.policy_ready.specs.Users.{user_again, user_with_password}
+use Rattle.policy_ready.specs.Users.{user_again, user_with_password, users_of}
 use Rattle.policy_ready.specs.declared.ready.User.{User}
 use Rattle.imports.specs.Across.{views}
 use Rattle.imports.specs.declared.view.ViewItem.{ViewItem}
@@ -71,6 +71,11 @@ TermsInPart = (K : Name → Bool) (doc : PolicyDoc) → IsClosed doc K → (row 
 
 abbrev pub AgainInPart : Type 0
 AgainInPart = (K : Name → Bool) (old new : PolicyDoc) → IsClosed new K → (row : Row) → K row.importer ≡ true → again (part_of K old) (part_of K new) row ≡ again old new row
+
+-- the users of the part are those of the whole whose accounts are in the set, with the permissions and the mappings that hold for
+-- them
+abbrev pub UsersArePart : Type 0
+UsersArePart = (K : Name → Bool) (doc : PolicyDoc) → users_of (part_of K doc) ≡ filter (λ (u : User). K u.account) (users_of doc)
 
 -- a user of one of its accounts is found there again
 abbrev pub UsersInPart : Type 0

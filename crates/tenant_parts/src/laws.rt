@@ -1,6 +1,6 @@
 //! What holds of the definitions alone.
 ghost use Rattle.tenant_parts.specs.Least.{AgainByLeast, HasItself, LeastInPart};
-ghost use Rattle.tenant_parts.specs.Laws.{AgainInPart, HasInPart, KeepsInPart, LoginsInPart, OpensInPart, PrunesInPart, SpendsInPart, TermsInPart, UsersInPart, ViewsInPart, ViewsStay};
+ghost use Rattle.tenant_parts.specs.Laws.{AgainInPart, HasInPart, KeepsInPart, LoginsInPart, OpensInPart, PrunesInPart, SpendsInPart, TermsInPart, UsersArePart, UsersInPart, ViewsInPart, ViewsStay};
 
 /// Tells that the response routes of a set of exporters, and the last numbers that they gave, go by the routes that are opened and
 /// ended of these exporters alone, by the moment, and by the rows that another policy has again. What others open changes nothing.
@@ -19,6 +19,7 @@ pub fn policy_by_part()
     ensures stay { ViewsStay }
     ensures terms { TermsInPart }
     ensures again { AgainInPart }
+    ensures filtered { UsersArePart }
     ensures users { UsersInPart }
     ensures logins { LoginsInPart }
 {}

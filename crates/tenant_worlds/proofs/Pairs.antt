@@ -3,7 +3,7 @@ use Rattle.std.proofs.Common.{◌≡◌, ◌∙◌, ◌==◌, ◌≤◌, ◌&&�
 use Rattle.std.specs.Prelude.{All}
 use Rattle.std.proofs.lemmas.List.Elements.{All-head, All-tail, All-filter, All-map, All-weaker}
 use Rattle.events.specs.declared.answer.Item.{Item}
-use Rattle.events.specs.declared.answer.Item.TheVariants.{Entered, Full, RouteFull, MapTooLong}
+use Rattle.events.specs.declared.answer.Item.TheVariants.{Entered, Full, RouteFull, MapTooLong, Unmapped, MappedTooLong}
 use Rattle.world_subscriptions.specs.Limit.{counted, has_ended, has_entered, is_entry_for, unended}
 use Rattle.world_rows.specs.declared.subscription.Subscription.{Subscription}
 use Rattle.tenant_worlds.specs.Tenants.{Tenants, subscriptions_of, unnumbered}
@@ -154,6 +154,8 @@ module _ (t : Tenants) (m n : ℕ) where
       entry (Full conn sid) = refl
       entry (RouteFull row) = refl
       entry (MapTooLong row) = refl
+      entry Unmapped = refl
+      entry (MappedTooLong index) = refl
 
       entered : (is : List Item) → has_entered is (unnumbered s) ≡ has_entered is s
       entered [] = refl

@@ -21,8 +21,9 @@ use Rattle.exports.specs.declared.document.Row.{Row}
 use Rattle.imports.specs.Across.{across, crossed, crossing, crossings_in, source_of, target_of, views, way_by, way_of}
 use Rattle.imports.specs.Views.{first_of_each, is_at, is_route, is_same, rows_of}
 use Rattle.imports.specs.declared.rows.ImportRow.{ImportRow}
+use Rattle.events.specs.declared.answer.Item.TheVariants.{Unmapped as UnmappedItem, MappedTooLong}
 use Rattle.imports.specs.declared.view.ViewItem.{ViewItem}
-use Rattle.imports.specs.declared.view.ViewItem.TheVariants.{At, TooLong}
+use Rattle.imports.specs.declared.view.ViewItem.TheVariants.{At, TooLong as Uncrossed}
 use Rattle.imports.specs.declared.view.Way.{Way}
 use Rattle.imports.specs.declared.view.Way.TheVariants.{Own, Stream, Service, Response}
 use Rattle.service_subjects.specs.Names.{is_on}
@@ -38,7 +39,11 @@ use Rattle.world_deliveries.specs.declared.session.Session.{Session}
 use Rattle.world_routing.specs.World.{World}
 use Rattle.world_routing.specs.Granting.{counted_on, ended_on}
 use Rattle.world_routing.specs.Routing.{in_view, in_views, response_by, responses_on}
-use Rattle.world_routing.specs.Publishing.{published}
+use Rattle.account_mappings.specs.Drawing.{mapped_by}
+use Rattle.account_mappings.specs.declared.drawing.Mapped.{Mapped}
+use Rattle.account_mappings.specs.declared.drawing.Mapped.TheVariants.{Same, To, Unmapped, TooLong}
+use Rattle.world_receivers.specs.Standing.{under_subject}
+use Rattle.world_routing.specs.Publishing.{mapped_to, published, seen_as, seen_nowhere}
 use Rattle.tenant_parts.specs.Laws.{IsViewWithin}
 use Rattle.tenant_parts.specs.Least.{all_on_least, exporter_on_least, exporters_on_least, on_least}
 use Rattle.tenant_parts.specs.Part.{exporters_of}
@@ -64,10 +69,10 @@ plain_way (Response row) = Response (record { importer = row.importer; index = 0
 
 abbrev plain : ViewItem → ViewItem
 plain (At account s way) = At account s (plain_way way)
-plain (TooLong row) = TooLong row
+plain (Uncrossed row) = Uncrossed row
 
 plain_view : (zs : List Session) (w : World) (z : Session) (m : Message) (word : ℕ) (v : ViewItem) → ◌≡◌ {A = List Item × World} (in_view zs w z m word (plain v)) (in_view zs w z m word v)
-plain_view zs w z m word (TooLong row) = refl
+plain_view zs w z m word (Uncrossed row) = refl
 plain_view zs w z m word (At account s Own) = refl
 plain_view zs w z m word (At account s (Stream row)) = refl
 plain_view zs w z m word (At account s (Service row)) = refl
@@ -82,11 +87,11 @@ plain_views zs w z m word (v ∷ vs) =
 
 plain_at : (a : List ℕ) (s : List Token) (v : ViewItem) → is_at a s (plain v) ≡ is_at a s v
 plain_at a s (At b u way) = refl
-plain_at a s (TooLong row) = refl
+plain_at a s (Uncrossed row) = refl
 
 plain_same : (v u : ViewItem) → is_same (plain v) (plain u) ≡ is_same v u
 plain_same (At a s way) u = plain_at a s u
-plain_same (TooLong row) u = refl
+plain_same (Uncrossed row) u = refl
 
 plain_others : (v : ViewItem) (us : List ViewItem) → filter (λ u. not (is_same (plain v) u)) (map plain us) ≡ map plain (filter (λ u. not (is_same v u)) us)
 plain_others v [] = refl
@@ -110,7 +115,7 @@ plain_crossing account s r = by (bytes_eq (source_of r) account) (across r s)
     way kind.Stream row = refl
     way kind.Service row = refl
 
-    seen : (u : List Token) (b : Bool) → plain (cond b (TooLong r.row) (At (target_of r) u (way_of r))) ≡ cond b (TooLong r.row) (At (target_of r) u (way_of r))
+    seen : (u : List Token) (b : Bool) → plain (cond b (Uncrossed r.row) (At (target_of r) u (way_of r))) ≡ cond b (Uncrossed r.row) (At (target_of r) u (way_of r))
     seen u true = refl
     seen u false = ap (At (target_of r) u) (way r.kind r.row)
 
@@ -144,7 +149,7 @@ plain_all doc account s responses =
     ∙ plain_firsts (At account s Own ∷ (cs ++ responses))
 
 plain_within : (K : Name → Bool) (within : Bool) (v : ViewItem) → IsViewWithin K within v → IsViewWithin K within (plain v)
-plain_within K within (TooLong row) is = is
+plain_within K within (Uncrossed row) is = is
 plain_within K within (At account s Own) is = is
 plain_within K within (At account s (Stream row)) is = is
 plain_within K within (At account s (Service row)) is = is
@@ -211,12 +216,12 @@ module _ (t : Tenants) where
 
   -- ---- a publish
 
-  module _ (w p : World) (part : IsPartOf t w p) (apart : AreApart t w) (z : Session) (m : Message) (word : ℕ) where
+  module _ (w p : World) (part : IsPartOf t w p) (apart : AreApart t w) (z : Session) (asked : List Token) (m : Message) (word : ℕ) where
     abbrev account : Name
     account = z.user.account
 
     abbrev after_views : By → World → List Item × World → Outcome × World
-    after_views by x r = (Published by r.0, record r.1 { sessions = ended_on by z.conn m.subject r.1.sessions; routes = spent account m.subject r.1.routes })
+    after_views by x r = (Published by r.0, record r.1 { sessions = ended_on by z.conn asked r.1.sessions; routes = spent account m.subject r.1.routes })
 
     same_responses : t.accounts account ≡ true → map plain (responses_on p.routes account m.subject) ≡ map plain (responses_on w.routes account m.subject)
     same_responses is =
@@ -234,23 +239,20 @@ module _ (t : Tenants) where
         ∙ views_in_part t.accounts w.policy apart.closed account m.subject (map plain (responses_on w.routes account m.subject)) is
         ∙ plain_all w.policy account m.subject (responses_on w.routes account m.subject)
 
-    counting_own : (by : By) → t.connections z.conn ≡ true → IsPartOf t (record w { sessions = counted_on by z.conn m.subject w.sessions }) (record p { sessions = counted_on by z.conn m.subject p.sessions })
+    counting_own : (by : By) → t.connections z.conn ≡ true → IsPartOf t (record w { sessions = counted_on by z.conn asked w.sessions }) (record p { sessions = counted_on by z.conn asked p.sessions })
     counting_own by is = record {
       capacity = part.capacity;
       policy = part.policy;
       moment = part.moment;
-      sessions = ap (counted_on by z.conn m.subject) part.sessions ∙ sym (counted_own by z.conn m.subject w.sessions is);
+      sessions = ap (counted_on by z.conn asked) part.sessions ∙ sym (counted_own by z.conn asked w.sessions is);
       subscriptions = part.subscriptions;
       routes = part.routes;
     }
 
-    pub published_own : t.connections z.conn ≡ true → t.accounts account ≡ true → (v : Verdict) → IsAnsweredAlike t (published w z m word v) (published p z m word v)
-    published_own is of (DeniedBy i) = (refl, part)
-    published_own is of NoAllow = (refl, part)
-    published_own is of (NoQueueAllow i) = (refl, part)
-    published_own is of (Allowed by) =
-        let w0 : World = record w { sessions = counted_on by z.conn m.subject w.sessions } in
-        let p0 : World = record p { sessions = counted_on by z.conn m.subject p.sessions } in
+    seen_own : (by : By) → t.connections z.conn ≡ true → t.accounts account ≡ true → IsAnsweredAlike t (seen_as w z by asked m word) (seen_as p z by asked m word)
+    seen_own by is of =
+        let w0 : World = record w { sessions = counted_on by z.conn asked w.sessions } in
+        let p0 : World = record p { sessions = counted_on by z.conn asked p.sessions } in
         let vs : List ViewItem = views w.policy account m.subject (responses_on w.routes account m.subject) in
         let us : List ViewItem = views p.policy account m.subject (responses_on p.routes account m.subject) in
         let theirs : List Session = sessions_of t w.sessions in
@@ -261,14 +263,14 @@ module _ (t : Tenants) where
         let r : List Item × World = in_views w.sessions w0 z m word (map plain vs) in
         let one : ◌≡◌ {A = List Item × World} (in_views theirs p0 z m word (map plain vs)) (in_views p.sessions p0 z m word us) =
         ap (λ xs. in_views theirs p0 z m word xs) (sym (same_views of)) ∙ plain_views theirs p0 z m word us ∙ ap (λ zs. in_views zs p0 z m word us) (sym part.sessions) in
-        subst (λ x. IsAnsweredAlike t (after_views by w x) (published p z m word (Allowed by))) (plain_views w.sessions w0 z m word vs)
+        subst (λ x. IsAnsweredAlike t (after_views by w x) (seen_as p z by asked m word)) (plain_views w.sessions w0 z m word vs)
         (subst (λ x. IsAnsweredAlike t (after_views by w r) (after_views by p x)) one (
           ap (λ items. Published by items) seen.items,
           record {
             capacity = seen.part.capacity;
             policy = seen.part.policy;
             moment = seen.part.moment;
-            sessions = ap (ended_on by z.conn m.subject) seen.part.sessions ∙ sym (ended_own by z.conn m.subject r.1.sessions is);
+            sessions = ap (ended_on by z.conn asked) seen.part.sessions ∙ sym (ended_own by z.conn asked r.1.sessions is);
             subscriptions = seen.part.subscriptions;
             routes =
                 let q : List Item × World = in_views theirs p0 z m word (map plain vs) in
@@ -280,18 +282,15 @@ module _ (t : Tenants) where
           },
         ))
 
-    pub published_others : t.connections z.conn ≡ false → t.accounts account ≡ false → (v : Verdict) → IsPartOf t (published w z m word v).1 p
-    published_others out of (DeniedBy i) = part
-    published_others out of NoAllow = part
-    published_others out of (NoQueueAllow i) = part
-    published_others out of (Allowed by) =
-        let w0 : World = record w { sessions = counted_on by z.conn m.subject w.sessions } in
+    seen_others : (by : By) → t.connections z.conn ≡ false → t.accounts account ≡ false → IsPartOf t (seen_as w z by asked m word).1 p
+    seen_others by out of =
+        let w0 : World = record w { sessions = counted_on by z.conn asked w.sessions } in
         let vs : List ViewItem = views w.policy account m.subject (responses_on w.routes account m.subject) in
         let part0 : IsPartOf t w0 p = record {
           capacity = part.capacity;
           policy = part.policy;
           moment = part.moment;
-          sessions = part.sessions ∙ sym (counted_others by z.conn m.subject w.sessions out);
+          sessions = part.sessions ∙ sym (counted_others by z.conn asked w.sessions out);
           subscriptions = part.subscriptions;
           routes = part.routes;
         } in
@@ -302,7 +301,7 @@ module _ (t : Tenants) where
           capacity = stayed.part.capacity;
           policy = stayed.part.policy;
           moment = stayed.part.moment;
-          sessions = stayed.part.sessions ∙ sym (ended_others by z.conn m.subject r.1.sessions out);
+          sessions = stayed.part.sessions ∙ sym (ended_others by z.conn asked r.1.sessions out);
           subscriptions = stayed.part.subscriptions;
           routes =
               stayed.part.routes
@@ -310,3 +309,54 @@ module _ (t : Tenants) where
               ∙ spends t.accounts account m.subject (exporters_on_least r.1.policy r.1.routes)
               ∙ ap (λ b. cond b (spent account m.subject (exporters_of t.accounts (exporters_on_least r.1.policy r.1.routes))) (exporters_of t.accounts (exporters_on_least r.1.policy r.1.routes))) of);
         }
+
+  -- or it isn't sent on
+  module _ (w p : World) (part : IsPartOf t w p) (apart : AreApart t w) (z : Session) (m : Message) (word : ℕ) where
+    nowhere_own : (by : By) (item : Item) → t.connections z.conn ≡ true → IsAnsweredAlike t (seen_nowhere w z by m.subject item) (seen_nowhere p z by m.subject item)
+    nowhere_own by item is =
+        let counted : List Session = counted_on by z.conn m.subject w.sessions in (
+          refl,
+          record {
+            capacity = part.capacity;
+            policy = part.policy;
+            moment = part.moment;
+            sessions = ap (λ zs. ended_on by z.conn m.subject (counted_on by z.conn m.subject zs)) part.sessions
+                ∙ sym (ended_own by z.conn m.subject counted is ∙ ap (ended_on by z.conn m.subject) (counted_own by z.conn m.subject w.sessions is));
+            subscriptions = part.subscriptions;
+            routes = part.routes;
+          },
+        )
+
+    nowhere_others : (by : By) (item : Item) → t.connections z.conn ≡ false → IsPartOf t (seen_nowhere w z by m.subject item).1 p
+    nowhere_others by item out = record {
+      capacity = part.capacity;
+      policy = part.policy;
+      moment = part.moment;
+      sessions = part.sessions ∙ sym (ended_others by z.conn m.subject (counted_on by z.conn m.subject w.sessions) out ∙ counted_others by z.conn m.subject w.sessions out);
+      subscriptions = part.subscriptions;
+      routes = part.routes;
+    }
+
+    mapped_own : (by : By) (mapped : Mapped) → t.connections z.conn ≡ true → t.accounts z.user.account ≡ true → IsAnsweredAlike t (mapped_to w z by m word mapped) (mapped_to p z by m word mapped)
+    mapped_own by Same is of = seen_own w p part apart z m.subject m word by is of
+    mapped_own by (To s) is of = seen_own w p part apart z m.subject (under_subject s m) word by is of
+    mapped_own by Unmapped is of = nowhere_own by UnmappedItem is
+    mapped_own by (TooLong index) is of = nowhere_own by (MappedTooLong index) is
+
+    mapped_others : (by : By) (mapped : Mapped) → t.connections z.conn ≡ false → t.accounts z.user.account ≡ false → IsPartOf t (mapped_to w z by m word mapped).1 p
+    mapped_others by Same out of = seen_others w p part apart z m.subject m word by out of
+    mapped_others by (To s) out of = seen_others w p part apart z m.subject (under_subject s m) word by out of
+    mapped_others by Unmapped out of = nowhere_others by UnmappedItem out
+    mapped_others by (TooLong index) out of = nowhere_others by (MappedTooLong index) out
+
+    pub published_own : t.connections z.conn ≡ true → t.accounts z.user.account ≡ true → (v : Verdict) → IsAnsweredAlike t (published w z m word v) (published p z m word v)
+    published_own is of (DeniedBy i) = (refl, part)
+    published_own is of NoAllow = (refl, part)
+    published_own is of (NoQueueAllow i) = (refl, part)
+    published_own is of (Allowed by) = mapped_own by (mapped_by z.user.mappings m.subject word) is of
+
+    pub published_others : t.connections z.conn ≡ false → t.accounts z.user.account ≡ false → (v : Verdict) → IsPartOf t (published w z m word v).1 p
+    published_others out of (DeniedBy i) = part
+    published_others out of NoAllow = part
+    published_others out of (NoQueueAllow i) = part
+    published_others out of (Allowed by) = mapped_others by (mapped_by z.user.mappings m.subject word) out of

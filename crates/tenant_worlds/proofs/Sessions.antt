@@ -8,7 +8,7 @@ use Rattle.reply_grants.specs.declared.replies.Note.{Note}
 use Rattle.events.specs.declared.answer.Addressed.{Addressed}
 use Rattle.events.specs.declared.answer.Delivery.{Delivery}
 use Rattle.events.specs.declared.answer.Item.{Item}
-use Rattle.events.specs.declared.answer.Item.TheVariants.{Entered, Full, RouteFull, MapTooLong}
+use Rattle.events.specs.declared.answer.Item.TheVariants.{Entered, Full, RouteFull, MapTooLong, Unmapped, MappedTooLong}
 use Rattle.world_deliveries.specs.Sessions.{session_of, with_session}
 use Rattle.world_deliveries.specs.Delivered.{after_offer, delivered, has_room, item_of, noting, offered}
 use Rattle.world_deliveries.specs.declared.session.Session.{Session}
@@ -27,6 +27,8 @@ IsElsewhere t (Entered conn sid) = t.connections conn ≡ false
 IsElsewhere t (Full conn sid) = Unit {0}
 IsElsewhere t (RouteFull row) = Unit {0}
 IsElsewhere t (MapTooLong row) = Unit {0}
+IsElsewhere t Unmapped = Unit {0}
+IsElsewhere t (MappedTooLong index) = Unit {0}
 
 pub offered_conn : (d : Delivery) (what : Option Note) (now : ℕ) (z : Session) → (offered d what now z).conn ≡ z.conn
 offered_conn d what now z = by (nat_lt (length z.outbox.waiting) z.outbox.capacity)
@@ -111,6 +113,8 @@ module _ (t : Tenants) where
       by (Full conn sid) out = refl
       by (RouteFull row) out = refl
       by (MapTooLong row) out = refl
+      by Unmapped out = refl
+      by (MappedTooLong index) out = refl
 
   pub not_counted : (items : List Item) (s : Subscription) → t.connections s.conn ≡ true → All (IsElsewhere t) items → counted items s ≡ s
   not_counted items s is all = ap (λ b. cond (b && nat_lt s.received 18446744073709551615) (record s { received = s.received + 1 }) s) (not_entered items s is all)

@@ -15,8 +15,10 @@ use Rattle.policy_doc.specs.declared.document.PolicyDoc.{PolicyDoc}
 use Rattle.policy_ready.specs.Users.{is_same_user, user_with_password, users_of}
 use Rattle.policy_ready.specs.declared.ready.User.{User}
 use Rattle.imports.specs.Across.{views}
+use Rattle.events.specs.declared.answer.Item.TheVariants.{Unmapped as UnmappedItem, MappedTooLong}
+use Rattle.events.specs.declared.answer.Item.{Item}
 use Rattle.imports.specs.declared.view.ViewItem.{ViewItem}
-use Rattle.imports.specs.declared.view.ViewItem.TheVariants.{At, TooLong}
+use Rattle.imports.specs.declared.view.ViewItem.TheVariants.{At, TooLong as Uncrossed}
 use Rattle.imports.specs.declared.view.Way.TheVariants.{Own, Stream, Service, Response}
 use Rattle.service_exporter.specs.Limit.{is_full}
 use Rattle.service_routes.specs.Routes.{exporter_of, opened}
@@ -36,7 +38,11 @@ use Rattle.world_subscriptions.specs.Subscriptions.{has_all, stands, subscriptio
 use Rattle.world_routing.specs.World.{World}
 use Rattle.world_routing.specs.Granting.{counted_on, ended_on, verdict_on}
 use Rattle.world_routing.specs.Routing.{View, admitted, deliveries, in_view, in_views, is_nil, next_subject, requested, requested_by, responses_on, route_for, routed, view_of, view_with}
-use Rattle.world_routing.specs.Publishing.{in_session, published}
+use Rattle.account_mappings.specs.Drawing.{mapped_by}
+use Rattle.account_mappings.specs.declared.drawing.Mapped.{Mapped}
+use Rattle.account_mappings.specs.declared.drawing.Mapped.TheVariants.{Same, To, Unmapped, TooLong}
+use Rattle.world_receivers.specs.Standing.{under_subject}
+use Rattle.world_routing.specs.Publishing.{in_session, mapped_to, published, seen_as, seen_nowhere}
 use Rattle.world.specs.Transition.{closed, connected, in_new_session, moved, subscribed, taken, unsubscribed}
 use Rattle.tenant_worlds.specs.Tenants.{Tenants}
 use Rattle.tenant_worlds.specs.Alike.{IsOwnSession}
@@ -95,7 +101,7 @@ module _ (t : Tenants) where
             record { number = refl; sessions = λ all. delivered_all w.moment (deliveries zs w1 publisher v word) w.sessions all }
 
     view_stood : (w : World) (v : ViewItem) → HasStood t w (in_view zs w publisher m word v).1
-    view_stood w (TooLong row) = record { number = refl; sessions = λ all. all }
+    view_stood w (Uncrossed row) = record { number = refl; sessions = λ all. all }
     view_stood w (At account s Own) = routed_stood w (view_of account s m)
     view_stood w (At account s (Stream row)) = routed_stood w (view_of account s m)
     view_stood w (At account s (Service row)) = requested_stood w account s row m.reply
@@ -108,15 +114,28 @@ module _ (t : Tenants) where
         let rest : HasStood t (in_view zs w publisher m word v).1 (in_views zs (in_view zs w publisher m word v).1 publisher m word vs).1 = views_stood (in_view zs w publisher m word v).1 vs in
         record { number = rest.number ∙ first.number; sessions = λ all. rest.sessions (first.sessions all) }
 
+  seen_stood : (w : World) (z : Session) (by : By) (asked : List Token) (m : Message) (word : ℕ) → HasStood t w (seen_as w z by asked m word).1
+  seen_stood w z by asked m word =
+      let w0 : World = record w { sessions = counted_on by z.conn asked w.sessions } in
+      let vs : List ViewItem = views w.policy z.user.account m.subject (responses_on w.routes z.user.account m.subject) in
+      let after : HasStood t w0 (in_views w.sessions w0 z m word vs).1 = views_stood w.sessions z m word w0 vs in
+      record { number = after.number; sessions = λ all. ended_all by z.conn asked (in_views w.sessions w0 z m word vs).1.sessions (after.sessions (counted_all by z.conn asked w.sessions all)) }
+
+  nowhere_stood : (w : World) (z : Session) (by : By) (asked : List Token) (item : Item) → HasStood t w (seen_nowhere w z by asked item).1
+  nowhere_stood w z by asked item =
+      record { number = refl; sessions = λ all. ended_all by z.conn asked (counted_on by z.conn asked w.sessions) (counted_all by z.conn asked w.sessions all) }
+
+  mapped_stood : (w : World) (z : Session) (by : By) (m : Message) (word : ℕ) (mapped : Mapped) → HasStood t w (mapped_to w z by m word mapped).1
+  mapped_stood w z by m word Same = seen_stood w z by m.subject m word
+  mapped_stood w z by m word (To s) = seen_stood w z by m.subject (under_subject s m) word
+  mapped_stood w z by m word Unmapped = nowhere_stood w z by m.subject UnmappedItem
+  mapped_stood w z by m word (TooLong index) = nowhere_stood w z by m.subject (MappedTooLong index)
+
   published_stood : (w : World) (z : Session) (m : Message) (word : ℕ) (v : Verdict) → HasStood t w (published w z m word v).1
   published_stood w z m word (DeniedBy i) = record { number = refl; sessions = λ all. all }
   published_stood w z m word NoAllow = record { number = refl; sessions = λ all. all }
   published_stood w z m word (NoQueueAllow i) = record { number = refl; sessions = λ all. all }
-  published_stood w z m word (Allowed by) =
-      let w0 : World = record w { sessions = counted_on by z.conn m.subject w.sessions } in
-      let vs : List ViewItem = views w.policy z.user.account m.subject (responses_on w.routes z.user.account m.subject) in
-      let after : HasStood t w0 (in_views w.sessions w0 z m word vs).1 = views_stood w.sessions z m word w0 vs in
-      record { number = after.number; sessions = λ all. ended_all by z.conn m.subject (in_views w.sessions w0 z m word vs).1.sessions (after.sessions (counted_all by z.conn m.subject w.sessions all)) }
+  published_stood w z m word (Allowed by) = mapped_stood w z by m word (mapped_by z.user.mappings m.subject word)
 
   -- ---- each command
 

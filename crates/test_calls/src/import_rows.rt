@@ -3,6 +3,7 @@ use bytes::Bytes;
 use imports::{Rows, ViewItem, Way};
 use policy_doc::{
     AccountDoc, Accounts, ExportDoc, ImportDoc, Kind, Policy, PolicyDoc, ResponseTerms, Row,
+    Version,
 };
 use std::alloc::Global;
 use std::test::Fail;
@@ -51,6 +52,7 @@ fn account(alloc: Global, kind: Kind, imports: Vec<ImportDoc>) -> Option<Account
         users: Items::new(alloc),
         exports: Items::from_vec(exports),
         imports: Items::from_vec(imports),
+        mappings: Items::new(alloc),
     })
 }
 
@@ -82,7 +84,12 @@ fn rows(alloc: Global) -> Option<Rows> {
     accounts
         .insert(Bytes::from_static(b"C"), account(alloc, Kind::Stream, all)?)
         .ok()?;
-    let policy = Policy::check(alloc, PolicyDoc { accounts }).ok()?;
+    let doc = PolicyDoc {
+        accounts,
+        version: Version::One,
+        default_permissions: None,
+    };
+    let policy = Policy::check(alloc, doc).ok()?;
     Rows::of(alloc, &policy).ok()
 }
 

@@ -20,7 +20,7 @@ fn lists_give_verdicts(rt: HostRuntime) -> Result<(), Fail> {
     let foo = Subject::parse(rt.alloc(), b"foo.baz")?;
     let secret = Subject::parse(rt.alloc(), b"foo.bar")?;
     let bar = Subject::parse(rt.alloc(), b"bar")?;
-    let rules = Compiled::of(rt.alloc(), &user)?;
+    let rules = Compiled::of(rt.alloc(), &user, None)?;
     assert_eq!(rt; rules.publish(&foo.lend()), Verdict::Allowed(By::Index(0)));
     assert_eq!(rt; rules.publish(&secret.lend()), Verdict::DeniedBy(0));
     assert_eq!(rt; rules.publish(&bar.lend()), Verdict::NoAllow);

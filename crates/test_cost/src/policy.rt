@@ -7,10 +7,15 @@ use reload::prepare;
 use std::alloc::Global;
 
 /// The built-in policy; or one whose user may publish what so many entries allow, of which the last is `foo`; or one with
-/// imports.
+/// imports, or a mapping.
 pub fn policy_of(alloc: Global, scenario: Scenario) -> Result<Ready, CostFault> {
     if scenario.service {
         return prepare(alloc, serving().as_bytes())
+            .ok()
+            .ok_or(CostFault::NoMemory);
+    }
+    if scenario.mapped {
+        return prepare(alloc, mapping().as_bytes())
             .ok()
             .ok_or(CostFault::NoMemory);
     }
@@ -37,6 +42,11 @@ pub fn policy_of(alloc: Global, scenario: Scenario) -> Result<Ready, CostFault> 
 /// The text of a policy whose first account serves `foo` to the second. It has no clause, so that the prover knows nothing of it.
 fn serving() -> &'static str {
     "{\"accounts\":{\"A\":{\"users\":[{\"user\":\"demo\",\"password\":\"demo\"}],\"exports\":[{\"service\":\"foo\"}]},\"B\":{\"users\":[{\"user\":\"reader\",\"password\":\"demo\"}],\"imports\":[{\"service\":{\"account\":\"A\",\"subject\":\"foo\"}}]}}}"
+}
+
+/// The text of a policy whose account maps each message on `foo` to `foo`. It has no clause, so that the prover knows nothing of it.
+fn mapping() -> &'static str {
+    "{\"version\":2,\"accounts\":{\"A\":{\"users\":[{\"user\":\"demo\",\"password\":\"demo\"}],\"mappings\":{\"foo\":\"foo\"}}}}"
 }
 
 /// The texts before and behind a policy's list. It has no clause, so that the prover knows nothing of the texts.

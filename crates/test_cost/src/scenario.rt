@@ -19,6 +19,8 @@ pub struct Scenario {
     pub stream: bool,
     /// Import rows of another account that the messages don't cross.
     pub imports: u64,
+    /// Whether the publisher's account has a mapping that takes the messages.
+    pub mapped: bool,
     /// Whether the messages are requests across accounts, each with its response.
     pub service: bool,
     /// Whether those are made and not sent, so that what it takes to make them can be taken off.
@@ -41,6 +43,7 @@ const TO_ONE: Scenario = Scenario {
     turns: false,
     stream: false,
     imports: 0,
+    mapped: false,
     service: false,
     unsent: false,
     piece: PIECE,
@@ -108,6 +111,11 @@ const BESIDE_IMPORTS: Scenario = Scenario {
     ..TO_ONE
 };
 
+const MAPPED: Scenario = Scenario {
+    mapped: true,
+    ..TO_ONE
+};
+
 const ONE_AT_A_TIME: Scenario = Scenario { piece: 1, ..TO_ONE };
 
 const REQUESTS: Scenario = Scenario {
@@ -147,6 +155,7 @@ impl Scenario {
             "turns" => Some(TURNS),
             "stream" => Some(BY_A_STREAM),
             "imports" => Some(BESIDE_IMPORTS),
+            "mapped" => Some(MAPPED),
             "allows-turns" => Some(BY_ALLOWS_IN_TURN),
             "singly" => Some(ONE_AT_A_TIME),
             "requests" => Some(REQUESTS),

@@ -1,7 +1,7 @@
 use base::Items;
 use bytes::Bytes;
 use permission_doc::{Direction, PermDoc, PermEntry};
-use policy_doc::{AccountDoc, Accounts, Policy, PolicyDoc, UserDoc};
+use policy_doc::{AccountDoc, Accounts, Policy, PolicyDoc, UserDoc, Version};
 use policy_ready::Ready;
 use std::alloc::Global;
 use subjects::Pattern;
@@ -68,12 +68,18 @@ fn account(alloc: Global, users: Items<UserDoc>) -> AccountDoc {
         users,
         exports: Items::new(alloc),
         imports: Items::new(alloc),
+        mappings: Items::new(alloc),
     }
 }
 
 fn ready(alloc: Global, account: AccountDoc) -> Option<Ready> {
     let mut accounts = Accounts::new(alloc);
     accounts.insert(Bytes::from_static(b"A"), account).ok()?;
-    let policy = Policy::check(alloc, PolicyDoc { accounts }).ok()?;
+    let doc = PolicyDoc {
+        accounts,
+        version: Version::One,
+        default_permissions: None,
+    };
+    let policy = Policy::check(alloc, doc).ok()?;
     Ready::of(alloc, policy).ok()
 }

@@ -1,6 +1,6 @@
 -- What is kept stays current, and nothing else is found.
-use Rattle.std.proofs.Common.{◌≡◌, ◌∙◌, ◌<◌, ◌⊎◌, ◌&&◌, nat_eq, inl, inr, ℕ, Bool, true, false, List, Some, None, Result, Ok, Err, Contains, ap, sym, subst, refl, slice_index_or, arith}
-use Rattle.std.specs.Prelude.{All, OnOk, if◌then◌else◌}
+use Rattle.std.proofs.Common.{◌≡◌, ◌∙◌, ◌<◌, ◌⊎◌, ◌&&◌, nat_eq, inl, inr, ℕ, Bool, true, false, List, ◌∷◌, [], Some, None, Result, Ok, Err, Contains, ap, sym, subst, refl, slice_index_or, arith}
+use Rattle.std.specs.Prelude.{All, OnOk, if◌then◌else◌, slice_get}
 use Rattle.std.specs.Result.{is_err}
 use Rattle.std.specs.Cmp.{booleans_Decides}
 use Rattle.std.specs.Cmp.Lexicographic.{pointwise}
@@ -9,6 +9,7 @@ use Rattle.std.proofs.lemmas.Bool.{and_parts}
 use Rattle.std.proofs.lemmas.Slice.Eq.{bytes_eq-Decides}
 use Rattle.std.specs.Map.{lookup}
 use Rattle.std.proofs.lemmas.List.{get_or_default}
+use Rattle.std.proofs.lemmas.List.Elements.{All-head}
 use Rattle.lru.specs.LruCache.{LruCache, promoted, put_entries}
 use Rattle.lru.proofs.CallerLemmas.{Contains-lookup, Contains-promoted, Contains-put_entries}
 use Rattle.verdict_cache.specs.declared.asked.Asked.{Asked}
@@ -69,6 +70,18 @@ pub found : (verdict_of : Judgement) (epoch : ℕ) (test : Asked → Bool) (es :
 found verdict_of epoch test es asked known same current is now =
     let it = Contains-lookup test es known is in
     (one_of (IsCurrent verdict_of epoch) es (it.0, known) current it.1).same now ∙ ap verdict_of (sym (same it.0 it.2))
+
+-- what stands first is current, whatever stands behind it
+pub first_current : (verdict_of : Judgement) (epoch : ℕ) (es : List Entry) (key asked : Asked) (known : Known) → asked_of key ≡ asked_of asked → Some (key, known) ≡ slice_get es 0 →
+    All (IsCurrent verdict_of epoch) es → known.epoch ≡ epoch → known.verdict ≡ verdict_of (asked_of asked)
+first_current verdict_of epoch [] key asked known same is current now = absurd (cc)
+first_current verdict_of epoch (e ∷ es) key asked known same is current now =
+    let here : (key, known) ≡ e = cc in
+    let key_is : key ≡ e.0 = ap (λ (p : Entry). p.0) here in
+    let known_is : known ≡ e.1 = ap (λ (p : Entry). p.1) here in
+    ap (λ k. k.verdict) known_is
+    ∙ (All-head (IsCurrent verdict_of epoch) e es current).same (ap (λ k. k.epoch) (sym known_is) ∙ now)
+    ∙ ap verdict_of (ap asked_of (sym key_is) ∙ same)
 
 pub promoted_current : (verdict_of : Judgement) (epoch : ℕ) (test : Asked → Bool) (es : List Entry) → All (IsCurrent verdict_of epoch) es → All (IsCurrent verdict_of epoch) (promoted test es)
 promoted_current verdict_of epoch test es current =

@@ -1,12 +1,17 @@
 -- Verdicts that are kept for when they are asked again.
-use Rattle.std.specs.Prelude.{◌≡◌, ◌≤◌, ℕ, List, Option, Some, None, All, if◌then◌else◌}
+use Rattle.std.specs.Prelude.{◌≡◌, ◌≤◌, ℕ, List, Option, Some, None, All, IfSome, if◌then◌else◌}
 use Rattle.std.specs.Option.{option_copied}
+use Rattle.subjects.specs.Subject.{Token, IsSubject, text_of}
+use Rattle.permissions.specs.Lists.{Lists}
+use Rattle.permissions.specs.Verdicts.{publish_verdict}
 use Rattle.permissions.specs.declared.verdict.Verdict.{Verdict}
 use Rattle.verdict_cache.specs.declared.asked.Action.{Action}
+use Rattle.verdict_cache.specs.declared.asked.Action.TheVariants.{Publish}
 use Rattle.verdict_cache.specs.declared.asked.Asked.{Asked}
 use Rattle.verdict_cache.specs.declared.asked.Asking.{Asking}
 use Rattle.verdict_cache.specs.declared.cache.Known.{Known}
 use Rattle.verdict_cache.specs.declared.cache.VerdictCache.{VerdictCache}
+use Rattle.verdict_cache.specs.declared.verdicts.Verdicts.{Verdicts}
 
 -- what a verdict is on: a user's name, what its permissions are asked for, the text of a subject or a pattern, a queue's name or none
 pub record Question : Type 0 where
@@ -33,3 +38,17 @@ pub record IsCurrent (verdict_of : Judgement) (epoch : ℕ) (entry : Asked × Kn
 -- so is each that is kept
 abbrev pub AreCurrent : Judgement → ℕ → VerdictCache → Type 0
 AreCurrent verdict_of epoch cache = All (IsCurrent verdict_of epoch) cache.known.entries
+
+-- ---- the verdicts under the policy in force
+
+-- each verdict that is remembered under this policy is its question's
+abbrev pub AreKnown : Judgement → Verdicts → Type 0
+AreKnown verdict_of verdicts = IfSome verdicts.cache (AreCurrent verdict_of verdicts.epoch)
+
+-- the question of a user's publish
+abbrev pub publish_question : List ℕ → List Token → Question
+publish_question user subject = record { user = user; action = Publish; text = text_of subject; queue = None }
+
+-- the verdicts on a user's questions are those of these lists
+pub record Judges (verdict_of : Judgement) (user : List ℕ) (lists : Lists) : Type 0 where
+  pub publish : (subject : List Token) → IsSubject subject → verdict_of (publish_question user subject) ≡ publish_verdict lists subject

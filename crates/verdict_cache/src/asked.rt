@@ -4,9 +4,10 @@ ghost use Rattle.verdict_cache.specs.Verdicts.{asked_of, asked_by};
 
 use base::NoMemory;
 use std::alloc::Global;
+use std::hash::{Hash, Hasher};
 
 /// What a user's permissions are asked for.
-#[derive(Clone, Copy, Debug, PartialEq, Eq, Hash)]
+#[derive(Clone, Copy, Debug, PartialEq, Eq)]
 pub enum Action {
     /// A publish on a subject.
     Publish,
@@ -31,13 +32,30 @@ pub struct Asking<'a> {
 }
 
 /// The same with texts of its own.
-#[derive(Debug, PartialEq, Eq, Hash, Drop)]
+#[derive(Debug, PartialEq, Eq, Drop)]
 pub struct Asked {
     user: Vec<u8>,
     action: Action,
     text: Vec<u8>,
     queue: Vec<u8>,
     has_queue: bool,
+}
+
+// The texts tell questions apart well enough, and each further part that is hashed costs a hundred instructions.
+impl Hash for Asked {
+    ghost use Rattle.std.specs.Prelude.{[], ◌∷◌};
+    ghost use Rattle.std.specs.Cmp.Rules.{hashing};
+    ghost use Rattle.std.proofs.Common.{rules};
+
+    ghost hash_input = { λ a. a.user.items ∷ a.text.items ∷ a.queue.items ∷ [] };
+
+    ghost respects_eq = { Prim.search (hashing, rules) };
+
+    fn hash<H: Hasher>(&self, state: &mut H) {
+        state.write(self.user.as_slice());
+        state.write(self.text.as_slice());
+        state.write(self.queue.as_slice());
+    }
 }
 
 impl Asked {

@@ -54,7 +54,7 @@ fn most() -> NonZeroUsize {
 
 impl VerdictCache {
     ghost use Rattle.std.specs.Prelude.{◌≡◌, ◌<◌, ℕ, IfOk, IfSome};
-    ghost use Rattle.verdict_cache.specs.Verdicts.{AreCurrent, Judgement, asked_by};
+    ghost use Rattle.verdict_cache.specs.Verdicts.{AreCurrent, Judgement, asked_by, asked_of};
 
     /// Returns a cache without verdicts. Clients choose subjects, so they are hashed under keys that clients can't know.
     /// `NoMemory` where memory could not be had.
@@ -79,9 +79,28 @@ impl VerdictCache {
         if self.asked.set(asking).is_err() {
             return None;
         }
+        if let Some(known) = self.first() {
+            return known.verdict_in(epoch);
+        }
         match self.known.get(&self.asked) {
             Some(known) => known.verdict_in(epoch),
             None => None,
+        }
+    }
+
+    /// Returns the verdict that was used last, if its question is the one that is looked up. It is found without a hash.
+    fn first(&self) -> Option<&Known>
+        ensures { IfSome result (λ known. (verdict_of : Judgement) (epoch : ℕ) → AreCurrent verdict_of epoch self.now → known.now.epoch ≡ epoch → known.now.verdict ≡ verdict_of (asked_of self.now.asked)) }
+    {
+        match self.known.peek_mru() {
+            None => None,
+            Some((asked, known)) => {
+                if *asked == self.asked {
+                    Some(known)
+                } else {
+                    None
+                }
+            }
         }
     }
 

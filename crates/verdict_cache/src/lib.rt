@@ -3,6 +3,8 @@
 
 mod asked;
 mod cache;
+mod verdicts;
 
 pub use asked::{Action, Asking};
 pub use cache::VerdictCache;
+pub use verdicts::Verdicts;

@@ -20,7 +20,7 @@ use Rattle.world_subscriptions.specs.Subscriptions.{stands, has_all, subscriptio
 use Rattle.world_subscriptions.specs.Limit.{unended, limited}
 use Rattle.world_rows.specs.declared.subscription.Subscription.{Subscription}
 use Rattle.world_routing.specs.World.{World, advanced}
-pub use Rattle.world_routing.specs.Publishing.{published, in_session, published_by, IsRefusal}
+pub use Rattle.world_routing.specs.Publishing.{seen_as, seen_nowhere, sent_on, mapped_to, published, in_session, published_by, IsRefusal}
 use Rattle.world.specs.Reload.{reloaded, IsReasonedReload}
 
 -- a session with an empty outbox, where a user has that name and password

@@ -39,15 +39,15 @@ impl World {
         match change {
             Change::Nothing => Ok(()),
             Change::Open(session) => {
-                self.receivers.clear_cache();
+                self.caches.receivers.clear_cache();
                 self.sessions.push(session.into_inner())
             }
             Change::Stand(wanted) => {
-                self.receivers.clear_cache();
+                self.caches.receivers.clear_cache();
                 self.subscriptions.add(self.number + 1, wanted.into_inner())
             }
             Change::Limit { conn, sid, most } => {
-                self.receivers.clear_cache();
+                self.caches.receivers.clear_cache();
                 self.subscriptions.limit(conn, &sid, most);
                 Ok(())
             }
@@ -84,7 +84,7 @@ impl World {
         carry_publish(
             &mut self.sessions,
             &mut self.subscriptions,
-            &mut self.receivers,
+            &mut self.caches.receivers,
             deliveries,
             items_in(told),
             self.moment,
@@ -95,7 +95,7 @@ impl World {
     fn leave(&mut self, conn: u64)
         ensures { (told : Outcome) → self.new ≡ done self.old (change.Leave conn) told }
     {
-        self.receivers.clear_cache();
+        self.caches.receivers.clear_cache();
         self.sessions.remove(conn);
         self.subscriptions.remove(conn);
     }
@@ -108,7 +108,8 @@ impl World {
         ensures { (told : Outcome) → pruned_world self.new ≡ done (pruned_world self.old) (change.Install ready users lost) told }
     {
         // What is cached goes with the policy under which it was so.
-        self.receivers = Receivers::new(self.alloc, self.keys);
+        self.caches.receivers = Receivers::new(self.alloc, self.keys);
+        self.caches.verdicts.next_policy();
         remove_lost(&mut self.subscriptions, lost.as_slice());
         self.sessions.renew(&ready, users, self.moment);
         keep_routes(&mut self.routes, &self.ready, &ready, self.moment);

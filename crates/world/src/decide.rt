@@ -60,12 +60,14 @@ impl World {
     ghost use Rattle.world.specs.Transition.{moved, IsReasoned};
     ghost use Rattle.world.specs.Changes.{pruned_world, IsDecided};
     ghost use Rattle.world.specs.Reload.{AreEntitled};
+    ghost use Rattle.world_routing.specs.Remembered.{AreOfPolicy};
 
     /// Decides what a command comes to: its outcome, and what is to be done; or why it is refused. Nothing has changed
     /// yet.
     #[inline(always)]
     pub(crate) fn decide(&mut self, command: &Command) -> Result<Decided, HubRefusal>
         requires sound { AreEntitled self.old.sessions self.old.subscriptions }
+        requires users { AreOfPolicy self.old.policy self.old.sessions }
         ensures decided { IsDecided (pruned_world self.old) (moved (pruned_world self.old) command.now) result }
         ensures reason { IfOk result (λ d. IsReasoned self.old command.now d.outcome) }
         ensures same { self.new ≡ self.old }
@@ -188,6 +190,7 @@ impl World {
     /// Decides a PUB: a message to whom it is for, where the user's permissions allow it.
     #[inline(always)]
     fn publish(&mut self, conn: u64, message: &Message, word: u64) -> Result<Decided, HubRefusal>
+        requires users { AreOfPolicy self.old.policy self.old.sessions }
         ensures decided { IsDecided (pruned_world self.old) (moved (pruned_world self.old) (command.Pub conn message.now word)) result }
         ensures reason { IfOk result (λ d. IsReasoned self.old (command.Pub conn message.now word) d.outcome) }
         ensures same { self.new ≡ self.old }
@@ -201,7 +204,7 @@ impl World {
         match plan_publish(
             &mut self.sessions,
             &mut self.subscriptions,
-            &mut self.receivers,
+            &mut self.caches,
             &mut self.routes,
             &self.ready,
             publish,

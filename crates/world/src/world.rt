@@ -12,7 +12,7 @@ use std::alloc::Global;
 use std::hash::RandomState;
 use std::marker::Model;
 use world_leniency::{Lenient, LenientToAll, note_held};
-use world_receivers::Receivers;
+use world_routing::Caches;
 use world_sessions::Sessions;
 use world_subscriptions::Subscriptions;
 
@@ -29,7 +29,7 @@ pub struct World {
     pub(crate) number: u64,
     pub(crate) sessions: Sessions,
     pub(crate) subscriptions: Subscriptions,
-    pub(crate) receivers: Receivers,
+    pub(crate) caches: Caches,
     /// Routes that don't live any more may stand here. Nobody sees them.
     pub(crate) routes: Routes,
     /// The moment at which routes are seen: that of the last step. While a step is decided, the moment is its event's already, and a
@@ -42,6 +42,7 @@ impl Model for World {
     ghost use Rattle.imports.specs.Views.{rows_of};
     ghost use Rattle.service_routes.specs.Routes.{pruned};
     ghost use Rattle.world_receivers.specs.Cached.{IsCurrent};
+    ghost use Rattle.world_routing.specs.Remembered.{AreRemembered};
     ghost use Rattle.world_routing.specs.World as worlds;
 
     ghost Value = { worlds.World };
@@ -57,7 +58,7 @@ impl Model for World {
       number = w.number;
     } };
 
-    ghost invariant = { λ w. (1 ≤ w.capacity) × (w.routes_at ≤ w.moment) × IsCurrent (rows_of w.ready) w.sessions w.subscriptions w.receivers.cache };
+    ghost invariant = { λ w. (1 ≤ w.capacity) × (w.routes_at ≤ w.moment) × IsCurrent (rows_of w.ready) w.sessions w.subscriptions w.caches.receivers.cache × AreRemembered w.ready w.caches.verdicts };
 }
 
 impl World {
@@ -73,6 +74,7 @@ impl World {
     ghost use Rattle.world.specs.Changes.{at_moment, pruned_world, IsDecided};
     ghost use Rattle.world.specs.Holding.{IsAppliedIf, IsMovedIf};
     ghost use Rattle.world.specs.Reload.{AreEntitled};
+    ghost use Rattle.world_routing.specs.Remembered.{AreOfPolicy};
     ghost use Rattle.world.specs.Shown.{standing_of, waiting_of};
 
     /// Returns the tables over a policy, with nobody connected. `outbox` is how many deliveries may wait for a session.
@@ -101,7 +103,7 @@ impl World {
             number: 0,
             sessions: Sessions::new(alloc),
             subscriptions: Subscriptions::new(alloc, keys),
-            receivers: Receivers::new(alloc, keys),
+            caches: Caches::new(alloc, keys),
             routes: Routes::new(alloc),
             routes_at: 0,
         })
@@ -112,12 +114,14 @@ impl World {
     /// nothing: `SessionTaken` to a Connect of a connection with a session, `NoSession` to any other command of one
     /// without, `SessionLimit` to a Connect while 4,096 sessions stand, `NoMemory` where memory could not be had. No
     /// standing subscription may be one that its session's user may not have: so a reload judges only those of users
-    /// whose subscribe lists change.
+    /// whose subscribe lists change. Each session's user is whom the policy in force has under its name: so a verdict may be
+    /// remembered by the name.
     pub fn apply(&mut self, event: &Event) -> Result<(Answer, Answer), HubRefusal>
         requires fresh { (self.old.number == 18446744073709551615) ≡ false }
         requires epoch { self.old.epoch ≤ self.old.number + 1 }
         requires ids { All (λ (s : Subscription). s.id ≤ self.old.number) self.old.subscriptions }
         requires sound { AreEntitled self.old.sessions self.old.subscriptions }
+        requires users { AreOfPolicy self.old.policy self.old.sessions }
         ensures step { IsApplied self.old event.entry.now result self.new }
         ensures reason { IfOk result (λ both. IsReasoned self.old event.entry.now.what both.0.outcome) }
     {
@@ -144,6 +148,7 @@ impl World {
         requires epoch { self.old.epoch ≤ self.old.number + 1 }
         requires ids { All (λ (s : Subscription). s.id ≤ self.old.number) self.old.subscriptions }
         requires sound { AreEntitled self.old.sessions self.old.subscriptions }
+        requires users { AreOfPolicy self.old.policy self.old.sessions }
         requires none { held.old.items ≡ [] }
         ensures step { IsAppliedIf (T.terms lenient.now) self.old event.entry.now result held.new.items self.new }
         ensures reason { IfOk result (λ both. IsReasoned self.old event.entry.now.what both.0.outcome) }
@@ -186,6 +191,7 @@ impl World {
         requires epoch { self.old.epoch ≤ self.old.number + 1 }
         requires ids { All (λ (s : Subscription). s.id ≤ self.old.number) self.old.subscriptions }
         requires sound { AreEntitled self.old.sessions self.old.subscriptions }
+        requires users { AreOfPolicy self.old.policy self.old.sessions }
         requires none { held.old.items ≡ [] }
         ensures step { IsMovedIf (T.terms lenient.now) (pruned_world self.old) event.entry.now result held.new.items (pruned_world self.new) }
         ensures err { OnErr result (self.new ≡ self.old) }

@@ -3,7 +3,7 @@ use Rattle.std.proofs.Common.{◌≡◌, ◌∙◌, ◌++◌, ℕ, false, List, 
 use Rattle.std.specs.List.{list_any, cons_option}
 use Rattle.std.proofs.lemmas.List.{append-nil}
 use Rattle.events.specs.declared.answer.Item.{Item}
-use Rattle.events.specs.declared.answer.Item.TheVariants.{Entered, Full, RouteFull, MapTooLong}
+use Rattle.events.specs.declared.answer.Item.TheVariants.{Entered, Full, RouteFull, MapTooLong, Unmapped, MappedTooLong}
 use Rattle.world_deliveries.specs.Sessions.{session_of}
 use Rattle.world_deliveries.specs.declared.session.Session.{Session}
 use Rattle.world_leniency.specs.Held.{Terms, to_all, is_full, is_over, held_among}
@@ -17,6 +17,8 @@ none_held t zs (Entered conn sid ∷ items) free none =
 none_held t zs (Full conn sid ∷ items) free none = absurd (cc)
 none_held t zs (RouteFull row ∷ items) free none = none_held t zs items free none
 none_held t zs (MapTooLong row ∷ items) free none = none_held t zs items free none
+none_held t zs (Unmapped ∷ items) free none = none_held t zs items free none
+none_held t zs (MappedTooLong index ∷ items) free none = none_held t zs items free none
 
 none_of : (room : Option ℕ) → is_some room ≡ false → room ≡ None
 none_of None free = refl
@@ -35,3 +37,5 @@ none_holds zs (Entered conn sid ∷ items) = none_holds zs items
 none_holds zs (Full conn sid ∷ items) = none_holds zs items
 none_holds zs (RouteFull row ∷ items) = none_holds zs items
 none_holds zs (MapTooLong row ∷ items) = none_holds zs items
+none_holds zs (Unmapped ∷ items) = none_holds zs items
+none_holds zs (MappedTooLong index ∷ items) = none_holds zs items

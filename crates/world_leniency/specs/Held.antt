@@ -4,7 +4,7 @@ use Rattle.std.specs.List.{filter_map, sum_by}
 use Rattle.events.specs.Messages.{Message}
 use Rattle.events.specs.declared.answer.Delivery.{Delivery}
 use Rattle.events.specs.declared.answer.Item.{Item}
-use Rattle.events.specs.declared.answer.Item.TheVariants.{Entered, Full, RouteFull, MapTooLong}
+use Rattle.events.specs.declared.answer.Item.TheVariants.{Entered, Full, RouteFull, MapTooLong, Unmapped, MappedTooLong}
 use Rattle.world_deliveries.specs.Sessions.{session_of}
 use Rattle.world_deliveries.specs.declared.session.Session.{Session}
 
@@ -46,6 +46,8 @@ is_full (Entered conn sid) = false
 is_full (Full conn sid) = true
 is_full (RouteFull row) = false
 is_full (MapTooLong row) = false
+is_full Unmapped = false
+is_full (MappedTooLong index) = false
 
 -- whether nothing waits in an outbox: then no room comes by waiting
 abbrev pub has_nothing : Option Session → Bool
@@ -64,6 +66,8 @@ held_conn t zs (Entered conn sid) = if is_over t.room (session_of zs conn) then 
 held_conn t zs (Full conn sid) = if holds_back t.lets zs conn then Some conn else None
 held_conn t zs (RouteFull row) = None
 held_conn t zs (MapTooLong row) = None
+held_conn t zs Unmapped = None
+held_conn t zs (MappedTooLong index) = None
 
 -- the connections that hold back a message that is to meet these items, once for each item
 abbrev pub held_among : Terms → List Session → List Item → List ℕ

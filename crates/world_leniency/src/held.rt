@@ -66,6 +66,8 @@ fn note_if_held<T: Lenient>(
         }
         Item::RouteFull(_) => Ok(()),
         Item::MapTooLong(_) => Ok(()),
+        Item::Unmapped => Ok(()),
+        Item::MappedTooLong(_) => Ok(()),
     }
 }
 

@@ -3,7 +3,7 @@ use Rattle.std.proofs.Common.{◌≡◌, ◌∙◌, ℕ, Bool, true, false, cond
 use Rattle.events.specs.Messages.{Message}
 use Rattle.events.specs.declared.answer.Addressed.{Addressed}
 use Rattle.events.specs.declared.answer.Item.{Item}
-use Rattle.events.specs.declared.answer.Item.TheVariants.{Entered, Full, RouteFull, MapTooLong}
+use Rattle.events.specs.declared.answer.Item.TheVariants.{Entered, Full, RouteFull, MapTooLong, Unmapped, MappedTooLong}
 use Rattle.world_deliveries.specs.Sessions.{session_of, with_session}
 use Rattle.world_deliveries.specs.Delivered.{delivered, after_offer, item_of, has_room}
 use Rattle.world_deliveries.specs.Replying.{noted_for, answering, ending}
@@ -46,6 +46,8 @@ entered_append (a ∷ all) more (Entered conn sid ∷ items) later tell = ap (λ
 entered_append (a ∷ all) more (Full conn sid ∷ items) later tell = entered_append all more items later tell.1
 entered_append (a ∷ all) more (RouteFull row ∷ items) later tell = absurd tell.0
 entered_append (a ∷ all) more (MapTooLong row ∷ items) later tell = absurd tell.0
+entered_append (a ∷ all) more (Unmapped ∷ items) later tell = absurd tell.0
+entered_append (a ∷ all) more (MappedTooLong index ∷ items) later tell = absurd tell.0
 
 -- ids that are counted behind others
 pub in_turn_append : (ids more : List ℕ) (subs : List Subscription) → in_turn (ids ++ more) subs ≡ in_turn more (in_turn ids subs)
@@ -84,6 +86,8 @@ module _ (zs : List Session) where
   entered_noted (d ∷ ds) (Full conn sid ∷ items) = entered_noted ds items
   entered_noted (d ∷ ds) (RouteFull row ∷ items) = entered_noted (d ∷ ds) items
   entered_noted (d ∷ ds) (MapTooLong row ∷ items) = entered_noted (d ∷ ds) items
+  entered_noted (d ∷ ds) (Unmapped ∷ items) = entered_noted (d ∷ ds) items
+  entered_noted (d ∷ ds) (MappedTooLong index ∷ items) = entered_noted (d ∷ ds) items
 
   told_noted : (ds : List Addressed) (items : List Item) → TellEach (map (noted_for zs) ds) items → TellEach ds items
   told_noted [] [] t = t
@@ -93,6 +97,8 @@ module _ (zs : List Session) where
   told_noted (d ∷ ds) (Full conn sid ∷ items) t = (tt, told_noted ds items t.1)
   told_noted (d ∷ ds) (RouteFull row ∷ items) t = absurd t.0
   told_noted (d ∷ ds) (MapTooLong row ∷ items) t = absurd t.0
+  told_noted (d ∷ ds) (Unmapped ∷ items) t = absurd t.0
+  told_noted (d ∷ ds) (MappedTooLong index ∷ items) t = absurd t.0
 
 -- each of some that the deliveries of one message have entered for counts it
 pub counted_left : (zs : List Session) (m : Message) (p : Subscription → Bool) (items : List Item) (subs : List Subscription) → Apart subs → unended subs ≡ subs →

@@ -5,4 +5,6 @@ pub mod Views
 pub mod Together
 pub mod Seeing
 pub mod Requests
+pub mod Under
 pub mod Publishing
+pub mod Remembered

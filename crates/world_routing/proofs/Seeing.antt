@@ -79,13 +79,13 @@ pub others_one : (account : Name) (s : List Token) (r : Route) → others_with [
 others_one account s r = only_one account s (response_by r)
 
 -- what is addressed in it behind others
-pub response_addressed : (t : Tables) (p : Publication) (ds : List Addressed) (r : Route) →
-    (addressed_after t p (addressing ds []) (others_with [] (response_by r ∷ []) p.publisher.user.account p.message.subject)).deliveries
-    ≡ cond (is_same (At p.publisher.user.account p.message.subject Own) (response_by r)) ds
+pub response_addressed : (t : Tables) (p : Publication) (ds : List Addressed) (s : List Token) (r : Route) →
+    (addressed_after t p (addressing ds []) (others_with [] (response_by r ∷ []) p.publisher.user.account s)).deliveries
+    ≡ cond (is_same (At p.publisher.user.account s Own) (response_by r)) ds
     (ds ++ addressed_behind_in t.sessions t.subscriptions ds p.publisher (seen_with r.reply None p.message) p.word r.row.importer)
-response_addressed t p ds r =
-    ap (λ (vs : List ViewItem). (addressed_after t p (addressing ds []) vs).deliveries) (others_one p.publisher.user.account p.message.subject r)
-    ∙ here (is_same (At p.publisher.user.account p.message.subject Own) (response_by r))
+response_addressed t p ds s r =
+    ap (λ (vs : List ViewItem). (addressed_after t p (addressing ds []) vs).deliveries) (others_one p.publisher.user.account s r)
+    ∙ here (is_same (At p.publisher.user.account s Own) (response_by r))
   where
     here : (b : Bool) → (addressed_after t p (addressing ds []) (cond b [] (response_by r ∷ []))).deliveries
         ≡ cond b ds (ds ++ addressed_behind_in t.sessions t.subscriptions ds p.publisher (seen_with r.reply None p.message) p.word r.row.importer)

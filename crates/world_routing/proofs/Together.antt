@@ -9,7 +9,7 @@ use Rattle.exports.specs.declared.document.Row.{Row}
 use Rattle.events.specs.Messages.{Message}
 use Rattle.events.specs.declared.answer.Addressed.{Addressed}
 use Rattle.events.specs.declared.answer.Item.{Item}
-use Rattle.events.specs.declared.answer.Item.TheVariants.{Entered, Full, RouteFull, MapTooLong}
+use Rattle.events.specs.declared.answer.Item.TheVariants.{Entered, Full, RouteFull, MapTooLong, Unmapped, MappedTooLong}
 use Rattle.imports.specs.declared.rows.ImportRow.{ImportRow}
 use Rattle.imports.specs.declared.view.ViewItem.{ViewItem}
 use Rattle.imports.specs.declared.view.ViewItem.TheVariants.{At, TooLong}
@@ -100,6 +100,8 @@ of_append (Entered conn sid ∷ xs) ys = ap (λ (more : List Item). Entered conn
 of_append (Full conn sid ∷ xs) ys = ap (λ (more : List Item). Full conn sid ∷ more) (of_append xs ys)
 of_append (RouteFull row ∷ xs) ys = of_append xs ys
 of_append (MapTooLong row ∷ xs) ys = of_append xs ys
+of_append (Unmapped ∷ xs) ys = of_append xs ys
+of_append (MappedTooLong index ∷ xs) ys = of_append xs ys
 
 -- the rows that are reported count nothing
 pub entered_of : (all : List Addressed) (items : List Item) → entered_ids all (of_deliveries items) ≡ entered_ids all items
@@ -109,6 +111,8 @@ entered_of (a ∷ all) (Entered conn sid ∷ items) = ap (λ ids. a.id ∷ ids) 
 entered_of (a ∷ all) (Full conn sid ∷ items) = entered_of all items
 entered_of (a ∷ all) (RouteFull row ∷ items) = entered_of (a ∷ all) items
 entered_of (a ∷ all) (MapTooLong row ∷ items) = entered_of (a ∷ all) items
+entered_of (a ∷ all) (Unmapped ∷ items) = entered_of (a ∷ all) items
+entered_of (a ∷ all) (MappedTooLong index ∷ items) = entered_of (a ∷ all) items
 
 -- there is an item for each delivery
 length_met : (now : ℕ) (all : List Addressed) (zs : List Session) → length (delivered now all zs).1 ≡ length all

@@ -5,7 +5,7 @@ use Rattle.service_exporter.specs.Routes.{Exporter}
 use Rattle.service_routes.specs.Routes.{Name, Table, exporter_of, opened, room_for, same_name, spent}
 use Rattle.world_routing.specs.declared.changing.Opening.{Opening}
 use Rattle.world_routing.specs.declared.changing.RouteChange.{RouteChange}
-use Rattle.world_routing.specs.declared.changing.RouteChange.TheVariants.{Opened, Answered}
+use Rattle.world_routing.specs.declared.changing.RouteChange.TheVariants.{Opened, Answered, AnsweredUnder}
 
 -- routes are opened in turn
 abbrev pub opened_each : List Opening → List (Name × Exporter) → List (Name × Exporter)
@@ -16,6 +16,7 @@ opened_each (o ∷ os) all = opened_each os (opened o.exporter o.route all)
 abbrev pub changed_by : RouteChange → List (Name × Exporter) → List (Name × Exporter)
 changed_by (Opened os) all = opened_each os.items all
 changed_by (Answered exporter m) all = spent exporter m.subject all
+changed_by (AnsweredUnder exporter s) all = spent exporter s all
 
 -- each of them is noted at this moment
 abbrev pub IsNotedAt : ℕ → Opening → Type 0
@@ -24,6 +25,7 @@ IsNotedAt now o = o.route.noted ≡ now
 abbrev pub AreNoted : ℕ → RouteChange → Type 0
 AreNoted now (Opened os) = All (IsNotedAt now) os.items
 AreNoted now (Answered exporter m) = Unit {0}
+AreNoted now (AnsweredUnder exporter s) = Unit {0}
 
 -- how many of them are an exporter's
 abbrev pub count_of : Name → List Opening → ℕ

@@ -5,7 +5,7 @@ use Rattle.permissions.specs.declared.verdict.By.TheVariants.{All as AllowsAll, 
 use Rattle.events.specs.Messages.{Message}
 use Rattle.events.specs.declared.answer.Addressed.{Addressed}
 use Rattle.events.specs.declared.answer.Item.{Item}
-use Rattle.events.specs.declared.answer.Item.TheVariants.{Entered, Full, RouteFull, MapTooLong}
+use Rattle.events.specs.declared.answer.Item.TheVariants.{Entered, Full, RouteFull, MapTooLong, Unmapped, MappedTooLong}
 use Rattle.world_deliveries.specs.Sessions.{with_session}
 use Rattle.world_deliveries.specs.Delivered.{delivered}
 use Rattle.world_deliveries.specs.Replying.{answering, ending}
@@ -25,6 +25,8 @@ is_of_delivery (Entered conn sid) = true
 is_of_delivery (Full conn sid) = true
 is_of_delivery (RouteFull row) = false
 is_of_delivery (MapTooLong row) = false
+is_of_delivery Unmapped = false
+is_of_delivery (MappedTooLong index) = false
 
 abbrev pub of_deliveries : List Item → List Item
 of_deliveries items = filter is_of_delivery items

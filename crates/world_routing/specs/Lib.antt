@@ -4,4 +4,5 @@ pub mod Granting
 pub mod Handing
 pub mod Publishing
 pub mod Viewing
+pub mod Remembered
 pub mod Changing

@@ -1,42 +1,76 @@
 -- What a publish comes to (docs/GUARANTEE.md, "The step").
-use Rattle.std.specs.Prelude.{◌≡◌, ℕ, List, [], Option, Some, None, Result, Ok, Err}
+use Rattle.std.specs.Prelude.{⊤, false, ◌≡◌, ◌⊎◌, ◌∷◌, ℕ, List, [], Option, Some, None, Result, Ok, Err, map}
+use Rattle.subjects.specs.Subject.{Token}
+use Rattle.base.specs.declared.no_memory.NoMemory.{NoMemory}
+use Rattle.account_mappings.specs.Drawing.{mapped_by}
+use Rattle.account_mappings.specs.declared.drawing.Mapped.{Mapped}
+use Rattle.account_mappings.specs.declared.drawing.Mapped.TheVariants.{Same, To, Unmapped, TooLong}
 use Rattle.permissions.specs.declared.verdict.Verdict.{Verdict}
 use Rattle.permissions.specs.declared.verdict.Verdict.TheVariants.{Allowed, DeniedBy, NoAllow, NoQueueAllow}
 use Rattle.events.specs.Messages.{Message}
 use Rattle.permissions.specs.declared.verdict.By.{By}
 use Rattle.events.specs.declared.answer.Item.{Item}
+use Rattle.events.specs.declared.answer.Item.TheVariants.{Unmapped as UnmappedItem, MappedTooLong}
+use Rattle.events.specs.declared.answer.Addressed.{Addressed}
 use Rattle.events.specs.declared.answer.Outcome.{Outcome}
 use Rattle.events.specs.declared.answer.Outcome.TheVariants.{Denied, Published}
 use Rattle.events.specs.declared.refusal.HubRefusal.{HubRefusal}
-use Rattle.events.specs.declared.refusal.HubRefusal.TheVariants.{NoSession, NoMemory}
+use Rattle.events.specs.declared.refusal.HubRefusal.TheVariants as refusal
 use Rattle.world_deliveries.specs.Sessions.{session_of}
 use Rattle.world_deliveries.specs.declared.session.Session.{Session}
 use Rattle.world_routing.specs.World.{World}
 use Rattle.world_routing.specs.Granting.{verdict_on, counted_on, ended_on}
 use Rattle.imports.specs.Across.{views}
 use Rattle.service_routes.specs.Routes.{spent}
-use Rattle.world_routing.specs.Routing.{in_views, responses_on}
-use Rattle.world_routing.specs.Handing.{met, carried, of_deliveries}
+use Rattle.world_routing.specs.Routing.{in_views, responses_on, under_subject}
+use Rattle.world_routing.specs.Handing.{met, carried, is_of_delivery, of_deliveries}
 use Rattle.world_routing.specs.Changing.{changed_by, AreNoted}
 use Rattle.world_routing.specs.Viewing.{Tables, with_reports}
 use Rattle.world_routing.specs.declared.across.Told.{Told}
 use Rattle.world_routing.specs.declared.carrying.Deliveries.{Deliveries}
+use Rattle.world_routing.specs.declared.planning.Elsewhere.{Elsewhere}
+use Rattle.world_routing.specs.declared.planning.Elsewhere.TheVariants.{Under, Nowhere}
+use Rattle.world_routing.specs.declared.answered.Answered.{Answered}
+use Rattle.world_deliveries.specs.Delivered.{delivered}
+use Rattle.world_deliveries.specs.Replying.{noted_for}
 use Rattle.world_routing.specs.declared.planning.Plan.{Plan}
 use Rattle.world_routing.specs.declared.planning.Plan.TheVariants.{Refused, ToNobody, ToSome, OnRoutes}
 
--- the verdict first, then the message in each of its views to whom it is for there, who count it. What a grant has allowed is
--- counted on it. A response ends the route that it came by, where that is for a single one
+-- A message is sent on. Each of its views hands it to the subscriptions that it is for, and they count it. A grant counts the
+-- publish that it allowed. A response ends its route, where that is for a single one.
+abbrev pub seen_as : World → Session → By → List Token → Message → ℕ → Outcome × World
+seen_as w z by asked m word =
+    let after = in_views w.sessions (record w { sessions = counted_on by z.conn asked w.sessions }) z m word (views w.policy z.user.account m.subject (responses_on w.routes z.user.account m.subject)) in
+    (Published by after.0, record after.1 { sessions = ended_on by z.conn asked after.1.sessions; routes = spent z.user.account m.subject after.1.routes })
+
+-- one that isn't sent on has this single item; what a grant has allowed is counted on it
+abbrev pub seen_nowhere : World → Session → By → List Token → Item → Outcome × World
+seen_nowhere w z by asked item = (Published by (item ∷ []), record w { sessions = ended_on by z.conn asked (counted_on by z.conn asked w.sessions) })
+
+-- a message as its account's mappings send it on, if they do
+abbrev pub sent_on : Mapped → Message → Option Message
+sent_on Same m = Some m
+sent_on (To s) m = Some (under_subject s m)
+sent_on Unmapped m = None
+sent_on (TooLong index) m = None
+
+-- what comes of it, sent on or not
+abbrev pub mapped_to : World → Session → By → Message → ℕ → Mapped → Outcome × World
+mapped_to w z by m word Same = seen_as w z by m.subject m word
+mapped_to w z by m word (To s) = seen_as w z by m.subject (under_subject s m) word
+mapped_to w z by m word Unmapped = seen_nowhere w z by m.subject UnmappedItem
+mapped_to w z by m word (TooLong index) = seen_nowhere w z by m.subject (MappedTooLong index)
+
+-- the verdict first, which is on the subject that it is published on, as is the grant; then it is mapped, and seen
 abbrev pub published : World → Session → Message → ℕ → Verdict → Outcome × World
-published w z m word (Allowed by) =
-    let after = in_views w.sessions (record w { sessions = counted_on by z.conn m.subject w.sessions }) z m word (views w.policy z.user.account m.subject (responses_on w.routes z.user.account m.subject)) in
-    (Published by after.0, record after.1 { sessions = ended_on by z.conn m.subject after.1.sessions; routes = spent z.user.account m.subject after.1.routes })
+published w z m word (Allowed by) = mapped_to w z by m word (mapped_by z.user.mappings m.subject word)
 published w z m word (DeniedBy i) = (Denied (DeniedBy i), w)
 published w z m word NoAllow = (Denied NoAllow, w)
 published w z m word (NoQueueAllow i) = (Denied (NoQueueAllow i), w)
 
 -- a command of a connection with a session, or NoSession
 abbrev pub in_session : {W : Type 0} → Option Session → (Session → Outcome × W) → Result (Outcome × W) HubRefusal
-in_session None _ = Err NoSession
+in_session None _ = Err refusal.NoSession
 in_session (Some z) f = Ok (f z)
 
 -- what a connection's publish makes of the world, or why it is refused
@@ -46,7 +80,7 @@ published_by w conn m word =
 
 -- A refusal is the transition's, or want of memory where it refuses nothing.
 abbrev pub IsRefusal : {R : Type 0} → Result R HubRefusal → HubRefusal → Type 0
-IsRefusal (Ok _) r = r ≡ NoMemory
+IsRefusal (Ok _) r = r ≡ refusal.NoMemory
 IsRefusal (Err e) r = r ≡ e
 
 -- ---- the plan
@@ -70,3 +104,30 @@ IsPlanned w t (Ok (OnRoutes by items r)) =
     (t ≡ Ok (Published by items, record (carried w r.deliveries.answered r.deliveries.all items) { routes = changed_by r.routes w.routes }))
     × (of_deliveries items ≡ met w r.deliveries.all) × AreNoted w.moment r.routes
 IsPlanned w t (Err r) = IsRefusal t r
+
+-- What is planned for deliveries of a message that is allowed, by what is told between them: nobody, where there are none of either
+-- and it is no answer; or what they meet, each with what its session is to note.
+abbrev pub IsToldPlan : List Session → By → Option Answered → Option Told → List Addressed → Plan → Type 0
+IsToldPlan zs by answered told all plan =
+    ((plan ≡ ToNobody by) × (all ≡ []) × (told ≡ None) × (answered ≡ None))
+    ⊎ ((met : List Item) × ((n : ℕ) → met ≡ (delivered n (map (noted_for zs) all) zs).1) × IsPlanOf by met (record { all = map (noted_for zs) all; answered = answered }) told plan)
+
+-- ---- where a message goes that isn't seen under the subject that it is published on
+
+-- it is where its account's mappings send it, for which memory is wanted only by a subject
+abbrev pub IsElsewhere : Mapped → Result (Option Elsewhere) NoMemory → Type 0
+IsElsewhere Same answer = answer ≡ Ok None
+IsElsewhere (To s) (Ok found) = found ≡ Some (Under s)
+IsElsewhere (To s) (Err _) = ⊤
+IsElsewhere Unmapped answer = answer ≡ Ok (Some (Nowhere UnmappedItem))
+IsElsewhere (TooLong index) answer = answer ≡ Ok (Some (Nowhere (MappedTooLong index)))
+
+-- its item, where it goes nowhere, is of no delivery
+abbrev pub IsPlain : Elsewhere → Type 0
+IsPlain (Under s) = Unit {0}
+IsPlain (Nowhere item) = is_of_delivery item ≡ false
+
+-- a message that goes there
+abbrev pub diverted_to : World → Session → By → Message → ℕ → Elsewhere → Outcome × World
+diverted_to w z by m word (Under s) = seen_as w z by m.subject (under_subject s m) word
+diverted_to w z by m word (Nowhere item) = seen_nowhere w z by m.subject item

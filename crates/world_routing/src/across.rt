@@ -8,20 +8,20 @@ ghost use Rattle.service_exporter.specs.Routes.{Exporter};
 ghost use Rattle.service_routes.specs.Routes.{Name, pruned, spent};
 ghost use Rattle.world_deliveries.specs.Sessions.{session_of};
 ghost use Rattle.world_receivers.specs.Cached.{IsCurrent};
-ghost use Rattle.world_receivers.specs.Standing.{addressed_behind_in};
-ghost use Rattle.world_routing.specs.Changing.{opened_each, IsNotedAt};
+ghost use Rattle.world_receivers.specs.Standing.{addressed_behind_in, under_subject};
+ghost use Rattle.world_routing.specs.Changing.{changed_by, opened_each, AreNoted, IsNotedAt};
 ghost use Rattle.world_routing.specs.Routing.{response_by, responses_on};
 ghost use Rattle.world_routing.specs.Viewing.{addressed_after, addressing, others_in, others_with, publication, reports_after, reports_in, routes_after, seen_with, tables_at, AreNotedIn};
 
 use crate::changing::RouteChange;
-use crate::viewing::{Among, Found, Report, address_each, address_response};
-use base::{Alike, Boxed, NoMemory};
+use crate::viewing::{Among, Found, Report, address_each, address_plain, address_response};
+use base::{Alike, Boxed, Copying, NoMemory};
 use bytes::Bytes;
 use imports::Rows;
 use policy_ready::Ready;
 use service_routes::{Route, Routes};
 use std::alloc::Global;
-use subjects::SubjectRef;
+use subjects::{Subject, SubjectRef};
 use world_receivers::{Receivers, Sending};
 use world_sessions::Sessions;
 use world_subscriptions::Subscriptions;
@@ -81,21 +81,18 @@ fn address_across(
     among: Among<'_>,
     receivers: &mut Receivers,
     routes: &mut Routes,
+    subject: &SubjectRef<'_>,
 ) -> Result<Option<Boxed<Told>>, NoMemory>
-    ensures all { OnOk result (receivers.new.deliveries.items ≡ (addressed_after (tables_at among.entry.ready.now among.entry.now among.entry.sessions.now among.entry.subscriptions.now routes.old.exporters) (publication among.entry.sending.publisher.now among.entry.sending.message.now among.entry.sending.word) (addressing receivers.old.deliveries.items []) (others_in (rows_of among.entry.ready.now) among.entry.sending.publisher.now.user.account among.entry.sending.message.now.subject)).deliveries) }
-    ensures reports { IfOk result (λ told. reports_in told ≡ reports_after (tables_at among.entry.ready.now among.entry.now among.entry.sessions.now among.entry.subscriptions.now routes.old.exporters) (publication among.entry.sending.publisher.now among.entry.sending.message.now among.entry.sending.word) (addressing receivers.old.deliveries.items []) (others_in (rows_of among.entry.ready.now) among.entry.sending.publisher.now.user.account among.entry.sending.message.now.subject)) }
+    ensures all { OnOk result (receivers.new.deliveries.items ≡ (addressed_after (tables_at among.entry.ready.now among.entry.now among.entry.sessions.now among.entry.subscriptions.now routes.old.exporters) (publication among.entry.sending.publisher.now among.entry.sending.message.now among.entry.sending.word) (addressing receivers.old.deliveries.items []) (others_in (rows_of among.entry.ready.now) among.entry.sending.publisher.now.user.account subject.now)).deliveries) }
+    ensures reports { IfOk result (λ told. reports_in told ≡ reports_after (tables_at among.entry.ready.now among.entry.now among.entry.sessions.now among.entry.subscriptions.now routes.old.exporters) (publication among.entry.sending.publisher.now among.entry.sending.message.now among.entry.sending.word) (addressing receivers.old.deliveries.items []) (others_in (rows_of among.entry.ready.now) among.entry.sending.publisher.now.user.account subject.now)) }
     ensures opened { IfOk result (λ told. routes_after told (pruned among.entry.now routes.old.exporters)
-        ≡ opened_each (addressed_after (tables_at among.entry.ready.now among.entry.now among.entry.sessions.now among.entry.subscriptions.now routes.old.exporters) (publication among.entry.sending.publisher.now among.entry.sending.message.now among.entry.sending.word) (addressing receivers.old.deliveries.items []) (others_in (rows_of among.entry.ready.now) among.entry.sending.publisher.now.user.account among.entry.sending.message.now.subject)).openings (pruned among.entry.now routes.old.exporters)) }
+        ≡ opened_each (addressed_after (tables_at among.entry.ready.now among.entry.now among.entry.sessions.now among.entry.subscriptions.now routes.old.exporters) (publication among.entry.sending.publisher.now among.entry.sending.message.now among.entry.sending.word) (addressing receivers.old.deliveries.items []) (others_in (rows_of among.entry.ready.now) among.entry.sending.publisher.now.user.account subject.now)).openings (pruned among.entry.now routes.old.exporters)) }
     ensures noted { IfOk result (λ told. AreNotedIn among.entry.now told) }
     ensures cached { receivers.new.cache ≡ receivers.old.cache }
     ensures routes { routes.new.exporters ≡ routes.old.exporters }
 {
     let account = among.sending.publisher.user.account.as_slice();
-    let subject = among.sending.message.subject();
-    let others = among
-        .ready
-        .rows()
-        .crossings(among.alloc, account, &subject)?;
+    let others = among.ready.rows().crossings(among.alloc, account, subject)?;
     let mut found = nothing_found(among.alloc);
     let views = others.as_slice();
     address_each(among, receivers, routes, views, &mut found)?;
@@ -118,18 +115,42 @@ fn address_on_reply(
     ensures noted { IfOk result (λ told. AreNotedIn among.entry.now told) }
     ensures cached { receivers.new.cache ≡ receivers.old.cache }
 {
-    let exporter = &among.sending.publisher.user.account;
+    let answered = RouteChange::Answered {
+        exporter: among.sending.publisher.user.account.clone()?,
+        message: among.sending.message.again()?,
+    };
     let subject = among.sending.message.subject();
-    match routes.find_living(exporter, &subject, among.now) {
+    let told = address_answer(among, receivers, routes, &subject, answered)?;
+    Ok(told)
+}
+
+/// Appends the deliveries of a response that is sent on under a subject in the account that has asked, where the publisher's account
+/// has a living route of that subject; then `answered` is what becomes of routes. `NoMemory` where memory could not be had: then
+/// some may be appended.
+fn address_answer(
+    among: Among<'_>,
+    receivers: &mut Receivers,
+    routes: &Routes,
+    subject: &SubjectRef<'_>,
+    answered: RouteChange,
+) -> Result<Option<Boxed<Told>>, NoMemory>
+    requires ends { (all : List (Name × Exporter)) → changed_by answered all ≡ spent among.sending.publisher.now.user.account subject.now all }
+    requires noted { AreNoted among.now answered }
+    ensures all { OnOk result (receivers.new.deliveries.items ≡ (addressed_after (tables_at among.entry.ready.now among.entry.now among.entry.sessions.now among.entry.subscriptions.now routes.now.exporters) (publication among.entry.sending.publisher.now among.entry.sending.message.now among.entry.sending.word) (addressing receivers.old.deliveries.items []) (others_with [] (responses_on (pruned among.entry.now routes.now.exporters) among.entry.sending.publisher.now.user.account subject.now) among.entry.sending.publisher.now.user.account subject.now)).deliveries) }
+    ensures reports { IfOk result (λ told. reports_in told ≡ []) }
+    ensures spent { IfOk result (λ told. routes_after told (pruned among.entry.now routes.now.exporters)
+        ≡ spent among.entry.sending.publisher.now.user.account subject.now (pruned among.entry.now routes.now.exporters)) }
+    ensures noted { IfOk result (λ told. AreNotedIn among.entry.now told) }
+    ensures cached { receivers.new.cache ≡ receivers.old.cache }
+{
+    let exporter = &among.sending.publisher.user.account;
+    match routes.find_living(exporter, subject, among.now) {
         None => Ok(None),
         Some(route) => {
-            address_unless_own(among, receivers, route)?;
+            address_unless_own(among, receivers, route, subject)?;
             let told = Told {
                 reports: Vec::new(among.alloc),
-                routes: RouteChange::Answered {
-                    exporter: exporter.clone()?,
-                    message: among.sending.message.again()?,
-                },
+                routes: answered,
             };
             Ok(Some(Boxed::new(among.alloc, told)?))
         }
@@ -141,16 +162,16 @@ fn address_unless_own(
     among: Among<'_>,
     receivers: &mut Receivers,
     route: &Route,
+    subject: &SubjectRef<'_>,
 ) -> Result<(), NoMemory>
-    ensures all { OnOk result (receivers.new.deliveries.items ≡ (if is_same (At among.entry.sending.publisher.now.user.account among.entry.sending.message.now.subject Own) (response_by route.now)
+    ensures all { OnOk result (receivers.new.deliveries.items ≡ (if is_same (At among.entry.sending.publisher.now.user.account subject.now Own) (response_by route.now)
         then receivers.old.deliveries.items
         else receivers.old.deliveries.items ++ addressed_behind_in among.entry.sessions.now among.entry.subscriptions.now receivers.old.deliveries.items
         among.entry.sending.publisher.now (seen_with route.now.reply None among.entry.sending.message.now) among.entry.sending.word route.now.row.importer)) }
     ensures cached { receivers.new.cache ≡ receivers.old.cache }
 {
     let exporter = &among.sending.publisher.user.account;
-    let subject = among.sending.message.subject();
-    if is_own(exporter, &subject, route) {
+    if is_own(exporter, subject, route) {
         return Ok(());
     }
     address_response(among, receivers, route.requester(), route.reply())?;
@@ -247,13 +268,91 @@ pub(crate) fn address_all<'p>(
         sending,
         now,
     };
-    if is_route(&sending.message.subject()) {
+    let subject = sending.message.subject();
+    if is_route(&subject) {
         let told = address_on_reply(among, receivers, routes)?;
         return Ok(told);
     }
     if receivers.address_others(sending.message, sending.word)? {
         return Ok(None);
     }
-    let told = address_across(among, receivers, routes)?;
+    let told = address_across(among, receivers, routes, &subject)?;
+    Ok(told)
+}
+
+/// Addresses a message that its account's mappings send on under another subject, in all its views. These are the deliveries of the
+/// receivers. Returns what is told between them, and what becomes of routes. `NoMemory` where memory could not be had. Apart, since
+/// few messages are so.
+#[inline(never)]
+pub(crate) fn address_under<'p>(
+    sessions: &'p Sessions,
+    subscriptions: &'p Subscriptions,
+    receivers: &mut Receivers,
+    routes: &mut Routes,
+    publishing: Publishing<'p>,
+    subject: &Subject,
+) -> Result<Option<Boxed<Told>>, NoMemory>
+    ensures all { OnOk result (receivers.new.deliveries.items ≡ (addressed_after (tables_at publishing.entry.ready.now publishing.entry.now sessions.now subscriptions.now routes.old.exporters) (publication publishing.entry.sending.publisher.now (under_subject subject.now publishing.entry.sending.message.now) publishing.entry.sending.word) (addressing [] [])
+        (views publishing.entry.ready.now publishing.entry.sending.publisher.now.user.account subject.now
+        (responses_on (pruned publishing.entry.now routes.old.exporters) publishing.entry.sending.publisher.now.user.account subject.now))).deliveries) }
+    ensures reports { IfOk result (λ told. reports_in told ≡ reports_after (tables_at publishing.entry.ready.now publishing.entry.now sessions.now subscriptions.now routes.old.exporters) (publication publishing.entry.sending.publisher.now (under_subject subject.now publishing.entry.sending.message.now) publishing.entry.sending.word) (addressing [] [])
+        (views publishing.entry.ready.now publishing.entry.sending.publisher.now.user.account subject.now
+        (responses_on (pruned publishing.entry.now routes.old.exporters) publishing.entry.sending.publisher.now.user.account subject.now))) }
+    ensures changed { IfOk result (λ told. routes_after told (pruned publishing.entry.now routes.old.exporters)
+        ≡ spent publishing.entry.sending.publisher.now.user.account subject.now
+        (opened_each (addressed_after (tables_at publishing.entry.ready.now publishing.entry.now sessions.now subscriptions.now routes.old.exporters) (publication publishing.entry.sending.publisher.now (under_subject subject.now publishing.entry.sending.message.now) publishing.entry.sending.word) (addressing [] [])
+        (views publishing.entry.ready.now publishing.entry.sending.publisher.now.user.account subject.now
+        (responses_on (pruned publishing.entry.now routes.old.exporters) publishing.entry.sending.publisher.now.user.account subject.now))).openings (pruned publishing.entry.now routes.old.exporters))) }
+    ensures noted { IfOk result (λ told. AreNotedIn publishing.entry.now told) }
+    ensures cached { receivers.new.cache ≡ receivers.old.cache }
+    ensures routes { routes.new.exporters ≡ routes.old.exporters }
+{
+    let Publishing {
+        ready,
+        sending,
+        now,
+    } = publishing;
+    let among = Among {
+        alloc: receivers.allocator(),
+        sessions,
+        subscriptions,
+        ready,
+        sending,
+        now,
+    };
+    receivers.take_back(0);
+    address_plain(among, receivers, &sending.publisher.user.account, subject)?;
+    if is_own_alone(ready.rows(), routes) {
+        return Ok(None);
+    }
+    let seen = subject.lend();
+    if is_route(&seen) {
+        let told = address_answer_under(among, receivers, routes, subject)?;
+        return Ok(told);
+    }
+    let told = address_across(among, receivers, routes, &seen)?;
+    Ok(told)
+}
+
+/// Appends the deliveries of a response that is sent on under this subject, as `address_answer` does.
+fn address_answer_under(
+    among: Among<'_>,
+    receivers: &mut Receivers,
+    routes: &Routes,
+    subject: &Subject,
+) -> Result<Option<Boxed<Told>>, NoMemory>
+    ensures all { OnOk result (receivers.new.deliveries.items ≡ (addressed_after (tables_at among.entry.ready.now among.entry.now among.entry.sessions.now among.entry.subscriptions.now routes.now.exporters) (publication among.entry.sending.publisher.now among.entry.sending.message.now among.entry.sending.word) (addressing receivers.old.deliveries.items []) (others_with [] (responses_on (pruned among.entry.now routes.now.exporters) among.entry.sending.publisher.now.user.account subject.now) among.entry.sending.publisher.now.user.account subject.now)).deliveries) }
+    ensures reports { IfOk result (λ told. reports_in told ≡ []) }
+    ensures spent { IfOk result (λ told. routes_after told (pruned among.entry.now routes.now.exporters)
+        ≡ spent among.entry.sending.publisher.now.user.account subject.now (pruned among.entry.now routes.now.exporters)) }
+    ensures noted { IfOk result (λ told. AreNotedIn among.entry.now told) }
+    ensures cached { receivers.new.cache ≡ receivers.old.cache }
+{
+    let answered = RouteChange::AnsweredUnder {
+        exporter: among.sending.publisher.user.account.clone()?,
+        subject: subject.copy(among.alloc)?,
+    };
+    let seen = subject.lend();
+    let told = address_answer(among, receivers, routes, &seen, answered)?;
     Ok(told)
 }

@@ -8,6 +8,7 @@ use base::NoMemory;
 use bytes::Bytes;
 use events::Message;
 use service_routes::{Route, Routes};
+use subjects::Subject;
 
 /// A response route that is to be opened.
 #[derive(Drop)]
@@ -29,6 +30,13 @@ pub enum RouteChange {
         exporter: Bytes,
         /// The response.
         message: Message,
+    },
+    /// The same of a response that its account's mappings send on under another subject.
+    AnsweredUnder {
+        /// The account whose service has published it.
+        exporter: Bytes,
+        /// The subject under which it is sent on.
+        subject: Subject,
     },
 }
 
@@ -115,6 +123,10 @@ pub fn change_routes(routes: &mut Routes, change: RouteChange, now: u64) -> Resu
         }
         RouteChange::Answered { exporter, message } => {
             routes.spend(&exporter, &message.subject());
+            Ok(())
+        }
+        RouteChange::AnsweredUnder { exporter, subject } => {
+            routes.spend(&exporter, &subject.lend());
             Ok(())
         }
     }

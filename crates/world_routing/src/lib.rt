@@ -3,6 +3,7 @@
 
 mod across;
 mod answered;
+mod caches;
 mod carrying;
 mod changing;
 mod planning;
@@ -11,6 +12,7 @@ mod verdict;
 mod viewing;
 
 pub use answered::Answered;
+pub use caches::Caches;
 pub use carrying::{Deliveries, Routing, carry_publish};
 pub use changing::{Opening, RouteChange, change_routes};
 pub use planning::{Plan, Publish, plan_publish};

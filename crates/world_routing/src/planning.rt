@@ -1,5 +1,5 @@
 //! What a publish comes to, before anything changes.
-ghost use Rattle.std.specs.Prelude.{◌≡◌, All, IsTrue, IfOk, OnOk, IfSome, Some, [], None, ℕ, map};
+ghost use Rattle.std.specs.Prelude.{◌≡◌, All, false, IsTrue, IfOk, OnOk, IfSome, Some, [], None, ℕ, map};
 ghost use Rattle.permissions.specs.Verdicts.{publish_verdict, IsJustifiedPublish};
 ghost use Rattle.events.specs.declared.answer.Addressed.{Addressed as AddressedModel};
 ghost use Rattle.world_deliveries.specs.Sessions.{session_of};
@@ -7,23 +7,28 @@ ghost use Rattle.world_deliveries.specs.Delivered.{delivered};
 ghost use Rattle.world_deliveries.specs.Replying.{noted_for};
 ghost use Rattle.world_deliveries.specs.declared.session.Session.{Session as SessionModel};
 ghost use Rattle.world_receivers.specs.Cached.{IsCurrent};
+ghost use Rattle.world_routing.specs.Remembered.{AreOfPolicy, AreRemembered};
 ghost use Rattle.world_routing.specs.World.{World};
 ghost use Rattle.world_routing.specs.Viewing.{tables_at};
-ghost use Rattle.world_routing.specs.Publishing.{IsPlanned, IsPlanOf, published_by, tables_of};
+ghost use Rattle.account_mappings.specs.Drawing.{mapped_by};
+ghost use Rattle.world_routing.specs.Publishing.{IsElsewhere, IsPlain, IsPlanned, IsPlanOf, IsToldPlan, diverted_to, in_session, mapped_to, published_by, seen_as, tables_of};
 ghost use Rattle.imports.specs.Views.{rows_of};
 
-use crate::across::{Publishing, Told, address_all};
+use crate::across::{Publishing, Told, address_all, address_under};
 use crate::answered::{Answered, answered_by};
+use crate::caches::Caches;
 use crate::carrying::{Deliveries, Routing};
 use crate::verdict::on_publish;
 use crate::viewing::with_reports;
+use account_mappings::Mapped;
 use base::{Boxed, Items, NoMemory};
-use events::{Addressed, HubRefusal, Message, Met};
+use events::{Addressed, HubRefusal, Item, Message, Met};
 use permissions::{By, Verdict};
 use policy_ready::Ready;
 use service_routes::Routes;
 use std::alloc::Global;
 use std::hash::RandomState;
+use subjects::Subject;
 use world_receivers::{Receivers, Sending};
 use world_sessions::{Session, Sessions};
 use world_subscriptions::Subscriptions;
@@ -133,42 +138,121 @@ fn on_routes(
     Ok(Plan::OnRoutes(by, Met::from_vec(items), routing))
 }
 
-/// Returns what a publish comes to: the verdict of the user's permissions and grants, and where they allow it, the deliveries
-/// to those that the message is for in each of its views, with what each will meet. Nothing changes but what is cached, and all
-/// memory is taken that handing over needs. `NoSession` where the connection has no session, `NoMemory` where memory could not be
-/// had.
-#[inline(always)]
-pub fn plan_publish<'p>(
+/// Returns the plan of a publish that is allowed, by the deliveries of the receivers and by what is told between them. All memory is
+/// taken that handing over needs. `NoMemory` where it could not be had. `plan_publish` has its lines once more: a plan that is handed
+/// on costs each message 75 instructions.
+fn plan_told(
     sessions: &mut Sessions,
-    subscriptions: &mut Subscriptions,
+    receivers: &mut Receivers,
+    message: &Message,
+    by: By,
+    answered: Option<Answered>,
+    told: Option<Boxed<Told>>,
+) -> Result<Plan, NoMemory>
+    requires { message.now.reply ≡ None → All (λ (a : AddressedModel). a.delivery.message.reply ≡ None) receivers.old.deliveries.items }
+    ensures planned { IfOk result (λ plan. IsToldPlan sessions.old by answered told receivers.old.deliveries.items plan) }
+    ensures sessions { sessions.new ≡ sessions.old }
+    ensures cached { receivers.new.cache ≡ receivers.old.cache }
+{
+    if is_silent(receivers.deliveries(), &told, &answered) {
+        return Ok(Plan::ToNobody(by));
+    }
+    let mut all = receivers.take_deliveries();
+    let met = plan_all(sessions, receivers.keys(), message, &mut all)?;
+    let deliveries = Deliveries {
+        all: Items::from_vec(all),
+        answered,
+    };
+    let plan = plan_of(receivers.allocator(), by, met, deliveries, told)?;
+    Ok(plan)
+}
+
+/// Where a message goes that isn't seen under the subject that it is published on.
+#[derive(Drop)]
+enum Elsewhere {
+    /// Its account's mappings send it on under this subject.
+    Under(Subject),
+    /// They send it on nowhere: this is its item.
+    Nowhere(Item),
+}
+
+/// Returns whether a session's account may have mappings.
+#[inline(always)]
+fn is_mapped(session: &Session) -> bool
+    ensures { result ≡ false → session.now.user.mappings ≡ [] }
+{
+    match session.user.mappings.as_slice() {
+        [] => false,
+        _ => true,
+    }
+}
+
+/// Returns where its account's mappings send a message, if it isn't seen under the subject that it is published on.
+fn drawn_for(
+    alloc: Global,
+    publisher: &Session,
+    message: &Message,
+    word: u64,
+) -> Result<Option<Elsewhere>, NoMemory>
+    ensures { IsElsewhere (mapped_by publisher.now.user.mappings message.now.subject word) result }
+{
+    let mapped = publisher
+        .user
+        .mappings
+        .mapped(alloc, &message.subject(), word)?;
+    match mapped {
+        Mapped::Same => Ok(None),
+        Mapped::To(subject) => Ok(Some(Elsewhere::Under(subject))),
+        Mapped::Unmapped => Ok(Some(Elsewhere::Nowhere(Item::Unmapped))),
+        Mapped::TooLong(index) => Ok(Some(Elsewhere::Nowhere(Item::MappedTooLong(index)))),
+    }
+}
+
+/// A publish that is allowed and isn't seen under the subject that it is published on.
+#[derive(Drop)]
+struct Diverted<'p> {
+    publish: Publish<'p>,
+    /// By what it is allowed.
+    by: By,
+    elsewhere: Elsewhere,
+}
+
+/// Returns what such a publish comes to, as `plan_publish` does.
+fn plan_diverted<'p>(
+    sessions: &mut Sessions,
+    subscriptions: &Subscriptions,
     receivers: &mut Receivers,
     routes: &mut Routes,
     ready: &'p Ready,
-    publish: Publish<'p>,
+    diverted: Diverted<'p>,
 ) -> Result<Plan, HubRefusal>
-    requires cached { IsCurrent (rows_of ready.now) sessions.old subscriptions.old receivers.old.cache }
-    ensures planned { (w : World) → tables_of w ≡ tables_at ready.now publish.entry.now sessions.old subscriptions.old routes.old.exporters
-        → IsPlanned w (published_by w publish.entry.conn publish.entry.message.now publish.entry.word) result }
-    ensures reason { IfOk result (λ plan. IfSome (session_of sessions.old publish.entry.conn) (λ (z : SessionModel).
-        IsJustifiedPublish publish.entry.message.now.subject z.user.rules.publish (publish_verdict z.user.rules publish.entry.message.now.subject))) }
+    requires plain { IsPlain diverted.elsewhere }
+    ensures planned { (w : World) → tables_of w ≡ tables_at ready.now diverted.entry.publish.now sessions.old subscriptions.now routes.old.exporters
+        → IsPlanned w (in_session (session_of w.sessions diverted.entry.publish.conn) (λ z. diverted_to w z diverted.entry.by diverted.entry.publish.message.now diverted.entry.publish.word diverted.entry.elsewhere)) result }
     ensures sessions { sessions.new ≡ sessions.old }
-    ensures subscriptions { subscriptions.new ≡ subscriptions.old }
     ensures routes { routes.new.exporters ≡ routes.old.exporters }
-    ensures cached { IsCurrent (rows_of ready.now) sessions.new subscriptions.new receivers.new.cache }
+    ensures cached { receivers.new.cache ≡ receivers.old.cache }
 {
+    let Diverted {
+        publish,
+        by,
+        elsewhere,
+    } = diverted;
     subscriptions.known();
-    let (by, answered, told) = match sessions.find(publish.conn) {
+    let (answered, told) = match sessions.find(publish.conn) {
         None => return Err(HubRefusal::NoSession),
-        Some(session) => match on_publish(session, &publish.message.subject(), publish.now) {
-            Verdict::Allowed(by) => (
-                by,
-                answered_by(by, session.conn, publish.message)?,
-                address_all(
-                    sessions,
-                    subscriptions,
-                    receivers,
-                    routes,
-                    Publishing {
+        Some(session) => {
+            let answered = answered_by(by, session.conn, publish.message)?;
+            match elsewhere {
+                Elsewhere::Nowhere(item) => {
+                    return Ok(Plan::ToSome(
+                        by,
+                        Met::one(item),
+                        no_deliveries(receivers.allocator(), answered),
+                    ));
+                }
+                Elsewhere::Under(subject) => {
+                    let publishing = Publishing {
                         ready,
                         sending: Sending {
                             publisher: session,
@@ -176,14 +260,208 @@ pub fn plan_publish<'p>(
                             word: publish.word,
                         },
                         now: publish.now,
+                    };
+                    let told = address_under(
+                        sessions,
+                        subscriptions,
+                        receivers,
+                        routes,
+                        publishing,
+                        &subject,
+                    )?;
+                    (answered, told)
+                }
+            }
+        }
+    };
+    let plan = plan_told(sessions, receivers, publish.message, by, answered, told)?;
+    Ok(plan)
+}
+
+/// A publish that is allowed.
+#[derive(Clone, Copy)]
+struct Permitted<'p> {
+    publish: Publish<'p>,
+    /// By what it is allowed.
+    by: By,
+}
+
+/// Returns what a publish that is allowed comes to, if it is seen under the subject that it is published on.
+fn plan_own<'p>(
+    sessions: &mut Sessions,
+    subscriptions: &mut Subscriptions,
+    receivers: &mut Receivers,
+    routes: &mut Routes,
+    ready: &'p Ready,
+    permitted: Permitted<'p>,
+) -> Result<Plan, HubRefusal>
+    requires cached { IsCurrent (rows_of ready.now) sessions.old subscriptions.old receivers.old.cache }
+    ensures planned { (w : World) → tables_of w ≡ tables_at ready.now permitted.entry.publish.now sessions.old subscriptions.old routes.old.exporters
+        → IsPlanned w (in_session (session_of w.sessions permitted.entry.publish.conn) (λ z. seen_as w z permitted.entry.by permitted.entry.publish.message.now.subject permitted.entry.publish.message.now permitted.entry.publish.word)) result }
+    ensures sessions { sessions.new ≡ sessions.old }
+    ensures subscriptions { subscriptions.new ≡ subscriptions.old }
+    ensures routes { routes.new.exporters ≡ routes.old.exporters }
+    ensures cached { IsCurrent (rows_of ready.now) sessions.new subscriptions.new receivers.new.cache }
+{
+    let Permitted { publish, by } = permitted;
+    subscriptions.known();
+    let (answered, told) = match sessions.find(publish.conn) {
+        None => return Err(HubRefusal::NoSession),
+        Some(session) => (
+            answered_by(by, session.conn, publish.message)?,
+            address_all(
+                sessions,
+                subscriptions,
+                receivers,
+                routes,
+                Publishing {
+                    ready,
+                    sending: Sending {
+                        publisher: session,
+                        message: publish.message,
+                        word: publish.word,
                     },
-                )?,
-            ),
+                    now: publish.now,
+                },
+            )?,
+        ),
+    };
+    let plan = plan_told(sessions, receivers, publish.message, by, answered, told)?;
+    Ok(plan)
+}
+
+/// Returns what a publish that is allowed comes to, where the account has mappings. Apart, since few have some.
+#[inline(never)]
+fn plan_mapped<'p>(
+    sessions: &mut Sessions,
+    subscriptions: &mut Subscriptions,
+    receivers: &mut Receivers,
+    routes: &mut Routes,
+    ready: &'p Ready,
+    permitted: Permitted<'p>,
+) -> Result<Plan, HubRefusal>
+    requires cached { IsCurrent (rows_of ready.now) sessions.old subscriptions.old receivers.old.cache }
+    ensures planned { (w : World) → tables_of w ≡ tables_at ready.now permitted.entry.publish.now sessions.old subscriptions.old routes.old.exporters
+        → IsPlanned w (in_session (session_of w.sessions permitted.entry.publish.conn) (λ z. mapped_to w z permitted.entry.by permitted.entry.publish.message.now permitted.entry.publish.word (mapped_by z.user.mappings permitted.entry.publish.message.now.subject permitted.entry.publish.word))) result }
+    ensures sessions { sessions.new ≡ sessions.old }
+    ensures subscriptions { subscriptions.new ≡ subscriptions.old }
+    ensures routes { routes.new.exporters ≡ routes.old.exporters }
+    ensures cached { IsCurrent (rows_of ready.now) sessions.new subscriptions.new receivers.new.cache }
+{
+    let Permitted { publish, by } = permitted;
+    let elsewhere = match sessions.find(publish.conn) {
+        None => return Err(HubRefusal::NoSession),
+        Some(session) => drawn_for(
+            receivers.allocator(),
+            session,
+            publish.message,
+            publish.word,
+        )?,
+    };
+    match elsewhere {
+        None => {
+            let plan = plan_own(sessions, subscriptions, receivers, routes, ready, permitted)?;
+            Ok(plan)
+        }
+        Some(elsewhere) => {
+            let diverted = Diverted {
+                publish,
+                by,
+                elsewhere,
+            };
+            let plan = plan_diverted(sessions, subscriptions, receivers, routes, ready, diverted)?;
+            Ok(plan)
+        }
+    }
+}
+
+/// No deliveries, of a message that may be an answer.
+fn no_deliveries(alloc: Global, answered: Option<Answered>) -> Deliveries
+    ensures all { result.all ≡ [] }
+    ensures answered { result.answered ≡ answered }
+{
+    Deliveries {
+        all: Items::new(alloc),
+        answered,
+    }
+}
+
+/// Returns what a publish comes to: the verdict of the user's permissions and grants, and where they allow it, the deliveries
+/// to those that the message is for in each of its views, with what each will meet. Its account's mappings say under which subject it
+/// is seen, or that it isn't. Nothing changes but what is cached, and all memory is taken that handing over needs. `NoSession` where
+/// the connection has no session, `NoMemory` where memory could not be had.
+#[inline(always)]
+pub fn plan_publish<'p>(
+    sessions: &mut Sessions,
+    subscriptions: &mut Subscriptions,
+    caches: &mut Caches,
+    routes: &mut Routes,
+    ready: &'p Ready,
+    publish: Publish<'p>,
+) -> Result<Plan, HubRefusal>
+    requires users { AreOfPolicy ready.now sessions.old }
+    requires verdicts { AreRemembered ready.now caches.old.verdicts }
+    requires cached { IsCurrent (rows_of ready.now) sessions.old subscriptions.old caches.old.receivers.cache }
+    ensures planned { (w : World) → tables_of w ≡ tables_at ready.now publish.entry.now sessions.old subscriptions.old routes.old.exporters
+        → IsPlanned w (published_by w publish.entry.conn publish.entry.message.now publish.entry.word) result }
+    ensures reason { IfOk result (λ plan. IfSome (session_of sessions.old publish.entry.conn) (λ (z : SessionModel).
+        IsJustifiedPublish publish.entry.message.now.subject z.user.rules.publish (publish_verdict z.user.rules publish.entry.message.now.subject))) }
+    ensures sessions { sessions.new ≡ sessions.old }
+    ensures subscriptions { subscriptions.new ≡ subscriptions.old }
+    ensures routes { routes.new.exporters ≡ routes.old.exporters }
+    ensures verdicts { AreRemembered ready.now caches.new.verdicts }
+    ensures cached { IsCurrent (rows_of ready.now) sessions.new subscriptions.new caches.new.receivers.cache }
+{
+    subscriptions.known();
+    let (by, answered, told) = match sessions.find(publish.conn) {
+        None => return Err(HubRefusal::NoSession),
+        Some(session) => match on_publish(
+            &mut caches.verdicts,
+            ready,
+            session,
+            &publish.message.subject(),
+            publish.now,
+        ) {
+            Verdict::Allowed(by) => {
+                if is_mapped(session) {
+                    let permitted = Permitted { publish, by };
+                    let receivers = &mut caches.receivers;
+                    let plan = plan_mapped(
+                        sessions,
+                        subscriptions,
+                        receivers,
+                        routes,
+                        ready,
+                        permitted,
+                    )?;
+                    return Ok(plan);
+                }
+                (
+                    by,
+                    answered_by(by, session.conn, publish.message)?,
+                    address_all(
+                        sessions,
+                        subscriptions,
+                        &mut caches.receivers,
+                        routes,
+                        Publishing {
+                            ready,
+                            sending: Sending {
+                                publisher: session,
+                                message: publish.message,
+                                word: publish.word,
+                            },
+                            now: publish.now,
+                        },
+                    )?,
+                )
+            }
             Verdict::DeniedBy(index) => return Ok(Plan::Refused(Verdict::DeniedBy(index))),
             Verdict::NoAllow => return Ok(Plan::Refused(Verdict::NoAllow)),
             Verdict::NoQueueAllow(index) => return Ok(Plan::Refused(Verdict::NoQueueAllow(index))),
         },
     };
+    let receivers = &mut caches.receivers;
     if is_silent(receivers.deliveries(), &told, &answered) {
         return Ok(Plan::ToNobody(by));
     }

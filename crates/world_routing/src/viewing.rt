@@ -121,7 +121,7 @@ fn address_one(
 }
 
 /// Appends the deliveries of a message in an account, with the reply that was published.
-fn address_plain(
+pub(crate) fn address_plain(
     among: Among<'_>,
     receivers: &mut Receivers,
     account: &Bytes,
@@ -198,6 +198,8 @@ fn item_again(item: &Item) -> Result<Item, NoMemory>
         }),
         Item::RouteFull(row) => Ok(Item::RouteFull(row.again()?)),
         Item::MapTooLong(row) => Ok(Item::MapTooLong(row.again()?)),
+        Item::Unmapped => Ok(Item::Unmapped),
+        Item::MappedTooLong(index) => Ok(Item::MappedTooLong(*index)),
     }
 }
 

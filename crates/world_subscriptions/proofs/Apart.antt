@@ -11,7 +11,7 @@ use Rattle.events.specs.Messages.{Message}
 use Rattle.events.specs.declared.answer.Addressed.{Addressed}
 use Rattle.world_subscriptions.specs.Addressing.{addressed_to}
 use Rattle.events.specs.declared.answer.Item.{Item}
-use Rattle.events.specs.declared.answer.Item.TheVariants.{Entered, Full, RouteFull, MapTooLong}
+use Rattle.events.specs.declared.answer.Item.TheVariants.{Entered, Full, RouteFull, MapTooLong, Unmapped, MappedTooLong}
 use Rattle.world_subscriptions.specs.Counting.{in_turn, entered_ids, TellEach}
 use Rattle.world_subscriptions.specs.Kept.{NoneLike, Apart}
 use Rattle.world_subscriptions.specs.Changes.{only, bumped, capped}
@@ -94,6 +94,8 @@ no_id m s (r ∷ rs) (Entered conn sid ∷ items) none =
 no_id m s (r ∷ rs) (Full conn sid ∷ items) none = no_id m s rs items none.2
 no_id m s (r ∷ rs) (RouteFull row ∷ items) none = no_id m s (r ∷ rs) items none
 no_id m s (r ∷ rs) (MapTooLong row ∷ items) none = no_id m s (r ∷ rs) items none
+no_id m s (r ∷ rs) (Unmapped ∷ items) none = no_id m s (r ∷ rs) items none
+no_id m s (r ∷ rs) (MappedTooLong index ∷ items) none = no_id m s (r ∷ rs) items none
 
 pub ids_apart : (m : Message) (rs : List Subscription) (items : List Item) → Apart rs → AreApart (entered_ids (map (addressed_to m) rs) items)
 unfolding Apart
@@ -103,6 +105,8 @@ ids_apart m (r ∷ rs) (Entered conn sid ∷ items) apart = (no_id m r rs items 
 ids_apart m (r ∷ rs) (Full conn sid ∷ items) apart = ids_apart m rs items apart.1
 ids_apart m (r ∷ rs) (RouteFull row ∷ items) apart = ids_apart m (r ∷ rs) items apart
 ids_apart m (r ∷ rs) (MapTooLong row ∷ items) apart = ids_apart m (r ∷ rs) items apart
+ids_apart m (r ∷ rs) (Unmapped ∷ items) apart = ids_apart m (r ∷ rs) items apart
+ids_apart m (r ∷ rs) (MappedTooLong index ∷ items) apart = ids_apart m (r ∷ rs) items apart
 
 -- What items count is counted by the ids of those that they tell have entered, one after the other.
 pub counted_for : (m : Message) (p : Subscription → Bool) (all : List Addressed) (items : List Item) (subs : List Subscription) → Apart subs → unended subs ≡ subs →

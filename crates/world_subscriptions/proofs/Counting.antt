@@ -10,7 +10,7 @@ use Rattle.events.specs.Messages.{Message}
 use Rattle.events.specs.declared.answer.Addressed.{Addressed}
 use Rattle.world_subscriptions.specs.Addressing.{addressed_to}
 use Rattle.events.specs.declared.answer.Item.{Item}
-use Rattle.events.specs.declared.answer.Item.TheVariants.{Entered, Full, RouteFull, MapTooLong}
+use Rattle.events.specs.declared.answer.Item.TheVariants.{Entered, Full, RouteFull, MapTooLong, Unmapped, MappedTooLong}
 use Rattle.world_subscriptions.specs.Changes.{only, bumped}
 use Rattle.world_subscriptions.specs.Counting.{in_turn, entered_ids, TellEach, is_one_of, counted_by}
 use Rattle.std.proofs.lemmas.List.{map-id}
@@ -109,6 +109,8 @@ entered-is m s (r ∷ rs) (Entered conn sid ∷ items) tell names =
 entered-is m s (r ∷ rs) (Full conn sid ∷ items) tell names = entered-is m s rs items tell.1 names.1
 entered-is m s (r ∷ rs) (RouteFull row ∷ items) tell names = absurd tell.0
 entered-is m s (r ∷ rs) (MapTooLong row ∷ items) tell names = absurd tell.0
+entered-is m s (r ∷ rs) (Unmapped ∷ items) tell names = absurd tell.0
+entered-is m s (r ∷ rs) (MappedTooLong index ∷ items) tell names = absurd tell.0
 
 counted-is : (items : List Item) (ids : List ℕ) (s : Subscription) → has_entered items s ≡ is_one_of ids s → counted items s ≡ counted_by ids s
 counted-is items ids s e = ap (λ b. cond (b && nat_lt s.received 18446744073709551615) (record s { received = s.received + 1 }) s) e ∙ here (is_one_of ids s)

@@ -2,7 +2,7 @@
 use Rattle.std.specs.Prelude.{◌≡◌, ◌==◌, ◌∷◌, ℕ, List, [], Bool, map, if◌then◌else◌}
 use Rattle.std.specs.List.{list_any}
 use Rattle.events.specs.declared.answer.Item.{Item}
-use Rattle.events.specs.declared.answer.Item.TheVariants.{Entered, Full, RouteFull, MapTooLong}
+use Rattle.events.specs.declared.answer.Item.TheVariants.{Entered, Full, RouteFull, MapTooLong, Unmapped, MappedTooLong}
 use Rattle.world_subscriptions.specs.Limit.{unended}
 use Rattle.world_subscriptions.specs.Changes.{only, bumped}
 use Rattle.world_rows.specs.declared.subscription.Subscription.{Subscription}
@@ -22,6 +22,8 @@ entered_ids (a ∷ all) (Entered conn sid ∷ items) = a.id ∷ entered_ids all 
 entered_ids (a ∷ all) (Full conn sid ∷ items) = entered_ids all items
 entered_ids (a ∷ all) (RouteFull row ∷ items) = entered_ids (a ∷ all) items
 entered_ids (a ∷ all) (MapTooLong row ∷ items) = entered_ids (a ∷ all) items
+entered_ids (a ∷ all) (Unmapped ∷ items) = entered_ids (a ∷ all) items
+entered_ids (a ∷ all) (MappedTooLong index ∷ items) = entered_ids (a ∷ all) items
 
 -- where an item tells that a message has entered, it has the connection and the sid of the delivery
 abbrev pub Tells : Addressed → Item → Type 0
@@ -29,6 +31,8 @@ Tells a (Entered conn sid) = (conn ≡ a.conn) × (sid ≡ a.delivery.sid)
 Tells a (Full conn sid) = Unit {0}
 Tells a (RouteFull row) = ⊥
 Tells a (MapTooLong row) = ⊥
+Tells a Unmapped = ⊥
+Tells a (MappedTooLong index) = ⊥
 
 -- each item tells of the delivery in its place, and there is one for each
 abbrev pub TellEach : List Addressed → List Item → Type 0

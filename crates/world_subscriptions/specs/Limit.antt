@@ -5,7 +5,7 @@ use Rattle.std.specs.List.{list_any}
 use Rattle.world_rows.specs.declared.subscription.Subscription.{Subscription}
 use Rattle.world_subscriptions.specs.Subscriptions.{is_under}
 use Rattle.events.specs.declared.answer.Item.{Item}
-use Rattle.events.specs.declared.answer.Item.TheVariants.{Entered, Full, RouteFull, MapTooLong}
+use Rattle.events.specs.declared.answer.Item.TheVariants.{Entered, Full, RouteFull, MapTooLong, Unmapped, MappedTooLong}
 pub use Rattle.world_rows.specs.Limit.{is_reached, has_ended, limit_of}
 
 -- those that have not ended
@@ -18,6 +18,8 @@ is_entry_for sub (Entered conn sid) = is_under conn sid sub
 is_entry_for sub (Full conn sid) = false
 is_entry_for sub (RouteFull row) = false
 is_entry_for sub (MapTooLong row) = false
+is_entry_for sub Unmapped = false
+is_entry_for sub (MappedTooLong index) = false
 
 abbrev pub has_entered : List Item → Subscription → Bool
 has_entered items sub = list_any (is_entry_for sub) items

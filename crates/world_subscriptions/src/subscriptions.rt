@@ -244,6 +244,8 @@ impl Subscriptions {
                 Item::Full { .. } => next + 1,
                 Item::RouteFull(_) => next,
                 Item::MapTooLong(_) => next,
+                Item::Unmapped => next,
+                Item::MappedTooLong(_) => next,
             },
         }
     }

@@ -5,4 +5,4 @@ use Rattle.account_config.specs.Policy.{accounts_from}
 use Rattle.account_config.proofs.account.each_account.Given as goal
 
 abbrev pub invariant-loop-key : goal.invariant-loop-key
-invariant-loop-key l = accounts_from l.accounts l.path (members_view l.key-iterator) ≡ accounts_from [] l.path (members_view l.members.entries)
+invariant-loop-key l = accounts_from l.version l.accounts l.path (members_view l.key-iterator) ≡ accounts_from l.version [] l.path (members_view l.members.entries)

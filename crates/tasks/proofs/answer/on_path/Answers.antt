@@ -1,4 +1,4 @@
--- the text's fault, or where the message is seen
+-- the text's fault, or where the message is sent on and seen
 use Rattle.std.proofs.Common.{Err, refl, subst}
 use Rattle.std.specs.Prelude.{string_bytes}
 use Rattle.explain.specs.Fault.{Answers}
@@ -13,9 +13,9 @@ returns-in_err-subject c =
     handed_on (path_answer c.args.question.now c.args.policy.now) _ (of_parsing c.in_err-subject.field-0.0) c.from_residual.ensures.1
     (no_subject _ (string_bytes c.args.question.now.subject) c.in_err-subject.field-0.0 (path_shown c.args.question.now c.args.policy.now) c.as_bytes.ensures.value c.in_err-subject.ensures.tokens)
 
-pub returns-in_err-views : goal.returns-in_err-views
-returns-in_err-views c =
+pub returns-in_err-shares : goal.returns-in_err-shares
+returns-in_err-shares c =
     let asked = with_subject _ (string_bytes c.args.question.now.subject) c.in_ok-subject.subject (path_shown c.args.question.now c.args.policy.now) c.as_bytes.ensures.value c.in_ok-subject.ensures.tokens in
-    let found = subst (λ who. Answers explaining.NoSuchAccount (path_of c.args.policy.now who c.in_ok-subject.subject) (Err c.in_err-views.field-0.0)) c.as_bytes-2.ensures.value c.in_err-views.ensures in
-    handed_on (path_answer c.args.question.now c.args.policy.now) _ (of_explaining c.in_err-views.field-0.0) c.from_residual-in_err-views.ensures.1
-    (rw asked (unknown explaining.NoSuchAccount shown (path_of c.args.policy.now (string_bytes c.args.question.now.who) c.in_ok-subject.subject) c.in_err-views.field-0.0 refl found))
+    let found = subst (λ who. Answers explaining.NoSuchAccount (path_of c.args.policy.now who c.in_ok-subject.subject) (Err c.in_err-shares.field-0.0)) c.as_bytes-2.ensures.value c.in_err-shares.ensures in
+    handed_on (path_answer c.args.question.now c.args.policy.now) _ (of_explaining c.in_err-shares.field-0.0) c.from_residual-in_err-shares.ensures.1
+    (rw asked (unknown explaining.NoSuchAccount shown (path_of c.args.policy.now (string_bytes c.args.question.now.who) c.in_ok-subject.subject) c.in_err-shares.field-0.0 refl found))

@@ -1,4 +1,4 @@
-use Rattle.tenant_parts.proofs.Policy.{views_in_part, views_stay, terms_in_part, again_in_part, users_in_part, logins_in_part}
+use Rattle.tenant_parts.proofs.Policy.{views_in_part, views_stay, terms_in_part, again_in_part, users_in_part, users_kept, logins_in_part}
 use Rattle.tenant_parts.proofs.laws.policy_by_part.Goals as goal
 
 pub returns-clause-views : goal.returns-clause-views
@@ -12,6 +12,9 @@ returns-clause-terms c = terms_in_part
 
 pub returns-clause-again : goal.returns-clause-again
 returns-clause-again c = again_in_part
+
+pub returns-clause-filtered : goal.returns-clause-filtered
+returns-clause-filtered c = users_kept
 
 pub returns-clause-users : goal.returns-clause-users
 returns-clause-users c = users_in_part

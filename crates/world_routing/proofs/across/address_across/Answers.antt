@@ -29,9 +29,8 @@ returns-clause-all c =
     ∙ ap by_openings c.nothing_found-found.ensures.openings
     ∙ ap by_views
     (c.as_slice-views.ensures.value ∙ tail_of c.in_ok-others.ensures
-    ∙ ap (λ (rows : List ImportRow). others_in rows c.as_slice-account.result.now c.subject-subject.result) c.rows.ensures
-    ∙ ap (λ (a : List ℕ). others_in (rows_of doc) a c.subject-subject.result) c.as_slice-account.ensures
-    ∙ ap (λ (s : List Token). others_in (rows_of doc) account s) c.subject-subject.ensures))
+    ∙ ap (λ (rows : List ImportRow). others_in rows c.as_slice-account.result.now c.args.subject.now) c.rows.ensures
+    ∙ ap (λ (a : List ℕ). others_in (rows_of doc) a c.args.subject.now) c.as_slice-account.ensures))
 
 pub returns-clause-reports : goal.returns-clause-reports
 returns-clause-reports c =
@@ -47,9 +46,8 @@ returns-clause-reports c =
     ∙ ap by_openings c.nothing_found-found.ensures.openings
     ∙ ap by_views
     (c.as_slice-views.ensures.value ∙ tail_of c.in_ok-others.ensures
-    ∙ ap (λ (rows : List ImportRow). others_in rows c.as_slice-account.result.now c.subject-subject.result) c.rows.ensures
-    ∙ ap (λ (a : List ℕ). others_in (rows_of doc) a c.subject-subject.result) c.as_slice-account.ensures
-    ∙ ap (λ (s : List Token). others_in (rows_of doc) account s) c.subject-subject.ensures)
+    ∙ ap (λ (rows : List ImportRow). others_in rows c.as_slice-account.result.now c.args.subject.now) c.rows.ensures
+    ∙ ap (λ (a : List ℕ). others_in (rows_of doc) a c.args.subject.now) c.as_slice-account.ensures)
 
 pub returns-clause-opened : goal.returns-clause-opened
 returns-clause-opened c =
@@ -66,9 +64,8 @@ returns-clause-opened c =
     ∙ ap by_openings c.nothing_found-found.ensures.openings
     ∙ ap by_views
     (c.as_slice-views.ensures.value ∙ tail_of c.in_ok-others.ensures
-    ∙ ap (λ (rows : List ImportRow). others_in rows c.as_slice-account.result.now c.subject-subject.result) c.rows.ensures
-    ∙ ap (λ (a : List ℕ). others_in (rows_of doc) a c.subject-subject.result) c.as_slice-account.ensures
-    ∙ ap (λ (s : List Token). others_in (rows_of doc) account s) c.subject-subject.ensures))
+    ∙ ap (λ (rows : List ImportRow). others_in rows c.as_slice-account.result.now c.args.subject.now) c.rows.ensures
+    ∙ ap (λ (a : List ℕ). others_in (rows_of doc) a c.args.subject.now) c.as_slice-account.ensures))
 
 pub returns-clause-noted : goal.returns-clause-noted
 returns-clause-noted c = c.in_ok-told.ensures.noted c.args.among.now c.in_ok-address_each.ensures.noted

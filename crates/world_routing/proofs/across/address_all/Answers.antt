@@ -114,7 +114,7 @@ returns-then-branch-clause-all c =
     let responses : List ViewItem = responses_on seen account s in
     let by_views : List ViewItem → Addressing = λ vs. addressed_after t p (addressing ds []) vs in
     let by_before : List Addressed → Addressing = λ before. addressed_after t p (addressing before []) (others_in (rows_of doc) account s) in
-    let other : is_route s ≡ false = sym (c.is_route.ensures ∙ ap is_route c.subject.ensures) ∙ c.if-is_route.false in
+    let other : is_route s ≡ false = sym (c.is_route.ensures ∙ ap is_route c.subject-subject.ensures) ∙ c.if-is_route.false in
     let others : others_with (rows_of doc) responses account s ≡ others_in (rows_of doc) account s =
     ap (λ (rs : List ViewItem). others_with (rows_of doc) rs account s) (no_response_elsewhere seen account s other) in
     let knows = subst (λ (rows : List ImportRow). KnowsOthers c.address.new.self.cache.others rows zs subs z s) c.rows.ensures c.in_ok-address.ensures.others in
@@ -141,7 +141,7 @@ returns-then-branch-clause-reports c =
     let responses : List ViewItem = responses_on seen account s in
     let by_views : List ViewItem → Addressing = λ vs. addressed_after t p (addressing ds []) vs in
     let by_before : List Addressed → Addressing = λ before. addressed_after t p (addressing before []) (others_in (rows_of doc) account s) in
-    let other : is_route s ≡ false = sym (c.is_route.ensures ∙ ap is_route c.subject.ensures) ∙ c.if-is_route.false in
+    let other : is_route s ≡ false = sym (c.is_route.ensures ∙ ap is_route c.subject-subject.ensures) ∙ c.if-is_route.false in
     let others : others_with (rows_of doc) responses account s ≡ others_in (rows_of doc) account s =
     ap (λ (rs : List ViewItem). others_with (rows_of doc) rs account s) (no_response_elsewhere seen account s other) in
     let knows = subst (λ (rows : List ImportRow). KnowsOthers c.address.new.self.cache.others rows zs subs z s) c.rows.ensures c.in_ok-address.ensures.others in
@@ -170,7 +170,7 @@ returns-then-branch-clause-changed c =
     let responses : List ViewItem = responses_on seen account s in
     let by_views : List ViewItem → Addressing = λ vs. addressed_after t p (addressing ds []) vs in
     let by_before : List Addressed → Addressing = λ before. addressed_after t p (addressing before []) (others_in (rows_of doc) account s) in
-    let other : is_route s ≡ false = sym (c.is_route.ensures ∙ ap is_route c.subject.ensures) ∙ c.if-is_route.false in
+    let other : is_route s ≡ false = sym (c.is_route.ensures ∙ ap is_route c.subject-subject.ensures) ∙ c.if-is_route.false in
     let others : others_with (rows_of doc) responses account s ≡ others_in (rows_of doc) account s =
     ap (λ (rs : List ViewItem). others_with (rows_of doc) rs account s) (no_response_elsewhere seen account s other) in
     let knows = subst (λ (rows : List ImportRow). KnowsOthers c.address.new.self.cache.others rows zs subs z s) c.rows.ensures c.in_ok-address.ensures.others in
@@ -198,13 +198,14 @@ returns-clause-all c =
     let responses : List ViewItem = responses_on seen account s in
     let by_views : List ViewItem → Addressing = λ vs. addressed_after t p (addressing ds []) vs in
     let by_before : List Addressed → Addressing = λ before. addressed_after t p (addressing before []) (others_in (rows_of doc) account s) in
-    let other : is_route s ≡ false = sym (c.is_route.ensures ∙ ap is_route c.subject.ensures) ∙ c.if-is_route.false in
+    let other : is_route s ≡ false = sym (c.is_route.ensures ∙ ap is_route c.subject-subject.ensures) ∙ c.if-is_route.false in
     let others : others_with (rows_of doc) responses account s ≡ others_in (rows_of doc) account s =
     ap (λ (rs : List ViewItem). others_with (rows_of doc) rs account s) (no_response_elsewhere seen account s other) in
     let by_subs : List Subscription → Addressing = λ ss.
-    addressed_after (tables_at doc n zs ss c.args.routes.now.exporters) p (addressing c.address_others.new.self.deliveries.items []) (others_in (rows_of doc) account s) in
+    addressed_after (tables_at doc n zs ss c.args.routes.now.exporters) p (addressing c.address_others.new.self.deliveries.items []) (others_in (rows_of doc) account c.subject-subject.result) in
+    let by_subject : List Token → Addressing = λ x. addressed_after t p (addressing c.address_others.new.self.deliveries.items []) (others_in (rows_of doc) account x) in
     let same : c.address_others.new.self.deliveries.items ≡ ds = c.in_ok-address_others.ensures.same c.if-branch.false ∙ own in
-    c.in_ok-told-2.ensures.all ∙ ap (λ (a : Addressing). a.deliveries) (ap by_subs c.address.ensures.same ∙ ap by_before same ∙ ap by_views (sym others))
+    c.in_ok-told-2.ensures.all ∙ ap (λ (a : Addressing). a.deliveries) (ap by_subs c.address.ensures.same ∙ ap by_subject c.subject-subject.ensures ∙ ap by_before same ∙ ap by_views (sym others))
 
 pub returns-clause-reports : goal.returns-clause-reports
 returns-clause-reports c =
@@ -224,14 +225,16 @@ returns-clause-reports c =
     let responses : List ViewItem = responses_on seen account s in
     let by_views : List ViewItem → Addressing = λ vs. addressed_after t p (addressing ds []) vs in
     let by_before : List Addressed → Addressing = λ before. addressed_after t p (addressing before []) (others_in (rows_of doc) account s) in
-    let other : is_route s ≡ false = sym (c.is_route.ensures ∙ ap is_route c.subject.ensures) ∙ c.if-is_route.false in
+    let other : is_route s ≡ false = sym (c.is_route.ensures ∙ ap is_route c.subject-subject.ensures) ∙ c.if-is_route.false in
     let others : others_with (rows_of doc) responses account s ≡ others_in (rows_of doc) account s =
     ap (λ (rs : List ViewItem). others_with (rows_of doc) rs account s) (no_response_elsewhere seen account s other) in
     let by_subs : List Subscription → Addressing = λ ss.
-    addressed_after (tables_at doc n zs ss c.args.routes.now.exporters) p (addressing c.address_others.new.self.deliveries.items []) (others_in (rows_of doc) account s) in
+    addressed_after (tables_at doc n zs ss c.args.routes.now.exporters) p (addressing c.address_others.new.self.deliveries.items []) (others_in (rows_of doc) account c.subject-subject.result) in
+    let by_subject : List Token → Addressing = λ x. addressed_after t p (addressing c.address_others.new.self.deliveries.items []) (others_in (rows_of doc) account x) in
     let same : c.address_others.new.self.deliveries.items ≡ ds = c.in_ok-address_others.ensures.same c.if-branch.false ∙ own in
     c.in_ok-told-2.ensures.reports
-    ∙ ap (λ (ss : List Subscription). reports_after (tables_at doc n zs ss c.args.routes.now.exporters) p (addressing c.address_others.new.self.deliveries.items []) (others_in (rows_of doc) account s)) c.address.ensures.same
+    ∙ ap (λ (ss : List Subscription). reports_after (tables_at doc n zs ss c.args.routes.now.exporters) p (addressing c.address_others.new.self.deliveries.items []) (others_in (rows_of doc) account c.subject-subject.result)) c.address.ensures.same
+    ∙ ap (λ (x : List Token). reports_after t p (addressing c.address_others.new.self.deliveries.items []) (others_in (rows_of doc) account x)) c.subject-subject.ensures
     ∙ ap (λ (all : List Addressed). reports_after t p (addressing all []) (others_in (rows_of doc) account s)) same
     ∙ ap (λ (vs : List ViewItem). reports_after t p (addressing ds []) vs) (sym others)
 
@@ -253,14 +256,15 @@ returns-clause-changed c =
     let responses : List ViewItem = responses_on seen account s in
     let by_views : List ViewItem → Addressing = λ vs. addressed_after t p (addressing ds []) vs in
     let by_before : List Addressed → Addressing = λ before. addressed_after t p (addressing before []) (others_in (rows_of doc) account s) in
-    let other : is_route s ≡ false = sym (c.is_route.ensures ∙ ap is_route c.subject.ensures) ∙ c.if-is_route.false in
+    let other : is_route s ≡ false = sym (c.is_route.ensures ∙ ap is_route c.subject-subject.ensures) ∙ c.if-is_route.false in
     let others : others_with (rows_of doc) responses account s ≡ others_in (rows_of doc) account s =
     ap (λ (rs : List ViewItem). others_with (rows_of doc) rs account s) (no_response_elsewhere seen account s other) in
     let by_subs : List Subscription → Addressing = λ ss.
-    addressed_after (tables_at doc n zs ss c.args.routes.now.exporters) p (addressing c.address_others.new.self.deliveries.items []) (others_in (rows_of doc) account s) in
+    addressed_after (tables_at doc n zs ss c.args.routes.now.exporters) p (addressing c.address_others.new.self.deliveries.items []) (others_in (rows_of doc) account c.subject-subject.result) in
+    let by_subject : List Token → Addressing = λ x. addressed_after t p (addressing c.address_others.new.self.deliveries.items []) (others_in (rows_of doc) account x) in
     let same : c.address_others.new.self.deliveries.items ≡ ds = c.in_ok-address_others.ensures.same c.if-branch.false ∙ own in
     c.in_ok-told-2.ensures.opened
-    ∙ ap (λ (a : Addressing). opened_each a.openings seen) (ap by_subs c.address.ensures.same ∙ ap by_before same ∙ ap by_views (sym others))
+    ∙ ap (λ (a : Addressing). opened_each a.openings seen) (ap by_subs c.address.ensures.same ∙ ap by_subject c.subject-subject.ensures ∙ ap by_before same ∙ ap by_views (sym others))
     ∙ sym (spent_elsewhere account s _ other)
 
 pub returns-then-is_route-clause-all : goal.returns-then-is_route-clause-all
@@ -281,7 +285,7 @@ returns-then-is_route-clause-all c =
     let responses : List ViewItem = responses_on seen account s in
     let by_views : List ViewItem → Addressing = λ vs. addressed_after t p (addressing ds []) vs in
     let by_before : List Addressed → Addressing = λ before. addressed_after t p (addressing before []) (others_in (rows_of doc) account s) in
-    let is : is_route s ≡ true = sym (c.is_route.ensures ∙ ap is_route c.subject.ensures) ∙ c.if-is_route.true in
+    let is : is_route s ≡ true = sym (c.is_route.ensures ∙ ap is_route c.subject-subject.ensures) ∙ c.if-is_route.true in
     let others : others_with (rows_of doc) responses account s ≡ others_with [] responses account s = across_route (rows_of doc) responses account s is in
     let by_subs : List Subscription → Addressing = λ ss.
     addressed_after (tables_at doc n zs ss c.args.routes.now.exporters) p (addressing c.address.new.self.deliveries.items []) (others_with [] responses account s) in
@@ -306,7 +310,7 @@ returns-then-is_route-clause-reports c =
     let responses : List ViewItem = responses_on seen account s in
     let by_views : List ViewItem → Addressing = λ vs. addressed_after t p (addressing ds []) vs in
     let by_before : List Addressed → Addressing = λ before. addressed_after t p (addressing before []) (others_in (rows_of doc) account s) in
-    let is : is_route s ≡ true = sym (c.is_route.ensures ∙ ap is_route c.subject.ensures) ∙ c.if-is_route.true in
+    let is : is_route s ≡ true = sym (c.is_route.ensures ∙ ap is_route c.subject-subject.ensures) ∙ c.if-is_route.true in
     let others : others_with (rows_of doc) responses account s ≡ others_with [] responses account s = across_route (rows_of doc) responses account s is in
     let by_subs : List Subscription → Addressing = λ ss.
     addressed_after (tables_at doc n zs ss c.args.routes.now.exporters) p (addressing c.address.new.self.deliveries.items []) (others_with [] responses account s) in
@@ -333,7 +337,7 @@ returns-then-is_route-clause-changed c =
     let responses : List ViewItem = responses_on seen account s in
     let by_views : List ViewItem → Addressing = λ vs. addressed_after t p (addressing ds []) vs in
     let by_before : List Addressed → Addressing = λ before. addressed_after t p (addressing before []) (others_in (rows_of doc) account s) in
-    let is : is_route s ≡ true = sym (c.is_route.ensures ∙ ap is_route c.subject.ensures) ∙ c.if-is_route.true in
+    let is : is_route s ≡ true = sym (c.is_route.ensures ∙ ap is_route c.subject-subject.ensures) ∙ c.if-is_route.true in
     let others : others_with (rows_of doc) responses account s ≡ others_with [] responses account s = across_route (rows_of doc) responses account s is in
     let by_subs : List Subscription → Addressing = λ ss.
     addressed_after (tables_at doc n zs ss c.args.routes.now.exporters) p (addressing c.address.new.self.deliveries.items []) (others_with [] responses account s) in

@@ -15,6 +15,10 @@ use Rattle.hub.proofs.hub.Hub.step_if.Goals as goal
 pub apply_if-requires-clause-sound : goal.apply_if-requires-clause-sound
 apply_if-requires-clause-sound g c = entitled c.self.inside.world c.self.invariant.0
 
+-- each session's user is whom the policy in force has under its name
+pub apply_if-requires-clause-users : goal.apply_if-requires-clause-users
+apply_if-requires-clause-users g c = c.self.invariant.0.users
+
 -- what the calls ensure
 is_entered : (g : given.Over) (c : goal.After-append g) → IsEntered c.self.inside.opening c.self.inside.world c.self.inside.most c.self.inside.entries.items c.args.event c.append.result c.apply_if.new.self c.append.new.entries.items
 is_entered g c =

@@ -20,8 +20,9 @@ invariant_of-self-in-Drain c =
     let h = c.self-in-Drain.inside in (
       c.self-in-Drain.invariant.0,
       c.self-in-Drain.invariant.1,
-      current_taken h.receivers.cache (rows_of h.ready) h.sessions c.drain.new.self h.subscriptions
+      current_taken h.caches.receivers.cache (rows_of h.ready) h.sessions c.drain.new.self h.subscriptions
           (subst (AreSeated h.sessions) (sym c.drain.ensures) (seats_with (drained c.in-Drain.most) c.in-Drain.conn (λ z. refl) h.sessions)) c.self-in-Drain.invariant.2,
+      c.self-in-Drain.invariant.3,
     )
 
 pub returns-in-Leave-clause-ok : goal.returns-in-Leave-clause-ok

@@ -1,0 +1,39 @@
+-- what is remembered is what the lists say, and a live grant allows what they refuse
+use Rattle.std.proofs.Common.{rules, ◌≡◌, ◌∙◌, subst, ap, sym}
+use Rattle.permissions.specs.Verdicts.{publish_verdict}
+use Rattle.verdict_cache.specs.Verdicts.{Judges}
+use Rattle.world_routing.specs.Remembered.{judged_by}
+use Rattle.world_routing.proofs.Remembered.{judges, granted_is, denied_is, allowed_is}
+use Rattle.world_routing.proofs.verdict.on_publish.Goals.{else-not-is_allowed-via-then-not-is_allowed+else-may_answer, else-not-is_allowed-via-else-not-is_allowed}
+use Rattle.world_routing.proofs.verdict.on_publish.Goals as goal
+
+pub returns-then-may_answer-clause-verdict : goal.returns-then-may_answer-clause-verdict
+returns-then-may_answer-clause-verdict c =
+    let doc = c.args._in_force.now in
+    let z = c.args.session.now in
+    let by = subst (λ user. Judges (judged_by doc) user z.user.rules) (sym c.as_slice.ensures) (judges doc z.user c.requires.user) in
+    let listed : c.on_publish-verdict.result ≡ publish_verdict z.user.rules c.args.subject.now = c.on_publish-verdict.ensures.verdict (judged_by doc) c.requires.verdicts by in
+    granted_is _ _ _ listed (search rules) (sym c.may_answer.ensures ∙ c.if-may_answer.true)
+
+pub returns-else-not-is_allowed-clause-verdict : goal.returns-else-not-is_allowed-clause-verdict
+returns-else-not-is_allowed-clause-verdict c =
+    let doc = c.args._in_force.now in
+    let z = c.args.session.now in
+    let by = subst (λ user. Judges (judged_by doc) user z.user.rules) (sym c.as_slice.ensures) (judges doc z.user c.requires.user) in
+    let listed : c.on_publish-verdict.result ≡ publish_verdict z.user.rules c.args.subject.now = c.on_publish-verdict.ensures.verdict (judged_by doc) c.requires.verdicts by in
+    elim c.else-not-is_allowed.branch [
+      | else-not-is_allowed-via-then-not-is_allowed+else-may_answer w ↦ denied_is _ _ _ listed (sym w.may_answer.ensures ∙ w.if-may_answer.false)
+      | else-not-is_allowed-via-else-not-is_allowed w ↦ allowed_is _ _ _ listed (search rules)
+    ]
+
+pub returns-then-may_answer-clause-verdicts : goal.returns-then-may_answer-clause-verdicts
+returns-then-may_answer-clause-verdicts c =
+    let doc = c.args._in_force.now in
+    let z = c.args.session.now in
+    c.on_publish-verdict.ensures.kept (judged_by doc) c.requires.verdicts (subst (λ user. Judges (judged_by doc) user z.user.rules) (sym c.as_slice.ensures) (judges doc z.user c.requires.user))
+
+pub returns-else-not-is_allowed-clause-verdicts : goal.returns-else-not-is_allowed-clause-verdicts
+returns-else-not-is_allowed-clause-verdicts c =
+    let doc = c.args._in_force.now in
+    let z = c.args.session.now in
+    c.on_publish-verdict.ensures.kept (judged_by doc) c.requires.verdicts (subst (λ user. Judges (judged_by doc) user z.user.rules) (sym c.as_slice.ensures) (judges doc z.user c.requires.user))
