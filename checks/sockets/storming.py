@@ -6,7 +6,7 @@ import statistics
 import threading
 import time
 
-from clients import LIMIT, TEXTS, USER, Failed, client_on, shown, want
+from clients import LIMIT, TEXTS, USER, Failed, client_on, shown, wait_for, want
 
 OTHER = {"user": "other", "password": "other"}
 # For how many seconds a pinger measures before anything happens.
@@ -31,11 +31,18 @@ def deaf(server, subject, worker=0, workers=1):
     return client
 
 
-def fill_sockets(publisher, subject):
+def fill_sockets(server, publisher, subject):
     """Publishes what the sockets of those that don't read hold, so that little more than an outbox follows."""
     publisher.send(8 * (b"PUB %b 600000\r\n" % subject + bytes(600_000) + b"\r\n"))
     publisher.ping()
+    wait_for(lambda: rests(server), "the server goes on writing to those that don't read")
+
+
+def rests(server):
+    """Returns whether a server has little to do for a while."""
+    used = server.seconds()
     time.sleep(0.3)
+    return server.seconds() - used < 0.05
 
 
 def take_order(client, count, sids=(b"1",), size=16):

@@ -81,7 +81,7 @@ def beside_deaf(program, workers, count):
             deaf(server, b"held", it % workers, workers).keep()
         with pinger_on(server, workers) as pinger:
             # (what their sockets hold, and then more than half an outbox of each, but less than a whole one)
-            fill_sockets(publishers[0], b"held")
+            fill_sockets(server, publishers[0], b"held")
             for it in publishers:
                 it.send(2 * b"PUB held 2\r\nhi\r\n")
             parts = []

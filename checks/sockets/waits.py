@@ -24,7 +24,7 @@ def hundred_deaf(program, divide, workers):
         for it in range(100):
             deaf(server, b"flood", it % workers, workers).keep()
         # (their sockets are full, and nearly as much waits for each)
-        fill_sockets(publisher, b"flood")
+        fill_sockets(server, publisher, b"flood")
         reader.subscribe(b"flood")
         begin = time.monotonic()
         Flood(3_000).run(publisher, [reader])
@@ -50,7 +50,7 @@ def killed(program, divide, workers):
     with Server(program, "--workers", workers) as server:
         reader, publishers = Client(server), spread(server, 100, workers)
         sleeper = deaf(server, b"held", workers - 1, workers)
-        fill_sockets(reader, b"held")
+        fill_sockets(server, reader, b"held")
         reader.subscribe(b"held")
         writing, hearing = held_by_one(reader, publishers)
         before, begin = hearing.bytes, time.monotonic()
@@ -73,7 +73,7 @@ def revoked(program, divide, workers):
     with Server(program, "--workers", workers, policy={"accounts": {"A": {"users": [USER, late]}}}) as server:
         reader, marker = spread(server, 2, workers)
         publisher, other = Client(server, user="late"), deaf(server, b"held", workers - 1, workers)
-        fill_sockets(marker, b"held")
+        fill_sockets(server, marker, b"held")
         reader.subscribe(b">")
         sending = Sending(publisher, numbered(b"held", range(100), SIZE), times=1_000)
         count = 0
@@ -108,7 +108,7 @@ def end_while_held(program, divide, workers):
     with Server(program, "--workers", workers) as server:
         reader, publishers = Client(server), spread(server, 10, workers)
         deaf(server, b"held", workers - 1, workers).keep()
-        fill_sockets(reader, b"held")
+        fill_sockets(server, reader, b"held")
         reader.subscribe(b"held")
         _, hearing = held_by_one(reader, publishers)
         begin = time.monotonic()
