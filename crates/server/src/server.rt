@@ -152,6 +152,7 @@ fn serve_run<
 ) -> Result<(), Fault>
     requires name { blank.name ≡ L.name }
     requires parts { blank.parts ≡ L.parts }
+    requires first { hub ≡ L.first }
     requires opening { hub.world.number ≡ L.opening }
     requires seats { (seats ≡ L.seats) × (L.seats ≡ L.parts) }
 {

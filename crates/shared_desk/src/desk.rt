@@ -1,5 +1,7 @@
 //! What lies under the lock, and who may enter events into it.
 ghost use Rattle.std.specs.Prelude.{◌≡◌, ◌+◌, ◌≤◌, ℕ};
+ghost use Rattle.policy_doc.specs.Document.{builtin_doc};
+ghost use Rattle.hub.specs.History.{State, opening_state};
 
 use crate::audit::Audit;
 use crate::bounds::{room_beside, size_of};
@@ -20,10 +22,13 @@ use std::marker::Brand;
 use std::slice;
 use std::sync::ledger::{Blank, Book, Ledger, Share};
 
-/// Names the run that a desk, its seats and their audit belong to: the ledger that counts its entries, and the number that
-/// its hub had when it opened.
+/// Names the run that a desk, its seats and their audit belong to: the ledger that counts its entries, and the hub with which
+/// it opened.
 pub trait Run: Ledger {
-    /// The number of the hub's last entry when the run opened.
+    /// The hub as it was when the run opened.
+    ghost first: { State };
+
+    /// The number of that hub's last entry.
     ghost opening: { ℕ };
 
     /// How many seats the run has.
@@ -31,6 +36,8 @@ pub trait Run: Ledger {
 }
 
 impl Run for Brand {
+    ghost first = { opening_state builtin_doc 1 0 };
+
     ghost opening = { 0 };
 
     ghost seats = { 0 };
@@ -68,6 +75,7 @@ pub struct Desk<L: Run> {
     /// The receivers that held back the message that was offered last.
     held: Vec<u64>,
     ghost counted: { hub.world.number ≡ L.opening + book.total },
+    ghost begun: { book.total ≡ 0 → hub.world ≡ L.first.world },
 }
 
 impl<L: Run> Desk<L> {
@@ -93,6 +101,7 @@ impl<L: Run> Desk<L> {
     pub fn open(alloc: Global, blank: Blank, hub: Hub) -> (Desk<L>, Share<L>)
         requires name { blank.name ≡ L.name }
         requires parts { blank.parts ≡ L.parts }
+        requires first { hub ≡ L.first }
         requires opening { hub.world.number ≡ L.opening }
         ensures hub { result.0.hub ≡ hub }
         ensures parts { result.1.parts ≡ L.parts }
@@ -118,11 +127,13 @@ impl<L: Run> Desk<L> {
     }
 
     /// Tells what holds of every desk, so whenever the lock is free (docs/GUARANTEE.md, "Threads"): its hub keeps what
-    /// every hub keeps, what it holds of its history is legal, and the book counts the entries since the run opened.
+    /// every hub keeps, what it holds of its history is legal, and the book counts the entries since the run opened. As long
+    /// as it counts none, the hub's world is that with which the run opened.
     pub fn known(&self)
         ensures sound { IsSound self.now.hub.world }
         ensures legal { IsLegalRun self.now.hub.opening self.now.hub.entries self.now.hub.world }
         ensures counted { self.now.hub.world.number ≡ L.opening + self.now.book.total }
+        ensures begun { self.now.book.total ≡ 0 → self.now.hub.world ≡ L.first.world }
     {
         self.hub.known();
     }

@@ -54,8 +54,9 @@ impl<L: Run> SharedHub<L> {
     ghost use Rattle.events.specs.declared.answer.Entry.{Entry};
     ghost use Rattle.shared_hub.specs.Audits.{IsWhole, IsDue};
 
-    /// Puts a hub under a lock, and returns it with so many seats, none of which has entered anything. The blank ledger has
-    /// a part for each seat. `NoMemory` hands the hub back; the ledger is spent then too.
+    /// Puts the hub with which the run opens under a lock, as it is, and returns it with so many seats, none of which has
+    /// entered anything. The blank ledger has a part for each seat. `NoMemory` hands the hub back; the ledger is spent then
+    /// too.
     pub fn with_seats(
         alloc: Global,
         blank: Blank,
@@ -64,6 +65,7 @@ impl<L: Run> SharedHub<L> {
     ) -> Result<(SharedHub<L>, Vec<Seat<L>>), (Hub, NoMemory)>
         requires name { blank.name ≡ L.name }
         requires parts { blank.parts ≡ L.parts }
+        requires first { hub ≡ L.first }
         requires opening { hub.world.number ≡ L.opening }
         requires seats { (seats ≡ L.seats) × (L.seats ≡ L.parts) }
         ensures seats { IfOk result (λ opened. vec_len opened.1 ≡ seats) }

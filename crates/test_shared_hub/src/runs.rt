@@ -60,6 +60,7 @@ fn shared<L: Run + Send + Sync, R: Threads + Wait + Clock + Sync>(
 ) -> Result<Totals, &'static str>
     requires name { blank.name ≡ L.name }
     requires parts { (blank.parts ≡ L.parts) × (L.seats ≡ L.parts) × (L.seats ≡ length jobs.now) }
+    requires first { hub ≡ L.first }
     requires opening { hub.world.number ≡ L.opening }
 {
     match SharedHub::<L>::with_seats(alloc, blank, hub, jobs.len() as u64) {
