@@ -60,7 +60,7 @@ reached-on w es after r run =
 pub counted : (first : World) (past : List Entry) (w : World) (es : List Entry) (after : World) → IsOpening first → IsLegalRun first past w → IsLegalRun w es after → All (IsCounted (past ++ es)) after.subscriptions
 counted first past w es after opens before run =
     let all : IsLegalRun first (past ++ es) after = legal-append first past w es after before run in
-    counted-run first.policy first.capacity (past ++ es) after (subst (λ (v : World). IsLegalRun v (past ++ es) after) opens all)
+    counted-run first.policy first.capacity (past ++ es) after (subst (λ (v : World). IsLegalRun v (past ++ es) after) opens.fresh all)
 
 -- a hub that has handed out what it held keeps what every hub keeps
 pub kept-rotation : (opening : World) (es : List Entry) (w : World) (most : ℕ) (now : World) (left : List Entry) → IsSound w → IsLegalRun opening es w → IsReached opening → now ≡ w → left ≡ [] →

@@ -1,5 +1,6 @@
 -- The history: what a hub remembers of its events (docs/GUARANTEE.md, "The history").
-use Rattle.std.specs.Prelude.{◌≡◌, ◌==◌, ◌+◌, ◌||◌, ◌∷◌, ◌++◌, ℕ, List, [], Bool, Result, Ok, Err, if◌then◌else◌, length, nat_le}
+use Rattle.std.specs.Prelude.{◌≡◌, ◌==◌, ◌≤◌, ◌+◌, ◌||◌, ◌∷◌, ◌++◌, ℕ, List, [], Bool, Result, Ok, Err, if◌then◌else◌, length, nat_le}
+use Rattle.policy_doc.specs.Document.{IsValidPolicy}
 use Rattle.policy_doc.specs.declared.document.PolicyDoc.{PolicyDoc}
 use Rattle.events.specs.declared.event.Event.{Event}
 use Rattle.events.specs.declared.answer.Entry.{Entry}
@@ -24,9 +25,14 @@ abbrev pub opening_state : PolicyDoc → ℕ → ℕ → State
 opening_state policy capacity most =
     record { world = opening_world policy capacity; opening = opening_world policy capacity; most = most; entries = [] }
 
--- nobody is connected, and nothing has happened
-abbrev pub IsOpening : World → Type 0
-IsOpening w = w ≡ opening_world w.policy w.capacity
+-- A hub opens with such a world.
+pub record IsOpening (w : World) : Type 0 where
+  -- nobody is connected, and nothing has happened
+  pub fresh : w ≡ opening_world w.policy w.capacity
+  pub policy : IsValidPolicy w.policy
+  -- an outbox holds 1 to 65,536 deliveries
+  pub least : 1 ≤ w.capacity
+  pub most : w.capacity ≤ 65536
 
 -- ---- a step
 

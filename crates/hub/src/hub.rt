@@ -127,10 +127,10 @@ impl Hub {
     /// a user of that policy; no connection has two sessions, two subscriptions of one sid, or more than 4,096
     /// subscriptions; no outbox holds more than the hub's capacity; the ids of subscriptions rise, and none is above
     /// the last number. And the history is legal: its entries lead, one by one, from the world before them to the
-    /// present one. They are no more than it may hold. The world before them was reached by a legal run from one in
-    /// which nothing had happened; with number 0 it is such a world. Whatever entries led to it: each standing
-    /// subscription has its SUB among those and the hub's, and has received as many messages as have entered for it
-    /// since.
+    /// present one. They are no more than it may hold. The world before them was reached by a legal run from one with
+    /// which a hub opens: in it nothing has happened, its policy is valid, and its outboxes hold 1 to 65,536. With number
+    /// 0 it is such a world. Whatever entries led to it: each standing subscription has its SUB among those and the
+    /// hub's, and has received as many messages as have entered for it since.
     pub fn known(&self)
         ensures sound { IsSound self.now.world }
         ensures reached { IsReached self.now.opening }

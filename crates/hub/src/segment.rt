@@ -54,8 +54,7 @@ impl Segment {
     }
 
     /// Tells what holds of every segment: its entries lead, one by one, from its opening world to its closing one; and
-    /// the opening world was reached by a legal run from one in which nothing had happened. With number 0 it is such a
-    /// world.
+    /// the opening world was reached by a legal run from one with which a hub opens. With number 0 it is such a world.
     pub fn known(&self)
         ensures legal { IsLegalRun self.now.opening self.now.entries self.now.closing }
         ensures reached { IsReached self.now.opening }

@@ -413,7 +413,7 @@ upto-part ps d last judged f k u q lq at grows =
     let odd = entered-kind (get_or ps q d) (kind-at ps d last judged f q lq) grows in
     let opening : (get_or ps q d).opening ≡ u.now = u.joined q lq (f.entered q lq grows) at in
     let n = run-number u.first u.entries u.now u.run in
-    let zero_first = ap (λ (w : World). w.number) u.opens in
+    let zero_first = ap (λ (w : World). w.number) u.opens.fresh in
     let un = u.number in
     let len = part-length ps d last judged f q lq in
     record {

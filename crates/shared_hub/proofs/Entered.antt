@@ -75,7 +75,7 @@ kept-none t (p ∷ ps) none =
 pub length_of : (segments : List Part) (s : State) (history : List Entry) → IsJoined segments s history → length history ≡ s.world.number
 length_of segments s history j =
     let count = run-number j.first history s.world j.legal in
-    let zero = ap (λ (w : World). w.number) j.opens in
+    let zero = ap (λ (w : World). w.number) j.opens.fresh in
     omega (arith, count, zero)
 
 absent-by : (segments : List Part) (s : State) (history : List Entry) (n : ℕ) → IsJoined segments s history → All (λ (p : Part). has_number n p ≡ false) (parts_of segments s) → (a b : Bool) → nat_lt 0 n ≡ a → nat_le n (length history) ≡ b → cond a (slice_get history (n - (0 + 1))) None ≡ None
