@@ -146,13 +146,14 @@ impl<L: Run, R: Wait, G: Gate + Drop> ServerPort<'_, L, R, G> {
         }
     }
 
-    /// Follows a message's answer, which passes the gate then.
+    /// Notes a message's answer and follows it. The message passes the gate then.
     #[inline(always)]
     fn follow_message(&mut self, answer: &Answer)
         ensures seat { self.new.seat ≡ self.old.seat }
         ensures course { self.new.course ≡ followed answer.now self.old.course }
     {
         self.rotation.drop_some();
+        self.noted.note_answer(answer);
         let _ = self.follow(answer, size_of(&answer.get().event.what));
         self.pass(Point::Answered);
     }
@@ -164,7 +165,6 @@ impl<L: Run, R: Wait, G: Gate + Drop> ServerPort<'_, L, R, G> {
     {
         match last {
             Ok(answer) => {
-                self.noted.note_answer(&answer);
                 self.follow_message(&answer);
                 RunEnd::Answered(answer)
             }
