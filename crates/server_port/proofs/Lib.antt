@@ -1,4 +1,6 @@
 mod Followed
+mod Holds
 mod Offers
 mod Passing
 mod SeatRuns
+mod Whys

@@ -200,15 +200,17 @@ impl<L: Run, R: Wait, G: Gate + Drop> ServerPort<'_, L, R, G> {
 }
 
 impl<L: Run, R: Wait, G: Gate + Drop> Port for ServerPort<'_, L, R, G> {
-    ghost use Rattle.std.specs.Prelude.{◌≢◌, ◌∷◌, [], ℕ, Err, IfErr, Some, false, true};
+    ghost use Rattle.std.specs.Prelude.{◌≢◌, ◌+◌, ◌∷◌, [], ℕ, Err, IfErr, Some, false, length, true};
     ghost use Rattle.events.specs.Offers.{IsOffered};
+    ghost use Rattle.events.specs.Runs.{IsPosted};
     ghost use Rattle.events.specs.declared.refusal.PublishRefusal.TheVariants.{Held};
     ghost use Rattle.server_port.specs.Courses.{entered, offered};
+    ghost use Rattle.server_port.specs.Holds.{AreHoldsPassed, IsRunNoted, IsWhy, held_back};
     ghost use Rattle.server_port.specs.declared.course.Why.TheVariants.{Share};
     ghost use Rattle.server_port.specs.Points.{ArePassed, offer_points};
     ghost use Rattle.server_gates.specs.declared.gate.Point.TheVariants.{Answered, FrameRead};
     ghost use Rattle.server_log.specs.Noting.{IsNoted, IsOfferNoted};
-    ghost use Rattle.shared_hub.specs.Entering.{IsAnswered, IsPostedBy};
+    ghost use Rattle.shared_hub.specs.Entering.{IsAnswered, IsOfferedBy, IsPostedBy};
 
     ghost place = { λ port. 0 };
 
@@ -267,7 +269,13 @@ impl<L: Run, R: Wait, G: Gate + Drop> Port for ServerPort<'_, L, R, G> {
         now: u64,
         messages: &mut VecDeque<Message>,
         words: &mut W,
-    ) -> RunEnd {
+    ) -> RunEnd
+        ensures place { ◌≡◌ {A = ℕ} 0 0 }
+        ensures posted { IsPosted (λ old e r new. IsPostedBy L.opening old.seat.count e r new.seat.count) (λ old new. new.seat.count ≡ old.seat.count) W.draws conn now messages.old.items self.old words.old result messages.new.items self.new words.new }
+        ensures why { IsWhy result self.old.course.why self.new.course.why }
+        ensures noted { IsRunNoted (IsOfferedBy L.opening) W.draws conn now messages.old.items self.old.seat.count words.old result messages.new.items self.new.seat.count words.new self.old.noted self.new.noted }
+        ensures points { AreHoldsPassed G.passes (length messages.old.items) (held_back self.new.course.why result + length messages.new.items) self.old.gate self.old.is_spent self.new.gate self.new.is_spent }
+    {
         let posts = Posts { conn, now };
         while !messages.is_empty() {
             let end = self.publish_some(posts, messages, words);

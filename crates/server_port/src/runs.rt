@@ -31,7 +31,7 @@ pub(crate) fn goes_on(end: &RunEnd) -> bool
 }
 
 impl<L: Run, R: Wait, G: Gate + Drop> ServerPort<'_, L, R, G> {
-    ghost use Rattle.std.specs.Prelude.{◌≡◌, ◌<◌, ◌∷◌, ◌++◌, [], List, Err, Some, length, ℕ};
+    ghost use Rattle.std.specs.Prelude.{◌≡◌, ◌≢◌, ◌<◌, ◌+◌, ◌∷◌, ◌++◌, [], List, Err, Some, length, ℕ};
     ghost use Rattle.events.specs.Runs.{IsPosted};
     ghost use Rattle.events.specs.Messages.{Message};
     ghost use Rattle.events.specs.declared.answer.Entry.{Entry};
@@ -39,7 +39,11 @@ impl<L: Run, R: Wait, G: Gate + Drop> ServerPort<'_, L, R, G> {
     ghost use Rattle.events.specs.declared.run.RunEnd.TheVariants.{Stopped};
     ghost use Rattle.shared_runs.specs.Runs.{IsRun, word_of};
     ghost use Rattle.server_port.specs.Courses.{all_followed, followed};
+    ghost use Rattle.server_gates.specs.declared.gate.Point.TheVariants.{Answered};
+    ghost use Rattle.server_log.specs.Noting.{IsAnswerNoted};
     ghost use Rattle.server_port.specs.Ends.{IsEnded, IsOfferedAgain};
+    ghost use Rattle.server_port.specs.Holds.{AreAnswersNoted, IsEndNoted, IsHoldPassed, IsRunNoted, IsWhy, answer_points, end_points, held_back, read_points};
+    ghost use Rattle.server_port.specs.Points.{ArePassed};
     ghost use Rattle.server_port.specs.declared.course.Why.TheVariants.{Share};
     ghost use Rattle.shared_hub.specs.Entering.{IsOfferedBy, IsPostedBy};
 
@@ -54,6 +58,10 @@ impl<L: Run, R: Wait, G: Gate + Drop> ServerPort<'_, L, R, G> {
         requires some { 0 < length messages.old.items }
         ensures posted { IsPosted (λ old e r new. IsPostedBy L.opening old.seat.count e r new.seat.count) (λ old new. new.seat.count ≡ old.seat.count) W.draws posts.conn posts.now messages.old.items self.old words.old result messages.new.items self.new words.new }
         ensures spent { self.old.course.share ≡ 0 → (word : ℕ) × (result ≡ Stopped word Held) × (self.new.course ≡ record self.old.course { why = Some Share }) × (self.new.context ≡ self.old.context) × (self.new.rotation ≡ self.old.rotation) }
+        ensures unasked { self.old.course.share ≡ 0 → (first : Message) × (messages.old.items ≡ first ∷ messages.new.items) × (self.new.gate ≡ self.old.gate) × (self.new.is_spent ≡ self.old.is_spent) × (self.new.noted ≡ self.old.noted) }
+        ensures why { IsWhy result self.old.course.why self.new.course.why }
+        ensures noted { IsRunNoted (IsOfferedBy L.opening) W.draws posts.conn posts.now messages.old.items self.old.seat.count words.old result messages.new.items self.new.seat.count words.new self.old.noted self.new.noted }
+        ensures points { self.old.course.share ≢ 0 → IsHoldPassed G.passes (length messages.old.items) (held_back self.new.course.why result + length messages.new.items) self.old.gate self.old.is_spent self.new.gate self.new.is_spent }
     {
         if self.course.share == 0 {
             return self.hold_back(messages, words);
@@ -97,6 +105,8 @@ impl<L: Run, R: Wait, G: Gate + Drop> ServerPort<'_, L, R, G> {
     /// Passes the gate for each of so many messages that were read.
     #[inline(always)]
     fn pass_read(&mut self, messages: usize)
+        ensures points { ArePassed G.passes (read_points messages) self.old.gate self.old.is_spent self.new.gate self.new.is_spent }
+        ensures noted { self.new.noted ≡ self.old.noted }
         ensures seat { self.new.seat ≡ self.old.seat }
         ensures course { self.new.course ≡ self.old.course }
     {
@@ -128,6 +138,8 @@ impl<L: Run, R: Wait, G: Gate + Drop> ServerPort<'_, L, R, G> {
     fn follow_all(&mut self)
         ensures seat { self.new.seat ≡ self.old.seat }
         ensures course { self.new.course ≡ all_followed self.old.context.hold.answers.items self.old.course }
+        ensures noted { AreAnswersNoted self.old.context.hold.answers.items self.old.noted self.new.noted }
+        ensures points { ArePassed G.passes (answer_points (length self.old.context.hold.answers.items)) self.old.gate self.old.is_spent self.new.gate self.new.is_spent }
     {
         let mut answers = mem::replace(&mut self.context.hold.answers, Vec::new(self.alloc));
         self.follow_each(answers.as_slice());
@@ -140,6 +152,8 @@ impl<L: Run, R: Wait, G: Gate + Drop> ServerPort<'_, L, R, G> {
     fn follow_each(&mut self, answers: &[Answer])
         ensures seat { self.new.seat ≡ self.old.seat }
         ensures course { self.new.course ≡ all_followed answers.now self.old.course }
+        ensures noted { AreAnswersNoted answers.now self.old.noted self.new.noted }
+        ensures points { ArePassed G.passes (answer_points (length answers.now)) self.old.gate self.old.is_spent self.new.gate self.new.is_spent }
     {
         for answer in answers {
             self.follow_message(answer);
@@ -151,6 +165,8 @@ impl<L: Run, R: Wait, G: Gate + Drop> ServerPort<'_, L, R, G> {
     fn follow_message(&mut self, answer: &Answer)
         ensures seat { self.new.seat ≡ self.old.seat }
         ensures course { self.new.course ≡ followed answer.now self.old.course }
+        ensures noted { IsAnswerNoted answer.now self.old.noted self.new.noted }
+        ensures points { ArePassed G.passes (Answered ∷ []) self.old.gate self.old.is_spent self.new.gate self.new.is_spent }
     {
         self.rotation.drop_some();
         self.noted.note_answer(answer);
@@ -161,7 +177,10 @@ impl<L: Run, R: Wait, G: Gate + Drop> ServerPort<'_, L, R, G> {
     /// Ends a run with what came of the last message that was offered.
     #[inline(always)]
     fn follow_last(&mut self, last: Result<Answer, (Event, PublishRefusal)>) -> RunEnd
-        ensures { IsEnded L.opening last self.old.seat.count result self.new.seat.count }
+        ensures end { IsEnded L.opening last self.old.seat.count result self.new.seat.count }
+        ensures why { IsWhy result self.old.course.why self.new.course.why }
+        ensures noted { IsEndNoted result self.old.noted self.new.noted }
+        ensures points { ArePassed G.passes (end_points self.new.course.why result) self.old.gate self.old.is_spent self.new.gate self.new.is_spent }
     {
         match last {
             Ok(answer) => {
@@ -178,7 +197,10 @@ impl<L: Run, R: Wait, G: Gate + Drop> ServerPort<'_, L, R, G> {
     /// Ends a run with a message that was not entered. Where the history was full, it is offered once more.
     #[inline(never)]
     fn follow_refusal(&mut self, event: Event, refusal: PublishRefusal) -> RunEnd
-        ensures { IsEnded L.opening (Err (event, refusal)) self.old.seat.count result self.new.seat.count }
+        ensures end { IsEnded L.opening (Err (event, refusal)) self.old.seat.count result self.new.seat.count }
+        ensures why { IsWhy result self.old.course.why self.new.course.why }
+        ensures noted { IsEndNoted result self.old.noted self.new.noted }
+        ensures points { ArePassed G.passes (end_points self.new.course.why result) self.old.gate self.old.is_spent self.new.gate self.new.is_spent }
     {
         match refusal {
             PublishRefusal::Held => {
@@ -197,7 +219,10 @@ impl<L: Run, R: Wait, G: Gate + Drop> ServerPort<'_, L, R, G> {
 
     /// Ends a run with a message that met a full history: it is offered once more, once that was handed out.
     fn end_again(&mut self, event: Event) -> RunEnd
-        ensures { IsOfferedAgain L.opening event self.old.seat.count result self.new.seat.count }
+        ensures end { IsOfferedAgain L.opening event self.old.seat.count result self.new.seat.count }
+        ensures why { IsWhy result self.old.course.why self.new.course.why }
+        ensures noted { IsEndNoted result self.old.noted self.new.noted }
+        ensures points { ArePassed G.passes (end_points self.new.course.why result) self.old.gate self.old.is_spent self.new.gate self.new.is_spent }
     {
         match self.offer_again(event) {
             Ok(answer) => {
@@ -214,6 +239,8 @@ impl<L: Run, R: Wait, G: Gate + Drop> ServerPort<'_, L, R, G> {
         ensures end { result ≡ Stopped (word_of event.what) refusal }
         ensures seat { self.new.seat ≡ self.old.seat }
         ensures course { self.new.course ≡ self.old.course }
+        ensures noted { IsEndNoted result self.old.noted self.new.noted }
+        ensures points { ArePassed G.passes (end_points self.new.course.why result) self.old.gate self.old.is_spent self.new.gate self.new.is_spent }
     {
         let word = word_of(&event.what);
         drop(event);
