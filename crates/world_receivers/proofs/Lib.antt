@@ -1,4 +1,5 @@
 pub mod Behind
+pub mod Draws
 pub mod Left
 pub mod Stays
 pub mod Tests

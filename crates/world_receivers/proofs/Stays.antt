@@ -13,6 +13,7 @@ use Rattle.imports.specs.declared.rows.ImportRow.{ImportRow}
 use Rattle.imports.specs.declared.view.ViewItem.{ViewItem}
 use Rattle.imports.specs.declared.view.ViewItem.TheVariants.{At, TooLong}
 use Rattle.imports.specs.declared.view.Way.TheVariants.{Own, Stream, Service, Response}
+use Rattle.account_mappings.specs.Drawing.{mapped_by}
 use Rattle.policy_ready.specs.declared.ready.User.{User}
 use Rattle.permissions.specs.Verdicts.{delivery_verdict, is_allowed}
 use Rattle.events.specs.declared.answer.Addressed.{Addressed}
@@ -30,8 +31,10 @@ use Rattle.world_rows.specs.declared.subscription.Subscription.{Subscription}
 use Rattle.world_receivers.specs.Open.{lets_through, may_hear, is_open, open_among}
 use Rattle.world_receivers.specs.Receivers.{receiver_of}
 use Rattle.world_receivers.specs.Known.{IsWhom, IsSeen, AreSeen, has_limit, others_in}
+use Rattle.world_receivers.specs.Drawn.{subject_of, IsDrawn, KnowsDrawn}
 use Rattle.world_receivers.specs.Cached.{IsWhomFor, KnowsOthersFor, IsCurrent}
 use Rattle.world_receivers.specs.declared.cache.ReceiverCache.{ReceiverCache}
+use Rattle.world_receivers.specs.declared.drawn.Drawn.{Drawn}
 use Rattle.world_receivers.specs.declared.known.KnownView.{KnownView}
 use Rattle.world_receivers.specs.declared.whom.Whom.{Whom}
 
@@ -188,6 +191,23 @@ module _ (f : Subscription → Subscription) (same : (s : Subscription) → made
           (λ z y there own. views-stay z y own known.items (others_in rows y.user.account (tokens_of text))
           (subst (λ (q : Seat). AreSeen zs subs z known.items (others_in rows q.1.0.account (tokens_of text))) (sym own) (is z there)))
 
+      drawn-stay : (by_draw : List (Option Drawn)) (rows : List ImportRow) (conn : ℕ) (text : List ℕ) → KnowsDrawn by_draw rows conn text zs subs → KnowsDrawn by_draw rows conn text after (map f subs)
+      drawn-stay by_draw rows conn text is = record {
+        each = λ draw drawn cached. before_it conn (λ y. IsDrawn rows after (map f subs) y text draw drawn) (λ z y there own.
+            let was : IsDrawn rows zs subs z text draw drawn = is.each draw drawn cached z there in
+            let user : z.user ≡ y.user = ap (λ (q : Seat). q.1.0) (sym own) in
+            let s : List Token = subject_of drawn in
+            record {
+              mapped = λ word same. ap (λ (u : User). mapped_by u.mappings (tokens_of text) word) (sym user) ∙ was.mapped word same;
+              sent = record {
+                unrouted = was.sent.unrouted;
+                own = subst (λ (u : User). IsSeen after (map f subs) y drawn.own u.account s) user (view-stays z y own drawn.own z.user.account s was.sent.own);
+                others = subst (λ (u : User). AreSeen after (map f subs) y drawn.others.items (others_in rows u.account s)) user
+                    (views-stay z y own drawn.others.items (others_in rows z.user.account s) was.sent.others);
+              };
+            });
+      }
+
 -- ---- what is cached
 
 pub current_taken : (cache : ReceiverCache) (rows : List ImportRow) (zs after : List Session) (subs : List Subscription) → AreSeated zs after → IsCurrent rows zs subs cache → IsCurrent rows after subs cache
@@ -195,6 +215,8 @@ current_taken cache rows zs after subs seated current = (
   subst (λ (ss : List Subscription). IsWhomFor cache.whom cache.conn cache.subject.items after ss) (map-same subs) (whom-stays (λ s. s) (λ s. refl) zs after seated subs cache.whom cache.conn cache.subject.items current.0),
   subst (λ (ss : List Subscription). KnowsOthersFor cache.others rows cache.conn cache.subject.items after ss) (map-same subs)
       (others-stay (λ s. s) (λ s. refl) zs after seated subs (λ s. refl) cache.others rows cache.conn cache.subject.items current.1),
+  subst (λ (ss : List Subscription). KnowsDrawn cache.drawn.by_draw.items rows cache.conn cache.subject.items after ss) (map-same subs)
+      (drawn-stay (λ s. s) (λ s. refl) zs after seated subs (λ s. refl) cache.drawn.by_draw.items rows cache.conn cache.subject.items current.2),
 )
   where
     map-same : (xs : List Subscription) → map (λ s. s) xs ≡ xs
@@ -260,4 +282,5 @@ current_in_turn cache rows zs after (id ∷ ids) subs seated as_many current =
     (subst (λ (ss : List Subscription). IsCurrent rows zs ss cache) (sym all) (
       whom-stays (only bumped id) (bumped-made id) zs zs (λ conn. refl) subs cache.whom cache.conn cache.subject.items current.0,
       others-stay (only bumped id) (bumped-made id) zs zs (λ conn. refl) subs (only-most id) cache.others rows cache.conn cache.subject.items current.1,
+      drawn-stay (only bumped id) (bumped-made id) zs zs (λ conn. refl) subs (only-most id) cache.drawn.by_draw.items rows cache.conn cache.subject.items current.2,
     ))

@@ -3,6 +3,7 @@ ghost use Rattle.std.specs.Prelude.{◌≡◌, [], map};
 ghost use Rattle.world_groups.specs.Chosen.{Rising};
 ghost use Rattle.world_receivers.specs.Known.{IsWhom};
 
+use crate::drawn::{DrawnCache, draw_of};
 use crate::known::{KnownView, address_known};
 use crate::receiver::address_each;
 use crate::whom::{Whom, address_chosen, whom_of};
@@ -20,6 +21,8 @@ pub(crate) struct ReceiverCache {
     whom: Option<Whom>,
     // The views of these messages behind the publisher's own, where they are known.
     others: Option<Vec<KnownView>>,
+    // What they are sent as, where the account's mappings send them on.
+    pub drawn: DrawnCache,
 }
 
 impl Drop for ReceiverCache {
@@ -31,6 +34,7 @@ impl Drop for ReceiverCache {
             subject: _,
             whom: _,
             others: _,
+            drawn: _,
         } = self;
     }
 }
@@ -49,7 +53,7 @@ impl ReceiverCache {
     ghost use Rattle.std.specs.Prelude.{◌==◌, ◌&&◌, ◌⊎◌, IfOk, IfSome, true, false, None, Some, nat_eq};
     ghost use Rattle.std.specs.Cmp.Lexicographic.{pointwise};
     ghost use Rattle.subjects.specs.Subject.{text_of};
-    ghost use Rattle.world_receivers.specs.Cached.{Tells, TellsOthers, IsEmpty};
+    ghost use Rattle.world_receivers.specs.Cached.{Tells, TellsDrawn, TellsOthers, IsEmpty};
 
     /// Returns an empty cache. It takes no memory.
     pub fn new(alloc: Global) -> ReceiverCache
@@ -61,6 +65,7 @@ impl ReceiverCache {
             subject: Vec::new(alloc),
             whom: None,
             others: None,
+            drawn: DrawnCache::new(alloc),
         }
     }
 
@@ -70,12 +75,14 @@ impl ReceiverCache {
     {
         self.whom = None;
         self.others = None;
+        self.drawn.clear();
         self.subject.clear();
     }
 
     /// Returns whether it is of this publisher and the text of this subject.
     fn is_of(&self, conn: u64, text: &[u8]) -> bool
-        ensures { result ≡ ((self.now.conn == conn) && pointwise nat_eq self.now.subject.items text.now) }
+        ensures tests { result ≡ ((self.now.conn == conn) && pointwise nat_eq self.now.subject.items text.now) }
+        ensures same { result ≡ true → (self.now.conn ≡ conn) × (self.now.subject.items ≡ text.now) }
     {
         self.conn == conn && self.subject.as_slice() == text
     }
@@ -135,6 +142,7 @@ impl ReceiverCache {
 
     /// Selects the publisher and the subject whose receivers are cached next. Returns whether they were selected already,
     /// and their receivers are still to be found.
+    #[inline(always)]
     pub fn select(&mut self, conn: u64, text: &[u8]) -> bool
         ensures selected { result ≡ true → (self.new.conn ≡ conn) × (self.new.subject.items ≡ text.now) }
         ensures cached { (self.new ≡ self.old) ⊎ IsEmpty self.new }
@@ -145,9 +153,47 @@ impl ReceiverCache {
         }
         self.whom = None;
         self.others = None;
+        self.drawn.clear();
         self.conn = conn;
         self.subject.clear();
         let _ = self.subject.extend_from_slice(text);
+        false
+    }
+
+    /// Puts the deliveries of a publisher's message that mappings send on in the place of what was in `all`, if what it is sent as is
+    /// cached. Returns whether it is. `NoMemory` where memory could not be had.
+    pub fn address_drawn(
+        &self,
+        conn: u64,
+        text: &[u8],
+        message: &Message,
+        word: u64,
+        all: &mut Vec<Addressed>,
+    ) -> Result<bool, NoMemory>
+        ensures tells { IfOk result (λ done. done ≡ true → TellsDrawn self.now conn text.now message.now word all.new.items) }
+    {
+        if !self.is_of(conn, text) {
+            return Ok(false);
+        }
+        match self.drawn.find(draw_of(word)) {
+            None => Ok(false),
+            Some(drawn) => {
+                clear(all);
+                drawn.address(message, word, all)?;
+                Ok(true)
+            }
+        }
+    }
+
+    /// Selects the publisher and the subject, as `select` does. Returns whether they were selected already.
+    pub fn select_drawn(&mut self, conn: u64, text: &[u8]) -> bool
+        ensures selected { result ≡ true → (self.new.conn ≡ conn) × (self.new.subject.items ≡ text.now) }
+        ensures cached { (self.new ≡ self.old) ⊎ IsEmpty self.new }
+    {
+        if self.is_of(conn, text) {
+            return true;
+        }
+        let _ = self.select(conn, text);
         false
     }
 
@@ -159,6 +205,7 @@ impl ReceiverCache {
         ensures subject { self.new.subject ≡ self.old.subject }
         ensures whom { (whom : Whom) → self.new.whom ≡ Some whom → IsWhom whom (map (λ s. s.now) found.now) }
         ensures others { self.new.others ≡ others }
+        ensures drawn { self.new.drawn ≡ self.old.drawn }
     {
         self.whom = Some(whom_of(self.alloc, found));
         self.others = others;

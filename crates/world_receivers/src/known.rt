@@ -7,7 +7,7 @@ use crate::naming::names_of;
 use crate::open::Open;
 use crate::receiver::address_each_under;
 use crate::whom::{Whom, address_chosen_under, whom_of};
-use base::{NoMemory, Shared};
+use base::{Alike, NoMemory, Shared};
 use events::{Addressed, Message, Names, Said};
 use imports::{ViewItem, Way};
 use std::alloc::Global;
@@ -63,7 +63,7 @@ fn says(whom: &Whom) -> bool
 }
 
 /// Returns whom a publisher's messages are for in an account under a subject, if each of them is for the same.
-fn known_at(
+pub(crate) fn known_at(
     alloc: Global,
     among: Among<'_>,
     account: &[u8],
@@ -138,8 +138,16 @@ pub(crate) fn known_views(
 }
 
 impl KnownView {
+    /// Returns whether the messages have this subject there.
+    pub fn is_under(&self, subject: &Subject) -> bool
+        ensures { result ≡ true → self.now.names.subject ≡ subject.now }
+    {
+        self.names.get().subject.is_like(subject)
+    }
+
     /// Appends the deliveries of a message in the view. `NoMemory` where memory could not be had.
-    fn address(
+    #[inline(always)]
+    pub fn address(
         &self,
         message: &Message,
         word: u64,
@@ -162,6 +170,7 @@ impl KnownView {
 }
 
 /// Appends the deliveries of a message in views. `NoMemory` where memory could not be had: then some may be appended.
+#[inline(always)]
 pub(crate) fn address_known(
     message: &Message,
     word: u64,

@@ -3,6 +3,7 @@
 #![tactic(auto)]
 
 mod cache;
+mod drawn;
 mod known;
 mod naming;
 mod open;

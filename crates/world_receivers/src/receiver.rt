@@ -99,6 +99,7 @@ pub(crate) fn address_each(
 }
 
 /// Addresses a message to receivers, in turn, under names, and adds these deliveries.
+#[inline(always)]
 pub(crate) fn address_each_under(
     message: &Message,
     names: &Shared<Names>,

@@ -1,16 +1,24 @@
-ghost use Rattle.std.specs.Prelude.{◌≡◌, ◌++◌, true, false, Some, IfOk, OnOk, map, take};
+ghost use Rattle.std.specs.Prelude.{◌≡◌, ◌++◌, ℕ, true, false, List, Some, IfOk, IfSome, OnOk, map, take};
+ghost use Rattle.account_mappings.specs.Drawing.{mapped_by};
+ghost use Rattle.account_mappings.specs.declared.drawing.Mapped.TheVariants.{To};
 ghost use Rattle.events.specs.Sendings.{named};
+ghost use Rattle.imports.specs.Views.{is_route};
+ghost use Rattle.imports.specs.declared.rows.ImportRow.{ImportRow};
 ghost use Rattle.world_deliveries.specs.Sessions.{session_of};
+ghost use Rattle.world_deliveries.specs.declared.session.Session.{Session as SessionModel};
+ghost use Rattle.world_rows.specs.declared.subscription.Subscription.{Subscription};
 ghost use Rattle.world_receivers.specs.Cached.{IsCurrent, KnowsOthers, TellsOthers, IsEmpty};
+ghost use Rattle.world_receivers.specs.Drawn.{IsSent, IsSentOn, KnowsDrawn, subject_of};
 ghost use Rattle.world_receivers.specs.Receivers.{addressed_among};
 ghost use Rattle.world_receivers.specs.Standing.{addressed_behind_in, is_for_nobody, is_nil};
 
 use crate::cache::ReceiverCache;
-use crate::known::{Among, KnownView, known_views};
+use crate::drawn::{Drawn, DrawnCache, draw_of};
+use crate::known::{Among, KnownView, known_at, known_views};
 use crate::naming::address_under;
 use crate::open::Open;
 use crate::standing::Standing;
-use base::NoMemory;
+use base::{NoMemory, Shared};
 use bytes::Bytes;
 use events::{Addressed, Message, Said};
 use imports::Rows;
@@ -73,6 +81,66 @@ fn others_of(
 {
     match find_others(alloc, among, rows, subject, ids) {
         Ok(known) => known,
+        Err(_) => None,
+    }
+}
+
+/// Returns what a publisher's messages are sent as under a subject, if each is for the same. `NoMemory` where memory could not be
+/// had.
+fn find_drawn(
+    alloc: Global,
+    among: Among<'_>,
+    rows: &Rows,
+    subject: &Subject,
+    ids: &mut Vec<u64>,
+) -> Result<Option<Shared<Drawn>>, NoMemory>
+    requires { is_route subject.now ≡ false }
+    ensures { IfOk result (λ found. IfSome found (λ drawn. IsSent rows.now among.entry.sessions.now among.entry.subscriptions.now among.entry.publisher.now drawn × (subject_of drawn ≡ subject.now))) }
+{
+    let account = among.publisher.user.account.as_slice();
+    match known_at(alloc, among, account, subject, ids)? {
+        None => Ok(None),
+        Some(own) => match find_others(alloc, among, rows, &subject.lend(), ids)? {
+            None => Ok(None),
+            Some(others) => Ok(Some(Shared::new(alloc, Drawn { own, others })?)),
+        },
+    }
+}
+
+/// Returns what a publisher's messages are sent as under a subject, as it is known of some draw or is found.
+fn drawn_under(
+    alloc: Global,
+    known: &DrawnCache,
+    among: Among<'_>,
+    rows: &Rows,
+    subject: &Subject,
+    ids: &mut Vec<u64>,
+) -> Result<Option<Shared<Drawn>>, NoMemory>
+    requires unrouted { is_route subject.now ≡ false }
+    ensures { IfOk result (λ found. IfSome found (λ drawn. (conn : ℕ) (text : List ℕ) → KnowsDrawn known.now.by_draw.items rows.now conn text among.entry.sessions.now among.entry.subscriptions.now
+        → session_of among.entry.sessions.now conn ≡ Some among.entry.publisher.now → IsSent rows.now among.entry.sessions.now among.entry.subscriptions.now among.entry.publisher.now drawn × (subject_of drawn ≡ subject.now))) }
+{
+    match known.find_under(subject) {
+        Some(drawn) => Ok(Some(drawn.again()?)),
+        None => find_drawn(alloc, among, rows, subject, ids),
+    }
+}
+
+/// Returns what a publisher's messages are sent as under a subject. Without memory it isn't known.
+fn drawn_of(
+    alloc: Global,
+    known: &DrawnCache,
+    among: Among<'_>,
+    rows: &Rows,
+    subject: &Subject,
+    ids: &mut Vec<u64>,
+) -> Option<Shared<Drawn>>
+    requires unrouted { is_route subject.now ≡ false }
+    ensures { IfSome result (λ drawn. (conn : ℕ) (text : List ℕ) → KnowsDrawn known.now.by_draw.items rows.now conn text among.entry.sessions.now among.entry.subscriptions.now
+        → session_of among.entry.sessions.now conn ≡ Some among.entry.publisher.now → IsSent rows.now among.entry.sessions.now among.entry.subscriptions.now among.entry.publisher.now drawn × (subject_of drawn ≡ subject.now)) }
+{
+    match drawn_under(alloc, known, among, rows, subject, ids) {
+        Ok(drawn) => drawn,
         Err(_) => None,
     }
 }
@@ -288,6 +356,63 @@ impl Receivers {
             &mut self.deliveries,
         )?;
         Ok(nobody)
+    }
+
+    /// Puts the deliveries of a publisher's message that its account's mappings send on in the place of those of the last one, if what
+    /// it is sent as is cached. Returns whether it is. `NoMemory` where memory could not be had.
+    pub fn address_drawn(
+        &mut self,
+        conn: u64,
+        message: &Message,
+        word: u64,
+    ) -> Result<bool, NoMemory>
+        ensures tells { IfOk result (λ done. done ≡ true → (rows : List ImportRow) (zs : List SessionModel) (subs : List Subscription) (z : SessionModel) →
+            IsCurrent rows zs subs self.old.cache → session_of zs conn ≡ Some z → IsSentOn rows zs subs z message.now word self.new.deliveries.items) }
+        ensures cached { self.new.cache ≡ self.old.cache }
+    {
+        let subject = message.subject();
+        let _ = subject.tokens();
+        let done = self
+            .cache
+            .address_drawn(conn, subject.bytes(), message, word, &mut self.deliveries)?;
+        Ok(done)
+    }
+
+    /// Caches what the publisher's next messages on the message's subject with its draw are sent as, where this is the second of them
+    /// in a row: mappings send it on under this subject.
+    pub fn fill_drawn(
+        &mut self,
+        sessions: &Sessions,
+        subscriptions: &Subscriptions,
+        rows: &Rows,
+        sending: Sending<'_>,
+        subject: &Subject,
+    )
+        requires publisher { session_of sessions.now sending.publisher.now.conn ≡ Some sending.publisher.now }
+        requires cached { IsCurrent rows.now sessions.now subscriptions.now self.old.cache }
+        requires mapped { mapped_by sending.publisher.now.user.mappings sending.message.now.subject sending.word ≡ To subject.now }
+        requires unrouted { is_route subject.now ≡ false }
+        ensures cached { IsCurrent rows.now sessions.now subscriptions.now self.new.cache }
+    {
+        let Sending {
+            publisher,
+            message,
+            word,
+        } = sending;
+        let published = message.subject();
+        let _ = published.tokens();
+        if !self.cache.select_drawn(publisher.conn, published.bytes()) {
+            return;
+        }
+        let among = Among {
+            sessions,
+            subscriptions,
+            publisher,
+        };
+        let known = &self.cache.drawn;
+        if let Some(drawn) = drawn_of(self.alloc, known, among, rows, subject, &mut self.ids) {
+            self.cache.drawn.keep(draw_of(word), drawn);
+        }
     }
 
     /// Takes back the deliveries behind the first so many.

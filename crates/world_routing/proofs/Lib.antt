@@ -6,5 +6,6 @@ pub mod Together
 pub mod Seeing
 pub mod Requests
 pub mod Under
+pub mod Drawn
 pub mod Publishing
 pub mod Remembered

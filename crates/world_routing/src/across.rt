@@ -197,7 +197,7 @@ fn may_be_route(subject: &SubjectRef<'_>) -> bool
 
 /// Returns whether a subject begins with the token `_R_`. Apart, so that a message doesn't need its locals.
 #[inline(never)]
-fn is_route(subject: &SubjectRef<'_>) -> bool
+pub(crate) fn is_route(subject: &SubjectRef<'_>) -> bool
     ensures { result ≡ is_route subject.now }
 {
     if !may_be_route(subject) {

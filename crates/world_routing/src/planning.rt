@@ -1,5 +1,5 @@
 //! What a publish comes to, before anything changes.
-ghost use Rattle.std.specs.Prelude.{◌≡◌, All, false, IsTrue, IfOk, OnOk, IfSome, Some, [], None, ℕ, map};
+ghost use Rattle.std.specs.Prelude.{◌≡◌, All, false, IsTrue, IfOk, Ok, OnOk, IfSome, Some, [], None, ℕ, map};
 ghost use Rattle.permissions.specs.Verdicts.{publish_verdict, IsJustifiedPublish};
 ghost use Rattle.events.specs.declared.answer.Addressed.{Addressed as AddressedModel};
 ghost use Rattle.world_deliveries.specs.Sessions.{session_of};
@@ -14,7 +14,7 @@ ghost use Rattle.account_mappings.specs.Drawing.{mapped_by};
 ghost use Rattle.world_routing.specs.Publishing.{IsElsewhere, IsPlain, IsPlanned, IsPlanOf, IsToldPlan, diverted_to, in_session, mapped_to, published_by, seen_as, tables_of};
 ghost use Rattle.imports.specs.Views.{rows_of};
 
-use crate::across::{Publishing, Told, address_all, address_under};
+use crate::across::{Publishing, Told, address_all, address_under, is_route};
 use crate::answered::{Answered, answered_by};
 use crate::caches::Caches;
 use crate::carrying::{Deliveries, Routing};
@@ -23,6 +23,7 @@ use crate::viewing::with_reports;
 use account_mappings::Mapped;
 use base::{Boxed, Items, NoMemory};
 use events::{Addressed, HubRefusal, Item, Message, Met};
+use imports::Rows;
 use permissions::{By, Verdict};
 use policy_ready::Ready;
 use service_routes::Routes;
@@ -330,9 +331,35 @@ fn plan_own<'p>(
     Ok(plan)
 }
 
-/// Returns what a publish that is allowed comes to, where the account has mappings. Apart, since few have some.
-#[inline(never)]
-fn plan_mapped<'p>(
+/// Caches what a publisher's next messages on a message's subject are sent as, if its account's mappings send it on under another.
+fn keep_drawn(
+    sessions: &Sessions,
+    subscriptions: &Subscriptions,
+    receivers: &mut Receivers,
+    rows: &Rows,
+    sending: Sending<'_>,
+    elsewhere: &Option<Elsewhere>,
+)
+    requires publisher { session_of sessions.now sending.publisher.now.conn ≡ Some sending.publisher.now }
+    requires cached { IsCurrent rows.now sessions.now subscriptions.now receivers.old.cache }
+    requires elsewhere { IsElsewhere (mapped_by sending.publisher.now.user.mappings sending.message.now.subject sending.word) (Ok elsewhere.now) }
+    ensures cached { IsCurrent rows.now sessions.now subscriptions.now receivers.new.cache }
+{
+    match elsewhere {
+        None => {}
+        Some(elsewhere) => match elsewhere {
+            Elsewhere::Nowhere(_) => {}
+            Elsewhere::Under(other) => {
+                if !is_route(&other.lend()) {
+                    receivers.fill_drawn(sessions, subscriptions, rows, sending, other);
+                }
+            }
+        },
+    }
+}
+
+/// Returns what a publish that is allowed comes to by its account's mappings, and caches what such messages are sent as.
+fn plan_anew<'p>(
     sessions: &mut Sessions,
     subscriptions: &mut Subscriptions,
     receivers: &mut Receivers,
@@ -351,12 +378,25 @@ fn plan_mapped<'p>(
     let Permitted { publish, by } = permitted;
     let elsewhere = match sessions.find(publish.conn) {
         None => return Err(HubRefusal::NoSession),
-        Some(session) => drawn_for(
-            receivers.allocator(),
-            session,
-            publish.message,
-            publish.word,
-        )?,
+        Some(publisher) => {
+            let alloc = receivers.allocator();
+            let elsewhere = drawn_for(alloc, publisher, publish.message, publish.word)?;
+            let sending = Sending {
+                publisher,
+                message: publish.message,
+                word: publish.word,
+            };
+            let rows = ready.rows();
+            keep_drawn(
+                sessions,
+                subscriptions,
+                receivers,
+                rows,
+                sending,
+                &elsewhere,
+            );
+            elsewhere
+        }
     };
     match elsewhere {
         None => {
@@ -373,6 +413,41 @@ fn plan_mapped<'p>(
             Ok(plan)
         }
     }
+}
+
+/// Returns what a publish that is allowed comes to, where the account has mappings: by what messages with its draw are sent as, if
+/// that is cached. Apart, since few accounts have some.
+#[inline(never)]
+fn plan_mapped<'p>(
+    sessions: &mut Sessions,
+    subscriptions: &mut Subscriptions,
+    receivers: &mut Receivers,
+    routes: &mut Routes,
+    ready: &'p Ready,
+    permitted: Permitted<'p>,
+) -> Result<Plan, HubRefusal>
+    requires cached { IsCurrent (rows_of ready.now) sessions.old subscriptions.old receivers.old.cache }
+    ensures planned { (w : World) → tables_of w ≡ tables_at ready.now permitted.entry.publish.now sessions.old subscriptions.old routes.old.exporters
+        → IsPlanned w (in_session (session_of w.sessions permitted.entry.publish.conn) (λ z. mapped_to w z permitted.entry.by permitted.entry.publish.message.now permitted.entry.publish.word (mapped_by z.user.mappings permitted.entry.publish.message.now.subject permitted.entry.publish.word))) result }
+    ensures sessions { sessions.new ≡ sessions.old }
+    ensures subscriptions { subscriptions.new ≡ subscriptions.old }
+    ensures routes { routes.new.exporters ≡ routes.old.exporters }
+    ensures cached { IsCurrent (rows_of ready.now) sessions.new subscriptions.new receivers.new.cache }
+{
+    let Permitted { publish, by } = permitted;
+    subscriptions.known();
+    let answered = match sessions.find(publish.conn) {
+        None => return Err(HubRefusal::NoSession),
+        Some(session) => {
+            if !receivers.address_drawn(publish.conn, publish.message, publish.word)? {
+                let plan = plan_anew(sessions, subscriptions, receivers, routes, ready, permitted)?;
+                return Ok(plan);
+            }
+            answered_by(by, session.conn, publish.message)?
+        }
+    };
+    let plan = plan_told(sessions, receivers, publish.message, by, answered, None)?;
+    Ok(plan)
 }
 
 /// No deliveries, of a message that may be an answer.

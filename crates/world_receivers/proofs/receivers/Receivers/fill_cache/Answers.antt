@@ -9,7 +9,7 @@ use Rattle.world_receivers.specs.Open.{is_open}
 use Rattle.world_receivers.specs.Cached.{KnowsOthers}
 use Rattle.world_receivers.specs.declared.known.KnownView.{KnownView}
 use Rattle.world_receivers.proofs.Tests.{both}
-use Rattle.world_receivers.proofs.Told.{filled_current, still_current, others_selected}
+use Rattle.world_receivers.proofs.Told.{drawn_same, filled_current, still_current, others_selected}
 use Rattle.world_receivers.proofs.receivers.Receivers.fill_cache.Goals as goal
 
 pub returns-in-Ok-clause-cached : goal.returns-in-Ok-clause-cached
@@ -21,6 +21,8 @@ returns-in-Ok-clause-cached c =
     let selected = c.if-not-select.ensures.selected refl in
     filled_current c.fill.new.self c.args.rows.now zs subs (map (λ x. x.now) c.as_slice.result.now) z s c.fill.ensures.whom
     (subst (λ (o : Option (Vec KnownView)). KnowsOthers o c.args.rows.now zs subs z s) (sym c.fill.ensures.others) c.others_of-others.ensures)
+    (drawn_same c.select.new.self c.fill.new.self c.args.rows.now zs subs c.fill.ensures.drawn c.fill.ensures.conn c.fill.ensures.subject
+    (still_current c.args.self.now.cache c.select.new.self c.args.rows.now zs subs c.requires.cached c.select.ensures.cached).2)
     (ap (session_of zs) (c.fill.ensures.conn ∙ selected.0) ∙ c.requires.publisher)
     (ap (map (λ x. x.now)) c.as_slice.ensures.value
     ∙ c.in-Ok.ensures.found
@@ -46,3 +48,9 @@ returns-in_default-clause-others c =
     others_selected c.select.new.self c.args.rows.now zs c.args.subscriptions.now c.args.publisher.now _ _ c.args.subject.now
     (still_current c.args.self.now.cache c.select.new.self c.args.rows.now zs c.args.subscriptions.now c.requires.cached c.select.ensures.cached)
     c.select.ensures.others c.requires.publisher (ap tokens_of c.bytes.ensures ∙ again c.args.subject.now c.tokens.ensures.grammar)
+
+pub returns-then-not-select-clause-cached : goal.returns-then-not-select-clause-cached
+returns-then-not-select-clause-cached c = still_current c.args.self.now.cache c.select.new.self c.args.rows.now c.args.sessions.now c.args.subscriptions.now c.requires.cached c.select.ensures.cached
+
+pub returns-in_default-clause-cached : goal.returns-in_default-clause-cached
+returns-in_default-clause-cached c = still_current c.args.self.now.cache c.select.new.self c.args.rows.now c.args.sessions.now c.args.subscriptions.now c.requires.cached c.select.ensures.cached
