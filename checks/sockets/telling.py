@@ -126,7 +126,8 @@ def no_route(program, divide):
                 prices.message()
         shop.ping()
         want(told(server) == [], f"there are lines: {told(server)}")
-        shop.send(b"PUB ask.last inbox 0\r\n\r\n")
+        # (another message behind it enters in the same hold of the lock)
+        shop.send(b"PUB ask.last inbox 0\r\n\r\nPUB nobody 0\r\n\r\n")
         fields = {"event": "limit", "text": "routes", "subject": "ask.last", "import": 1}
         exactly(line_of(server, **fields), **fields, **{**party_of(shop, "shop"), "account": "SHOP"})
         prices.ping()
