@@ -15,6 +15,7 @@ use Rattle.imports.specs.declared.view.ViewItem.TheVariants.{At, TooLong}
 use Rattle.imports.specs.declared.view.Way.TheVariants.{Own, Stream, Service, Response}
 use Rattle.account_mappings.specs.Drawing.{mapped_by}
 use Rattle.policy_ready.specs.declared.ready.User.{User}
+use Rattle.permissions.specs.declared.verdict.By.{By}
 use Rattle.permissions.specs.Verdicts.{delivery_verdict, is_allowed}
 use Rattle.events.specs.declared.answer.Addressed.{Addressed}
 use Rattle.queue_choice.specs.Choices.{chosen}
@@ -32,7 +33,7 @@ use Rattle.world_receivers.specs.Open.{lets_through, may_hear, is_open, open_amo
 use Rattle.world_receivers.specs.Receivers.{receiver_of}
 use Rattle.world_receivers.specs.Known.{IsWhom, IsSeen, AreSeen, has_limit, others_in}
 use Rattle.world_receivers.specs.Drawn.{subject_of, IsDrawn, KnowsDrawn}
-use Rattle.world_receivers.specs.Cached.{IsWhomFor, KnowsOthersFor, IsCurrent}
+use Rattle.world_receivers.specs.Cached.{IsAllowed, IsAlone, IsAloneFor, IsWhomFor, KnowsOthersFor, IsCurrent}
 use Rattle.world_receivers.specs.declared.cache.ReceiverCache.{ReceiverCache}
 use Rattle.world_receivers.specs.declared.drawn.Drawn.{Drawn}
 use Rattle.world_receivers.specs.declared.known.KnownView.{KnownView}
@@ -208,6 +209,37 @@ module _ (f : Subscription → Subscription) (same : (s : Subscription) → made
             });
       }
 
+-- what is seen in its publisher's account alone goes by its user
+alone-stays : (zs after : List Session) → AreSeated zs after → (alone : Option By) (rows : List ImportRow) (conn : ℕ) (text : List ℕ) → IsAloneFor alone rows conn text zs → IsAloneFor alone rows conn text after
+alone-stays zs after seated None rows conn text is = tt
+alone-stays zs after seated (Some by) rows conn text is = here (session_of after conn) refl (sym (seated conn ∙ ap (option_map seat) is.1))
+  where
+    z : Session
+    z = is.0
+
+    by_user : User → Type 0
+    by_user u = IsAlone rows (record z { user = u }) (tokens_of text) by
+
+    here : (o : Option Session) → session_of after conn ≡ o → Some (seat z) ≡ option_map seat o → IsAloneFor (Some by) rows conn text after
+    here None e same = absurd (none-some (seat z) (sym same))
+    here (Some y) e same = (y, e, of_user y (subst by_user (ap (λ (o : Option Seat). user_in o) same) (mine is.2)))
+      where
+        user_in : Option Seat → User
+        user_in None = z.user
+        user_in (Some q) = q.1.0
+
+        mine : IsAlone rows z (tokens_of text) by → by_user z.user
+        mine a = record {
+          allowed = record { lists = a.allowed.lists; verdict = a.allowed.verdict; justified = a.allowed.justified; unmapped = a.allowed.unmapped; unrouted = a.allowed.unrouted };
+          others = a.others;
+        }
+
+        of_user : (y : Session) → by_user y.user → IsAlone rows y (tokens_of text) by
+        of_user y a = record {
+          allowed = record { lists = a.allowed.lists; verdict = a.allowed.verdict; justified = a.allowed.justified; unmapped = a.allowed.unmapped; unrouted = a.allowed.unrouted };
+          others = a.others;
+        }
+
 -- ---- what is cached
 
 pub current_taken : (cache : ReceiverCache) (rows : List ImportRow) (zs after : List Session) (subs : List Subscription) → AreSeated zs after → IsCurrent rows zs subs cache → IsCurrent rows after subs cache
@@ -217,6 +249,7 @@ current_taken cache rows zs after subs seated current = (
       (others-stay (λ s. s) (λ s. refl) zs after seated subs (λ s. refl) cache.others rows cache.conn cache.subject.items current.1),
   subst (λ (ss : List Subscription). KnowsDrawn cache.drawn.by_draw.items rows cache.conn cache.subject.items after ss) (map-same subs)
       (drawn-stay (λ s. s) (λ s. refl) zs after seated subs (λ s. refl) cache.drawn.by_draw.items rows cache.conn cache.subject.items current.2),
+  alone-stays zs after seated cache.alone rows cache.conn cache.subject.items current.3,
 )
   where
     map-same : (xs : List Subscription) → map (λ s. s) xs ≡ xs
@@ -283,4 +316,5 @@ current_in_turn cache rows zs after (id ∷ ids) subs seated as_many current =
       whom-stays (only bumped id) (bumped-made id) zs zs (λ conn. refl) subs cache.whom cache.conn cache.subject.items current.0,
       others-stay (only bumped id) (bumped-made id) zs zs (λ conn. refl) subs (only-most id) cache.others rows cache.conn cache.subject.items current.1,
       drawn-stay (only bumped id) (bumped-made id) zs zs (λ conn. refl) subs (only-most id) cache.drawn.by_draw.items rows cache.conn cache.subject.items current.2,
+      current.3,
     ))

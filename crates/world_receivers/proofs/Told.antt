@@ -1,11 +1,14 @@
 -- What is cached tells whom a message is for.
 use Rattle.std.proofs.Common.{◌≡◌, ◌∙◌, ◌⊎◌, ℕ, List, [], ◌∷◌, Option, Some, None, map, ap, sym, refl, subst, inl, inr}
-use Rattle.std.specs.Prelude.{IfSome}
+use Rattle.std.specs.Prelude.{Result, Ok, Err, IfErr, IfOk, IfSome}
+use Rattle.base.specs.declared.no_memory.NoMemory.{NoMemory}
 use Rattle.std.proofs.lemmas.Option.{none-some}
 use Rattle.std.specs.Global.{Vec}
 use Rattle.subjects.specs.Subject.{Token, tokens_of}
 use Rattle.imports.specs.declared.rows.ImportRow.{ImportRow}
+use Rattle.imports.specs.declared.view.ViewItem.{ViewItem}
 use Rattle.account_mappings.specs.Drawing.{draw_of, mapped_by}
+use Rattle.permissions.specs.declared.verdict.By.{By}
 use Rattle.events.specs.Messages.{Message}
 use Rattle.events.specs.declared.answer.Addressed.{Addressed}
 use Rattle.world_groups.specs.Served.{served}
@@ -15,9 +18,9 @@ use Rattle.world_subscriptions.specs.Addressing.{addressed_to}
 use Rattle.world_rows.specs.declared.subscription.Subscription.{Subscription}
 use Rattle.world_receivers.specs.Open.{open_among}
 use Rattle.world_receivers.specs.Receivers.{receiver_of, addressed_at, addressed_among}
-use Rattle.world_receivers.specs.Known.{IsWhom}
+use Rattle.world_receivers.specs.Known.{AreSeen, IsWhom, others_in}
 use Rattle.world_receivers.specs.Drawn.{IsCached, IsDrawn, IsSentOn, KnowsDrawn}
-use Rattle.world_receivers.specs.Cached.{IsWhomFor, KnowsOthers, KnowsOthersFor, IsCurrent, IsEmpty, Tells, TellsDrawn}
+use Rattle.world_receivers.specs.Cached.{AreNone, IsAllowed, IsAlone, IsAloneAt, IsAloneFor, IsAloneOf, IsWhomFor, KnowsOthers, KnowsOthersFor, IsCurrent, IsEmpty, Tells, TellsDrawn}
 use Rattle.world_receivers.specs.declared.cache.ReceiverCache.{ReceiverCache}
 use Rattle.world_receivers.specs.declared.drawn.Drawn.{Drawn}
 use Rattle.world_receivers.specs.declared.known.KnownView.{KnownView}
@@ -45,6 +48,7 @@ empty_current cache rows zs subs empty = (
   subst (λ (o : Option Whom). IsWhomFor o cache.conn cache.subject.items zs subs) (sym empty.0) tt,
   subst (λ (o : Option (Vec KnownView)). KnowsOthersFor o rows cache.conn cache.subject.items zs subs) (sym empty.1) tt,
   record { each = λ draw drawn cached z there. absurd (none-some (Some drawn) (subst (λ (all : List (Option Drawn)). IsCached all draw drawn) empty.2 cached)) },
+  subst (λ (o : Option By). IsAloneFor o rows cache.conn cache.subject.items zs) (sym empty.3) tt,
 )
 
 -- one that stays as it is stays current
@@ -77,8 +81,8 @@ pub filled_current : (new : ReceiverCache) (rows : List ImportRow) (zs : List Se
     ((whom : Whom) → new.whom ≡ Some whom → IsWhom whom found) → KnowsOthers new.others rows zs subs z s →
     KnowsDrawn new.drawn.by_draw.items rows new.conn new.subject.items zs subs →
     session_of zs new.conn ≡ Some z → found ≡ open_among zs subs z z.user.account s → tokens_of new.subject.items ≡ s →
-    IsCurrent rows zs subs new
-filled_current new rows zs subs found z s filled known drawn there are same = (here new.whom refl, apart new.others known, drawn)
+    IsAloneFor new.alone rows new.conn new.subject.items zs → IsCurrent rows zs subs new
+filled_current new rows zs subs found z s filled known drawn there are same alone = (here new.whom refl, apart new.others known, drawn, alone)
   where
     one : (y : Session) → session_of zs new.conn ≡ Some y → y ≡ z
     one y is = ap (λ (o : Option Session). or_else o y) (sym is ∙ there)
@@ -99,6 +103,65 @@ filled_current new rows zs subs found z s filled known drawn there are same = (h
     apart (Some views) is = λ y seated.
         subst (λ (x : Session). KnowsOthers (Some views) rows zs subs x (tokens_of new.subject.items)) (sym (one y seated))
         (subst (λ (t : List Token). KnowsOthers (Some views) rows zs subs z t) (sym same) is)
+
+-- ---- messages that are seen in their publisher's account alone
+
+-- where none is known, there is no view behind the publisher's own
+none_others : (others : Option (Vec KnownView)) (rows : List ImportRow) (zs : List Session) (subs : List Subscription) (z : Session) (s : List Token) →
+    AreNone others → KnowsOthers others rows zs subs z s → others_in rows z.user.account s ≡ []
+none_others None rows zs subs z s none is = absurd none
+none_others (Some known) rows zs subs z s none is =
+    nothing (others_in rows z.user.account s) (subst (λ (all : List KnownView). AreSeen zs subs z all (others_in rows z.user.account s)) none is)
+  where
+    nothing : (vs : List ViewItem) → AreSeen zs subs z [] vs → vs ≡ []
+    nothing [] seen = refl
+    nothing (v ∷ vs) seen = absurd seen
+
+-- then what lists allow is seen there alone
+pub alone_filled : (alone allowed : Option By) (others : Option (Vec KnownView)) (rows : List ImportRow) (zs : List Session) (subs : List Subscription) (z : Session) (s : List Token) (conn : ℕ) (text : List ℕ) →
+    IfSome alone (λ by. (allowed ≡ Some by) × AreNone others) → IfSome allowed (IsAllowed z s) → KnowsOthers others rows zs subs z s →
+    session_of zs conn ≡ Some z → tokens_of text ≡ s → IsAloneFor alone rows conn text zs
+alone_filled None allowed others rows zs subs z s conn text filled lists known there same = tt
+alone_filled (Some by) allowed others rows zs subs z s conn text filled lists known there same = (
+  z,
+  there,
+  subst (λ (t : List Token). IsAlone rows z t by) (sym same) (record {
+    allowed = subst (λ (o : Option By). IfSome o (IsAllowed z s)) filled.0 lists;
+    others = none_others others rows zs subs z s filled.1 known;
+  }),
+)
+
+-- what the cache says of its connection and subject is so
+pub alone_of : (by : By) (cache : ReceiverCache) (conn : ℕ) (text : List ℕ) (s : List Token) (rows : List ImportRow) (zs : List Session) (subs : List Subscription) →
+    cache.alone ≡ Some by → cache.conn ≡ conn → cache.subject.items ≡ text → IsCurrent rows zs subs cache → tokens_of text ≡ s → IsAloneOf rows zs conn s by
+alone_of by cache conn text s rows zs subs is of about current same =
+    let alone : IsAloneFor (Some by) rows cache.conn cache.subject.items zs = subst (λ (o : Option By). IsAloneFor o rows cache.conn cache.subject.items zs) is current.3 in
+    record {
+      publisher = alone.0;
+      seated = ap (session_of zs) (sym of) ∙ alone.1;
+      alone = subst (λ (t : List Token). IsAlone rows alone.0 t by) (ap tokens_of about ∙ same) alone.2;
+    }
+
+-- and what it tells of a message
+pub alone_at : (by : By) (cache : ReceiverCache) (conn : ℕ) (text : List ℕ) (m : Message) (word : ℕ) (all : List Addressed) (rows : List ImportRow) (zs : List Session) (subs : List Subscription) →
+    cache.alone ≡ Some by → Tells cache conn text m word all → IsCurrent rows zs subs cache → tokens_of text ≡ m.subject → IsAloneAt rows zs subs conn m word by all
+alone_at by cache conn text m word all rows zs subs is tells current same =
+    let of : IsAloneOf rows zs conn m.subject by = alone_of by cache conn text m.subject rows zs subs is tells.conn_is tells.text_is current same in
+    record { of = of; deliveries = told_are cache conn text m word all rows zs subs of.publisher tells current of.seated same }
+
+-- whatever it answers
+pub alone_told : (result : Result (Option By) NoMemory) (cache : ReceiverCache) (conn : ℕ) (text : List ℕ) (m : Message) (word : ℕ) (all : List Addressed) → tokens_of text ≡ m.subject →
+    IfOk result (λ by. IfSome by (λ allowed. (cache.alone ≡ Some allowed) × Tells cache conn text m word all)) →
+    IfOk result (λ by. IfSome by (λ allowed. (rows : List ImportRow) (zs : List Session) (subs : List Subscription) → IsCurrent rows zs subs cache → IsAloneAt rows zs subs conn m word allowed all))
+alone_told (Ok (Some by)) cache conn text m word all same tells = λ rows zs subs current. alone_at by cache conn text m word all rows zs subs tells.0 tells.1 current same
+alone_told (Ok None) cache conn text m word all same tells = tt
+alone_told (Err none) cache conn text m word all same tells = tt
+
+pub alone_refused : (result : Result (Option By) NoMemory) (cache : ReceiverCache) (conn : ℕ) (text : List ℕ) (s : List Token) → tokens_of text ≡ s →
+    IfErr result (λ none. (by : By) × (cache.alone ≡ Some by) × (cache.conn ≡ conn) × (cache.subject.items ≡ text)) →
+    IfErr result (λ none. (rows : List ImportRow) (zs : List Session) (subs : List Subscription) → IsCurrent rows zs subs cache → (by : By) × IsAloneOf rows zs conn s by)
+alone_refused (Ok by) cache conn text s same is = tt
+alone_refused (Err none) cache conn text s same is = λ rows zs subs current. (is.0, alone_of is.0 cache conn text s rows zs subs is.1 is.2 is.3 current same)
 
 -- ---- what its messages are sent as
 
@@ -125,10 +188,10 @@ sent_on cache conn text m word all rows zs subs z tells current there same =
 
 -- one that is told what messages with one more draw are sent as stays current
 pub kept_current : (old new : ReceiverCache) (rows : List ImportRow) (zs : List Session) (subs : List Subscription) (z : Session) (draw : ℕ) (drawn : Drawn) →
-    new.whom ≡ old.whom → new.others ≡ old.others → new.conn ≡ old.conn → new.subject ≡ old.subject →
+    new.whom ≡ old.whom → new.others ≡ old.others → new.alone ≡ old.alone → new.conn ≡ old.conn → new.subject ≡ old.subject →
     ((other : ℕ) (known : Drawn) → IsCached new.drawn.by_draw.items other known → IsCached old.drawn.by_draw.items other known ⊎ ((other ≡ draw) × (known ≡ drawn))) →
     session_of zs old.conn ≡ Some z → IsDrawn rows zs subs z old.subject.items draw drawn → IsCurrent rows zs subs old → IsCurrent rows zs subs new
-kept_current old new rows zs subs z draw drawn same_whom same_others of about more there is current = (
+kept_current old new rows zs subs z draw drawn same_whom same_others same_alone of about more there is current = (
   subst (λ (o : Option Whom). IsWhomFor o new.conn new.subject.items zs subs) (sym same_whom)
       (subst (λ (conn : ℕ). IsWhomFor old.whom conn new.subject.items zs subs) (sym of)
       (subst (λ (text : List ℕ). IsWhomFor old.whom old.conn text zs subs) texts current.0)),
@@ -139,6 +202,9 @@ kept_current old new rows zs subs z draw drawn same_whom same_others of about mo
     each = λ other known cached y seated. subst (λ (text : List ℕ). IsDrawn rows zs subs y text other known) texts
         (here other known (more other known cached) y (ap (session_of zs) (sym of) ∙ seated));
   },
+  subst (λ (o : Option By). IsAloneFor o rows new.conn new.subject.items zs) (sym same_alone)
+      (subst (λ (conn : ℕ). IsAloneFor old.alone rows conn new.subject.items zs) (sym of)
+      (subst (λ (text : List ℕ). IsAloneFor old.alone rows old.conn text zs) texts current.3)),
 )
   where
     texts : old.subject.items ≡ new.subject.items

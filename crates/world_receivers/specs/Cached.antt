@@ -1,16 +1,21 @@
 -- The cache of whom the messages of a publisher on a subject are for.
-use Rattle.std.specs.Prelude.{◌≡◌, ℕ, List, [], Option, Some, None, map}
+use Rattle.std.specs.Prelude.{◌≡◌, ℕ, false, List, [], Option, Some, None, map}
 use Rattle.std.specs.Global.{Vec}
 use Rattle.subjects.specs.Subject.{Token, tokens_of}
+use Rattle.imports.specs.Views.{is_route}
 use Rattle.imports.specs.declared.rows.ImportRow.{ImportRow}
 use Rattle.account_mappings.specs.Drawing.{draw_of}
+use Rattle.permissions.specs.Verdicts.{publish_verdict, IsJustifiedPublish}
+use Rattle.permissions.specs.declared.verdict.By.{By}
+use Rattle.permissions.specs.declared.verdict.By.TheVariants.{All as AllowsAll, Index, Grant}
+use Rattle.permissions.specs.declared.verdict.Verdict.TheVariants.{Allowed}
 use Rattle.events.specs.Messages.{Message}
 use Rattle.events.specs.declared.answer.Addressed.{Addressed}
 use Rattle.world_deliveries.specs.Sessions.{session_of}
 use Rattle.world_deliveries.specs.declared.session.Session.{Session}
 use Rattle.world_rows.specs.declared.subscription.Subscription.{Subscription}
 use Rattle.world_receivers.specs.Open.{open_among}
-use Rattle.world_receivers.specs.Receivers.{addressed_at}
+use Rattle.world_receivers.specs.Receivers.{addressed_among, addressed_at}
 use Rattle.world_receivers.specs.Known.{picked, Says, IsWhom, others_in, AreSeen, addressed_in_each}
 use Rattle.world_receivers.specs.Drawn.{IsCached, KnowsDrawn, sent_as}
 use Rattle.world_receivers.specs.declared.cache.ReceiverCache.{ReceiverCache}
@@ -33,16 +38,41 @@ abbrev pub KnowsOthersFor : Option (Vec KnownView) → List ImportRow → ℕ �
 KnowsOthersFor None rows conn text zs subs = Unit {0}
 KnowsOthersFor (Some known) rows conn text zs subs = (z : Session) → session_of zs conn ≡ Some z → KnowsOthers (Some known) rows zs subs z (tokens_of text)
 
+-- lists allow something, no grant
+abbrev pub IsOfLists : By → Type 0
+IsOfLists AllowsAll = Unit {0}
+IsOfLists (Index i) = Unit {0}
+IsOfLists Grant = ⊥
+
+-- Lists allow a session's message on a subject. Its account has no mappings, and the subject is of no response route.
+pub record IsAllowed (z : Session) (s : List Token) (by : By) : Type 0 where
+  pub lists : IsOfLists by
+  pub verdict : publish_verdict z.user.rules s ≡ Allowed by
+  pub justified : IsJustifiedPublish s z.user.rules.publish (Allowed by)
+  pub unmapped : z.user.mappings ≡ []
+  pub unrouted : is_route s ≡ false
+
+-- and it crosses no row: it is seen in its publisher's account alone
+pub record IsAlone (rows : List ImportRow) (z : Session) (s : List Token) (by : By) : Type 0 where
+  pub allowed : IsAllowed z s by
+  pub others : others_in rows z.user.account s ≡ []
+
+-- where the messages of a connection on a subject are said to be so, they are
+abbrev pub IsAloneFor : Option By → List ImportRow → ℕ → List ℕ → List Session → Type 0
+IsAloneFor None rows conn text zs = Unit {0}
+IsAloneFor (Some by) rows conn text zs = (z : Session) × (session_of zs conn ≡ Some z) × IsAlone rows z (tokens_of text) by
+
 -- what the cache says of its connection and subject is so
 abbrev pub IsCurrent : List ImportRow → List Session → List Subscription → ReceiverCache → Type 0
 IsCurrent rows zs subs cache =
     IsWhomFor cache.whom cache.conn cache.subject.items zs subs
     × KnowsOthersFor cache.others rows cache.conn cache.subject.items zs subs
     × KnowsDrawn cache.drawn.by_draw.items rows cache.conn cache.subject.items zs subs
+    × IsAloneFor cache.alone rows cache.conn cache.subject.items zs
 
 -- it says nothing
 abbrev pub IsEmpty : ReceiverCache → Type 0
-IsEmpty cache = (cache.whom ≡ None) × (cache.others ≡ None) × (cache.drawn.by_draw.items ≡ [])
+IsEmpty cache = (cache.whom ≡ None) × (cache.others ≡ None) × (cache.drawn.by_draw.items ≡ []) × (cache.alone ≡ None)
 
 -- whom a message of the connection on the subject is for is cached, and these are its deliveries
 pub record Tells (cache : ReceiverCache) (conn : ℕ) (text : List ℕ) (m : Message) (word : ℕ) (all : List Addressed) : Type 0 where
@@ -65,3 +95,19 @@ pub record TellsDrawn (cache : ReceiverCache) (conn : ℕ) (text : List ℕ) (m 
   pub drawn : Drawn
   pub cached : IsCached cache.drawn.by_draw.items (draw_of word) drawn
   pub deliveries : all ≡ sent_as m word drawn
+
+-- a connection's messages on a subject are seen in its publisher's account alone, and lists allow them
+pub record IsAloneOf (rows : List ImportRow) (zs : List Session) (conn : ℕ) (s : List Token) (by : By) : Type 0 where
+  pub publisher : Session
+  pub seated : session_of zs conn ≡ Some publisher
+  pub alone : IsAlone rows publisher s by
+
+-- and these are the deliveries of one
+pub record IsAloneAt (rows : List ImportRow) (zs : List Session) (subs : List Subscription) (conn : ℕ) (m : Message) (word : ℕ) (by : By) (all : List Addressed) : Type 0 where
+  pub of : IsAloneOf rows zs conn m.subject by
+  pub deliveries : all ≡ addressed_among zs subs of.publisher m word
+
+-- it is known that there is no view behind the publisher's own
+abbrev pub AreNone : Option (Vec KnownView) → Type 0
+AreNone None = ⊥
+AreNone (Some known) = known.items ≡ []

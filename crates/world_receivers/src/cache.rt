@@ -1,5 +1,6 @@
 //! A cache of whom the messages of a publisher on a subject are for.
-ghost use Rattle.std.specs.Prelude.{◌≡◌, [], map};
+ghost use Rattle.std.specs.Prelude.{◌≡◌, [], map, true};
+ghost use Rattle.world_receivers.specs.Cached.{AreNone};
 ghost use Rattle.world_groups.specs.Chosen.{Rising};
 ghost use Rattle.world_receivers.specs.Known.{IsWhom};
 
@@ -9,6 +10,7 @@ use crate::receiver::address_each;
 use crate::whom::{Whom, address_chosen, whom_of};
 use base::NoMemory;
 use events::{Addressed, Message};
+use permissions::By;
 use std::alloc::Global;
 use world_subscriptions::SharedSubscription;
 
@@ -23,6 +25,8 @@ pub(crate) struct ReceiverCache {
     others: Option<Vec<KnownView>>,
     // What they are sent as, where the account's mappings send them on.
     pub drawn: DrawnCache,
+    // By what lists allow them, where it is known that they are seen in the publisher's account alone.
+    alone: Option<By>,
 }
 
 impl Drop for ReceiverCache {
@@ -35,6 +39,7 @@ impl Drop for ReceiverCache {
             whom: _,
             others: _,
             drawn: _,
+            alone: _,
         } = self;
     }
 }
@@ -49,11 +54,22 @@ fn clear(all: &mut Vec<Addressed>)
     }
 }
 
+/// Returns whether it is known that there is no view behind the publisher's own.
+fn are_none(others: &Option<Vec<KnownView>>) -> bool
+    ensures { result ≡ true → AreNone others.now }
+{
+    match others {
+        None => false,
+        Some(views) => views.is_empty(),
+    }
+}
+
 impl ReceiverCache {
-    ghost use Rattle.std.specs.Prelude.{◌==◌, ◌&&◌, ◌⊎◌, IfOk, IfSome, true, false, None, Some, nat_eq};
+    ghost use Rattle.permissions.specs.declared.verdict.By.{By as ByModel};
+    ghost use Rattle.std.specs.Prelude.{◌==◌, ◌&&◌, ◌⊎◌, IfErr, IfOk, IfSome, true, false, None, Some, nat_eq};
     ghost use Rattle.std.specs.Cmp.Lexicographic.{pointwise};
     ghost use Rattle.subjects.specs.Subject.{text_of};
-    ghost use Rattle.world_receivers.specs.Cached.{Tells, TellsDrawn, TellsOthers, IsEmpty};
+    ghost use Rattle.world_receivers.specs.Cached.{AreNone, Tells, TellsDrawn, TellsOthers, IsEmpty};
 
     /// Returns an empty cache. It takes no memory.
     pub fn new(alloc: Global) -> ReceiverCache
@@ -66,6 +82,7 @@ impl ReceiverCache {
             whom: None,
             others: None,
             drawn: DrawnCache::new(alloc),
+            alone: None,
         }
     }
 
@@ -76,6 +93,7 @@ impl ReceiverCache {
         self.whom = None;
         self.others = None;
         self.drawn.clear();
+        self.alone = None;
         self.subject.clear();
     }
 
@@ -99,6 +117,7 @@ impl ReceiverCache {
         all: &mut Vec<Addressed>,
     ) -> Result<bool, NoMemory>
         ensures tells { IfOk result (λ done. done ≡ true → Tells self.now conn text.now message.now word all.new.items) }
+        ensures of { IfErr result (λ none. (self.now.conn ≡ conn) × (self.now.subject.items ≡ text.now)) }
     {
         if !self.is_of(conn, text) {
             return Ok(false);
@@ -115,6 +134,32 @@ impl ReceiverCache {
                 clear(all);
                 address_chosen(message, receivers.as_slice(), word, all)?;
                 Ok(true)
+            }
+        }
+    }
+
+    /// Puts the deliveries of a publisher's message in the place of what was in `all`, if it is known that it is seen in the
+    /// publisher's account alone and by what lists allow it. Returns the latter. `NoMemory` where memory could not be had.
+    #[inline(always)]
+    pub fn address_alone(
+        &self,
+        conn: u64,
+        text: &[u8],
+        message: &Message,
+        word: u64,
+        all: &mut Vec<Addressed>,
+    ) -> Result<Option<By>, NoMemory>
+        ensures tells { IfOk result (λ by. IfSome by (λ allowed. (self.now.alone ≡ Some allowed) × Tells self.now conn text.now message.now word all.new.items)) }
+        ensures of { IfErr result (λ none. (by : ByModel) × (self.now.alone ≡ Some by) × (self.now.conn ≡ conn) × (self.now.subject.items ≡ text.now)) }
+    {
+        match self.alone {
+            None => Ok(None),
+            Some(by) => {
+                if self.address(conn, text, message, word, all)? {
+                    Ok(Some(by))
+                } else {
+                    Ok(None)
+                }
             }
         }
     }
@@ -154,6 +199,7 @@ impl ReceiverCache {
         self.whom = None;
         self.others = None;
         self.drawn.clear();
+        self.alone = None;
         self.conn = conn;
         self.subject.clear();
         let _ = self.subject.extend_from_slice(text);
@@ -197,17 +243,24 @@ impl ReceiverCache {
         false
     }
 
-    /// Caches that messages of the selected publisher on the selected subject may be sent to these, and what is known of their
-    /// views behind the publisher's own.
-    pub fn fill(&mut self, found: &[&SharedSubscription], others: Option<Vec<KnownView>>)
+    /// Caches that messages of the selected publisher on the selected subject may be sent to these, what is known of their views
+    /// behind the publisher's own, and by what lists allow them, if there are no such views.
+    pub fn fill(
+        &mut self,
+        found: &[&SharedSubscription],
+        others: Option<Vec<KnownView>>,
+        allowed: Option<By>,
+    )
         requires { Rising (map (λ s. s.now) found.now) }
         ensures conn { self.new.conn ≡ self.old.conn }
         ensures subject { self.new.subject ≡ self.old.subject }
         ensures whom { (whom : Whom) → self.new.whom ≡ Some whom → IsWhom whom (map (λ s. s.now) found.now) }
         ensures others { self.new.others ≡ others }
         ensures drawn { self.new.drawn ≡ self.old.drawn }
+        ensures alone { IfSome self.new.alone (λ by. (allowed ≡ Some by) × AreNone others) }
     {
         self.whom = Some(whom_of(self.alloc, found));
+        self.alone = if are_none(&others) { allowed } else { None };
         self.others = others;
     }
 }

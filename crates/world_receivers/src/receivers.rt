@@ -1,13 +1,14 @@
-ghost use Rattle.std.specs.Prelude.{◌≡◌, ◌++◌, ℕ, true, false, List, Some, IfOk, IfSome, OnOk, map, take};
+ghost use Rattle.std.specs.Prelude.{◌≡◌, ◌++◌, ℕ, true, false, List, Some, IfErr, IfOk, IfSome, OnOk, map, take};
 ghost use Rattle.account_mappings.specs.Drawing.{mapped_by};
 ghost use Rattle.account_mappings.specs.declared.drawing.Mapped.TheVariants.{To};
 ghost use Rattle.events.specs.Sendings.{named};
 ghost use Rattle.imports.specs.Views.{is_route};
 ghost use Rattle.imports.specs.declared.rows.ImportRow.{ImportRow};
+ghost use Rattle.permissions.specs.declared.verdict.By.{By as ByModel};
 ghost use Rattle.world_deliveries.specs.Sessions.{session_of};
 ghost use Rattle.world_deliveries.specs.declared.session.Session.{Session as SessionModel};
 ghost use Rattle.world_rows.specs.declared.subscription.Subscription.{Subscription};
-ghost use Rattle.world_receivers.specs.Cached.{IsCurrent, KnowsOthers, TellsOthers, IsEmpty};
+ghost use Rattle.world_receivers.specs.Cached.{IsAllowed, IsAloneAt, IsAloneOf, IsCurrent, KnowsOthers, TellsOthers, IsEmpty};
 ghost use Rattle.world_receivers.specs.Drawn.{IsSent, IsSentOn, KnowsDrawn, subject_of};
 ghost use Rattle.world_receivers.specs.Receivers.{addressed_among};
 ghost use Rattle.world_receivers.specs.Standing.{addressed_behind_in, is_for_nobody, is_nil};
@@ -22,6 +23,7 @@ use base::{NoMemory, Shared};
 use bytes::Bytes;
 use events::{Addressed, Message, Said};
 use imports::Rows;
+use permissions::By;
 use std::alloc::Global;
 use std::hash::RandomState;
 use std::mem;
@@ -243,7 +245,8 @@ impl Receivers {
     /// Addresses a message to those of the publisher's account that it is for, oldest subscription first: to the plain
     /// subscriptions that may be sent it, and to the member of each queue group that the word chooses. These are its `deliveries`.
     /// Their sessions don't note replies yet. The ids that its subject reaches are cached for the next messages of
-    /// that subject, and its receivers for the publisher's next ones on it. `NoMemory` where memory could not be had.
+    /// that subject, and its receivers for the publisher's next ones on it, with by what lists allow them, if that is given. `NoMemory`
+    /// where memory could not be had.
     #[inline(always)]
     pub fn address(
         &mut self,
@@ -251,9 +254,11 @@ impl Receivers {
         subscriptions: &mut Subscriptions,
         rows: &Rows,
         sending: Sending<'_>,
+        allowed: Option<By>,
     ) -> Result<(), NoMemory>
         requires publisher { session_of sessions.now sending.publisher.now.conn ≡ Some sending.publisher.now }
         requires cached { IsCurrent rows.now sessions.now subscriptions.old self.old.cache }
+        requires allowed { IfSome allowed (IsAllowed sending.publisher.now sending.message.now.subject) }
         ensures all { OnOk result (self.new.deliveries.items ≡ addressed_among sessions.now subscriptions.old sending.entry.publisher.now sending.entry.message.now sending.entry.word) }
         ensures others { OnOk result (KnowsOthers self.new.cache.others rows.now sessions.now subscriptions.old sending.entry.publisher.now sending.entry.message.now.subject) }
         ensures same { subscriptions.new ≡ subscriptions.old }
@@ -276,7 +281,7 @@ impl Receivers {
         }
         let account = publisher.user.account.as_slice();
         subscriptions.remember(account, &subject);
-        self.fill_cache(sessions, subscriptions, rows, publisher, &subject);
+        self.fill_cache(sessions, subscriptions, rows, publisher, &subject, allowed);
         let open = Open {
             sessions,
             publisher,
@@ -296,6 +301,28 @@ impl Receivers {
             &mut self.deliveries,
         )?;
         Ok(())
+    }
+
+    /// Addresses a publisher's message, if it is known that it is seen in the publisher's account alone and by what lists allow it:
+    /// its deliveries are then `deliveries`, and that is returned. `NoMemory` where memory could not be had.
+    #[inline(always)]
+    pub fn address_alone(
+        &mut self,
+        conn: u64,
+        message: &Message,
+        word: u64,
+    ) -> Result<Option<By>, NoMemory>
+        ensures tells { IfOk result (λ by. IfSome by (λ allowed. (rows : List ImportRow) (zs : List SessionModel) (subs : List Subscription) →
+            IsCurrent rows zs subs self.old.cache → IsAloneAt rows zs subs conn message.now word allowed self.new.deliveries.items)) }
+        ensures refused { IfErr result (λ none. (rows : List ImportRow) (zs : List SessionModel) (subs : List Subscription) →
+            IsCurrent rows zs subs self.old.cache → (by : ByModel) × IsAloneOf rows zs conn message.now.subject by) }
+        ensures cached { self.new.cache ≡ self.old.cache }
+    {
+        let subject = message.subject();
+        let _ = subject.tokens();
+        let all = &mut self.deliveries;
+        self.cache
+            .address_alone(conn, subject.bytes(), message, word, all)
     }
 
     /// Appends the deliveries of the message that was addressed last in its views behind the publisher's own, if these are known.
@@ -423,7 +450,8 @@ impl Receivers {
         self.deliveries.truncate(count);
     }
 
-    /// Caches whom the publisher's next messages on a subject are for, where this is the second of them in a row.
+    /// Caches whom the publisher's next messages on a subject are for, where this is the second of them in a row, and by what lists
+    /// allow them.
     fn fill_cache(
         &mut self,
         sessions: &Sessions,
@@ -431,9 +459,11 @@ impl Receivers {
         rows: &Rows,
         publisher: &Session,
         subject: &SubjectRef<'_>,
+        allowed: Option<By>,
     )
         requires publisher { session_of sessions.now publisher.now.conn ≡ Some publisher.now }
         requires cached { IsCurrent rows.now sessions.now subscriptions.now self.old.cache }
+        requires allowed { IfSome allowed (IsAllowed publisher.now subject.now) }
         ensures cached { IsCurrent rows.now sessions.now subscriptions.now self.new.cache }
         ensures others { KnowsOthers self.new.cache.others rows.now sessions.now subscriptions.now publisher.now subject.now }
     {
@@ -461,7 +491,7 @@ impl Receivers {
                 publisher,
             };
             let others = others_of(self.alloc, among, rows, subject, &mut self.ids);
-            self.cache.fill(found.as_slice(), others);
+            self.cache.fill(found.as_slice(), others, allowed);
         }
     }
 }

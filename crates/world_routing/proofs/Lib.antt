@@ -8,4 +8,5 @@ pub mod Requests
 pub mod Under
 pub mod Drawn
 pub mod Publishing
+pub mod Alone
 pub mod Remembered

@@ -1,5 +1,5 @@
 //! A message addressed in all its views: its publisher's own, those across import rows, and that of the account that has asked.
-ghost use Rattle.std.specs.Prelude.{◌≡◌, ◌==◌, ◌++◌, ℕ, List, [], All, IfOk, OnOk, None, Some, length, true, false, if◌then◌else◌};
+ghost use Rattle.std.specs.Prelude.{◌≡◌, ◌==◌, ◌++◌, ℕ, List, [], All, IfOk, IfSome, OnOk, None, Some, length, true, false, if◌then◌else◌};
 ghost use Rattle.imports.specs.Across.{views};
 ghost use Rattle.imports.specs.Views.{is_route, is_same, rows_of};
 ghost use Rattle.imports.specs.declared.view.ViewItem.TheVariants.{At};
@@ -7,7 +7,7 @@ ghost use Rattle.imports.specs.declared.view.Way.TheVariants.{Own};
 ghost use Rattle.service_exporter.specs.Routes.{Exporter};
 ghost use Rattle.service_routes.specs.Routes.{Name, pruned, spent};
 ghost use Rattle.world_deliveries.specs.Sessions.{session_of};
-ghost use Rattle.world_receivers.specs.Cached.{IsCurrent};
+ghost use Rattle.world_receivers.specs.Cached.{IsAllowed, IsCurrent};
 ghost use Rattle.world_receivers.specs.Standing.{addressed_behind_in, under_subject};
 ghost use Rattle.world_routing.specs.Changing.{changed_by, opened_each, AreNoted, IsNotedAt};
 ghost use Rattle.world_routing.specs.Routing.{response_by, responses_on};
@@ -18,6 +18,7 @@ use crate::viewing::{Among, Found, Report, address_each, address_plain, address_
 use base::{Alike, Boxed, Copying, NoMemory};
 use bytes::Bytes;
 use imports::Rows;
+use permissions::By;
 use policy_ready::Ready;
 use service_routes::{Route, Routes};
 use std::alloc::Global;
@@ -32,6 +33,8 @@ pub(crate) struct Publishing<'a> {
     pub ready: &'a Ready,
     pub sending: Sending<'a>,
     pub now: u64,
+    /// By what lists allow it, if its account has no mappings and its subject is of no response route.
+    pub allowed: Option<By>,
 }
 
 /// What is told of a message between its deliveries, and what becomes of response routes. It stands in a block, since that nothing is
@@ -186,7 +189,7 @@ fn is_own(account: &Bytes, subject: &SubjectRef<'_>, route: &Route) -> bool
 }
 
 /// Returns whether a subject begins with the first byte of the token `_R_`. Most don't.
-fn may_be_route(subject: &SubjectRef<'_>) -> bool
+pub(crate) fn may_be_route(subject: &SubjectRef<'_>) -> bool
     ensures { result ≡ false → is_route subject.now ≡ false }
 {
     match subject.bytes().first() {
@@ -234,6 +237,7 @@ pub(crate) fn address_all<'p>(
 ) -> Result<Option<Boxed<Told>>, NoMemory>
     requires publisher { session_of sessions.now publishing.sending.publisher.now.conn ≡ Some publishing.sending.publisher.now }
     requires cached { IsCurrent (rows_of publishing.ready.now) sessions.now subscriptions.old receivers.old.cache }
+    requires allowed { IfSome publishing.allowed (IsAllowed publishing.sending.publisher.now publishing.sending.message.now.subject) }
     ensures all { OnOk result (receivers.new.deliveries.items ≡ (addressed_after (tables_at publishing.entry.ready.now publishing.entry.now sessions.now subscriptions.old routes.old.exporters) (publication publishing.entry.sending.publisher.now publishing.entry.sending.message.now publishing.entry.sending.word) (addressing [] [])
         (views publishing.entry.ready.now publishing.entry.sending.publisher.now.user.account publishing.entry.sending.message.now.subject
         (responses_on (pruned publishing.entry.now routes.old.exporters) publishing.entry.sending.publisher.now.user.account publishing.entry.sending.message.now.subject))).deliveries) }
@@ -254,9 +258,10 @@ pub(crate) fn address_all<'p>(
         ready,
         sending,
         now,
+        allowed,
     } = publishing;
     subscriptions.known();
-    receivers.address(sessions, subscriptions, ready.rows(), sending)?;
+    receivers.address(sessions, subscriptions, ready.rows(), sending, allowed)?;
     if is_own_alone(ready.rows(), routes) {
         return Ok(None);
     }
@@ -311,6 +316,7 @@ pub(crate) fn address_under<'p>(
         ready,
         sending,
         now,
+        allowed: _,
     } = publishing;
     let among = Among {
         alloc: receivers.allocator(),

@@ -1,20 +1,21 @@
 //! What a publish comes to, before anything changes.
-ghost use Rattle.std.specs.Prelude.{◌≡◌, All, false, IsTrue, IfOk, Ok, OnOk, IfSome, Some, [], None, ℕ, map};
+ghost use Rattle.std.specs.Prelude.{◌≡◌, All, false, IsTrue, IfErr, IfOk, Ok, OnOk, IfSome, Some, [], None, ℕ, map};
 ghost use Rattle.permissions.specs.Verdicts.{publish_verdict, IsJustifiedPublish};
 ghost use Rattle.events.specs.declared.answer.Addressed.{Addressed as AddressedModel};
+ghost use Rattle.events.specs.declared.refusal.HubRefusal.TheVariants as refusal;
 ghost use Rattle.world_deliveries.specs.Sessions.{session_of};
 ghost use Rattle.world_deliveries.specs.Delivered.{delivered};
 ghost use Rattle.world_deliveries.specs.Replying.{noted_for};
 ghost use Rattle.world_deliveries.specs.declared.session.Session.{Session as SessionModel};
-ghost use Rattle.world_receivers.specs.Cached.{IsCurrent};
+ghost use Rattle.world_receivers.specs.Cached.{IsCurrent, IsOfLists};
 ghost use Rattle.world_routing.specs.Remembered.{AreOfPolicy, AreRemembered};
 ghost use Rattle.world_routing.specs.World.{World};
 ghost use Rattle.world_routing.specs.Viewing.{tables_at};
 ghost use Rattle.account_mappings.specs.Drawing.{mapped_by};
 ghost use Rattle.world_routing.specs.Publishing.{IsElsewhere, IsPlain, IsPlanned, IsPlanOf, IsToldPlan, diverted_to, in_session, mapped_to, published_by, seen_as, tables_of};
-ghost use Rattle.imports.specs.Views.{rows_of};
+ghost use Rattle.imports.specs.Views.{is_route, rows_of};
 
-use crate::across::{Publishing, Told, address_all, address_under, is_route};
+use crate::across::{Publishing, Told, address_all, address_under, is_route, may_be_route};
 use crate::answered::{Answered, answered_by};
 use crate::caches::Caches;
 use crate::carrying::{Deliveries, Routing};
@@ -29,7 +30,7 @@ use policy_ready::Ready;
 use service_routes::Routes;
 use std::alloc::Global;
 use std::hash::RandomState;
-use subjects::Subject;
+use subjects::{Subject, SubjectRef};
 use world_receivers::{Receivers, Sending};
 use world_sessions::{Session, Sessions};
 use world_subscriptions::Subscriptions;
@@ -140,7 +141,7 @@ fn on_routes(
 }
 
 /// Returns the plan of a publish that is allowed, by the deliveries of the receivers and by what is told between them. All memory is
-/// taken that handing over needs. `NoMemory` where it could not be had. `plan_publish` has its lines once more: a plan that is handed
+/// taken that handing over needs. `NoMemory` where it could not be had. `plan_judged` has its lines once more: a plan that is handed
 /// on costs each message 75 instructions.
 fn plan_told(
     sessions: &mut Sessions,
@@ -261,6 +262,7 @@ fn plan_diverted<'p>(
                             word: publish.word,
                         },
                         now: publish.now,
+                        allowed: None,
                     };
                     let told = address_under(
                         sessions,
@@ -323,6 +325,7 @@ fn plan_own<'p>(
                         word: publish.word,
                     },
                     now: publish.now,
+                    allowed: None,
                 },
             )?,
         ),
@@ -461,12 +464,49 @@ fn no_deliveries(alloc: Global, answered: Option<Answered>) -> Deliveries
     }
 }
 
-/// Returns what a publish comes to: the verdict of the user's permissions and grants, and where they allow it, the deliveries
-/// to those that the message is for in each of its views, with what each will meet. Its account's mappings say under which subject it
-/// is seen, or that it isn't. Nothing changes but what is cached, and all memory is taken that handing over needs. `NoSession` where
-/// the connection has no session, `NoMemory` where memory could not be had.
+/// Returns by what lists allow a message, if it isn't a grant that allows it, and its subject can't be of a response route.
+fn allowed_by(by: By, subject: &SubjectRef<'_>) -> Option<By>
+    ensures { IfSome result (λ allowed. (by ≡ allowed) × IsOfLists allowed × (is_route subject.now ≡ false)) }
+{
+    if may_be_route(subject) {
+        return None;
+    }
+    match by {
+        By::Grant => None,
+        By::All => Some(By::All),
+        By::Index(index) => Some(By::Index(index)),
+    }
+}
+
+/// Returns what a publish comes to that is seen in its publisher's account alone, and is allowed by lists. These are its deliveries.
 #[inline(always)]
-pub fn plan_publish<'p>(
+fn plan_alone(
+    sessions: &mut Sessions,
+    receivers: &mut Receivers,
+    message: &Message,
+    by: By,
+) -> Result<Plan, HubRefusal>
+    requires { message.now.reply ≡ None → All (λ (a : AddressedModel). a.delivery.message.reply ≡ None) receivers.old.deliveries.items }
+    ensures planned { IfOk result (λ plan. IsToldPlan sessions.old by None None receivers.old.deliveries.items plan) }
+    ensures refused { IfErr result (λ reason. reason ≡ refusal.NoMemory) }
+    ensures sessions { sessions.new ≡ sessions.old }
+    ensures cached { receivers.new.cache ≡ receivers.old.cache }
+{
+    if receivers.deliveries().is_empty() {
+        return Ok(Plan::ToNobody(by));
+    }
+    let mut all = receivers.take_deliveries();
+    let met = plan_all(sessions, receivers.keys(), message, &mut all)?;
+    let deliveries = Deliveries {
+        all: Items::from_vec(all),
+        answered: None,
+    };
+    Ok(Plan::ToSome(by, met, deliveries))
+}
+
+/// Returns what a publish comes to, as `plan_publish` does, by the verdict on it. What it comes to for the next one is cached.
+#[inline(always)]
+fn plan_judged<'p>(
     sessions: &mut Sessions,
     subscriptions: &mut Subscriptions,
     caches: &mut Caches,
@@ -488,13 +528,14 @@ pub fn plan_publish<'p>(
     ensures cached { IsCurrent (rows_of ready.now) sessions.new subscriptions.new caches.new.receivers.cache }
 {
     subscriptions.known();
+    let subject = publish.message.subject();
     let (by, answered, told) = match sessions.find(publish.conn) {
         None => return Err(HubRefusal::NoSession),
         Some(session) => match on_publish(
             &mut caches.verdicts,
             ready,
             session,
-            &publish.message.subject(),
+            &subject,
             publish.now,
         ) {
             Verdict::Allowed(by) => {
@@ -527,6 +568,7 @@ pub fn plan_publish<'p>(
                                 word: publish.word,
                             },
                             now: publish.now,
+                            allowed: allowed_by(by, &subject),
                         },
                     )?,
                 )
@@ -548,4 +590,38 @@ pub fn plan_publish<'p>(
     };
     let plan = plan_of(receivers.allocator(), by, met, deliveries, told)?;
     Ok(plan)
+}
+
+/// Returns what a publish comes to: the verdict of the user's permissions and grants, and where they allow it, the deliveries
+/// to those that the message is for in each of its views, with what each will meet. Its account's mappings say under which subject it
+/// is seen, or that it isn't. Nothing changes but what is cached, and all memory is taken that handing over needs. `NoSession` where
+/// the connection has no session, `NoMemory` where memory could not be had.
+#[inline(always)]
+pub fn plan_publish<'p>(
+    sessions: &mut Sessions,
+    subscriptions: &mut Subscriptions,
+    caches: &mut Caches,
+    routes: &mut Routes,
+    ready: &'p Ready,
+    publish: Publish<'p>,
+) -> Result<Plan, HubRefusal>
+    requires users { AreOfPolicy ready.now sessions.old }
+    requires verdicts { AreRemembered ready.now caches.old.verdicts }
+    requires cached { IsCurrent (rows_of ready.now) sessions.old subscriptions.old caches.old.receivers.cache }
+    ensures planned { (w : World) → tables_of w ≡ tables_at ready.now publish.entry.now sessions.old subscriptions.old routes.old.exporters
+        → IsPlanned w (published_by w publish.entry.conn publish.entry.message.now publish.entry.word) result }
+    ensures reason { IfOk result (λ plan. IfSome (session_of sessions.old publish.entry.conn) (λ (z : SessionModel).
+        IsJustifiedPublish publish.entry.message.now.subject z.user.rules.publish (publish_verdict z.user.rules publish.entry.message.now.subject))) }
+    ensures sessions { sessions.new ≡ sessions.old }
+    ensures subscriptions { subscriptions.new ≡ subscriptions.old }
+    ensures routes { routes.new.exporters ≡ routes.old.exporters }
+    ensures verdicts { AreRemembered ready.now caches.new.verdicts }
+    ensures cached { IsCurrent (rows_of ready.now) sessions.new subscriptions.new caches.new.receivers.cache }
+{
+    subscriptions.known();
+    let receivers = &mut caches.receivers;
+    match receivers.address_alone(publish.conn, publish.message, publish.word)? {
+        Some(by) => plan_alone(sessions, receivers, publish.message, by),
+        None => plan_judged(sessions, subscriptions, caches, routes, ready, publish),
+    }
 }

@@ -9,7 +9,7 @@ use Rattle.world_receivers.specs.Open.{is_open}
 use Rattle.world_receivers.specs.Cached.{KnowsOthers}
 use Rattle.world_receivers.specs.declared.known.KnownView.{KnownView}
 use Rattle.world_receivers.proofs.Tests.{both}
-use Rattle.world_receivers.proofs.Told.{drawn_same, filled_current, still_current, others_selected}
+use Rattle.world_receivers.proofs.Told.{alone_filled, drawn_same, filled_current, still_current, others_selected}
 use Rattle.world_receivers.proofs.receivers.Receivers.fill_cache.Goals as goal
 
 pub returns-in-Ok-clause-cached : goal.returns-in-Ok-clause-cached
@@ -19,16 +19,19 @@ returns-in-Ok-clause-cached c =
     let z = c.args.publisher.now in
     let s : List Token = c.args.subject.now in
     let selected = c.if-not-select.ensures.selected refl in
+    let there = ap (session_of zs) (c.fill.ensures.conn ∙ selected.0) ∙ c.requires.publisher in
+    let same = ap tokens_of (ap (λ v. v.items) c.fill.ensures.subject ∙ selected.1 ∙ c.bytes.ensures) ∙ again s c.tokens.ensures.grammar in
     filled_current c.fill.new.self c.args.rows.now zs subs (map (λ x. x.now) c.as_slice.result.now) z s c.fill.ensures.whom
     (subst (λ (o : Option (Vec KnownView)). KnowsOthers o c.args.rows.now zs subs z s) (sym c.fill.ensures.others) c.others_of-others.ensures)
     (drawn_same c.select.new.self c.fill.new.self c.args.rows.now zs subs c.fill.ensures.drawn c.fill.ensures.conn c.fill.ensures.subject
     (still_current c.args.self.now.cache c.select.new.self c.args.rows.now zs subs c.requires.cached c.select.ensures.cached).2)
-    (ap (session_of zs) (c.fill.ensures.conn ∙ selected.0) ∙ c.requires.publisher)
+    there
     (ap (map (λ x. x.now)) c.as_slice.ensures.value
     ∙ c.in-Ok.ensures.found
     ∙ ap (λ account. filter (is_open zs z s) (having account s subs)) c.as_slice-account.ensures
     ∙ both (is_open zs z s) (has_subject z.user.account s) subs)
-    (ap tokens_of (ap (λ v. v.items) c.fill.ensures.subject ∙ selected.1 ∙ c.bytes.ensures) ∙ again s c.tokens.ensures.grammar)
+    same
+    (alone_filled _ _ _ c.args.rows.now zs subs z s _ _ c.fill.ensures.alone c.requires.allowed c.others_of-others.ensures there same)
 
 pub returns-in-Ok-clause-others : goal.returns-in-Ok-clause-others
 returns-in-Ok-clause-others c =

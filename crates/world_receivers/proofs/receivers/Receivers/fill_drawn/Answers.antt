@@ -38,7 +38,7 @@ returns-in-Some c = record {
       let found = c.in-Some.ensures old.conn old.subject.items current.2 there in
       let published : tokens_of old.subject.items ≡ m.subject =
       ap tokens_of (selected.1 ∙ c.bytes.ensures) ∙ again c.subject-published.result c.tokens.ensures.grammar ∙ c.subject-published.ensures in
-      kept_current old new rows zs subs z c.draw_of.result c.in-Some.drawn refl refl refl refl c.keep.ensures there (record {
+      kept_current old new rows zs subs z c.draw_of.result c.in-Some.drawn refl refl refl refl refl c.keep.ensures there (record {
         mapped = λ other same.
             ap (λ (s : List Token). mapped_by z.user.mappings s other) published
             ∙ same_draw z.user.mappings m.subject other word (same ∙ c.draw_of.ensures)
