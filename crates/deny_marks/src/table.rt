@@ -1,0 +1,125 @@
+use crate::Marks;
+use base::NoMemory;
+use indexmap::IndexMap;
+use permissions::Compiled;
+use std::alloc::Global;
+use std::marker::Model;
+use subjects::{Subject, SubjectRef};
+
+/// Which subscriptions stand.
+pub trait Stands {
+    ghost use Rattle.std.specs.Prelude.{◌≡◌, ℕ, Bool};
+
+    /// Whether the subscription of an id stands, for clauses.
+    ghost stands: { Self → ℕ → Bool };
+
+    /// Returns whether the subscription of an id stands.
+    fn stands(&self, id: u64) -> bool
+        ensures { result ≡ stands self.now id };
+
+    /// Returns how many stand.
+    fn count(&self) -> usize;
+}
+
+/// The marks of subscriptions, by their ids. A subscription without marks has no entry, so where nobody is denied anything
+/// there are none. A clause sees the entries.
+///
+/// Those of a subscription that has gone may stand here: no id comes again, so nobody asks for them. `trim` bounds them.
+#[derive(Drop)]
+pub struct DenyMarks {
+    by_id: IndexMap<u64, Marks>,
+}
+
+impl Model for DenyMarks {
+    ghost use Rattle.std.specs.Prelude.{List, ℕ};
+    ghost use Rattle.deny_marks.specs.declared.marks.Marks.{Marks};
+
+    ghost Value = { List (ℕ × Marks) };
+
+    ghost view = { λ d. d.by_id.entries };
+}
+
+/// Keeps the marks of subscriptions that stand.
+fn keep_standing<S: Stands>(by_id: &mut IndexMap<u64, Marks>, standing: &S)
+    ensures { by_id.new.entries ≡ filter (λ (e : ℕ × Marks). S.stands standing.now e.0) by_id.old.entries }
+{
+    by_id.retain(|id, _| standing.stands(*id));
+}
+
+impl DenyMarks {
+    ghost use Rattle.std.specs.Prelude.{◌≡◌, ◌==◌, ℕ, [], true, OnOk, OnErr, if◌then◌else◌};
+    ghost use Rattle.permissions.specs.Verdicts.{delivery_verdict, is_allowed};
+    ghost use Rattle.deny_marks.specs.Marks.{lets_through, AreFor};
+    ghost use Rattle.deny_marks.specs.Table.{marks_at};
+
+    /// Returns a table without marks. It takes no memory.
+    pub fn new(alloc: Global) -> DenyMarks
+        ensures { result ≡ [] }
+    {
+        DenyMarks {
+            by_id: IndexMap::new(alloc),
+        }
+    }
+
+    /// Returns whether the marks of a subscription let a message through to it. If they are its marks and it has the subject, it is
+    /// what `Compiled::admits` decides.
+    #[inline(always)]
+    #[tactic(auto, using(crate::proofs::Judged::marks_judge))]
+    pub fn admits(
+        &self,
+        id: u64,
+        rules: &Compiled,
+        subject: &SubjectRef<'_>,
+        queue: &Option<Subject>,
+    ) -> bool
+        ensures marks { result ≡ lets_through (marks_at self.now id) rules.now subject.now queue.now }
+        ensures lists { AreFor rules.now subject.now queue.now (marks_at self.now id) → result ≡ is_allowed (delivery_verdict rules.now subject.now queue.now) }
+    {
+        let lets = self.let_through(id, rules, subject, queue);
+        lets
+    }
+
+    /// The same, by the marks alone.
+    #[inline(always)]
+    fn let_through(
+        &self,
+        id: u64,
+        rules: &Compiled,
+        subject: &SubjectRef<'_>,
+        queue: &Option<Subject>,
+    ) -> bool
+        ensures { result ≡ lets_through (marks_at self.now id) rules.now subject.now queue.now }
+    {
+        match self.by_id.get(&id) {
+            None => true,
+            Some(marks) => marks.admit(rules, subject, queue),
+        }
+    }
+
+    /// Puts the marks of a subscription in the place of what stands under its id. Where memory could not be had, nothing has
+    /// changed.
+    pub fn put(&mut self, id: u64, marks: Marks) -> Result<(), NoMemory>
+        ensures ok { OnOk result ((other : ℕ) → marks_at self.new other ≡ (if id == other then marks else marks_at self.old other)) }
+        ensures err { OnErr result (self.new ≡ self.old) }
+    {
+        if marks.is_none() {
+            self.by_id.swap_remove(&id);
+            return Ok(());
+        }
+        self.by_id.insert(id, marks)?;
+        Ok(())
+    }
+
+    /// Drops the marks of subscriptions that have gone, where there are more than twice as many marks as subscriptions that
+    /// stand: so a walk over them comes once in many.
+    pub fn trim<S: Stands>(&mut self, standing: &S)
+        ensures { (id : ℕ) → S.stands standing.now id ≡ true → marks_at self.new id ≡ marks_at self.old id }
+    {
+        if standing.count() < self.by_id.len() / 2 {
+            keep_standing(&mut self.by_id, standing);
+        }
+    }
+}
+
+ghost use Rattle.std.specs.Prelude.{◌≡◌, ℕ, filter};
+ghost use Rattle.deny_marks.specs.declared.marks.Marks.{Marks};
