@@ -16,7 +16,7 @@ use Rattle.server_port.specs.Holds.{AreAnswersNoted, AreHolds, AreHoldsPassed, I
 use Rattle.server_port.specs.Points.{ArePassed, Passes}
 use Rattle.server_port.specs.declared.course.Why.{Why}
 use Rattle.server_port.proofs.Passing.{passed_once_more, passed_then}
-use Rattle.shared_runs.specs.Runs.{Came, Draws, IsRun, Offers, told_end}
+use Rattle.shared_runs.specs.Runs.{Came, Draws, IsRun, Offers, StaysBelow, told_end}
 use Rattle.shared_runs.proofs.Runs.{run_along}
 use Rattle.shared_hub.specs.Entering.{IsOfferedBy}
 
@@ -119,12 +119,12 @@ pub all_answered : {G : Type 0} (passes : Passes G) (entries : List Entry) (i : 
 all_answered passes entries i g a s t past done = subst (λ (l : List Entry). ArePassed passes (answer_points (length l)) g s a t) (take_all i entries past) done
 
 -- whether a last message was offered
-last_of : Option Came → ℕ
+unfoldable pub last_of : Option Came → ℕ
 last_of None = 0
 last_of (Some r) = 1
 
 -- each message has its answer, was offered last or is left
-run_counts : {P W : Type 0} (offered : Offers P) (draws : Draws W) (conn now : ℕ)
+pub run_counts : {P W : Type 0} (offered : Offers P) (draws : Draws W) (conn now : ℕ)
     (ms : List Message) (p : P) (w : W) (answers : List Entry) (last : Option Came) (left : List Message) (p' : P) (w' : W)
     → IsRun offered draws conn now ms p w answers last left p' w' → length answers + last_of last + length left ≡ length ms
 unfolding IsRun last_of
@@ -157,31 +157,39 @@ end_is why (run.Answered entry) = refl
 end_is None (run.Stopped word refusal) = refl
 end_is (Some why) (run.Stopped word refusal) = refl
 
+-- one answer at most
+end_within : (why : Option Why) (end : RunEnd) → length (end_points why end) ≤ 1
+end_within why run.Published = omega arith
+end_within why (run.Answered entry) = omega arith
+end_within None (run.Stopped word refusal) = omega arith
+end_within (Some why) (run.Stopped word refusal) = omega arith
+
 -- what was read for a hold, what has its answers behind it, and what ended it
 hold_then : {G : Type 0} (passes : Passes G) (messages read answers left : ℕ) (why : Option Why) (end : RunEnd) (g a b d : G) (s t u v : Bool)
-    → read ≡ min messages most → answers + length (end_points why end) + (held_back why end + left) ≡ messages
+    → read ≡ min messages most → answers < read → answers + length (end_points why end) + (held_back why end + left) ≡ messages
     → ArePassed passes (read_points read) g s a t → ArePassed passes (answer_points answers) a t b u → ArePassed passes (end_points why end) b u d v
     → IsHoldPassed passes messages (held_back why end + left) g s d v
-hold_then passes messages read answers left why end g a b d s t u v is counts first more last =
+hold_then passes messages read answers left why end g a b d s t u v is below counts first more last =
     let ended = length (end_points why end) in
     let they : answer_points answers ++ end_points why end ≡ answer_points (answers + ended) =
     ap (λ (ps : List Point). answer_points answers ++ ps) (end_is why end) ∙ replicate-append-replicate answers ended Answered
     in
     let behind = subst (λ (ps : List Point). ArePassed passes ps a t d v) they (passed_then passes (answer_points answers) (end_points why end) a b d t u v more last) in
     let before = subst (λ n. ArePassed passes (read_points n) g s a t) is first in
-    (answers + ended, counts, passed_then passes (read_points (min messages most)) (answer_points (answers + ended)) g a d s t v before behind)
+    let within : answers + length (end_points why end) ≤ min messages most = omega (arith, is, below, end_within why end) in
+    (answers + ended, within, counts, passed_then passes (read_points (min messages most)) (answer_points (answers + ended)) g a d s t v before behind)
 
 pub hold_passed : {G P W : Type 0} (passes : Passes G) (offered : Offers P) (draws : Draws W) (conn now : ℕ)
     (ms : List Message) (p : P) (w : W) (answers : List Entry) (last : Option Came) (left : List Message) (p' : P) (w' : W)
     (why : Option Why) (end : RunEnd) (read : ℕ) (g a b d : G) (s t u v : Bool)
-    → IsRun offered draws conn now ms p w answers last left p' w' → end ≡ told_end last → read ≡ min (length ms) most
+    → IsRun offered draws conn now ms p w answers last left p' w' → end ≡ told_end last → read ≡ min (length ms) most → length answers < read
     → ArePassed passes (read_points read) g s a t → ArePassed passes (answer_points (length answers)) a t b u → ArePassed passes (end_points why end) b u d v
     → IsHoldPassed passes (length ms) (held_back why end + length left) g s d v
-hold_passed passes offered draws conn now ms p w answers last left p' w' why end read g a b d s t u v h is within first more done =
+hold_passed passes offered draws conn now ms p w answers last left p' w' why end read g a b d s t u v h is within below first more done =
     let all = run_counts offered draws conn now ms p w answers last left p' w' h in
     let one : length (end_points why end) + held_back why end ≡ last_of last = ap (λ e. length (end_points why e) + held_back why e) is ∙ end_counts why last in
     let counts : length answers + length (end_points why end) + (held_back why end + length left) ≡ length ms = omega (arith, all, one) in
-    hold_then passes (length ms) read (length answers) (length left) why end g a b d s t u v within counts first more done
+    hold_then passes (length ms) read (length answers) (length left) why end g a b d s t u v within below counts first more done
 
 -- ---- holds one after the other
 
@@ -198,11 +206,11 @@ PassesOn {G} passes all g s messages a t =
 -- a hold in which some have their answers, and those behind it
 hold_on : {G : Type 0} (passes : Passes G) (messages left without : ℕ) (g a d : G) (s t v : Bool) → left < messages
     → IsHoldPassed passes messages left g s a t → AreHoldsPassed passes left without a t d v → AreHoldsPassed passes messages without g s d v
-hold_on passes messages left without g a d s t v fewer (answered, counts, first) (holds, are, rest) =
+hold_on passes messages left without g a d s t v fewer (answered, within, counts, first) (holds, are, rest) =
     let behind : left ≡ messages - answered = omega (arith, counts) in
     let some : answered ≡ 0 → holds ≡ [] = λ none. absurd (omega (arith, counts, fewer, none)) in
     let later = subst (λ n. ArePassed passes (run_points n holds) a t d v) behind rest in
-    (answered ∷ holds, (omega (arith, counts), some, subst (λ n. AreHolds n holds without) behind are), passed_then passes (hold_points messages answered) (run_points (messages - answered) holds) g a d s t v first later)
+    (answered ∷ holds, (within, some, subst (λ n. AreHolds n holds without) behind are), passed_then passes (hold_points messages answered) (run_points (messages - answered) holds) g a d s t v first later)
 
 pub passes_further : {G : Type 0} (passes : Passes G) (all messages left : ℕ) (why : Option Why) (end : RunEnd) (g a b : G) (s t u : Bool)
     → PassesOn passes all g s messages a t → goes_on end ≡ true → left < messages
@@ -214,10 +222,10 @@ passes_further passes all messages left why end g a b s t u done goes fewer hold
 -- one hold, the last
 last_hold : {G : Type 0} (passes : Passes G) (messages without : ℕ) (g d : G) (s v : Bool)
     → IsHoldPassed passes messages without g s d v → AreHoldsPassed passes messages without g s d v
-last_hold passes messages without g d s v (answered, counts, first) =
+last_hold passes messages without g d s v (answered, within, counts, first) =
     let left : without ≡ messages - answered = omega (arith, counts) in
     let points = subst (λ (ps : List Point). ArePassed passes ps g s d v) (sym (append-nil (hold_points messages answered))) first in
-    (answered ∷ [], (omega (arith, counts), (λ none. refl), left), points)
+    (answered ∷ [], (within, (λ none. refl), left), points)
 
 -- the last hold, or none, where nothing is left of the share
 pub passes_last : {G : Type 0} (passes : Passes G) (share messages without : ℕ) (g d : G) (s v : Bool)
@@ -254,6 +262,16 @@ notes_none offered draws conn now all p w a left q v b none done =
 -- a hold that began with no answer has kept those of its run
 pub kept_are : (kept begun answers : List Entry) → kept ≡ begun ++ answers → begun ≡ [] → kept ≡ answers
 kept_are kept begun answers is none = is ∙ ap (λ (l : List Entry). l ++ answers) none
+
+-- it has fewer than may come
+pub kept_below : (messages read bound : ℕ) (kept begun answers : List Entry) → 0 < messages → read ≡ min messages most → bound ≡ read → begun ≡ []
+    → StaysBelow bound begun kept → kept ≡ answers → length answers < read
+kept_below messages read bound kept begun answers some is same none below they =
+    let empty = ap (λ (l : List Entry). length l) none in
+    let first : length begun < bound = omega (arith, some, is, same, empty) in
+    let few = below first in
+    let all = ap (λ (l : List Entry). length l) they in
+    omega (arith, few, all, same)
 
 pub hold_noted : {S W : Type 0} (count : S → ℕ) (opening : ℕ) (draws : Draws W) (conn now : ℕ) (ms : List Message) (p : S) (w : W) (answers : List Entry) (last : Option Came)
     (left : List Message) (q : S) (v : W) (end : RunEnd) (n m : ℕ) (a b d : Noted) → count p ≡ n → m ≡ count q → end ≡ told_end last

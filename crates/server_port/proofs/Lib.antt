@@ -1,4 +1,5 @@
 mod Followed
+mod Handed
 mod Holds
 mod Offers
 mod Passing

@@ -15,21 +15,21 @@ use Rattle.shared_runs.proofs.Runs.{Completes, completes_answered, completes_pub
 use Rattle.shared_hub.specs.Entering.{IsOfferedBy, IsPostedBy}
 use Rattle.server_port.specs.Ends.{IsEnded, goes_on}
 
--- an offer of a seat is one of the ports that have it
-offered_at : {P S : Type 0} (seat : P → S) (count : S → ℕ) (opening : ℕ) (a : S) (p : P) (e : Event) (r : Came) (b : S) (q : P) → seat p ≡ a → seat q ≡ b
+-- an offer of a seat is one of the ports whose seats have as many
+offered_at : {P S : Type 0} (seat : P → S) (count : S → ℕ) (opening : ℕ) (a : S) (p : P) (e : Event) (r : Came) (b : S) (q : P) → count (seat p) ≡ count a → count (seat q) ≡ count b
     → IsOfferedBy opening (count a) e r (count b)
     → IsOffered (λ old e r new. IsPostedBy opening (count (seat old)) e r (count (seat new))) (λ old new. count (seat new) ≡ count (seat old)) p e r q
 offered_at seat count opening a p e (Ok entry) b q first last h =
-    subst (λ n. IsPostedBy opening n e (Ok entry) (count (seat q))) (ap count (sym first)) (subst (λ n. IsPostedBy opening (count a) e (Ok entry) n) (ap count (sym last)) h)
+    subst (λ n. IsPostedBy opening n e (Ok entry) (count (seat q))) (sym first) (subst (λ n. IsPostedBy opening (count a) e (Ok entry) n) (sym last) h)
 offered_at seat count opening a p e (Err (back, By x)) b q first last h =
-    subst (λ n. IsPostedBy opening n e (Err (back, x)) (count (seat q))) (ap count (sym first)) (subst (λ n. IsPostedBy opening (count a) e (Err (back, x)) n) (ap count (sym last)) h)
+    subst (λ n. IsPostedBy opening n e (Err (back, x)) (count (seat q))) (sym first) (subst (λ n. IsPostedBy opening (count a) e (Err (back, x)) n) (sym last) h)
 offered_at seat count opening a p e (Err (back, Held)) b q first last h =
-    subst (λ n. count (seat q) ≡ n) (ap count (sym first)) (subst (λ n. n ≡ count a) (ap count (sym last)) h)
+    subst (λ n. count (seat q) ≡ n) (sym first) (subst (λ n. n ≡ count a) (sym last) h)
 
 -- a run of a seat is what its port has posted
 pub posted_by : {P S W : Type 0} (seat : P → S) (put : S → P) (count : S → ℕ) (opening : ℕ) (draws : Draws W) (conn now : ℕ)
     (ms : List Message) (s : S) (p : P) (w : W) (answers : List Entry) (last : Option Came) (end : RunEnd) (left : List Message) (s' : S) (p' : P) (w' : W)
-    → ((x : S) → seat (put x) ≡ x) → 0 < length ms → seat p ≡ s → seat p' ≡ s' → end ≡ told_end last
+    → ((x : S) → count (seat (put x)) ≡ count x) → 0 < length ms → count (seat p) ≡ count s → count (seat p') ≡ count s' → end ≡ told_end last
     → IsRun (λ a e r b. IsOfferedBy opening (count a) e r (count b)) draws conn now ms s w answers last left s' w'
     → IsPosted (λ old e r new. IsPostedBy opening (count (seat old)) e r (count (seat new))) (λ old new. count (seat new) ≡ count (seat old)) draws conn now ms p w end left p' w'
 posted_by {P} seat put count opening draws conn now ms s p w answers last end left s' p' w' there some before after is h =
@@ -37,7 +37,7 @@ posted_by {P} seat put count opening draws conn now ms s p w answers last end le
     let holds : P → P → Type 0 = λ old new. count (seat new) ≡ count (seat old) in
     subst (λ (x : RunEnd). IsPosted steps holds draws conn now ms p w x left p' w') (sym is)
     (posted_run steps holds draws conn now ms p w answers last left p' w'
-    (run_of_part (λ x q. seat q ≡ x) put (λ a e r b. IsOfferedBy opening (count a) e r (count b)) (IsOffered steps holds) draws conn now there (offered_at seat count opening)
+    (run_of_part (λ x q. count (seat q) ≡ count x) put (λ a e r b. IsOfferedBy opening (count a) e r (count b)) (IsOffered steps holds) draws conn now there (offered_at seat count opening)
     ms s p w answers last left s' p' w' some before after h))
 
 -- a port has held the first message back

@@ -35,3 +35,8 @@ was_same (Some look) = is_same look.parts look.before
 abbrev pub IsTried : Bool → Rotating → Rotating → Type 0
 IsTried is_tried before after =
     (after.tries ≡ tried is_tried before.tries) × (after.uncounted ≡ before.uncounted) × (after.due ≡ before.due) × (after.half ≡ before.half)
+
+-- how often a seat hands it out: once, if it is to
+abbrev pub once : Bool → ℕ
+once true = 1
+once false = 0

@@ -80,15 +80,16 @@ abbrev pub run_points : ℕ → List ℕ → List Point
 run_points messages [] = []
 run_points messages (answered ∷ later) = hold_points messages answered ++ run_points (messages - answered) later
 
--- So many messages have no answer behind these holds. One in which none has its answer is the last.
+-- So many messages have no answer behind these holds, each of which answers no more than it reads. One in which none has its
+-- answer is the last.
 abbrev pub AreHolds : ℕ → List ℕ → ℕ → Type 0
 AreHolds messages [] without = without ≡ messages
-AreHolds messages (answered ∷ later) without = (answered ≤ messages) × (answered ≡ 0 → later ≡ []) × AreHolds (messages - answered) later without
+AreHolds messages (answered ∷ later) without = (answered ≤ min messages most) × (answered ≡ 0 → later ≡ []) × AreHolds (messages - answered) later without
 
--- the points of one hold were passed
+-- the points of one hold were passed, in which no more have their answers than are read
 abbrev pub IsHoldPassed : {G : Type 0} → Passes G → ℕ → ℕ → G → Bool → G → Bool → Type 0
 IsHoldPassed passes messages without gate spent gate' spent' =
-    (answered : ℕ) × (answered + without ≡ messages) × ArePassed passes (hold_points messages answered) gate spent gate' spent'
+    (answered : ℕ) × (answered ≤ min messages most) × (answered + without ≡ messages) × ArePassed passes (hold_points messages answered) gate spent gate' spent'
 
 -- the points of some holds were passed, one hold after the other
 abbrev pub AreHoldsPassed : {G : Type 0} → Passes G → ℕ → ℕ → G → Bool → G → Bool → Type 0

@@ -15,13 +15,13 @@ use std::collections::VecDeque;
 use std::sync::Wait;
 
 impl<L: Run, R: Wait, G: Gate + Drop> ServerPort<'_, L, R, G> {
-    ghost use Rattle.std.specs.Prelude.{IfErr, OnErr, is_some, true};
+    ghost use Rattle.std.specs.Prelude.{◌+◌, ◌≤◌, IfErr, OnErr, is_some, true};
     ghost use Rattle.events.specs.Offers.{IsOffered};
     ghost use Rattle.events.specs.declared.refusal.HubRefusal.TheVariants.{HistoryFull};
     ghost use Rattle.events.specs.declared.refusal.PublishRefusal.TheVariants.{By};
     ghost use Rattle.server_history.specs.Bytes.{IsCounted, own};
     ghost use Rattle.server_port.specs.Courses.{entered, followed, offered, refused};
-    ghost use Rattle.server_port.specs.Histories.{falls_due, passed, tried, was_same};
+    ghost use Rattle.server_port.specs.Histories.{falls_due, once, passed, tried, was_same};
     ghost use Rattle.shared_hub.specs.Entering.{IsAnswered, IsPostedBy};
 
     /// Notes what an answer makes pending, with the size of its message, counts what its entry keeps, and hands the history out if
@@ -32,7 +32,8 @@ impl<L: Run, R: Wait, G: Gate + Drop> ServerPort<'_, L, R, G> {
         ensures looked { is_some result.1 ≡ falls_due self.old.rotation answer.now.number }
         ensures tried { self.new.rotation.tries ≡ tried (was_same result.1) (tried (passed result.0) self.old.rotation.tries) }
         ensures course { self.new.course ≡ followed answer.now self.old.course }
-        ensures seat { self.new.seat ≡ self.old.seat }
+        ensures count { self.new.seat.count ≡ self.old.seat.count }
+        ensures rotations { self.new.seat.rotations ≤ self.old.seat.rotations + (once (passed result.0) + once (was_same result.1)) }
         ensures kept { (self.new.gate ≡ self.old.gate) × (self.new.is_spent ≡ self.old.is_spent) × (self.new.noted ≡ self.old.noted) }
     {
         let work = self.outgoing.add_answer(answer, size);
@@ -56,8 +57,10 @@ impl<L: Run, R: Wait, G: Gate + Drop> ServerPort<'_, L, R, G> {
 
     /// Enters an event, once more where the history was full.
     #[inline(always)]
+    #[tactic(auto, using(crate::proofs::Handed::once_within))]
     pub fn enter(&mut self, event: Event) -> Result<Answer, (Event, HubRefusal)>
         ensures step { IsAnswered L.opening self.old.seat.count event result self.new.seat.count }
+        ensures rotations { self.new.seat.rotations ≤ self.old.seat.rotations + 3 }
         ensures course { self.new.course ≡ entered result self.old.course }
         ensures full { IfErr result (λ back. back.1 ≡ HistoryFull → self.new.rotation.tries ≡ tried true self.old.rotation.tries) }
         ensures err { IfErr result (λ back. back.0 ≡ event) }
@@ -81,6 +84,8 @@ impl<L: Run, R: Wait, G: Gate + Drop> ServerPort<'_, L, R, G> {
     fn step(&mut self, event: Event) -> Result<Answer, (Event, HubRefusal)>
         ensures step { IsAnswered L.opening self.old.seat.count event result self.new.seat.count }
         ensures course { self.new.course ≡ entered result self.old.course }
+        ensures rotations { self.new.seat.rotations ≤ self.old.seat.rotations + 2 }
+        ensures none { OnErr result (self.new.seat.rotations ≡ self.old.seat.rotations) }
         ensures same { OnErr result (self.new.rotation ≡ self.old.rotation) }
         ensures err { IfErr result (λ back. back.0 ≡ event) }
         ensures kept { (self.new.gate ≡ self.old.gate) × (self.new.is_spent ≡ self.old.is_spent) × (self.new.noted ≡ self.old.noted) }
@@ -107,6 +112,7 @@ impl<L: Run, R: Wait, G: Gate + Drop> ServerPort<'_, L, R, G> {
     #[inline(always)]
     fn enter_message(&mut self, event: Event) -> Result<Answer, (Event, PublishRefusal)>
         ensures offered { IsOffered (λ old e r new. IsPostedBy L.opening old.seat.count e r new.seat.count) (λ old new. new.seat.count ≡ old.seat.count) self.old event result self.new }
+        ensures rotations { self.new.seat.rotations ≤ self.old.seat.rotations + 3 }
         ensures course { self.new.course ≡ offered result self.new.context.told.slow self.new.context.told.until self.old.course }
         ensures full { IfErr result (λ back. back.1 ≡ By HistoryFull → self.new.rotation.tries ≡ tried true self.old.rotation.tries) }
         ensures err { IfErr result (λ back. back.0 ≡ event) }
@@ -138,8 +144,10 @@ impl<L: Run, R: Wait, G: Gate + Drop> ServerPort<'_, L, R, G> {
 
     /// Offers a message's event once the history was handed out, or that was tried.
     #[inline(never)]
+    #[tactic(auto, using(crate::proofs::Handed::once_within))]
     pub(crate) fn offer_again(&mut self, event: Event) -> Result<Answer, (Event, PublishRefusal)>
         ensures offered { IsOffered (λ old e r new. IsPostedBy L.opening old.seat.count e r new.seat.count) (λ old new. new.seat.count ≡ old.seat.count) self.old event result self.new }
+        ensures rotations { self.new.seat.rotations ≤ self.old.seat.rotations + 3 }
         ensures course { self.new.course ≡ offered result self.new.context.told.slow self.new.context.told.until self.old.course }
         ensures tried { OnErr result (self.new.rotation.tries ≡ tried true self.old.rotation.tries) }
         ensures err { IfErr result (λ back. back.0 ≡ event) }
@@ -159,6 +167,8 @@ impl<L: Run, R: Wait, G: Gate + Drop> ServerPort<'_, L, R, G> {
     fn offer_once(&mut self, event: Event) -> Result<Answer, (Event, PublishRefusal)>
         ensures offered { IsOffered (λ old e r new. IsPostedBy L.opening old.seat.count e r new.seat.count) (λ old new. new.seat.count ≡ old.seat.count) self.old event result self.new }
         ensures course { self.new.course ≡ offered result self.new.context.told.slow self.new.context.told.until self.old.course }
+        ensures rotations { self.new.seat.rotations ≤ self.old.seat.rotations + 2 }
+        ensures none { OnErr result (self.new.seat.rotations ≡ self.old.seat.rotations) }
         ensures same { OnErr result (self.new.rotation ≡ self.old.rotation) }
         ensures err { IfErr result (λ back. back.0 ≡ event) }
         ensures kept { (self.new.gate ≡ self.old.gate) × (self.new.is_spent ≡ self.old.is_spent) × (self.new.noted ≡ self.old.noted) }
@@ -200,7 +210,7 @@ impl<L: Run, R: Wait, G: Gate + Drop> ServerPort<'_, L, R, G> {
 }
 
 impl<L: Run, R: Wait, G: Gate + Drop> Port for ServerPort<'_, L, R, G> {
-    ghost use Rattle.std.specs.Prelude.{◌≢◌, ◌+◌, ◌∷◌, [], ℕ, Err, IfErr, Some, false, length, true};
+    ghost use Rattle.std.specs.Prelude.{◌≢◌, ◌+◌, ◌*◌, ◌≤◌, ◌∷◌, [], ℕ, Err, IfErr, Some, false, length, true};
     ghost use Rattle.events.specs.Offers.{IsOffered};
     ghost use Rattle.events.specs.Runs.{IsPosted};
     ghost use Rattle.events.specs.declared.refusal.PublishRefusal.TheVariants.{Held};
@@ -224,6 +234,7 @@ impl<L: Run, R: Wait, G: Gate + Drop> Port for ServerPort<'_, L, R, G> {
     fn submit(&mut self, event: Event) -> Result<Answer, (Event, HubRefusal)>
         ensures place { ◌≡◌ {A = ℕ} 0 0 }
         ensures step { IsAnswered L.opening self.old.seat.count event result self.new.seat.count }
+        ensures rotations { self.new.seat.rotations ≤ self.old.seat.rotations + 3 }
         ensures err { IfErr result (λ back. back.0 ≡ event) }
         ensures course { self.new.course ≡ entered result (record self.old.course { has_passed = false }) }
         ensures noted { IsNoted result self.old.noted self.new.noted }
@@ -242,6 +253,7 @@ impl<L: Run, R: Wait, G: Gate + Drop> Port for ServerPort<'_, L, R, G> {
     fn offer(&mut self, event: Event) -> Result<Answer, (Event, PublishRefusal)>
         ensures place { ◌≡◌ {A = ℕ} 0 0 }
         ensures offered { IsOffered (λ old e r new. IsPostedBy L.opening old.seat.count e r new.seat.count) (λ old new. new.seat.count ≡ old.seat.count) self.old event result self.new }
+        ensures rotations { self.new.seat.rotations ≤ self.old.seat.rotations + 3 }
         ensures err { IfErr result (λ back. back.0 ≡ event) }
         ensures spent { self.old.course.share ≡ 0 → (result ≡ Err (event, Held)) × (self.new.course ≡ record self.old.course { why = Some Share }) × (self.new.context ≡ self.old.context) × (self.new.rotation ≡ self.old.rotation) }
         ensures unasked { self.old.course.share ≡ 0 → (self.new.gate ≡ self.old.gate) × (self.new.is_spent ≡ self.old.is_spent) × (self.new.noted ≡ self.old.noted) }
@@ -272,6 +284,7 @@ impl<L: Run, R: Wait, G: Gate + Drop> Port for ServerPort<'_, L, R, G> {
     ) -> RunEnd
         ensures place { ◌≡◌ {A = ℕ} 0 0 }
         ensures posted { IsPosted (λ old e r new. IsPostedBy L.opening old.seat.count e r new.seat.count) (λ old new. new.seat.count ≡ old.seat.count) W.draws conn now messages.old.items self.old words.old result messages.new.items self.new words.new }
+        ensures rotations { self.new.seat.rotations + 3 * length messages.new.items ≤ self.old.seat.rotations + 3 * length messages.old.items }
         ensures why { IsWhy result self.old.course.why self.new.course.why }
         ensures noted { IsRunNoted (IsOfferedBy L.opening) W.draws conn now messages.old.items self.old.seat.count words.old result messages.new.items self.new.seat.count words.new self.old.noted self.new.noted }
         ensures points { AreHoldsPassed G.passes (length messages.old.items) (held_back self.new.course.why result + length messages.new.items) self.old.gate self.old.is_spent self.new.gate self.new.is_spent }

@@ -10,10 +10,10 @@ use shared_hub::Run;
 use std::sync::Wait;
 
 impl<L: Run, R: Wait, G: Gate + Drop> ServerPort<'_, L, R, G> {
-    ghost use Rattle.std.specs.Prelude.{ℕ, is_some, true};
+    ghost use Rattle.std.specs.Prelude.{◌+◌, ◌≤◌, ℕ, is_some, true};
     ghost use Rattle.server_history.specs.Bytes.{IsCounted, is_passed, own};
     ghost use Rattle.server_history.specs.Rotating.{is_due, taken_over};
-    ghost use Rattle.server_port.specs.Histories.{IsHandedOut, IsTried, falls_due, passed, tried, was_same};
+    ghost use Rattle.server_port.specs.Histories.{IsHandedOut, IsTried, falls_due, once, passed, tried, was_same};
 
     /// Takes over a segment that was handed out: its entries are all that is still to be dropped.
     fn take_over(&mut self, segment: Segment)
@@ -31,11 +31,12 @@ impl<L: Run, R: Wait, G: Gate + Drop> ServerPort<'_, L, R, G> {
     pub(crate) fn rotate(&mut self) -> bool
         ensures handed { IsHandedOut result self.old.rotation self.new.rotation }
         ensures tried { IsTried true self.old.rotation self.new.rotation }
-        ensures seat { self.new.seat ≡ self.old.seat }
+        ensures count { self.new.seat.count ≡ self.old.seat.count }
+        ensures rotations { self.new.seat.rotations ≡ self.old.seat.rotations + once result }
         ensures course { self.new.course ≡ self.old.course }
         ensures kept { (self.new.gate ≡ self.old.gate) × (self.new.is_spent ≡ self.old.is_spent) × (self.new.noted ≡ self.old.noted) }
     {
-        match self.shared.rotate_as(self.rt, &self.seat) {
+        match self.shared.rotate_as(self.rt, &mut self.seat) {
             Ok(segment) => {
                 segment.known();
                 self.take_over(segment);
@@ -52,7 +53,8 @@ impl<L: Run, R: Wait, G: Gate + Drop> ServerPort<'_, L, R, G> {
     #[inline(never)]
     fn heed(&mut self, telling: &Telling)
         ensures tried { IsTried (is_passed telling.now.half telling.now.before telling.now.bytes telling.now.taken) self.old.rotation self.new.rotation }
-        ensures seat { self.new.seat ≡ self.old.seat }
+        ensures count { self.new.seat.count ≡ self.old.seat.count }
+        ensures rotations { self.new.seat.rotations ≤ self.old.seat.rotations + once (is_passed telling.now.half telling.now.before telling.now.bytes telling.now.taken) }
         ensures course { self.new.course ≡ self.old.course }
         ensures kept { (self.new.gate ≡ self.old.gate) × (self.new.is_spent ≡ self.old.is_spent) × (self.new.noted ≡ self.old.noted) }
     {
@@ -67,7 +69,8 @@ impl<L: Run, R: Wait, G: Gate + Drop> ServerPort<'_, L, R, G> {
     #[inline(always)]
     fn heed_told(&mut self, told: &Option<Telling>)
         ensures tried { IsTried (passed told.now) self.old.rotation self.new.rotation }
-        ensures seat { self.new.seat ≡ self.old.seat }
+        ensures count { self.new.seat.count ≡ self.old.seat.count }
+        ensures rotations { self.new.seat.rotations ≤ self.old.seat.rotations + once (passed told.now) }
         ensures course { self.new.course ≡ self.old.course }
         ensures kept { (self.new.gate ≡ self.old.gate) × (self.new.is_spent ≡ self.old.is_spent) × (self.new.noted ≡ self.old.noted) }
     {
@@ -81,7 +84,8 @@ impl<L: Run, R: Wait, G: Gate + Drop> ServerPort<'_, L, R, G> {
     pub(crate) fn count_bytes(&mut self, bytes: u64) -> Option<Telling>
         ensures counted { IsCounted self.old.rotation.uncounted bytes result self.new.rotation.uncounted }
         ensures tried { self.new.rotation.tries ≡ tried (passed result) self.old.rotation.tries }
-        ensures seat { self.new.seat ≡ self.old.seat }
+        ensures count { self.new.seat.count ≡ self.old.seat.count }
+        ensures rotations { self.new.seat.rotations ≤ self.old.seat.rotations + once (passed result) }
         ensures course { self.new.course ≡ self.old.course }
         ensures kept { (self.new.gate ≡ self.old.gate) × (self.new.is_spent ≡ self.old.is_spent) × (self.new.noted ≡ self.old.noted) }
     {
@@ -97,7 +101,8 @@ impl<L: Run, R: Wait, G: Gate + Drop> ServerPort<'_, L, R, G> {
         ensures counted { IsCounted self.old.rotation.uncounted (own answer.now) result.0 self.new.rotation.uncounted }
         ensures looked { is_some result.1 ≡ falls_due self.old.rotation answer.now.number }
         ensures tried { self.new.rotation.tries ≡ tried (was_same result.1) (tried (passed result.0) self.old.rotation.tries) }
-        ensures seat { self.new.seat ≡ self.old.seat }
+        ensures count { self.new.seat.count ≡ self.old.seat.count }
+        ensures rotations { self.new.seat.rotations ≤ self.old.seat.rotations + (once (passed result.0) + once (was_same result.1)) }
         ensures course { self.new.course ≡ self.old.course }
         ensures kept { (self.new.gate ≡ self.old.gate) × (self.new.is_spent ≡ self.old.is_spent) × (self.new.noted ≡ self.old.noted) }
     {
@@ -118,7 +123,8 @@ impl<L: Run, R: Wait, G: Gate + Drop> ServerPort<'_, L, R, G> {
         ensures looked { is_some result ≡ is_due self.old.rotation.half number }
         ensures tried { self.new.rotation.tries ≡ tried (was_same result) self.old.rotation.tries }
         ensures uncounted { self.new.rotation.uncounted ≡ self.old.rotation.uncounted }
-        ensures seat { self.new.seat ≡ self.old.seat }
+        ensures count { self.new.seat.count ≡ self.old.seat.count }
+        ensures rotations { self.new.seat.rotations ≤ self.old.seat.rotations + once (was_same result) }
         ensures course { self.new.course ≡ self.old.course }
         ensures kept { (self.new.gate ≡ self.old.gate) × (self.new.is_spent ≡ self.old.is_spent) × (self.new.noted ≡ self.old.noted) }
     {

@@ -59,11 +59,11 @@ impl<L: Run, R: Wait, G: Gate + Drop> Drop for ServerPort<'_, L, R, G> {
 }
 
 impl<'a, L: Run, R: Wait, G: Gate + Drop> ServerPort<'a, L, R, G> {
-    ghost use Rattle.std.specs.Prelude.{◌≡◌, ◌||◌, ◌<◌, Bool, None, Option, false, max, nat_eq, not};
+    ghost use Rattle.std.specs.Prelude.{◌≡◌, ◌||◌, ◌<◌, ◌≤◌, ◌+◌, Bool, None, Option, false, max, nat_eq, not};
     ghost use Rattle.server_history.specs.declared.kept.Telling.{Telling};
     ghost use Rattle.server_history.specs.Bytes.{IsCounted};
     ghost use Rattle.server_history.specs.Rotating.{but_last, fresh};
-    ghost use Rattle.server_port.specs.Histories.{passed, tried};
+    ghost use Rattle.server_port.specs.Histories.{once, passed, tried};
     ghost use Rattle.server_port.specs.Points.{ArePassed, answered_if};
 
     /// Makes the port of a thread with such access. It has no share yet.
@@ -75,7 +75,7 @@ impl<'a, L: Run, R: Wait, G: Gate + Drop> ServerPort<'a, L, R, G> {
         access: Access<L, G>,
         outgoing: OutgoingMail,
     ) -> ServerPort<'a, L, R, G>
-        ensures seat { result.seat.count ≡ access.seat.count }
+        ensures seat { result.seat ≡ access.seat }
         ensures rotation { result.rotation ≡ fresh state.now.limits.history }
         ensures course { result.course ≡ record { share = 0; why = None; has_passed = false; has_entered = false } }
         ensures spent { result.is_spent ≡ false }
@@ -155,9 +155,9 @@ impl<'a, L: Run, R: Wait, G: Gate + Drop> ServerPort<'a, L, R, G> {
 
     /// Counts bytes that entries keep beside their own, and hands the history out where they are too many.
     pub fn keep(&mut self, bytes: usize)
-        ensures counted { (told : Option Telling) × IsCounted self.old.rotation.uncounted bytes told self.new.rotation.uncounted × (self.new.rotation.tries ≡ tried (passed told) self.old.rotation.tries) }
+        ensures counted { (told : Option Telling) × IsCounted self.old.rotation.uncounted bytes told self.new.rotation.uncounted × (self.new.rotation.tries ≡ tried (passed told) self.old.rotation.tries) × (self.new.seat.rotations ≤ self.old.seat.rotations + once (passed told)) }
         ensures course { self.new.course ≡ self.old.course }
-        ensures seat { self.new.seat ≡ self.old.seat }
+        ensures count { self.new.seat.count ≡ self.old.seat.count }
     {
         let _ = self.count_bytes(bytes as u64);
     }

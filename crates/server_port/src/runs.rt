@@ -31,13 +31,13 @@ pub(crate) fn goes_on(end: &RunEnd) -> bool
 }
 
 impl<L: Run, R: Wait, G: Gate + Drop> ServerPort<'_, L, R, G> {
-    ghost use Rattle.std.specs.Prelude.{◌≡◌, ◌≢◌, ◌<◌, ◌+◌, ◌∷◌, ◌++◌, [], List, Err, Some, length, ℕ};
+    ghost use Rattle.std.specs.Prelude.{◌≡◌, ◌≢◌, ◌<◌, ◌≤◌, ◌+◌, ◌*◌, ◌∷◌, ◌++◌, [], List, Err, Some, length, ℕ};
     ghost use Rattle.events.specs.Runs.{IsPosted};
     ghost use Rattle.events.specs.Messages.{Message};
     ghost use Rattle.events.specs.declared.answer.Entry.{Entry};
     ghost use Rattle.events.specs.declared.refusal.PublishRefusal.TheVariants.{Held};
     ghost use Rattle.events.specs.declared.run.RunEnd.TheVariants.{Stopped};
-    ghost use Rattle.shared_runs.specs.Runs.{IsRun, word_of};
+    ghost use Rattle.shared_runs.specs.Runs.{IsRun, StaysBelow, word_of};
     ghost use Rattle.server_port.specs.Courses.{all_followed, followed};
     ghost use Rattle.server_gates.specs.declared.gate.Point.TheVariants.{Answered};
     ghost use Rattle.server_log.specs.Noting.{IsAnswerNoted};
@@ -59,6 +59,7 @@ impl<L: Run, R: Wait, G: Gate + Drop> ServerPort<'_, L, R, G> {
         ensures posted { IsPosted (λ old e r new. IsPostedBy L.opening old.seat.count e r new.seat.count) (λ old new. new.seat.count ≡ old.seat.count) W.draws posts.conn posts.now messages.old.items self.old words.old result messages.new.items self.new words.new }
         ensures spent { self.old.course.share ≡ 0 → (word : ℕ) × (result ≡ Stopped word Held) × (self.new.course ≡ record self.old.course { why = Some Share }) × (self.new.context ≡ self.old.context) × (self.new.rotation ≡ self.old.rotation) }
         ensures unasked { self.old.course.share ≡ 0 → (first : Message) × (messages.old.items ≡ first ∷ messages.new.items) × (self.new.gate ≡ self.old.gate) × (self.new.is_spent ≡ self.old.is_spent) × (self.new.noted ≡ self.old.noted) }
+        ensures rotations { self.new.seat.rotations + 3 * length messages.new.items ≤ self.old.seat.rotations + 3 * length messages.old.items }
         ensures why { IsWhy result self.old.course.why self.new.course.why }
         ensures noted { IsRunNoted (IsOfferedBy L.opening) W.draws posts.conn posts.now messages.old.items self.old.seat.count words.old result messages.new.items self.new.seat.count words.new self.old.noted self.new.noted }
         ensures points { self.old.course.share ≢ 0 → IsHoldPassed G.passes (length messages.old.items) (held_back self.new.course.why result + length messages.new.items) self.old.gate self.old.is_spent self.new.gate self.new.is_spent }
@@ -124,6 +125,8 @@ impl<L: Run, R: Wait, G: Gate + Drop> ServerPort<'_, L, R, G> {
         words: &mut W,
     ) -> Option<Result<Answer, (Event, PublishRefusal)>>
         ensures run { (answers : List Entry) × (self.new.context.hold.answers.items ≡ self.old.context.hold.answers.items ++ answers) × IsRun (λ s e r after. IsOfferedBy L.opening s.count e r after.count) W.draws posts.conn posts.now messages.old.items self.old.seat words.old answers result messages.new.items self.new.seat words.new }
+        ensures rotations { self.new.seat.rotations ≡ self.old.seat.rotations }
+        ensures below { StaysBelow self.old.context.hold.most self.old.context.hold.answers.items self.new.context.hold.answers.items }
         ensures course { self.new.course ≡ self.old.course }
         ensures kept { (self.new.gate ≡ self.old.gate) × (self.new.is_spent ≡ self.old.is_spent) × (self.new.noted ≡ self.old.noted) }
     {
@@ -136,7 +139,8 @@ impl<L: Run, R: Wait, G: Gate + Drop> ServerPort<'_, L, R, G> {
     /// Follows the answers that came in a hold, and keeps none.
     #[inline(always)]
     fn follow_all(&mut self)
-        ensures seat { self.new.seat ≡ self.old.seat }
+        ensures count { self.new.seat.count ≡ self.old.seat.count }
+        ensures rotations { self.new.seat.rotations ≤ self.old.seat.rotations + 2 * length self.old.context.hold.answers.items }
         ensures course { self.new.course ≡ all_followed self.old.context.hold.answers.items self.old.course }
         ensures noted { AreAnswersNoted self.old.context.hold.answers.items self.old.noted self.new.noted }
         ensures points { ArePassed G.passes (answer_points (length self.old.context.hold.answers.items)) self.old.gate self.old.is_spent self.new.gate self.new.is_spent }
@@ -150,7 +154,8 @@ impl<L: Run, R: Wait, G: Gate + Drop> ServerPort<'_, L, R, G> {
     /// Follows answers, in order.
     #[inline(always)]
     fn follow_each(&mut self, answers: &[Answer])
-        ensures seat { self.new.seat ≡ self.old.seat }
+        ensures count { self.new.seat.count ≡ self.old.seat.count }
+        ensures rotations { self.new.seat.rotations ≤ self.old.seat.rotations + 2 * length answers.now }
         ensures course { self.new.course ≡ all_followed answers.now self.old.course }
         ensures noted { AreAnswersNoted answers.now self.old.noted self.new.noted }
         ensures points { ArePassed G.passes (answer_points (length answers.now)) self.old.gate self.old.is_spent self.new.gate self.new.is_spent }
@@ -163,7 +168,8 @@ impl<L: Run, R: Wait, G: Gate + Drop> ServerPort<'_, L, R, G> {
     /// Notes a message's answer and follows it. The message passes the gate then.
     #[inline(always)]
     fn follow_message(&mut self, answer: &Answer)
-        ensures seat { self.new.seat ≡ self.old.seat }
+        ensures count { self.new.seat.count ≡ self.old.seat.count }
+        ensures rotations { self.new.seat.rotations ≤ self.old.seat.rotations + 2 }
         ensures course { self.new.course ≡ followed answer.now self.old.course }
         ensures noted { IsAnswerNoted answer.now self.old.noted self.new.noted }
         ensures points { ArePassed G.passes (Answered ∷ []) self.old.gate self.old.is_spent self.new.gate self.new.is_spent }
@@ -178,6 +184,7 @@ impl<L: Run, R: Wait, G: Gate + Drop> ServerPort<'_, L, R, G> {
     #[inline(always)]
     fn follow_last(&mut self, last: Result<Answer, (Event, PublishRefusal)>) -> RunEnd
         ensures end { IsEnded L.opening last self.old.seat.count result self.new.seat.count }
+        ensures rotations { self.new.seat.rotations ≤ self.old.seat.rotations + 3 }
         ensures why { IsWhy result self.old.course.why self.new.course.why }
         ensures noted { IsEndNoted result self.old.noted self.new.noted }
         ensures points { ArePassed G.passes (end_points self.new.course.why result) self.old.gate self.old.is_spent self.new.gate self.new.is_spent }
@@ -198,6 +205,7 @@ impl<L: Run, R: Wait, G: Gate + Drop> ServerPort<'_, L, R, G> {
     #[inline(never)]
     fn follow_refusal(&mut self, event: Event, refusal: PublishRefusal) -> RunEnd
         ensures end { IsEnded L.opening (Err (event, refusal)) self.old.seat.count result self.new.seat.count }
+        ensures rotations { self.new.seat.rotations ≤ self.old.seat.rotations + 3 }
         ensures why { IsWhy result self.old.course.why self.new.course.why }
         ensures noted { IsEndNoted result self.old.noted self.new.noted }
         ensures points { ArePassed G.passes (end_points self.new.course.why result) self.old.gate self.old.is_spent self.new.gate self.new.is_spent }
@@ -220,6 +228,7 @@ impl<L: Run, R: Wait, G: Gate + Drop> ServerPort<'_, L, R, G> {
     /// Ends a run with a message that met a full history: it is offered once more, once that was handed out.
     fn end_again(&mut self, event: Event) -> RunEnd
         ensures end { IsOfferedAgain L.opening event self.old.seat.count result self.new.seat.count }
+        ensures rotations { self.new.seat.rotations ≤ self.old.seat.rotations + 3 }
         ensures why { IsWhy result self.old.course.why self.new.course.why }
         ensures noted { IsEndNoted result self.old.noted self.new.noted }
         ensures points { ArePassed G.passes (end_points self.new.course.why result) self.old.gate self.old.is_spent self.new.gate self.new.is_spent }

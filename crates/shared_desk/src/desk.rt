@@ -43,23 +43,30 @@ impl Run for Brand {
     ghost seats = { 0 };
 }
 
-/// The right to enter events into one run's hub, and how many it has entered. Nobody can make another.
+/// The right to enter events into one run's hub, and how many it has entered. Nobody can make another. It also counts how often
+/// it has handed the history out.
 #[derive(Drop)]
 pub struct Seat<L: Run> {
     share: Share<L>,
     count: u64,
+    rotations: u64,
     ghost part: { share.parts ≡ 1 },
     ghost counted: { share.amount ≡ count },
 }
 
 impl<L: Run> Seat<L> {
-    /// Makes a seat, which has entered nothing, of one part of the ledger.
+    /// Makes a seat, which has entered nothing and handed nothing out, of one part of the ledger.
     pub fn of(share: Share<L>) -> Seat<L>
         requires part { share.parts ≡ 1 }
         requires amount { share.amount ≡ 0 }
-        ensures { result.count ≡ 0 }
+        ensures count { result.count ≡ 0 }
+        ensures rotations { result.rotations ≡ 0 }
     {
-        Seat { share, count: 0 }
+        Seat {
+            share,
+            count: 0,
+            rotations: 0,
+        }
     }
 }
 
@@ -93,7 +100,7 @@ impl<L: Run> Desk<L> {
     ghost use Rattle.hub.specs.History.{stepped};
     ghost use Rattle.shared_desk.specs.Bounds.{terms_at, size_of};
     ghost use Rattle.shared_desk.specs.Publishing.{IsPublished, inside};
-    ghost use Rattle.shared_runs.specs.Runs.{IsRun};
+    ghost use Rattle.shared_runs.specs.Runs.{IsRun, StaysBelow};
     ghost use Rattle.events.specs.declared.answer.Entry.{Entry};
     ghost use Rattle.shared_desk.specs.Waits.{waiting_in, offered, IsHeldBack, until_if, slow_if, IfBy, IsOfferedTo, until_of, slow_of, freed_of, rest_of, IsSettled};
 
@@ -183,6 +190,7 @@ impl<L: Run> Desk<L> {
         ensures entries { IfOk result.1 (λ r. self.new.hub.entries ≡ self.old.hub.entries ++ r.entry ∷ []) }
         ensures guarantee { IfOk result.1 (λ r. IsRouted self.old.hub event r.entry self.new.hub) }
         ensures count { MatchResult result.1 (λ _. result.0.count ≡ seat.count + 1) (λ _. result.0.count ≡ seat.count) }
+        ensures rotations { result.0.rotations ≡ seat.rotations }
         ensures number { IfOk result.1 (λ r. L.opening + result.0.count ≤ r.entry.number) }
         ensures waits { self.new.waits ≡ self.old.waits }
     {
@@ -191,30 +199,43 @@ impl<L: Run> Desk<L> {
         (seat, result)
     }
 
-    /// Hands out the entries that the hub holds, and goes on with none, as `Hub::rotate` tells. It enters nothing, so the
-    /// seat is as before. `NoMemory` changes nothing.
+    /// Hands out the entries that the hub holds, and goes on with none, as `Hub::rotate` tells. The seat has done so once more,
+    /// and has entered nothing. `NoMemory` changes nothing.
     pub fn rotate(&mut self, seat: Seat<L>) -> (Seat<L>, Result<Segment, NoMemory>)
         ensures segment { IfOk result.1 (λ segment. segment ≡ tail_of self.old.hub) }
         ensures ok { OnOk result.1 (self.new.hub ≡ rotated self.old.hub) }
         ensures err { OnErr result.1 (self.new.hub ≡ self.old.hub) }
         ensures book { self.new.book.total ≡ self.old.book.total }
-        ensures seat { result.0 ≡ seat }
+        ensures count { result.0.count ≡ seat.count }
+        ensures rotations { MatchResult result.1 (λ _. result.0.rotations ≡ seat.rotations + 1) (λ _. result.0.rotations ≡ seat.rotations) }
         ensures waits { self.new.waits ≡ self.old.waits }
     {
-        let result = self.rotate_as(&seat);
+        let mut seat = seat;
+        let result = self.rotate_as(&mut seat);
         (seat, result)
     }
 
     /// Rotates as `rotate` does, for a seat that is lent.
-    pub fn rotate_as(&mut self, _seat: &Seat<L>) -> Result<Segment, NoMemory>
+    pub fn rotate_as(&mut self, seat: &mut Seat<L>) -> Result<Segment, NoMemory>
         ensures segment { IfOk result (λ segment. segment ≡ tail_of self.old.hub) }
         ensures ok { OnOk result (self.new.hub ≡ rotated self.old.hub) }
         ensures err { OnErr result (self.new.hub ≡ self.old.hub) }
         ensures book { self.new.book.total ≡ self.old.book.total }
+        ensures count { seat.new.count ≡ seat.old.count }
+        ensures rotations { MatchResult result (λ _. seat.new.rotations ≡ seat.old.rotations + 1) (λ _. seat.new.rotations ≡ seat.old.rotations) }
         ensures waits { self.new.waits ≡ self.old.waits }
     {
+        let Some(rotations) = seat.rotations.checked_add(1) else {
+            return Err(NoMemory);
+        };
         let result = self.hub.rotate();
-        result
+        match result {
+            Ok(segment) => {
+                seat.rotations = rotations;
+                Ok(segment)
+            }
+            Err(none) => Err(none),
+        }
     }
 
     /// Enters an event as `enter` does, for a seat that is lent.
@@ -228,6 +249,7 @@ impl<L: Run> Desk<L> {
         ensures entries { IfOk result (λ r. self.new.hub.entries ≡ self.old.hub.entries ++ r.entry ∷ []) }
         ensures guarantee { IfOk result (λ r. IsRouted self.old.hub event r.entry self.new.hub) }
         ensures count { MatchResult result (λ _. seat.new.count ≡ seat.old.count + 1) (λ _. seat.new.count ≡ seat.old.count) }
+        ensures rotations { seat.new.rotations ≡ seat.old.rotations }
         ensures number { IfOk result (λ r. L.opening + seat.new.count ≤ r.entry.number) }
         ensures waits { self.new.waits ≡ self.old.waits }
     {
@@ -251,6 +273,7 @@ impl<L: Run> Desk<L> {
         ensures step { IsStep self.old.hub event result self.new.hub }
         ensures guarantee { KeepsGuarantee self.old.hub event result self.new.hub }
         ensures count { MatchResult result (λ _. seat.new.count ≡ seat.old.count + 1) (λ _. seat.new.count ≡ seat.old.count) }
+        ensures rotations { seat.new.rotations ≡ seat.old.rotations }
         ensures number { IfOk result (λ answer. L.opening + seat.new.count ≤ answer.number) }
         ensures waits { self.new.waits ≡ self.old.waits }
     {
@@ -279,6 +302,7 @@ impl<L: Run> Desk<L> {
         ensures step { IsStep self.old.hub event result self.new.hub }
         ensures guarantee { KeepsGuarantee self.old.hub event result self.new.hub }
         ensures count { MatchResult result (λ _. seat.new.count ≡ seat.old.count + 1) (λ _. seat.new.count ≡ seat.old.count) }
+        ensures rotations { seat.new.rotations ≡ seat.old.rotations }
         ensures number { IfOk result (λ answer. L.opening + seat.new.count ≤ answer.number) }
         ensures settled { IfOk result (λ answer. IsSettled (waiting_in self.new.hub.world) refused answer.event.now answer.event.what answer.outcome self.old.waits self.new.waits) }
         ensures freed { IfOk result (λ answer. told.new.freed.items ≡ told.old.freed.items ++ freed_of (waiting_in self.new.hub.world) answer.event.what answer.outcome self.old.waits) }
@@ -349,6 +373,7 @@ impl<L: Run> Desk<L> {
         ensures step { IsStepIf (terms_at self.old.waits self.old.hub event) self.old.hub event result self.new.held.items self.new.hub }
         ensures guarantee { IsOffered KeepsGuarantee (λ s after. after ≡ s) self.old.hub event result self.new.hub }
         ensures count { MatchResult result (λ _. seat.new.count ≡ seat.old.count + 1) (λ _. seat.new.count ≡ seat.old.count) }
+        ensures rotations { seat.new.rotations ≡ seat.old.rotations }
         ensures number { IfOk result (λ answer. L.opening + seat.new.count ≤ answer.number) }
         ensures waits { IsOfferedTo (waiting_in self.old.hub.world) event result self.new.held.items self.old.waits self.new.waits }
         ensures until { told.new.until ≡ until_of event result self.new.held.items self.new.waits }
@@ -396,6 +421,8 @@ impl<L: Run> Desk<L> {
         words: &mut W,
     ) -> Option<Result<Answer, (Event, PublishRefusal)>>
         ensures run { (answers : List Entry) × (context.new.hold.answers.items ≡ context.old.hold.answers.items ++ answers) × IsRun (IsPublished (λ s. s.count) L.opening) W.draws context.old.posts.conn context.old.posts.now messages.old.items (inside self.old.hub self.old.waits self.old.held.items seat.old context.old.told) words.old answers result messages.new.items (inside self.new.hub self.new.waits self.new.held.items seat.new context.new.told) words.new }
+        ensures rotations { seat.new.rotations ≡ seat.old.rotations }
+        ensures below { StaysBelow context.old.hold.most context.old.hold.answers.items context.new.hold.answers.items }
         ensures freed { context.new.told.freed.items ≡ context.old.told.freed.items }
         ensures rest { context.new.told.rest ≡ context.old.told.rest }
     {
@@ -523,6 +550,7 @@ fn count<L: Run>(book: &mut Book<L>, seat: &mut Seat<L>, number: u64)
     requires { book.old.total < number }
     ensures total { book.new.total ≡ book.old.total + 1 }
     ensures count { seat.new.count ≡ seat.old.count + 1 }
+    ensures rotations { seat.new.rotations ≡ seat.old.rotations }
     ensures within { seat.new.count ≤ book.new.total }
 {
     let _ = number;
@@ -543,7 +571,11 @@ fn gather<L: Run>(all: &mut Share<L>, mut seats: VecDeque<Seat<L>>, counts: &mut
     ensures counts { counts.new.items ≡ map (λ s. s.count) seats.items }
 {
     while let Some(seat) = seats.pop_front() {
-        let Seat { share, count } = seat;
+        let Seat {
+            share,
+            count,
+            rotations: _,
+        } = seat;
         all.merge(share);
         counts.push_reserved(count);
     }

@@ -61,18 +61,20 @@ abbrev pub IsSubmitted : ℕ → ℕ → Event → Result Receipt (Event × HubR
 IsSubmitted opening before e (Ok r) after = IsCounted opening e before r.entry after × IsReceived e (Ok r)
 IsSubmitted opening before e (Err refused) after = (refused.0 ≡ e) × (after ≡ before) × IsReceived e (Err refused)
 
--- What a port keeps: the seat's count, and the receipts of what was answered, oldest first.
+-- What a port keeps: the seat's count, how often the seat has handed the history out, and the receipts of what was answered,
+-- oldest first.
 pub record Kept : Type 0 where
   pub count : ℕ
+  pub rotations : ℕ
   pub receipts : List Receipt
 
-abbrev pub kept : ℕ → List Receipt → Kept
-kept count receipts = record { count = count; receipts = receipts }
+abbrev pub kept : ℕ → ℕ → List Receipt → Kept
+kept count rotations receipts = record { count = count; rotations = rotations; receipts = receipts }
 
 -- An event that a port has submitted. With an answer, one more receipt is kept behind the others, and has that answer. The seat
 -- refuses what is refused, or memory for one more receipt lacks.
 abbrev pub IsKept : ℕ → Kept → Event → Result Entry (Event × HubRefusal) → Kept → Type 0
 IsKept opening before e (Ok a) after =
-    IsCounted opening e before.count a after.count
+    IsCounted opening e before.count a after.count × (after.rotations ≡ before.rotations)
     × ((r : Receipt) × (r.entry ≡ a) × (after.receipts ≡ before.receipts ++ r ∷ []) × IsReceived e (Ok r))
 IsKept opening before e (Err refused) after = (after ≡ before) × ((refused.1 ≡ NoMemory) ⊎ IsReceived e (Err refused))

@@ -18,7 +18,7 @@ pub struct SharedPort<'a, L: Run, R: Wait> {
 }
 
 impl<'a, L: Run, R: Wait> SharedPort<'a, L, R> {
-    ghost use Rattle.std.specs.Prelude.{◌≡◌, []};
+    ghost use Rattle.std.specs.Prelude.{◌≡◌, ◌+◌, [], MatchResult};
 
     /// Makes a port that keeps no receipt yet.
     pub fn new(
@@ -27,7 +27,7 @@ impl<'a, L: Run, R: Wait> SharedPort<'a, L, R> {
         shared: &'a SharedHub<L>,
         seat: Seat<L>,
     ) -> SharedPort<'a, L, R>
-        ensures count { result.seat.count ≡ seat.count }
+        ensures seat { result.seat ≡ seat }
         ensures none { result.receipts.items ≡ [] }
     {
         SharedPort {
@@ -43,23 +43,24 @@ impl<'a, L: Run, R: Wait> SharedPort<'a, L, R> {
     pub fn take_receipts(&mut self) -> Vec<Receipt>
         ensures all { result.items ≡ self.old.receipts.items }
         ensures none { self.new.receipts.items ≡ [] }
-        ensures count { self.new.seat.count ≡ self.old.seat.count }
+        ensures seat { self.new.seat ≡ self.old.seat }
     {
         mem::replace(&mut self.receipts, Vec::new(self.alloc))
     }
 
-    /// Hands out the hub's entries, as `SharedHub::rotate` does. The seat and the receipts that are kept are as before.
+    /// Hands out the hub's entries, as `SharedHub::rotate` does. The receipts that are kept are as before.
     pub fn rotate(&mut self) -> Result<Segment, NoMemory>
-        ensures seat { self.new.seat ≡ self.old.seat }
+        ensures count { self.new.seat.count ≡ self.old.seat.count }
+        ensures rotations { MatchResult result (λ _. self.new.seat.rotations ≡ self.old.seat.rotations + 1) (λ _. self.new.seat.rotations ≡ self.old.seat.rotations) }
         ensures receipts { self.new.receipts.items ≡ self.old.receipts.items }
     {
-        let result = self.shared.rotate_as(self.rt, &self.seat);
+        let result = self.shared.rotate_as(self.rt, &mut self.seat);
         result
     }
 
     /// Takes the port apart into its seat and the receipts that are kept.
     pub fn into_parts(self) -> (Seat<L>, Vec<Receipt>)
-        ensures count { result.0.count ≡ self.entry.seat.count }
+        ensures seat { result.0 ≡ self.entry.seat }
         ensures all { result.1.items ≡ self.entry.receipts.items }
     {
         let SharedPort { seat, receipts, .. } = self;
@@ -72,9 +73,9 @@ impl<L: Run, R: Wait> Port for SharedPort<'_, L, R> {
 
     ghost place = { λ port. 0 };
 
-    ghost steps = { λ old event result new. IsKept L.opening (kept old.seat.count old.receipts.items) event result (kept new.seat.count new.receipts.items) };
+    ghost steps = { λ old event result new. IsKept L.opening (kept old.seat.count old.seat.rotations old.receipts.items) event result (kept new.seat.count new.seat.rotations new.receipts.items) };
 
-    ghost posts = { λ old event result new. IsKept L.opening (kept old.seat.count old.receipts.items) event result (kept new.seat.count new.receipts.items) };
+    ghost posts = { λ old event result new. IsKept L.opening (kept old.seat.count old.seat.rotations old.receipts.items) event result (kept new.seat.count new.seat.rotations new.receipts.items) };
 
     #[inline(always)]
     fn submit(&mut self, event: Event) -> Result<Answer, (Event, HubRefusal)> {

@@ -48,15 +48,15 @@ pub(crate) struct Rest<L: Run> {
 }
 
 impl<L: Run> SharedHub<L> {
-    ghost use Rattle.std.specs.Prelude.{◌≡◌, ◌+◌, ◌<◌, ◌≤◌, ◌++◌, IfOk, IfErr, All, List, vec_len, map};
+    ghost use Rattle.std.specs.Prelude.{◌≡◌, ◌+◌, ◌<◌, ◌≤◌, ◌++◌, IfOk, IfErr, All, List, MatchResult, vec_len, map};
     ghost use Rattle.shared_hub.specs.Entering.{IsSubmitted, IsAnswered, IsOfferedBy, IsLonger};
-    ghost use Rattle.shared_runs.specs.Runs.{IsRun};
+    ghost use Rattle.shared_runs.specs.Runs.{IsRun, StaysBelow};
     ghost use Rattle.events.specs.declared.answer.Entry.{Entry};
     ghost use Rattle.shared_hub.specs.Audits.{IsWhole, IsDue};
 
     /// Puts the hub with which the run opens under a lock, as it is, and returns it with so many seats, none of which has
-    /// entered anything. The blank ledger has a part for each seat. `NoMemory` hands the hub back; the ledger is spent then
-    /// too.
+    /// entered anything or handed the history out. The blank ledger has a part for each seat. `NoMemory` hands the hub back;
+    /// the ledger is spent then too.
     pub fn with_seats(
         alloc: Global,
         blank: Blank,
@@ -69,7 +69,7 @@ impl<L: Run> SharedHub<L> {
         requires opening { hub.world.number ≡ L.opening }
         requires seats { (seats ≡ L.seats) × (L.seats ≡ L.parts) }
         ensures seats { IfOk result (λ opened. vec_len opened.1 ≡ seats) }
-        ensures fresh { IfOk result (λ opened. All (λ s. s.count ≡ 0) opened.1.items) }
+        ensures fresh { IfOk result (λ opened. All (λ s. (s.count ≡ 0) × (s.rotations ≡ 0)) opened.1.items) }
         ensures err { IfErr result (λ refused. refused.0 ≡ hub) }
     {
         let Ok(mut made) = Vec::with_capacity(alloc, seats as usize) else {
@@ -103,24 +103,30 @@ impl<L: Run> SharedHub<L> {
         seat: Seat<L>,
         event: Event,
     ) -> (Seat<L>, Result<Receipt, (Event, HubRefusal)>)
-        ensures { IsSubmitted L.opening seat.count event result.1 result.0.count }
+        ensures submitted { IsSubmitted L.opening seat.count event result.1 result.0.count }
+        ensures rotations { result.0.rotations ≡ seat.rotations }
     {
         let mut seat = seat;
         let result = self.submit_with_receipt(rt, &mut seat, event);
         (seat, result)
     }
 
-    /// Hands out the hub's entries while the lock is held, as `Desk::rotate` does. The seat is as before. A segment is
+    /// Hands out the hub's entries while the lock is held, as `Desk::rotate` does. The seat has done so once more. A segment is
     /// dropped outside the lock.
     pub fn rotate<R: Wait>(&self, rt: &R, seat: Seat<L>) -> (Seat<L>, Result<Segment, NoMemory>)
-        ensures { result.0 ≡ seat }
+        ensures count { result.0.count ≡ seat.count }
+        ensures rotations { MatchResult result.1 (λ _. result.0.rotations ≡ seat.rotations + 1) (λ _. result.0.rotations ≡ seat.rotations) }
     {
-        let result = self.rotate_as(rt, &seat);
+        let mut seat = seat;
+        let result = self.rotate_as(rt, &mut seat);
         (seat, result)
     }
 
     /// Rotates as `rotate` does, for a seat that is lent.
-    pub fn rotate_as<R: Wait>(&self, rt: &R, seat: &Seat<L>) -> Result<Segment, NoMemory> {
+    pub fn rotate_as<R: Wait>(&self, rt: &R, seat: &mut Seat<L>) -> Result<Segment, NoMemory>
+        ensures count { seat.new.count ≡ seat.old.count }
+        ensures rotations { MatchResult result (λ _. seat.new.rotations ≡ seat.old.rotations + 1) (λ _. seat.new.rotations ≡ seat.old.rotations) }
+    {
         let result = self.desk.lock(rt).rotate_as(seat);
         result
     }
@@ -152,7 +158,8 @@ impl<L: Run> SharedHub<L> {
         seat: &mut Seat<L>,
         event: Event,
     ) -> Result<Receipt, (Event, HubRefusal)>
-        ensures { IsSubmitted L.opening seat.old.count event result seat.new.count }
+        ensures submitted { IsSubmitted L.opening seat.old.count event result seat.new.count }
+        ensures rotations { seat.new.rotations ≡ seat.old.rotations }
     {
         self.desk.lock(rt).step_with_receipt(seat, event)
     }
@@ -170,6 +177,7 @@ impl<L: Run> SharedHub<L> {
         told: &mut Told,
     ) -> Result<Answer, (Event, HubRefusal)>
         ensures answered { IsAnswered L.opening seat.old.count event result seat.new.count }
+        ensures rotations { seat.new.rotations ≡ seat.old.rotations }
         ensures freed { IsLonger told.old.freed.items told.new.freed.items }
     {
         self.desk.lock(rt).step(seat, event, refused, told)
@@ -185,6 +193,7 @@ impl<L: Run> SharedHub<L> {
         told: &mut Told,
     ) -> Result<Answer, (Event, PublishRefusal)>
         ensures offered { IsOfferedBy L.opening seat.old.count event result seat.new.count }
+        ensures rotations { seat.new.rotations ≡ seat.old.rotations }
         ensures err { IfErr result (λ refused. refused.0 ≡ event) }
         ensures freed { told.new.freed.items ≡ told.old.freed.items }
     {
@@ -202,6 +211,8 @@ impl<L: Run> SharedHub<L> {
         words: &mut W,
     ) -> Option<Result<Answer, (Event, PublishRefusal)>>
         ensures run { (answers : List Entry) × (context.new.hold.answers.items ≡ context.old.hold.answers.items ++ answers) × IsRun (λ s e r after. IsOfferedBy L.opening s.count e r after.count) W.draws context.old.posts.conn context.old.posts.now messages.old.items seat.old words.old answers result messages.new.items seat.new words.new }
+        ensures rotations { seat.new.rotations ≡ seat.old.rotations }
+        ensures below { StaysBelow context.old.hold.most context.old.hold.answers.items context.new.hold.answers.items }
         ensures freed { context.new.told.freed.items ≡ context.old.told.freed.items }
         ensures rest { context.new.told.rest ≡ context.old.told.rest }
     {
@@ -252,7 +263,7 @@ fn seat_all<L: Run>(rest: &mut Share<L>, made: &mut Vec<Seat<L>>, seats: u64)
     ensures parts { rest.new.parts ≡ 0 }
     ensures amount { rest.new.amount ≡ 0 }
     ensures seats { vec_len made.new ≡ seats }
-    ensures fresh { All (λ s. s.count ≡ 0) made.new.items }
+    ensures fresh { All (λ s. (s.count ≡ 0) × (s.rotations ≡ 0)) made.new.items }
 {
     for next in 0..seats {
         made.push_reserved(Seat::of(rest.split_off(1, 0)));

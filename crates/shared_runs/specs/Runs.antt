@@ -1,5 +1,5 @@
 -- Messages of one connection that are offered one after the other, and what came of each (docs/GUARANTEE.md, "Threads").
-use Rattle.std.specs.Prelude.{◌≡◌, ◌⊎◌, ◌++◌, ℕ, true, List, [], ◌∷◌, Option, Some, None, Result, Ok, Err, IfErr}
+use Rattle.std.specs.Prelude.{◌≡◌, ◌⊎◌, ◌++◌, ◌<◌, ℕ, true, length, List, [], ◌∷◌, Option, Some, None, Result, Ok, Err, IfErr}
 use Rattle.events.specs.Messages.{Message}
 use Rattle.events.specs.Runs.{post, was_published}
 use Rattle.events.specs.declared.event.Event.{Event}
@@ -54,7 +54,12 @@ told_end None = run.Published
 told_end (Some (Ok entry)) = run.Answered entry
 told_end (Some (Err refused)) = run.Stopped (word_of refused.0.what) refused.1
 
--- an answer is kept behind those before it, if it is one of a message that was published; or it is handed back
-abbrev pub IsKept : Entry → Option Entry → List Entry → List Entry → Type 0
-IsKept entry None before after = (was_published entry.outcome ≡ true) × (after ≡ before ++ entry ∷ [])
-IsKept entry (Some back) before after = (back ≡ entry) × (after ≡ before)
+-- an answer is kept behind those before it, if it is one of a message that was published and one more may come; or it is
+-- handed back
+abbrev pub IsKept : ℕ → Entry → Option Entry → List Entry → List Entry → Type 0
+IsKept most entry None before after = (was_published entry.outcome ≡ true) × (after ≡ before ++ entry ∷ []) × (length after < most)
+IsKept most entry (Some back) before after = (back ≡ entry) × (after ≡ before)
+
+-- fewer answers are kept than may come, as it was before
+abbrev pub StaysBelow : ℕ → List Entry → List Entry → Type 0
+StaysBelow most before after = length before < most → length after < most

@@ -34,7 +34,8 @@ impl Hold {
     /// enter, of those for whose answers memory can be had.
     #[inline(always)]
     pub fn begin(&mut self, room: usize, most: usize)
-        ensures { self.new.answers.items ≡ [] }
+        ensures none { self.new.answers.items ≡ [] }
+        ensures most { self.new.most ≡ most }
     {
         if !self.answers.is_empty() {
             self.answers.clear();
@@ -47,7 +48,8 @@ impl Hold {
     /// Keeps the answer of a message that was published, if another may enter behind it; else hands it back.
     #[inline(always)]
     pub fn keep(&mut self, answer: Answer) -> Option<Answer>
-        ensures { IsKept answer result self.old.answers.items self.new.answers.items }
+        ensures kept { IsKept self.old.most answer result self.old.answers.items self.new.answers.items }
+        ensures most { self.new.most ≡ self.old.most }
     {
         match items_of(&answer) {
             None => Some(answer),

@@ -12,7 +12,7 @@ use Rattle.server_port.proofs.Whys.{goes_why}
 use Rattle.server_port.proofs.entering.ServerPortPort.publish.Goals as goal
 
 pub loop-posts-init : goal.loop-posts-init
-loop-posts-init g c = record { posted = λ end rest p' w' h. h; noted = λ end rest p' w' d h. h; why = refl; points = λ without d v h. h }
+loop-posts-init g c = record { posted = λ end rest p' w' h. h; noted = λ end rest p' w' d h. h; rotations = omega arith; why = refl; points = λ without d v h. h }
 
 pub loop-posts-preserved : goal.loop-posts-preserved
 loop-posts-preserved g c =
@@ -33,6 +33,7 @@ loop-posts-preserved g c =
       noted = notes_further (IsOfferedBy g.L.Run.opening) g.W.Words.draws c.args.conn c.args.now c.args.messages.now.items c.args.self.now.seat.count c.args.words.now c.args.self.now.noted
           c.loop-posts.messages.items before.seat.count c.loop-posts.words before.noted end left after.seat.count c.publish_some-end.new.words after.noted
           c.loop-posts.invariant.noted goes c.publish_some-end.ensures.noted;
+      rotations = omega (arith, c.loop-posts.invariant.rotations, c.publish_some-end.ensures.rotations);
       why = goes_why c.publish_some-end.result c.loop-posts.self.course.why c.publish_some-end.new.self.course.why goes c.publish_some-end.ensures.why ∙ c.loop-posts.invariant.why;
       points = passes_further g.G.Gate.passes (length c.args.messages.now.items) (length c.loop-posts.messages.items) (length left) after.course.why end
           c.args.self.now.gate before.gate after.gate c.args.self.now.is_spent before.is_spent after.is_spent
@@ -94,3 +95,6 @@ loop-posts-smaller g c =
     nearer (λ old e r new. IsPostedBy g.L.Run.opening old.seat.count e r new.seat.count) (λ old new. new.seat.count ≡ old.seat.count) g.W.Words.draws c.args.conn c.args.now
     c.loop-posts.messages.items c.loop-posts.self c.loop-posts.words c.publish_some-end.result c.publish_some-end.new.messages.items c.publish_some-end.new.self c.publish_some-end.new.words
     some c.publish_some-end.ensures.posted
+
+pub returns-then-not-goes_on-clause-rotations : goal.returns-then-not-goes_on-clause-rotations
+returns-then-not-goes_on-clause-rotations g c = omega (arith, c.loop-posts.invariant.rotations, c.publish_some-end.ensures.rotations)

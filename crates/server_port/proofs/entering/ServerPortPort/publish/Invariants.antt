@@ -1,5 +1,5 @@
 -- what is left, once it is posted, completes the run, and so does what is noted of it and which points are passed
-use Rattle.std.proofs.Common.{◌≡◌, length}
+use Rattle.std.proofs.Common.{◌≡◌, ◌≤◌, ◌+◌, ◌*◌, length}
 use Rattle.shared_runs.proofs.Runs.{Completes}
 use Rattle.shared_hub.specs.Entering.{IsOfferedBy, IsPostedBy}
 use Rattle.server_port.proofs.Holds.{NotesOn, PassesOn}
@@ -11,6 +11,7 @@ invariant-loop-posts g l = record {
       l.initial.messages.items l.initial.self l.initial.words l.messages.items l.self l.words;
   noted : NotesOn (IsOfferedBy g.L.Run.opening) g.W.Words.draws l.posts.conn l.posts.now
       l.initial.messages.items l.initial.self.seat.count l.initial.words l.initial.self.noted l.messages.items l.self.seat.count l.words l.self.noted;
+  rotations : l.self.seat.rotations + 3 * length l.messages.items ≤ l.initial.self.seat.rotations + 3 * length l.initial.messages.items;
   why : l.self.course.why ≡ l.initial.self.course.why;
   points : PassesOn g.G.Gate.passes (length l.initial.messages.items) l.initial.self.gate l.initial.self.is_spent (length l.messages.items) l.self.gate l.self.is_spent;
 }

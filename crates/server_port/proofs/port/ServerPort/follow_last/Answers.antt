@@ -5,7 +5,7 @@ use Rattle.server_port.specs.Ends.{IsEnded}
 use Rattle.server_port.proofs.port.ServerPort.follow_last.Goals as goal
 
 pub returns-in-Ok-clause-end : goal.returns-in-Ok-clause-end
-returns-in-Ok-clause-end g c = inl (ap (λ (r : Came). told_end (Some r)) (sym c.in-Ok.is), ap (λ s. s.count) c.follow_message.ensures.seat)
+returns-in-Ok-clause-end g c = inl (ap (λ (r : Came). told_end (Some r)) (sym c.in-Ok.is), c.follow_message.ensures.count)
 
 pub returns-in-Ok-clause-why : goal.returns-in-Ok-clause-why
 returns-in-Ok-clause-why g c = ap (λ course. course.why) c.follow_message.ensures.course

@@ -3,11 +3,15 @@ use Rattle.std.proofs.Common.{◌≡◌, ◌++◌, List}
 use Rattle.std.specs.VecDeque.{deque_len}
 use Rattle.events.specs.declared.answer.Entry.{Entry}
 use Rattle.shared_runs.proofs.Runs.{Continues}
+use Rattle.shared_runs.specs.Runs.{StaysBelow}
 use Rattle.shared_desk.specs.Publishing.{IsPublished, inside}
 use Rattle.shared_desk.proofs.desk.Desk.step_run.Given as goal
 
 abbrev pub invariant-loop-message : goal.invariant-loop-message
 invariant-loop-message g l = record {
+  rotations : l.seat.rotations ≡ l.initial.seat.rotations;
+  most : l.context.hold.most ≡ l.initial.context.hold.most;
+  below : StaysBelow l.initial.context.hold.most l.initial.context.hold.answers.items l.context.hold.answers.items;
   freed : l.context.told.freed.items ≡ l.initial.context.told.freed.items;
   rest : l.context.told.rest ≡ l.initial.context.told.rest;
   run : (answers : List Entry) × (l.context.hold.answers.items ≡ l.initial.context.hold.answers.items ++ answers)

@@ -15,7 +15,7 @@ submitted : (opening before after : ℕ) (s t : State) (e : Event) (r : Result R
 submitted opening before after s t e (Ok r) entered routed counted number = ((routed.event, counted, number), (s, (t, entered, routed)))
 submitted opening before after s t e (Err (back, refusal)) entered routed counted number = (entered.0, counted, (s, (t, entered, routed)))
 
-pub returns : goal.returns
-returns g c =
+pub returns-clause-submitted : goal.returns-clause-submitted
+returns-clause-submitted g c =
     submitted g.L.Run.opening c.args.seat.now.count c.step_with_receipt.new.seat.count c.deref_mut.result.now.hub c.step_with_receipt.new.self.hub c.args.event c.step_with_receipt.result
     c.step_with_receipt.ensures.entered c.step_with_receipt.ensures.guarantee c.step_with_receipt.ensures.count c.step_with_receipt.ensures.number
