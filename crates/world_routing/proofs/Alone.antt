@@ -144,7 +144,7 @@ module _ (doc : PolicyDoc) (now : ℕ) (zs : List Session) (subs : List Subscrip
       (planned_unmapped conn z w found (Ok plan) by m word at.of.alone.allowed.unmapped
       (planned_told t conn m word z m (sym at.of.seated) by apart going None (none_answered by z.conn m at.of.alone.allowed.lists) None unreported unchanged tt all all_are plan is w of))
 
-  -- or it is refused for want of memory
+  -- without memory the publish is refused
   pub alone_comes : Apart subs → (result : Result Plan HubRefusal) → IfOk result (IsToldPlan zs by None None all) → IfErr result (λ r. r ≡ refusal.NoMemory) →
       (w : World) → tables_of w ≡ t → IsPlanned w (published_by w conn m word) result
   alone_comes apart (Ok plan) is none w of = alone_planned apart plan is w of

@@ -478,7 +478,7 @@ fn allowed_by(by: By, subject: &SubjectRef<'_>) -> Option<By>
     }
 }
 
-/// Returns what a publish comes to that is seen in its publisher's account alone, and is allowed by lists. These are its deliveries.
+/// Returns the plan of a publish that lists allow and that its own account alone sees. The receivers have its deliveries.
 #[inline(always)]
 fn plan_alone(
     sessions: &mut Sessions,
@@ -504,7 +504,7 @@ fn plan_alone(
     Ok(Plan::ToSome(by, met, deliveries))
 }
 
-/// Returns what a publish comes to, as `plan_publish` does, by the verdict on it. What it comes to for the next one is cached.
+/// Judges a publish, and returns its plan as `plan_publish` does. It caches what the next one needs.
 #[inline(always)]
 fn plan_judged<'p>(
     sessions: &mut Sessions,
@@ -592,10 +592,10 @@ fn plan_judged<'p>(
     Ok(plan)
 }
 
-/// Returns what a publish comes to: the verdict of the user's permissions and grants, and where they allow it, the deliveries
-/// to those that the message is for in each of its views, with what each will meet. Its account's mappings say under which subject it
-/// is seen, or that it isn't. Nothing changes but what is cached, and all memory is taken that handing over needs. `NoSession` where
-/// the connection has no session, `NoMemory` where memory could not be had.
+/// Returns the plan of a publish. The user's permissions and grants judge it. If they allow it, the plan has a delivery for each
+/// subscription that the message is for in each of its views, and what that delivery will meet. The account's mappings say under which
+/// subject the message is seen, or that it isn't. Nothing changes but caches. The plan has taken all memory that handing over needs.
+/// `NoSession` where the connection has no session, `NoMemory` where memory could not be had.
 #[inline(always)]
 pub fn plan_publish<'p>(
     sessions: &mut Sessions,
