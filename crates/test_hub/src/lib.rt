@@ -2,4 +2,6 @@
 #![tactic(auto)]
 
 #[cfg(test)]
+mod mapped;
+#[cfg(test)]
 mod tests;
