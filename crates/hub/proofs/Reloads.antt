@@ -31,7 +31,8 @@ use Rattle.hub.specs.Sound.{IsSound, has_same_sid, user_behind, account_of, may_
 use Rattle.hub.specs.Routes.{IsOfRow}
 use Rattle.hub.specs.InForce.{goes_on_for, goes_on, under, removal_for, IsInForce}
 use Rattle.hub.proofs.Finds.{find-map, find-passes, find-All, find-nothing, AllPairs-head, AllPairs-tail, AllPairs-map}
-use Rattle.hub.proofs.Naming.{name_of, are_named_once, unlike, named_again}
+use Rattle.policy_ready.proofs.Names.{name_of, are_named_once, unlike}
+use Rattle.hub.proofs.Naming.{named_again}
 use Rattle.world_sessions.proofs.Ascending.{AreApart, among-ascending, ascending-rises}
 use Rattle.hub.proofs.Grants.{kept_judged}
 use Rattle.hub.proofs.Routes.{routed-kept, routed-pruned}
