@@ -5,7 +5,7 @@ use Rattle.std.specs.List.{list_any}
 use Rattle.std.specs.Option.{option_map}
 use Rattle.std.proofs.lemmas.List.{get_or-map, length-map}
 use Rattle.std.proofs.lemmas.List.Elements.{All-head, All-tail, All-cons, All-nil}
-pub use Rattle.world_receivers.proofs.Tests.{find-passes}
+pub use Rattle.receiver_cache.proofs.Tests.{find-passes}
 pub use Rattle.world_routing.proofs.Remembered.{find-All}
 
 pub find-none : {X : Type 0} (t : X → Bool) (xs : List X) → find t xs ≡ None → All (λ x. t x ≡ false) xs

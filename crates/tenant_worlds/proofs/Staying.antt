@@ -37,11 +37,12 @@ use Rattle.world_sessions.specs.Renewal.{renewed, stays, user_again_of, with_use
 use Rattle.world_subscriptions.specs.Subscriptions.{has_all, stands, subscription_of}
 use Rattle.world_routing.specs.World.{World}
 use Rattle.world_routing.specs.Granting.{counted_on, ended_on, verdict_on}
-use Rattle.world_routing.specs.Routing.{View, admitted, deliveries, in_view, in_views, is_nil, next_subject, requested, requested_by, responses_on, route_for, routed, view_of, view_with}
+use Rattle.world_routing.specs.Routing.{View, admitted, deliveries, in_view, in_views, is_nil, requested, requested_by, routed, view_of, view_with}
+use Rattle.world_views.specs.Requests.{next_subject, responses_on, route_for}
 use Rattle.account_mappings.specs.Drawing.{mapped_by}
 use Rattle.account_mappings.specs.declared.drawing.Mapped.{Mapped}
 use Rattle.account_mappings.specs.declared.drawing.Mapped.TheVariants.{Same, To, Unmapped, TooLong}
-use Rattle.world_receivers.specs.Standing.{under_subject}
+use Rattle.receiver_cache.specs.Known.{under_subject}
 use Rattle.world_routing.specs.Publishing.{in_session, mapped_to, published, seen_as, seen_nowhere}
 use Rattle.world.specs.Transition.{closed, connected, in_new_session, moved, subscribed, taken, unsubscribed}
 use Rattle.tenant_worlds.specs.Tenants.{Tenants}

@@ -13,7 +13,7 @@ use Rattle.world_subscriptions.specs.Limit.{unended, limited}
 use Rattle.world_rows.specs.declared.subscription.Subscription.{Subscription}
 use Rattle.world_routing.specs.World.{World}
 use Rattle.world_routing.specs.Handing.{met, carried, of_deliveries}
-use Rattle.world_routing.specs.Changing.{changed_by, AreNoted}
+use Rattle.world_views.specs.Changing.{changed_by, AreNoted}
 use Rattle.service_routes.specs.Routes.{kept, pruned}
 use Rattle.service_rows.specs.Rows.{again}
 use Rattle.policy_doc.specs.declared.document.PolicyDoc.{PolicyDoc}

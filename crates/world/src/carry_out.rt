@@ -14,7 +14,8 @@ use service_routes::Routes;
 use service_rows::RowsAgain;
 use std::collections::VecDeque;
 use world_receivers::Receivers;
-use world_routing::{Deliveries, Routing, carry_publish, change_routes};
+use world_routing::{Deliveries, Routing, carry_publish};
+use world_views::change_routes;
 
 impl World {
     ghost use Rattle.std.specs.Prelude.{◌≡◌, ◌<◌, ◌≤◌, ◌+◌, OnOk, OnErr, All};

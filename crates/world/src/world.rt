@@ -41,7 +41,7 @@ impl Model for World {
     ghost use Rattle.std.specs.Prelude.{◌≤◌};
     ghost use Rattle.imports.specs.Views.{rows_of};
     ghost use Rattle.service_routes.specs.Routes.{pruned};
-    ghost use Rattle.world_receivers.specs.Cached.{IsCurrent};
+    ghost use Rattle.receiver_cache.specs.Cached.{IsCurrent};
     ghost use Rattle.world_routing.specs.Remembered.{AreRemembered};
     ghost use Rattle.world_routing.specs.World as worlds;
 

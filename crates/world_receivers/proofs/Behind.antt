@@ -1,13 +1,8 @@
 -- Views that are known say whom a message is for behind all deliveries of the views before them.
-use Rattle.std.proofs.Common.{◌≡◌, ◌∙◌, ◌&&◌, ◌||◌, ◌++◌, ℕ, Bool, true, false, cond, not, List, [], ◌∷◌, Option, Some, None, map, ap, sym, refl, subst}
-use Rattle.std.specs.Prelude.{is_some, IfSome}
-use Rattle.std.specs.Global.{Vec}
+use Rattle.std.proofs.Common.{◌≡◌, ◌∙◌, ◌&&◌, ◌||◌, ◌++◌, ℕ, Bool, true, false, cond, not, List, [], ◌∷◌, Option, Some, None, map, ap, sym, refl}
+use Rattle.std.specs.Prelude.{is_some}
 use Rattle.std.specs.List.{list_any}
 use Rattle.subjects.specs.Subject.{Token}
-use Rattle.imports.specs.declared.rows.ImportRow.{ImportRow}
-use Rattle.imports.specs.declared.view.ViewItem.{ViewItem}
-use Rattle.imports.specs.declared.view.ViewItem.TheVariants.{At, TooLong}
-use Rattle.imports.specs.declared.view.Way.TheVariants.{Own, Stream, Service, Response}
 use Rattle.events.specs.Messages.{Message}
 use Rattle.events.specs.declared.answer.Addressed.{Addressed}
 use Rattle.world_deliveries.specs.Sessions.{session_of}
@@ -17,40 +12,14 @@ use Rattle.world_groups.specs.Served.{served}
 use Rattle.world_subscriptions.specs.Addressing.{addressed_to}
 use Rattle.world_subscriptions.specs.Subscriptions.{has_subject}
 use Rattle.world_rows.specs.declared.subscription.Subscription.{Subscription}
-use Rattle.world_receivers.specs.Open.{is_open, open_among}
-use Rattle.world_receivers.specs.Receivers.{addressed_at}
-use Rattle.world_receivers.specs.Standing.{times_entering, stands_behind, standing_among, under_subject, addressed_behind_in}
-use Rattle.world_receivers.specs.Known.{picked, has_limit, IsSeen, AreSeen, others_in, addressed_in}
-use Rattle.world_receivers.specs.Cached.{KnowsOthers}
-use Rattle.world_receivers.specs.declared.known.KnownView.{KnownView}
+use Rattle.receiver_cache.specs.Open.{is_open, open_among}
+use Rattle.receiver_cache.specs.Receivers.{addressed_at}
+use Rattle.world_receivers.specs.Standing.{times_entering, stands_behind, standing_among, addressed_behind_in}
+use Rattle.receiver_cache.specs.Known.{under_subject}
+use Rattle.receiver_cache.specs.Known.{picked, has_limit, IsSeen, addressed_in}
+use Rattle.receiver_cache.specs.declared.known.KnownView.{KnownView}
 use Rattle.world_receivers.proofs.Left.{never_ends}
-use Rattle.world_receivers.proofs.Told.{addressed_each}
-
--- one known view more
-pub seen_more : (zs : List Session) (subs : List Subscription) (z : Session) (known : List KnownView) (vs : List ViewItem) (k : KnownView) (v : ViewItem) →
-    AreSeen zs subs z known vs → AreSeen zs subs z (k ∷ []) (v ∷ []) → AreSeen zs subs z (known ++ k ∷ []) (vs ++ v ∷ [])
-seen_more zs subs z [] [] k v all one = one
-seen_more zs subs z [] (u ∷ vs) k v all one = absurd all
-seen_more zs subs z (other ∷ known) [] k v all one = absurd all
-seen_more zs subs z (other ∷ known) (TooLong row ∷ vs) k v all one = absurd all
-seen_more zs subs z (other ∷ known) (At account s Own ∷ vs) k v all one = absurd all
-seen_more zs subs z (other ∷ known) (At account s (Service row) ∷ vs) k v all one = absurd all
-seen_more zs subs z (other ∷ known) (At account s (Response row) ∷ vs) k v all one = absurd all
-seen_more zs subs z (other ∷ known) (At account s (Stream row) ∷ vs) k v all one = (all.0, seen_more zs subs z known vs k v all.1 one)
-
--- lists that are equal are so behind their first elements
-pub tail_of : {v u : ViewItem} {vs us : List ViewItem} → v ∷ vs ≡ u ∷ us → vs ≡ us
-tail_of {v} {u} {vs} {us} e = ap (λ (all : List ViewItem). rest all) e
-  where
-    rest : List ViewItem → List ViewItem
-    rest [] = []
-    rest (x ∷ xs) = xs
-
--- views that are known are the others of a publisher's message, where these are its others
-pub known_if : (zs : List Session) (subs : List Subscription) (z : Session) (rows : List ImportRow) (s : List Token) (o : Option (Vec KnownView)) (vs : List ViewItem) →
-    vs ≡ others_in rows z.user.account s → IfSome o (λ (known : Vec KnownView). AreSeen zs subs z known.items vs) → KnowsOthers o rows zs subs z s
-known_if zs subs z rows s None vs same is = tt
-known_if zs subs z rows s (Some known) vs same is = subst (λ (us : List ViewItem). AreSeen zs subs z known.items us) same is
+use Rattle.receiver_cache.proofs.Told.{addressed_each}
 
 module _ (zs : List Session) (before : List Addressed) (z : Session) (account : List ℕ) (s : List Token) where
   no_most : (o : Option ℕ) → is_some o ≡ false → o ≡ None

@@ -3,6 +3,7 @@ use Rattle.std.proofs.Common.{◌≡◌, ◌∙◌, ◌==◌, ◌&&◌, ◌+◌,
 use Rattle.std.proofs.lemmas.Bool.{eqb-true, eq-eqb, ltb-true, ltb-false}
 use Rattle.std.proofs.lemmas.Bool.Decides.{nat_tests}
 use Rattle.std.proofs.lemmas.List.{map-id}
+use Rattle.subjects.specs.Subject.{Token}
 use Rattle.events.specs.Messages.{Message}
 use Rattle.events.specs.declared.answer.Addressed.{Addressed}
 use Rattle.events.specs.declared.answer.Item.{Item}
@@ -16,13 +17,16 @@ use Rattle.world_subscriptions.specs.Changes.{only, bumped}
 use Rattle.world_subscriptions.specs.Counting.{in_turn, entered_ids}
 use Rattle.world_subscriptions.specs.Kept.{Apart}
 use Rattle.world_subscriptions.specs.Limit.{is_reached, has_ended, unended}
+use Rattle.world_subscriptions.specs.Subscriptions.{has_subject}
 use Rattle.world_subscriptions.proofs.Apart.{all_names}
 use Rattle.world_subscriptions.proofs.Counting.{NamesOnly, AllNameOnly, bumped-ended}
 use Rattle.world_subscriptions.proofs.Ends.{bumped-id}
 use Rattle.world_rows.specs.declared.subscription.Subscription.{Subscription}
 use Rattle.world_groups.specs.Served.{served}
-use Rattle.world_receivers.specs.Standing.{times_entering, counted_more, stands_behind}
-use Rattle.world_receivers.proofs.Stays.{made, bumped-made, bumped-most, served-map}
+use Rattle.receiver_cache.specs.Open.{is_open}
+use Rattle.receiver_cache.specs.Receivers.{addressed_among}
+use Rattle.world_receivers.specs.Standing.{is_nil, times_entering, counted_more, stands_behind, standing_among, addressed_behind_in}
+use Rattle.receiver_cache.proofs.Stays.{made, bumped-made, bumped-most, served-map}
 
 -- ---- counted in turn
 
@@ -284,3 +288,33 @@ addressed_left now zs all subs p same going agree m word =
     let ids : List ℕ = entered_ids all (delivered now all zs).1 in
     ap (λ (left : List Subscription). map (addressed_to m) (served word left)) (passing_left now zs all subs p same going agree)
     ∙ addressed_counted ids m word (filter (λ s. p s && stands_behind zs all s) subs)
+
+-- whether a subscription is admitted goes by nothing that is counted
+pub admitted_made : (zs : List Session) (publisher : Session) (account : List ℕ) (t : List Token) (x y : Subscription) → made x ≡ made y →
+    (has_subject account t x && is_open zs publisher t x) ≡ (has_subject account t y && is_open zs publisher t y)
+admitted_made zs publisher account t x y same = ap (λ (s : Subscription). has_subject account t s && is_open zs publisher t s) same
+
+and_assoc : (a b c : Bool) → ((a && b) && c) ≡ (a && (b && c))
+and_assoc true b c = refl
+and_assoc false b c = refl
+
+pub standing_same : (zs : List Session) (publisher : Session) (account : List ℕ) (t : List Token) (before : List Addressed) (subs : List Subscription) →
+    filter (λ s. (has_subject account t s && is_open zs publisher t s) && stands_behind zs before s) subs ≡ standing_among zs subs before publisher account t
+standing_same zs publisher account t before [] = refl
+standing_same zs publisher account t before (s ∷ subs) =
+    ap (λ b. cond b (s ∷ filter (λ s. (has_subject account t s && is_open zs publisher t s) && stands_behind zs before s) subs) (filter (λ s. (has_subject account t s && is_open zs publisher t s) && stands_behind zs before s) subs))
+    (and_assoc (has_subject account t s) (is_open zs publisher t s) (stands_behind zs before s))
+    ∙ ap (λ more. cond (has_subject account t s && (is_open zs publisher t s && stands_behind zs before s)) (s ∷ more) more) (standing_same zs publisher account t before subs)
+
+-- the own view is the first
+pub own_first : (zs : List Session) (subs : List Subscription) (publisher : Session) (m : Message) (word : ℕ) → unended subs ≡ subs →
+    addressed_among zs subs publisher m word ≡ addressed_behind_in zs subs [] publisher m word publisher.user.account
+own_first zs subs publisher m word going =
+    let account : List ℕ = publisher.user.account in
+    addressed_left 0 zs [] subs (λ s. has_subject account m.subject s && is_open zs publisher m.subject s) (admitted_made zs publisher account m.subject) going (none_disagree subs) m word
+    ∙ ap (λ (ss : List Subscription). map (addressed_to m) (served word ss)) (standing_same zs publisher account m.subject [] subs)
+
+-- there is none of those that are changed where there is none
+pub nil_map : {X Y : Type 0} (f : X → Y) (xs : List X) → is_nil (map f xs) ≡ is_nil xs
+nil_map f [] = refl
+nil_map f (x ∷ xs) = refl

@@ -1,6 +1,2 @@
 pub mod Behind
-pub mod Draws
 pub mod Left
-pub mod Stays
-pub mod Tests
-pub mod Told

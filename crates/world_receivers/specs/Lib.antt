@@ -1,6 +1,1 @@
-pub mod Open
-pub mod Receivers
 pub mod Standing
-pub mod Known
-pub mod Drawn
-pub mod Cached

@@ -13,7 +13,7 @@ use Rattle.world_subscriptions.specs.Limit.{has_ended}
 use Rattle.world_subscriptions.specs.Subscriptions.{has_subject}
 use Rattle.world_rows.specs.declared.subscription.Subscription.{Subscription}
 use Rattle.world_groups.specs.Served.{served}
-use Rattle.world_receivers.specs.Open.{is_open}
+use Rattle.receiver_cache.specs.Open.{is_open}
 
 -- how often a message enters for an id of a connection with so much room: of the deliveries for the connection the first ones
 -- enter, as many as there is room for
@@ -36,10 +36,6 @@ stands_behind zs before sub = not (has_ended (counted_more (times_entering sub.c
 abbrev pub standing_among : List Session → List Subscription → List Addressed → Session → List ℕ → List Token → List Subscription
 standing_among zs subs before publisher account s =
     filter (λ sub. has_subject account s sub && (is_open zs publisher s sub && stands_behind zs before sub)) subs
-
--- the message under another subject; its reply, header block and payload stay
-abbrev pub under_subject : List Token → Message → Message
-under_subject s m = record m { subject = s }
 
 -- the deliveries of a message, as it is seen in an account, to those that it is for there, behind others of the same message
 abbrev pub addressed_behind_in : List Session → List Subscription → List Addressed → Session → Message → ℕ → List ℕ → List Addressed

@@ -1,29 +1,14 @@
 //! A message addressed under the subject of a view.
-ghost use Rattle.std.specs.Prelude.{◌≡◌, ◌++◌, IfOk, OnOk, map};
+ghost use Rattle.std.specs.Prelude.{◌≡◌, ◌++◌, OnOk, map};
 ghost use Rattle.events.specs.Sendings.{named};
 ghost use Rattle.world_subscriptions.specs.Addressing.{addressed_to};
 
 use crate::Seen;
-use crate::receiver::Receiver;
-use base::{Copying, NoMemory, Shared};
-use events::{Addressed, Message, Names, Said};
+use base::{NoMemory, Shared};
+use events::{Addressed, Message, Names};
+use receiver_cache::{Receiver, names_of};
 use std::alloc::Global;
-use subjects::Subject;
 use world_subscriptions::SharedSubscription;
-
-/// Returns the names of a view: its subject, and what is said there as the reply.
-pub(crate) fn names_of(
-    alloc: Global,
-    subject: &Subject,
-    reply: Said,
-) -> Result<Shared<Names>, NoMemory>
-    ensures { IfOk result (λ names. names ≡ record { subject = subject.now; reply = reply }) }
-{
-    let subject = subject.copy(alloc)?;
-    let names = Names { subject, reply };
-    let shared = Shared::new(alloc, names)?;
-    Ok(shared)
-}
 
 /// Addresses a message to subscriptions, in turn, under the subject of a view and with the reply that is said there, and adds these
 /// deliveries, which share both.

@@ -8,22 +8,21 @@ ghost use Rattle.permissions.specs.declared.verdict.By.{By as ByModel};
 ghost use Rattle.world_deliveries.specs.Sessions.{session_of};
 ghost use Rattle.world_deliveries.specs.declared.session.Session.{Session as SessionModel};
 ghost use Rattle.world_rows.specs.declared.subscription.Subscription.{Subscription};
-ghost use Rattle.world_receivers.specs.Cached.{IsAllowed, IsAloneAt, IsAloneOf, IsCurrent, KnowsOthers, TellsOthers, IsEmpty};
-ghost use Rattle.world_receivers.specs.Drawn.{IsSent, IsSentOn, KnowsDrawn, subject_of};
-ghost use Rattle.world_receivers.specs.Receivers.{addressed_among};
+ghost use Rattle.receiver_cache.specs.Cached.{IsAllowed, IsAloneAt, IsAloneOf, IsCurrent, KnowsOthers, TellsOthers, IsEmpty};
+ghost use Rattle.receiver_cache.specs.Drawn.{IsSent, IsSentOn, KnowsDrawn, subject_of};
+ghost use Rattle.receiver_cache.specs.Receivers.{addressed_among};
 ghost use Rattle.world_receivers.specs.Standing.{addressed_behind_in, is_for_nobody, is_nil};
 
-use crate::cache::ReceiverCache;
-use crate::drawn::{Drawn, DrawnCache, draw_of};
-use crate::known::{Among, KnownView, known_at, known_views};
 use crate::naming::address_under;
-use crate::open::Open;
 use crate::standing::Standing;
 use base::{NoMemory, Shared};
 use bytes::Bytes;
 use events::{Addressed, Message, Said};
 use imports::Rows;
 use permissions::By;
+use receiver_cache::{
+    Among, Drawn, DrawnCache, KnownView, Open, ReceiverCache, draw_of, known_at, known_views,
+};
 use std::alloc::Global;
 use std::hash::RandomState;
 use std::mem;
@@ -258,7 +257,7 @@ impl Receivers {
     ) -> Result<(), NoMemory>
         requires publisher { session_of sessions.now sending.publisher.now.conn ≡ Some sending.publisher.now }
         requires cached { IsCurrent rows.now sessions.now subscriptions.old self.old.cache }
-        requires allowed { IfSome allowed (IsAllowed sending.publisher.now sending.message.now.subject) }
+        requires allowed { IfSome allowed (IsAllowed sending.publisher.now.user sending.message.now.subject) }
         ensures all { OnOk result (self.new.deliveries.items ≡ addressed_among sessions.now subscriptions.old sending.entry.publisher.now sending.entry.message.now sending.entry.word) }
         ensures others { OnOk result (KnowsOthers self.new.cache.others rows.now sessions.now subscriptions.old sending.entry.publisher.now sending.entry.message.now.subject) }
         ensures same { subscriptions.new ≡ subscriptions.old }
@@ -281,7 +280,12 @@ impl Receivers {
         }
         let account = publisher.user.account.as_slice();
         subscriptions.remember(account, &subject);
-        self.fill_cache(sessions, subscriptions, rows, publisher, &subject, allowed);
+        let among = Among {
+            sessions,
+            subscriptions,
+            publisher,
+        };
+        self.fill_cache(among, rows, &subject, allowed);
         let open = Open {
             sessions,
             publisher,
@@ -454,19 +458,22 @@ impl Receivers {
     /// allow them.
     fn fill_cache(
         &mut self,
-        sessions: &Sessions,
-        subscriptions: &Subscriptions,
+        among: Among<'_>,
         rows: &Rows,
-        publisher: &Session,
         subject: &SubjectRef<'_>,
         allowed: Option<By>,
     )
-        requires publisher { session_of sessions.now publisher.now.conn ≡ Some publisher.now }
-        requires cached { IsCurrent rows.now sessions.now subscriptions.now self.old.cache }
-        requires allowed { IfSome allowed (IsAllowed publisher.now subject.now) }
-        ensures cached { IsCurrent rows.now sessions.now subscriptions.now self.new.cache }
-        ensures others { KnowsOthers self.new.cache.others rows.now sessions.now subscriptions.now publisher.now subject.now }
+        requires publisher { session_of among.sessions.now among.publisher.now.conn ≡ Some among.publisher.now }
+        requires cached { IsCurrent rows.now among.sessions.now among.subscriptions.now self.old.cache }
+        requires allowed { IfSome allowed (IsAllowed among.publisher.now.user subject.now) }
+        ensures cached { IsCurrent rows.now among.entry.sessions.now among.entry.subscriptions.now self.new.cache }
+        ensures others { KnowsOthers self.new.cache.others rows.now among.entry.sessions.now among.entry.subscriptions.now among.entry.publisher.now subject.now }
     {
+        let Among {
+            sessions,
+            subscriptions,
+            publisher,
+        } = among;
         let _ = subject.tokens();
         if !self.cache.select(publisher.conn, subject.bytes()) {
             return;
@@ -485,11 +492,6 @@ impl Receivers {
             &open,
             &mut self.ids,
         ) {
-            let among = Among {
-                sessions,
-                subscriptions,
-                publisher,
-            };
             let others = others_of(self.alloc, among, rows, subject, &mut self.ids);
             self.cache.fill(found.as_slice(), others, allowed);
         }

@@ -22,25 +22,26 @@ use Rattle.world_deliveries.specs.declared.session.Session.{Session}
 use Rattle.world_subscriptions.specs.Limit.{unended}
 use Rattle.world_subscriptions.specs.Kept.{Apart}
 use Rattle.world_rows.specs.declared.subscription.Subscription.{Subscription}
-use Rattle.world_receivers.specs.Cached.{IsAllowed, IsAloneAt, IsAloneOf, IsOfLists}
-use Rattle.world_receivers.specs.Known.{others_in, others_with}
+use Rattle.receiver_cache.specs.Cached.{IsAllowed, IsAloneAt, IsAloneOf, IsOfLists}
+use Rattle.receiver_cache.specs.Known.{others_in, others_with}
 use Rattle.world_receivers.specs.Standing.{addressed_behind_in}
 use Rattle.world_routing.specs.World.{World}
-use Rattle.world_routing.specs.Changing.{opened_each}
+use Rattle.world_views.specs.Changing.{opened_each}
 use Rattle.world_routing.specs.Granting.{or_granted, verdict_on}
 use Rattle.world_routing.specs.Handing.{answered_by}
-use Rattle.world_routing.specs.Routing.{responses_on}
-use Rattle.world_routing.specs.Viewing.{Tables, Publication, Addressing, addressing, addressed_after, publication, reports_after, reports_in, routes_after, tables_at}
+use Rattle.world_views.specs.Requests.{responses_on}
+use Rattle.world_views.specs.Viewing.{Tables, Publication, Addressing, addressing, addressed_after, publication, reports_after, reports_in, routes_after, tables_at}
 use Rattle.world_routing.specs.Publishing.{IsPlanned, IsRefusal, IsToldPlan, in_session, mapped_to, published_by, tables_of}
 use Rattle.events.specs.declared.refusal.HubRefusal.{HubRefusal}
 use Rattle.events.specs.declared.refusal.HubRefusal.TheVariants as refusal
 use Rattle.account_mappings.specs.Drawing.{mapped_by}
 use Rattle.imports.specs.declared.rows.ImportRow.{ImportRow}
 use Rattle.world_routing.specs.declared.planning.Plan.{Plan}
-use Rattle.world_routing.proofs.InTurn.{spent_elsewhere}
+use Rattle.world_views.proofs.InTurn.{spent_elsewhere}
 use Rattle.world_routing.proofs.Publishing.{planned_publish, planned_told, planned_unmapped, publish_reason}
-use Rattle.world_routing.proofs.Seeing.{no_response_elsewhere}
-use Rattle.world_routing.proofs.Together.{own_first, unsaid_after}
+use Rattle.world_views.proofs.Seeing.{no_response_elsewhere}
+use Rattle.world_views.proofs.Addressed.{unsaid_after}
+use Rattle.world_receivers.proofs.Left.{own_first}
 
 abbrev by_in : Verdict → By
 by_in (Allowed by) = by
@@ -60,7 +61,7 @@ by_lists false (NoQueueAllow i) by of e = absurd (cc)
 
 pub lists_allow : (allowed : Option By) (by : By) (now : ℕ) (z : Session) (s t : List Token) →
     IfSome allowed (λ (lists : By). (by ≡ lists) × IsOfLists lists × (is_route t ≡ false)) → t ≡ s → Allowed by ≡ verdict_on now z s →
-    IsJustifiedPublish s z.user.rules.publish (publish_verdict z.user.rules s) → z.user.mappings ≡ [] → IfSome allowed (IsAllowed z s)
+    IsJustifiedPublish s z.user.rules.publish (publish_verdict z.user.rules s) → z.user.mappings ≡ [] → IfSome allowed (IsAllowed z.user s)
 lists_allow None by now z s t is same verdict justified unmapped = tt
 lists_allow (Some lists) by now z s t is same verdict justified unmapped =
     let which : publish_verdict z.user.rules s ≡ Allowed lists = by_lists (is_granted now s z) (publish_verdict z.user.rules s) lists is.1 (ap Allowed (sym is.0) ∙ verdict) in

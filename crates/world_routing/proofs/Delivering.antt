@@ -15,7 +15,7 @@ use Rattle.world_subscriptions.specs.Counting.{Tells, TellEach, entered_ids, in_
 use Rattle.world_subscriptions.specs.Kept.{Apart}
 use Rattle.world_rows.specs.declared.subscription.Subscription.{Subscription}
 use Rattle.world_subscriptions.proofs.Apart.{counted_for, apart_changed, bumped-leaves}
-use Rattle.world_receivers.proofs.Stays.{AreSeated, seats_with, seats_after, seats_delivered}
+use Rattle.receiver_cache.proofs.Stays.{AreSeated, seats_with, seats_after, seats_delivered}
 use Rattle.world_routing.specs.Handing.{handed_over}
 use Rattle.world_routing.specs.declared.answered.Answered.{Answered}
 

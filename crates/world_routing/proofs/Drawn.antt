@@ -13,20 +13,21 @@ use Rattle.service_exporter.specs.Routes.{Exporter}
 use Rattle.service_routes.specs.Routes.{Name, spent}
 use Rattle.world_deliveries.specs.declared.session.Session.{Session}
 use Rattle.world_rows.specs.declared.subscription.Subscription.{Subscription}
-use Rattle.world_receivers.specs.Drawn.{IsSentOn, subject_of}
-use Rattle.world_receivers.specs.Known.{addressed_in_each, others_in, others_with}
-use Rattle.world_receivers.specs.Standing.{addressed_behind_in, under_subject}
+use Rattle.receiver_cache.specs.Drawn.{IsSentOn, subject_of}
+use Rattle.receiver_cache.specs.Known.{addressed_in_each, others_in, others_with}
+use Rattle.world_receivers.specs.Standing.{addressed_behind_in}
+use Rattle.receiver_cache.specs.Known.{under_subject}
 use Rattle.world_receivers.proofs.Behind.{view_told}
-use Rattle.world_routing.specs.Changing.{opened_each}
+use Rattle.world_views.specs.Changing.{opened_each}
 use Rattle.world_routing.specs.Publishing.{IsElsewhere}
-use Rattle.world_routing.specs.Routing.{responses_on}
-use Rattle.world_routing.specs.Viewing.{Tables, Publication, Addressing, addressing, addressed_after, publication, reports_after, tables_at}
+use Rattle.world_views.specs.Requests.{responses_on}
+use Rattle.world_views.specs.Viewing.{Tables, Publication, Addressing, addressing, addressed_after, publication, reports_after, tables_at}
 use Rattle.world_routing.specs.declared.planning.Elsewhere.{Elsewhere}
 use Rattle.world_routing.specs.declared.planning.Elsewhere.TheVariants.{Under, Nowhere}
-use Rattle.world_routing.proofs.InTurn.{spent_elsewhere}
-use Rattle.world_routing.proofs.Seeing.{no_response_elsewhere}
-use Rattle.world_routing.proofs.Together.{known_after, known_reports}
-use Rattle.world_routing.proofs.Under.{same_addressed}
+use Rattle.world_views.proofs.InTurn.{spent_elsewhere}
+use Rattle.world_views.proofs.Seeing.{no_response_elsewhere}
+use Rattle.world_views.proofs.Addressed.{known_after, known_reports}
+use Rattle.world_views.proofs.Under.{same_addressed}
 
 module _ (doc : PolicyDoc) (now : ℕ) (zs : List Session) (subs : List Subscription) (routes : List (Name × Exporter)) (z : Session) (m : Message) (word : ℕ) (all : List Addressed)
     (sent : IsSentOn (rows_of doc) zs subs z m word all) where

@@ -1,11 +1,6 @@
-pub mod Begins
-pub mod InTurn
 pub mod Delivering
 pub mod Views
 pub mod Together
-pub mod Seeing
-pub mod Requests
-pub mod Under
 pub mod Drawn
 pub mod Publishing
 pub mod Alone

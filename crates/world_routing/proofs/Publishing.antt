@@ -28,17 +28,18 @@ use Rattle.world_subscriptions.specs.Counting.{entered_ids, in_turn}
 use Rattle.world_subscriptions.specs.Kept.{Apart}
 use Rattle.world_rows.specs.declared.subscription.Subscription.{Subscription}
 use Rattle.world_groups.specs.Served.{served}
-use Rattle.world_receivers.specs.Receivers.{addressed_among}
+use Rattle.receiver_cache.specs.Receivers.{addressed_among}
 use Rattle.world_routing.specs.World.{World}
 use Rattle.world_routing.specs.Granting.{verdict_on, counted_on, ended_on}
 use Rattle.service_exporter.specs.Routes.{Exporter}
 use Rattle.service_routes.specs.Routes.{Name, spent}
-use Rattle.world_routing.specs.Changing.{changed_by, opened_each, AreNoted}
-use Rattle.world_routing.specs.Routing.{in_views, responses_on}
+use Rattle.world_views.specs.Changing.{changed_by, opened_each, AreNoted}
+use Rattle.world_routing.specs.Routing.{in_views}
+use Rattle.world_views.specs.Requests.{responses_on}
 use Rattle.world_routing.specs.Handing.{met, is_of_delivery, of_deliveries, answered_by, handed_over, carried}
-use Rattle.world_routing.specs.Viewing.{Tables, Publication, publication, Addressing, addressing, addressed_after, reports_after, with_reports, reports_in, routes_after, AreNotedIn}
-use Rattle.world_routing.specs.declared.across.Told.{Told}
-use Rattle.world_routing.specs.declared.viewing.Report.{Report}
+use Rattle.world_views.specs.Viewing.{Tables, Publication, publication, Addressing, addressing, addressed_after, reports_after, with_reports, reports_in, routes_after, AreNotedIn}
+use Rattle.world_views.specs.declared.across.Told.{Told}
+use Rattle.world_views.specs.declared.viewing.Report.{Report}
 use Rattle.world_routing.proofs.Together.{so_far, items_after, views_are, told_are, plain_is, entered_of}
 use Rattle.world_receivers.proofs.Left.{AllAgree, none_disagree}
 use Rattle.world_routing.specs.Publishing.{seen_as, seen_nowhere, mapped_to, diverted_to, published, in_session, published_by, tables_of, IsElsewhere, IsPlain, IsPlanOf, IsPlanned, IsToldPlan}
@@ -243,13 +244,13 @@ module _ (t : Tables) (conn : ℕ) (m : Message) (word : ℕ) (z : Session) (ask
   changed_to = spent z.user.account m.subject (opened_each after.openings t.routes)
 
   -- its outcome and the world after it
-  abbrev IsAllowed : World → Option Answered → List Addressed → List Item → Type 0
-  IsAllowed w answered all items =
+  abbrev IsCarriedOut : World → Option Answered → List Addressed → List Item → Type 0
+  IsCarriedOut w answered all items =
       (come_of w ≡ Ok (Published by items, record (carried w answered all items) { routes = changed_to })) × (of_deliveries items ≡ met w all)
 
   allowed_of : (w : World) → tables_of w ≡ t → (answered : Option Answered) (all : List Addressed) (reports : List Report) (items : List Item) → answered ≡ answered_by by z.conn asked →
       all ≡ map (noted_for t.sessions) after.deliveries → reports ≡ reports_after t p (addressing [] []) vs → items ≡ with_reports 0 (met w all) reports →
-      IsAllowed w answered all items
+      IsCarriedOut w answered all items
   allowed_of w of answered all reports items noted addressed rows told = subst P of own is apart going addressed rows
     where
       in_tables : Tables → List ViewItem

@@ -27,30 +27,32 @@ use Rattle.world_subscriptions.specs.Limit.{unended}
 use Rattle.world_subscriptions.specs.Subscriptions.{has_subject}
 use Rattle.world_rows.specs.declared.subscription.Subscription.{Subscription}
 use Rattle.world_groups.specs.Served.{served, is_served}
-use Rattle.world_receivers.specs.Open.{is_open}
-use Rattle.world_receivers.specs.Standing.{under_subject, stands_behind, standing_among, addressed_behind_in, is_for_nobody, is_nil}
-use Rattle.world_receivers.specs.Receivers.{addressed_among}
-use Rattle.world_receivers.specs.Known.{IsSeen, AreSeen, addressed_in, addressed_in_each, others_in}
-use Rattle.world_receivers.specs.Cached.{KnowsOthers, TellsOthers}
-use Rattle.world_receivers.specs.declared.known.KnownView.{KnownView}
+use Rattle.receiver_cache.specs.Open.{is_open}
+use Rattle.world_receivers.specs.Standing.{stands_behind, standing_among, addressed_behind_in, is_for_nobody, is_nil}
+use Rattle.receiver_cache.specs.Known.{under_subject}
+use Rattle.receiver_cache.specs.Receivers.{addressed_among}
+use Rattle.receiver_cache.specs.Known.{IsSeen, AreSeen, addressed_in, addressed_in_each, others_in}
+use Rattle.receiver_cache.specs.Cached.{KnowsOthers, TellsOthers}
+use Rattle.receiver_cache.specs.declared.known.KnownView.{KnownView}
 use Rattle.world_receivers.proofs.Behind.{view_told}
-use Rattle.world_receivers.proofs.Left.{AllAgree, none_disagree, all_agree_append, addressed_agree, addressed_left, passing_left}
-use Rattle.world_receivers.proofs.Stays.{made}
-use Rattle.world_receivers.proofs.Tests.{both, nil_map}
+use Rattle.world_receivers.proofs.Left.{AllAgree, none_disagree, admitted_made, all_agree_append, addressed_agree, addressed_left, passing_left, standing_same}
+use Rattle.receiver_cache.proofs.Stays.{made}
+use Rattle.receiver_cache.proofs.Tests.{both}
+use Rattle.world_receivers.proofs.Left.{nil_map}
 use Rattle.world_routing.specs.World.{World}
 use Rattle.service_exporter.specs.Limit.{is_full}
 use Rattle.service_exporter.specs.Routes.{Exporter}
 use Rattle.service_routes.specs.Routes.{Name, exporter_of}
-use Rattle.world_routing.specs.Changing.{opened_each}
-use Rattle.world_routing.specs.declared.changing.Opening.{Opening}
+use Rattle.world_views.specs.Changing.{opened_each}
+use Rattle.world_views.specs.declared.changing.Opening.{Opening}
 use Rattle.world_routing.specs.Routing.{View, view_of, is_admitted, admitted, deliveries, routed, requested_by, requested, in_view, in_views}
 use Rattle.world_routing.specs.Handing.{met, left_by, of_deliveries}
-use Rattle.world_routing.specs.Viewing.{Tables, Publication, Addressing, addressing, Effect, seen, reports, nothing, seen_with, requested_if, request_in, effect_of, with_effect, addressed_after, report, reports_by, reports_after, item_of, with_reports}
-use Rattle.world_routing.specs.declared.viewing.Cause.{Cause}
-use Rattle.world_routing.specs.declared.viewing.Cause.TheVariants as cause
-use Rattle.world_routing.specs.declared.viewing.Report.{Report}
+use Rattle.world_views.specs.Viewing.{Tables, Publication, Addressing, addressing, Effect, seen, reports, nothing, seen_with, requested_if, request_in, effect_of, with_effect, addressed_after, report, reports_by, reports_after, item_of, with_reports}
+use Rattle.world_views.specs.declared.viewing.Cause.{Cause}
+use Rattle.world_views.specs.declared.viewing.Cause.TheVariants as cause
+use Rattle.world_views.specs.declared.viewing.Report.{Report}
 use Rattle.world_routing.proofs.Delivering.{entered_noted, delivered_append}
-use Rattle.world_routing.proofs.InTurn.{opened_append}
+use Rattle.world_views.proofs.InTurn.{opened_append}
 use Rattle.world_routing.proofs.Views.{sent, met_behind, view_behind}
 
 -- ---- deliveries
@@ -63,23 +65,6 @@ planned_noted zs (a ∷ all) rooms = ap (λ (more : List Item). cond (nat_lt 0 (
 met_noted : (now : ℕ) (zs ys : List Session) (all : List Addressed) → (delivered now (map (noted_for zs) all) ys).1 ≡ (delivered now all ys).1
 met_noted now zs ys all =
     sym (planned-delivered now (map (noted_for zs) all) ys) ∙ planned_noted zs all (rooms_of ys) ∙ planned-delivered now all ys
-
--- whether a subscription is admitted goes by nothing that is counted
-admitted_made : (zs : List Session) (publisher : Session) (account : List ℕ) (t : List Token) (x y : Subscription) → made x ≡ made y →
-    (has_subject account t x && is_open zs publisher t x) ≡ (has_subject account t y && is_open zs publisher t y)
-admitted_made zs publisher account t x y same = ap (λ (s : Subscription). has_subject account t s && is_open zs publisher t s) same
-
-and_assoc : (a b c : Bool) → ((a && b) && c) ≡ (a && (b && c))
-and_assoc true b c = refl
-and_assoc false b c = refl
-
-standing_same : (zs : List Session) (publisher : Session) (account : List ℕ) (t : List Token) (before : List Addressed) (subs : List Subscription) →
-    filter (λ s. (has_subject account t s && is_open zs publisher t s) && stands_behind zs before s) subs ≡ standing_among zs subs before publisher account t
-standing_same zs publisher account t before [] = refl
-standing_same zs publisher account t before (s ∷ subs) =
-    ap (λ b. cond b (s ∷ filter (λ s. (has_subject account t s && is_open zs publisher t s) && stands_behind zs before s) subs) (filter (λ s. (has_subject account t s && is_open zs publisher t s) && stands_behind zs before s) subs))
-    (and_assoc (has_subject account t s) (is_open zs publisher t s) (stands_behind zs before s))
-    ∙ ap (λ more. cond (has_subject account t s && (is_open zs publisher t s && stands_behind zs before s)) (s ∷ more) more) (standing_same zs publisher account t before subs)
 
 -- what a view's items are, without the rows that are reported
 pub all_delivered : (now : ℕ) (all : List Addressed) (zs : List Session) → of_deliveries (delivered now all zs).1 ≡ (delivered now all zs).1
@@ -417,91 +402,3 @@ module _ (zs : List Session) (w : World) (p : Publication) (same : (all : List A
   pub plain_is : (vs : List ViewItem) →
       of_deliveries (items_after (addressing [] []) vs) ≡ met w (noted (addressed_after tables p (addressing [] []) vs).deliveries)
   plain_is vs = plain_told (addressing [] []) vs ∙ plain_are (addressing [] []) vs
-
--- the own view is the first
-pub own_first : (zs : List Session) (subs : List Subscription) (publisher : Session) (m : Message) (word : ℕ) → unended subs ≡ subs →
-    addressed_among zs subs publisher m word ≡ addressed_behind_in zs subs [] publisher m word publisher.user.account
-own_first zs subs publisher m word going =
-    let account : List ℕ = publisher.user.account in
-    addressed_left 0 zs [] subs (λ s. has_subject account m.subject s && is_open zs publisher m.subject s) (admitted_made zs publisher account m.subject) going (none_disagree subs) m word
-    ∙ ap (λ (ss : List Subscription). map (addressed_to m) (served word ss)) (standing_same zs publisher account m.subject [] subs)
-
--- ---- replies
-
--- where a message has no reply, none of its deliveries has one
-unsaid_by : (t : Tables) (p : Publication) (a : Addressing) (v : ViewItem) → p.message.reply ≡ None →
-    All (λ (d : Addressed). d.delivery.message.reply ≡ None) a.deliveries →
-    All (λ (d : Addressed). d.delivery.message.reply ≡ None) (with_effect t p a (effect_of t p a v)).deliveries
-unsaid_by t p a v none all = by_view v
-  where
-    Unsaid : List Addressed → Type 0
-    Unsaid ds = All (λ (d : Addressed). d.delivery.message.reply ≡ None) ds
-
-    more : (account : List ℕ) (as_seen : Message) (os : List Opening) → as_seen.reply ≡ None → Unsaid (with_effect t p a (seen account as_seen os)).deliveries
-    more account as_seen os unsaid =
-        let found : List Subscription = served p.word (standing_among t.sessions t.subscriptions a.deliveries p.publisher account as_seen.subject) in
-        All-append (λ (d : Addressed). d.delivery.message.reply ≡ None) a.deliveries (map (addressed_to as_seen) found) all
-        (All-map (λ (d : Addressed). d.delivery.message.reply ≡ None) (addressed_to as_seen) found (λ k d h. unsaid))
-
-    request : (account : List ℕ) (s : List Token) (row : Row) (o : Option (List Token)) → o ≡ None → Unsaid (with_effect t p a (request_in t p a account s row o)).deliveries
-    request account s row None is = more account (under_subject s p.message) [] none
-    request account s row (Some reply) is = absurd (cc)
-
-    by_view : (v : ViewItem) → Unsaid (with_effect t p a (effect_of t p a v)).deliveries
-    by_view (At account s Own) = more account (under_subject s p.message) [] none
-    by_view (At account s (Stream row)) = more account (under_subject s p.message) [] none
-    by_view (At account s (Service row)) = request account s row p.message.reply none
-    by_view (At account s (Response row)) = more account (seen_with s None p.message) [] refl
-    by_view (TooLong row) = all
-
-pub unsaid_after : (t : Tables) (p : Publication) (a : Addressing) (vs : List ViewItem) → p.message.reply ≡ None →
-    All (λ (d : Addressed). d.delivery.message.reply ≡ None) a.deliveries →
-    All (λ (d : Addressed). d.delivery.message.reply ≡ None) (addressed_after t p a vs).deliveries
-unsaid_after t p a [] none all = all
-unsaid_after t p a (v ∷ vs) none all = unsaid_after t p (with_effect t p a (effect_of t p a v)) vs none (unsaid_by t p a v none all)
-
--- ---- known views
-
--- in views that are known the deliveries are those of the views, no row is reported, and no route is opened
-known_step : (t : Tables) (p : Publication) (a : Addressing) (k : KnownView) (account : List ℕ) (s : List Token) → IsSeen t.sessions t.subscriptions p.publisher k account s →
-    addressing (addressed_in p.message p.word a.deliveries k) a.openings ≡ with_effect t p a (seen account (under_subject s p.message) [])
-known_step t p a k account s is =
-    ap (λ (ds : List Addressed). addressing ds a.openings) (view_told t.sessions a.deliveries p.publisher account s t.subscriptions k p.message p.word is)
-    ∙ ap (λ (os : List Opening). addressing (a.deliveries ++ addressed_behind_in t.sessions t.subscriptions a.deliveries p.publisher (under_subject s p.message) p.word account) os) (sym (append-nil a.openings))
-
-pub known_after : (t : Tables) (p : Publication) (a : Addressing) (known : List KnownView) (vs : List ViewItem) → AreSeen t.sessions t.subscriptions p.publisher known vs →
-    addressing (addressed_in_each p.message p.word a.deliveries known) a.openings ≡ addressed_after t p a vs
-known_after t p a [] [] is = refl
-known_after t p a [] (v ∷ vs) is = absurd is
-known_after t p a (k ∷ known) [] is = absurd is
-known_after t p a (k ∷ known) (TooLong row ∷ vs) is = absurd is
-known_after t p a (k ∷ known) (At account s Own ∷ vs) is = absurd is
-known_after t p a (k ∷ known) (At account s (Service row) ∷ vs) is = absurd is
-known_after t p a (k ∷ known) (At account s (Response row) ∷ vs) is = absurd is
-known_after t p a (k ∷ known) (At account s (Stream row) ∷ vs) is =
-    known_after t p (addressing (addressed_in p.message p.word a.deliveries k) a.openings) known vs is.1
-    ∙ ap (λ (b : Addressing). addressed_after t p b vs) (known_step t p a k account s is.0)
-
-pub known_reports : (t : Tables) (p : Publication) (a : Addressing) (known : List KnownView) (vs : List ViewItem) → AreSeen t.sessions t.subscriptions p.publisher known vs →
-    reports_after t p a vs ≡ []
-known_reports t p a [] [] is = refl
-known_reports t p a [] (v ∷ vs) is = absurd is
-known_reports t p a (k ∷ known) [] is = absurd is
-known_reports t p a (k ∷ known) (TooLong row ∷ vs) is = absurd is
-known_reports t p a (k ∷ known) (At account s Own ∷ vs) is = absurd is
-known_reports t p a (k ∷ known) (At account s (Service row) ∷ vs) is = absurd is
-known_reports t p a (k ∷ known) (At account s (Response row) ∷ vs) is = absurd is
-known_reports t p a (k ∷ known) (At account s (Stream row) ∷ vs) is = known_reports t p (with_effect t p a (seen account (under_subject s p.message) [])) known vs is.1
-
--- so it is with what the cache tells of the views behind the publisher's own
-module _ (rows : List ImportRow) (t : Tables) (p : Publication) (a : Addressing) where
-  pub others_told : (o : Option (Vec KnownView)) (all : List Addressed) → KnowsOthers o rows t.sessions t.subscriptions p.publisher p.message.subject → TellsOthers o p.message p.word a.deliveries all →
-      addressing all a.openings ≡ addressed_after t p a (others_in rows p.publisher.user.account p.message.subject)
-  others_told None all known tells = absurd tells
-  others_told (Some views) all known tells =
-      ap (λ (ds : List Addressed). addressing ds a.openings) tells ∙ known_after t p a views.items (others_in rows p.publisher.user.account p.message.subject) known
-
-  pub others_unreported : (o : Option (Vec KnownView)) (all : List Addressed) → KnowsOthers o rows t.sessions t.subscriptions p.publisher p.message.subject → TellsOthers o p.message p.word a.deliveries all →
-      reports_after t p a (others_in rows p.publisher.user.account p.message.subject) ≡ []
-  others_unreported None all known tells = absurd tells
-  others_unreported (Some views) all known tells = known_reports t p a views.items (others_in rows p.publisher.user.account p.message.subject) known

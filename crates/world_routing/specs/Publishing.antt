@@ -22,11 +22,12 @@ use Rattle.world_routing.specs.World.{World}
 use Rattle.world_routing.specs.Granting.{verdict_on, counted_on, ended_on}
 use Rattle.imports.specs.Across.{views}
 use Rattle.service_routes.specs.Routes.{spent}
-use Rattle.world_routing.specs.Routing.{in_views, responses_on, under_subject}
+use Rattle.world_routing.specs.Routing.{in_views, under_subject}
+use Rattle.world_views.specs.Requests.{responses_on}
 use Rattle.world_routing.specs.Handing.{met, carried, is_of_delivery, of_deliveries}
-use Rattle.world_routing.specs.Changing.{changed_by, AreNoted}
-use Rattle.world_routing.specs.Viewing.{Tables, with_reports}
-use Rattle.world_routing.specs.declared.across.Told.{Told}
+use Rattle.world_views.specs.Changing.{changed_by, AreNoted}
+use Rattle.world_views.specs.Viewing.{Tables, with_reports}
+use Rattle.world_views.specs.declared.across.Told.{Told}
 use Rattle.world_routing.specs.declared.carrying.Deliveries.{Deliveries}
 use Rattle.world_routing.specs.declared.planning.Elsewhere.{Elsewhere}
 use Rattle.world_routing.specs.declared.planning.Elsewhere.TheVariants.{Under, Nowhere}

@@ -1,7 +1,5 @@
 -- Whom a message reaches (docs/GUARANTEE.md, "Delivery").
-use Rattle.std.specs.Prelude.{◌&&◌, ◌∷◌, ◌++◌, ◌+◌, ℕ, List, [], Bool, true, false, Option, Some, None, filter, map, if◌then◌else◌}
-use Rattle.std.specs.List.{cons_option}
-use Rattle.std.specs.Option.{option_map}
+use Rattle.std.specs.Prelude.{◌&&◌, ◌∷◌, ◌++◌, ◌+◌, ℕ, List, [], Bool, true, false, Option, Some, None, filter, map}
 use Rattle.subjects.specs.Subject.{Token}
 use Rattle.events.specs.Messages.{Message}
 use Rattle.events.specs.declared.answer.Addressed.{Addressed}
@@ -12,13 +10,8 @@ use Rattle.imports.specs.declared.view.ViewItem.{ViewItem}
 use Rattle.imports.specs.declared.view.ViewItem.TheVariants.{At, TooLong}
 use Rattle.imports.specs.declared.view.Way.{Way}
 use Rattle.imports.specs.declared.view.Way.TheVariants.{Own, Stream, Service, Response}
-use Rattle.policy_doc.specs.declared.document.PolicyDoc.{PolicyDoc}
-use Rattle.service_subjects.specs.Names.{route_subject}
 use Rattle.service_exporter.specs.Limit.{is_full}
-use Rattle.service_exporter.specs.Routes.{Exporter, route_on}
-use Rattle.service_exporter.specs.declared.route.Route.{Route}
-use Rattle.service_routes.specs.Routes.{Name, exporter_of, opened}
-use Rattle.service_rows.specs.Rows.{terms_of}
+use Rattle.service_routes.specs.Routes.{exporter_of, opened}
 use Rattle.world_deliveries.specs.Delivered.{delivered}
 use Rattle.world_deliveries.specs.Replying.{noted_for}
 use Rattle.world_deliveries.specs.declared.session.Session.{Session}
@@ -27,8 +20,10 @@ use Rattle.world_subscriptions.specs.Addressing.{addressed_to}
 use Rattle.world_subscriptions.specs.Limit.{unended, counted}
 use Rattle.world_rows.specs.declared.subscription.Subscription.{Subscription}
 use Rattle.world_groups.specs.Served.{served}
-pub use Rattle.world_receivers.specs.Open.{lets_through, may_hear, is_open_to, is_open}
-pub use Rattle.world_receivers.specs.Standing.{under_subject, is_nil}
+pub use Rattle.receiver_cache.specs.Open.{lets_through, may_hear, is_open_to, is_open}
+pub use Rattle.world_receivers.specs.Standing.{is_nil}
+pub use Rattle.receiver_cache.specs.Known.{under_subject}
+use Rattle.world_views.specs.Requests.{next_subject, route_for}
 use Rattle.world_routing.specs.World.{World}
 
 -- A message as an account sees it, under the subject that it has there.
@@ -68,22 +63,6 @@ routed zs w publisher v word = let after = delivered w.moment (deliveries zs w p
     (after.1, record w { sessions = after.0; subscriptions = unended (map (counted after.1) w.subscriptions) })
 
 -- ---- requests and responses (docs/GUARANTEE.md, "Response routes")
-
--- the response that an account's message on this subject is, as the account that has asked sees it: on the reply of its request
-abbrev pub response_by : Route → ViewItem
-response_by r = At r.row.importer r.reply (Response r.row)
-
--- it is one where the account has a route on the subject
-abbrev pub responses_on : List (Name × Exporter) → List ℕ → List Token → List ViewItem
-responses_on routes account s = cons_option (option_map response_by (route_on s (exporter_of account routes).routes)) []
-
--- the route of a request across a row, on the terms that the row has
-abbrev pub route_for : PolicyDoc → Row → List Token → ℕ → ℕ → Route
-route_for doc row reply word now = record { word = word; row = row; reply = reply; noted = now; terms = terms_of doc row }
-
--- the subject of an exporter's next route
-abbrev pub next_subject : ℕ → Exporter → List Token
-next_subject word e = route_subject word (e.last + 1)
 
 -- A request that an account may see, which wants a response on this reply. Where nobody may be sent it, nothing comes of it. Where
 -- the exporter has as many routes as it may have, the row is reported. Else a route is opened for its response, and the request

@@ -24,7 +24,7 @@ impl Drop for Caches {
 
 impl Caches {
     ghost use Rattle.policy_doc.specs.declared.document.PolicyDoc.{PolicyDoc};
-    ghost use Rattle.world_receivers.specs.Cached.{IsEmpty};
+    ghost use Rattle.receiver_cache.specs.Cached.{IsEmpty};
     ghost use Rattle.world_routing.specs.Remembered.{AreRemembered};
 
     /// Remembers nothing yet. It takes no memory.

@@ -1,17 +1,17 @@
 //! What was planned for a publish is done.
 ghost use Rattle.std.specs.Prelude.{◌≡◌, ◌≤◌, ◌⊎◌, List};
 ghost use Rattle.imports.specs.declared.rows.ImportRow.{ImportRow};
-ghost use Rattle.world_receivers.specs.Cached.{IsCurrent, IsEmpty};
+ghost use Rattle.receiver_cache.specs.Cached.{IsCurrent, IsEmpty};
 ghost use Rattle.world_subscriptions.specs.Counting.{entered_ids, in_turn};
 ghost use Rattle.world_routing.specs.Handing.{handed_over};
 
 use crate::answered::Answered;
-use crate::changing::RouteChange;
 use base::Items;
 use events::{Addressed, Item};
 use world_receivers::Receivers;
 use world_sessions::Sessions;
 use world_subscriptions::Subscriptions;
+use world_views::RouteChange;
 
 /// Deliveries that are to be handed over, of a message that may be an answer: oldest view first, and in each view the oldest
 /// subscription first.

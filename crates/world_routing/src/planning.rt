@@ -7,20 +7,18 @@ ghost use Rattle.world_deliveries.specs.Sessions.{session_of};
 ghost use Rattle.world_deliveries.specs.Delivered.{delivered};
 ghost use Rattle.world_deliveries.specs.Replying.{noted_for};
 ghost use Rattle.world_deliveries.specs.declared.session.Session.{Session as SessionModel};
-ghost use Rattle.world_receivers.specs.Cached.{IsCurrent, IsOfLists};
+ghost use Rattle.receiver_cache.specs.Cached.{IsCurrent, IsOfLists};
 ghost use Rattle.world_routing.specs.Remembered.{AreOfPolicy, AreRemembered};
 ghost use Rattle.world_routing.specs.World.{World};
-ghost use Rattle.world_routing.specs.Viewing.{tables_at};
+ghost use Rattle.world_views.specs.Viewing.{tables_at};
 ghost use Rattle.account_mappings.specs.Drawing.{mapped_by};
 ghost use Rattle.world_routing.specs.Publishing.{IsElsewhere, IsPlain, IsPlanned, IsPlanOf, IsToldPlan, diverted_to, in_session, mapped_to, published_by, seen_as, tables_of};
 ghost use Rattle.imports.specs.Views.{is_route, rows_of};
 
-use crate::across::{Publishing, Told, address_all, address_under, is_route, may_be_route};
 use crate::answered::{Answered, answered_by};
 use crate::caches::Caches;
 use crate::carrying::{Deliveries, Routing};
 use crate::verdict::on_publish;
-use crate::viewing::with_reports;
 use account_mappings::Mapped;
 use base::{Boxed, Items, NoMemory};
 use events::{Addressed, HubRefusal, Item, Message, Met};
@@ -34,6 +32,9 @@ use subjects::{Subject, SubjectRef};
 use world_receivers::{Receivers, Sending};
 use world_sessions::{Session, Sessions};
 use world_subscriptions::Subscriptions;
+use world_views::{
+    Publishing, Told, address_all, address_under, is_route, may_be_route, with_reports,
+};
 
 /// A message that a connection publishes.
 #[derive(Clone, Copy, Debug)]

@@ -1,7 +1,7 @@
 -- what is cached of some draw is so of the others that send a message on under the same subject
 use Rattle.std.proofs.Common.{◌≡◌, subst, sym}
-use Rattle.world_receivers.specs.Drawn.{IsSent, subject_of}
-use Rattle.world_receivers.specs.declared.drawn.Drawn.{Drawn}
+use Rattle.receiver_cache.specs.Drawn.{IsSent, subject_of}
+use Rattle.receiver_cache.specs.declared.drawn.Drawn.{Drawn}
 use Rattle.world_receivers.proofs.receivers.drawn_under.Goals as goal
 
 pub returns-in_ok-again-in-Some : goal.returns-in_ok-again-in-Some

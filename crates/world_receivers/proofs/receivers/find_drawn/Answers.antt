@@ -2,12 +2,12 @@
 use Rattle.std.proofs.Common.{◌≡◌, List, ℕ, Option, Some, subst, sym}
 use Rattle.std.specs.Global.{Vec}
 use Rattle.subjects.specs.Subject.{Token}
-use Rattle.world_receivers.specs.Known.{IsKnown, IsSeen}
-use Rattle.world_receivers.specs.Cached.{KnowsOthers}
-use Rattle.world_receivers.specs.Drawn.{IsSent, subject_of}
-use Rattle.world_receivers.specs.declared.drawn.Drawn.{Drawn}
-use Rattle.world_receivers.specs.declared.known.KnownView.{KnownView}
-use Rattle.world_receivers.proofs.Draws.{sent_under}
+use Rattle.receiver_cache.specs.Known.{IsKnown, IsSeen}
+use Rattle.receiver_cache.specs.Cached.{KnowsOthers}
+use Rattle.receiver_cache.specs.Drawn.{IsSent, subject_of}
+use Rattle.receiver_cache.specs.declared.drawn.Drawn.{Drawn}
+use Rattle.receiver_cache.specs.declared.known.KnownView.{KnownView}
+use Rattle.receiver_cache.proofs.Draws.{sent_under}
 use Rattle.world_receivers.proofs.receivers.find_drawn.Goals as goal
 
 pub returns-in_ok-new-in-Some-2 : goal.returns-in_ok-new-in-Some-2

@@ -1,7 +1,7 @@
 -- the views behind the publisher's own are the others
 use Rattle.std.proofs.Common.{◌∙◌, ℕ, List, ap}
-use Rattle.world_receivers.specs.Known.{others_in}
-use Rattle.world_receivers.proofs.Behind.{known_if, tail_of}
+use Rattle.receiver_cache.specs.Known.{others_in}
+use Rattle.receiver_cache.proofs.Seen.{known_if, tail_of}
 use Rattle.world_receivers.proofs.receivers.find_others.Goals as goal
 
 pub returns : goal.returns

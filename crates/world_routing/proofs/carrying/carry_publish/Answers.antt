@@ -3,10 +3,10 @@ use Rattle.std.proofs.Common.{◌≡◌, ℕ, List, length, ap, sym, subst, inl,
 use Rattle.world_deliveries.specs.declared.session.Session.{Session}
 use Rattle.world_subscriptions.specs.Counting.{entered_ids, in_turn}
 use Rattle.world_rows.specs.declared.subscription.Subscription.{Subscription}
-use Rattle.world_receivers.specs.Cached.{IsCurrent}
-use Rattle.world_receivers.specs.declared.cache.ReceiverCache.{ReceiverCache}
-use Rattle.world_receivers.proofs.Stays.{AreSeated, current_in_turn}
-use Rattle.world_receivers.proofs.Told.{empty_current}
+use Rattle.receiver_cache.specs.Cached.{IsCurrent}
+use Rattle.receiver_cache.specs.declared.cache.ReceiverCache.{ReceiverCache}
+use Rattle.receiver_cache.proofs.Stays.{AreSeated, current_in_turn}
+use Rattle.receiver_cache.proofs.Told.{empty_current}
 use Rattle.world_routing.proofs.Delivering.{seated_handed}
 use Rattle.world_routing.proofs.carrying.carry_publish.Goals as goal
 

@@ -4,9 +4,9 @@ use Rattle.std.proofs.lemmas.Bool.{eqb-true}
 use Rattle.account_mappings.specs.Drawing.{mapped_by}
 use Rattle.world_deliveries.specs.Sessions.{session_of}
 use Rattle.world_deliveries.specs.declared.session.Session.{Session}
-use Rattle.world_receivers.proofs.Tests.{find-passes}
+use Rattle.receiver_cache.proofs.Tests.{find-passes}
 use Rattle.world_routing.specs.Publishing.{IsElsewhere}
-use Rattle.world_routing.specs.Viewing.{Tables}
+use Rattle.world_views.specs.Viewing.{Tables}
 use Rattle.world_routing.specs.declared.planning.Elsewhere.{Elsewhere}
 use Rattle.world_routing.proofs.Publishing.{plain_elsewhere, planned_elsewhere, planned_own}
 use Rattle.world_routing.proofs.planning.plan_anew.Goals as goal

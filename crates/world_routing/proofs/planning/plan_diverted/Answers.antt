@@ -5,14 +5,14 @@ use Rattle.events.specs.declared.answer.Addressed.{Addressed}
 use Rattle.imports.specs.Across.{views}
 use Rattle.imports.specs.declared.view.ViewItem.{ViewItem}
 use Rattle.world_deliveries.specs.Sessions.{session_of}
-use Rattle.world_receivers.specs.Standing.{under_subject}
+use Rattle.receiver_cache.specs.Known.{under_subject}
 use Rattle.world_routing.specs.Publishing.{IsPlain, IsPlanned, diverted_to, in_session}
-use Rattle.world_routing.specs.Routing.{responses_on}
-use Rattle.world_routing.specs.Viewing.{Tables, addressing, publication, tables_at}
+use Rattle.world_views.specs.Requests.{responses_on}
+use Rattle.world_views.specs.Viewing.{Tables, addressing, publication, tables_at}
 use Rattle.world_routing.specs.declared.planning.Elsewhere.{Elsewhere}
 use Rattle.world_routing.specs.declared.planning.Plan.{Plan}
 use Rattle.world_routing.specs.declared.planning.Plan.TheVariants.{ToSome}
-use Rattle.world_routing.proofs.Together.{unsaid_after}
+use Rattle.world_views.proofs.Addressed.{unsaid_after}
 use Rattle.world_routing.proofs.Publishing.{planned_nowhere, planned_told}
 use Rattle.world_routing.proofs.planning.plan_diverted.Goals as goal
 

@@ -5,19 +5,19 @@ use Rattle.std.proofs.lemmas.List.Elements.{All-nil}
 use Rattle.std.specs.Prelude.{IfSome}
 use Rattle.subjects.specs.Subject.{Token}
 use Rattle.events.specs.declared.answer.Addressed.{Addressed}
-use Rattle.world_receivers.specs.Cached.{IsAllowed}
+use Rattle.receiver_cache.specs.Cached.{IsAllowed}
 use Rattle.imports.specs.Across.{views}
 use Rattle.imports.specs.declared.view.ViewItem.{ViewItem}
 use Rattle.world_deliveries.specs.Sessions.{session_of}
 use Rattle.world_deliveries.specs.Delivered.{delivered}
 use Rattle.world_deliveries.specs.Replying.{noted_for}
 use Rattle.world_deliveries.specs.declared.session.Session.{Session}
-use Rattle.world_receivers.proofs.Tests.{find-passes}
-use Rattle.world_routing.specs.Routing.{responses_on}
-use Rattle.world_routing.specs.Viewing.{Tables, addressing, publication, tables_at}
+use Rattle.receiver_cache.proofs.Tests.{find-passes}
+use Rattle.world_views.specs.Requests.{responses_on}
+use Rattle.world_views.specs.Viewing.{Tables, addressing, publication, tables_at}
 use Rattle.world_routing.proofs.Alone.{lists_allow}
 use Rattle.world_routing.proofs.Remembered.{named}
-use Rattle.world_routing.proofs.Together.{unsaid_after}
+use Rattle.world_views.proofs.Addressed.{unsaid_after}
 use Rattle.world_routing.specs.Granting.{verdict_on}
 use Rattle.world_routing.specs.declared.planning.Plan.TheVariants.{ToNobody}
 use Rattle.world_routing.proofs.Publishing.{planned_by, planned_nobody, planned_publish, planned_unmapped, publish_reason}
@@ -36,7 +36,7 @@ pub address_all-requires-clause-allowed : goal.address_all-requires-clause-allow
 address_all-requires-clause-allowed c =
     let z = c.in-Some.session.now in
     let s : List Token = c.subject-subject.result in
-    subst (λ (s : List Token). IfSome c.allowed_by.result (IsAllowed z s)) c.subject-subject.ensures
+    subst (λ (s : List Token). IfSome c.allowed_by.result (IsAllowed z.user s)) c.subject-subject.ensures
     (lists_allow c.allowed_by.result c.in-Allowed.by c.args.publish.now z s s c.allowed_by.ensures refl c.in-Allowed.ensures.verdict c.on_publish.ensures.justified
     (c.is_mapped.ensures c.if-is_mapped.false))
 

@@ -8,14 +8,14 @@ use Rattle.imports.specs.Across.{views}
 use Rattle.imports.specs.Views.{rows_of}
 use Rattle.imports.specs.declared.view.ViewItem.{ViewItem}
 use Rattle.world_deliveries.specs.Sessions.{session_of}
-use Rattle.world_receivers.specs.Drawn.{IsSentOn, subject_of}
-use Rattle.world_receivers.specs.Standing.{under_subject}
+use Rattle.receiver_cache.specs.Drawn.{IsSentOn, subject_of}
+use Rattle.receiver_cache.specs.Known.{under_subject}
 use Rattle.world_routing.specs.Publishing.{IsElsewhere}
-use Rattle.world_routing.specs.Routing.{responses_on}
-use Rattle.world_routing.specs.Viewing.{Tables, addressing, publication, tables_at}
+use Rattle.world_views.specs.Requests.{responses_on}
+use Rattle.world_views.specs.Viewing.{Tables, addressing, publication, tables_at}
 use Rattle.world_routing.specs.declared.planning.Elsewhere.TheVariants.{Under}
 use Rattle.world_routing.proofs.Drawn.{drawn_addressed, drawn_unreported, drawn_unchanged}
-use Rattle.world_routing.proofs.Together.{unsaid_after}
+use Rattle.world_views.proofs.Addressed.{unsaid_after}
 use Rattle.world_routing.proofs.Publishing.{planned_elsewhere, planned_told}
 use Rattle.world_routing.proofs.planning.plan_mapped.Goals as goal
 

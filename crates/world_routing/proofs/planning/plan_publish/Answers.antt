@@ -6,7 +6,7 @@ use Rattle.imports.specs.Views.{rows_of}
 use Rattle.imports.specs.declared.rows.ImportRow.{ImportRow}
 use Rattle.world_deliveries.specs.declared.session.Session.{Session}
 use Rattle.world_rows.specs.declared.subscription.Subscription.{Subscription}
-use Rattle.world_receivers.specs.Cached.{IsAloneAt, IsCurrent}
+use Rattle.receiver_cache.specs.Cached.{IsAloneAt, IsCurrent}
 use Rattle.world_routing.proofs.Alone.{alone_comes, alone_unsaid}
 use Rattle.world_routing.proofs.planning.plan_publish.Goals as goal
 

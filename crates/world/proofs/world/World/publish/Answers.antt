@@ -14,7 +14,7 @@ use Rattle.world_routing.specs.World.{World}
 use Rattle.service_routes.specs.Routes.{pruned}
 use Rattle.service_routes.proofs.Seen.{dead}
 use Rattle.world_routing.specs.Publishing.{published_by, tables_of, IsPlanned}
-use Rattle.world_routing.specs.Viewing.{tables_at}
+use Rattle.world_views.specs.Viewing.{tables_at}
 use Rattle.world_routing.specs.declared.planning.Plan.{Plan}
 use Rattle.world.specs.Changes.{pruned_world, IsDecided}
 use Rattle.world.specs.declared.change.Decided.{Decided}

@@ -7,9 +7,9 @@ use Rattle.world_subscriptions.specs.Subscriptions.{has_subject, having}
 use Rattle.world_subscriptions.specs.Addressing.{addressed_to}
 use Rattle.world_rows.specs.declared.subscription.Subscription.{Subscription}
 use Rattle.world_groups.specs.Served.{served}
-use Rattle.world_receivers.specs.Open.{is_open}
-use Rattle.world_receivers.proofs.Tests.{both}
-use Rattle.world_receivers.proofs.Told.{told_are, others_are}
+use Rattle.receiver_cache.specs.Open.{is_open}
+use Rattle.receiver_cache.proofs.Tests.{both}
+use Rattle.receiver_cache.proofs.Told.{told_are, others_are}
 use Rattle.world_receivers.proofs.receivers.Receivers.address.Goals as goal
 
 pub returns-then-branch-clause-all : goal.returns-then-branch-clause-all

@@ -2,7 +2,7 @@
 use Rattle.std.proofs.Common.{◌∙◌, ap}
 use Rattle.subjects.specs.Subject.{tokens_of}
 use Rattle.subjects.proofs.Text.{again}
-use Rattle.world_receivers.proofs.Told.{alone_refused, alone_told}
+use Rattle.receiver_cache.proofs.Told.{alone_refused, alone_told}
 use Rattle.world_receivers.proofs.receivers.Receivers.address_alone.Goals as goal
 
 pub returns-clause-tells : goal.returns-clause-tells

@@ -9,9 +9,9 @@ use Rattle.world_subscriptions.specs.Addressing.{addressed_to}
 use Rattle.world_subscriptions.specs.Subscriptions.{has_subject, having}
 use Rattle.world_rows.specs.declared.subscription.Subscription.{Subscription}
 use Rattle.world_groups.specs.Served.{served}
-use Rattle.world_receivers.specs.Open.{is_open}
+use Rattle.receiver_cache.specs.Open.{is_open}
 use Rattle.world_receivers.specs.Standing.{is_nil, stands_behind, standing_among}
-use Rattle.world_receivers.proofs.Tests.{both}
+use Rattle.receiver_cache.proofs.Tests.{both}
 use Rattle.world_receivers.proofs.receivers.Receivers.address_seen.Goals as goal
 
 module _ (zs : List Session) (subs : List Subscription) (z : Session) (account : List ℕ) (s : List Token) (before : List Addressed) where

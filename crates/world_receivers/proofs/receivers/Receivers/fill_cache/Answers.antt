@@ -5,18 +5,18 @@ use Rattle.subjects.specs.Subject.{Token, tokens_of}
 use Rattle.subjects.proofs.Text.{again}
 use Rattle.world_deliveries.specs.Sessions.{session_of}
 use Rattle.world_subscriptions.specs.Subscriptions.{has_subject, having}
-use Rattle.world_receivers.specs.Open.{is_open}
-use Rattle.world_receivers.specs.Cached.{KnowsOthers}
-use Rattle.world_receivers.specs.declared.known.KnownView.{KnownView}
-use Rattle.world_receivers.proofs.Tests.{both}
-use Rattle.world_receivers.proofs.Told.{alone_filled, drawn_same, filled_current, still_current, others_selected}
+use Rattle.receiver_cache.specs.Open.{is_open}
+use Rattle.receiver_cache.specs.Cached.{KnowsOthers}
+use Rattle.receiver_cache.specs.declared.known.KnownView.{KnownView}
+use Rattle.receiver_cache.proofs.Tests.{both}
+use Rattle.receiver_cache.proofs.Told.{alone_filled, drawn_same, filled_current, still_current, others_selected}
 use Rattle.world_receivers.proofs.receivers.Receivers.fill_cache.Goals as goal
 
 pub returns-in-Ok-clause-cached : goal.returns-in-Ok-clause-cached
 returns-in-Ok-clause-cached c =
-    let zs = c.args.sessions.now in
-    let subs = c.args.subscriptions.now in
-    let z = c.args.publisher.now in
+    let zs = c.args.among.sessions.now in
+    let subs = c.args.among.subscriptions.now in
+    let z = c.args.among.publisher.now in
     let s : List Token = c.args.subject.now in
     let selected = c.if-not-select.ensures.selected refl in
     let there = ap (session_of zs) (c.fill.ensures.conn ∙ selected.0) ∙ c.requires.publisher in
@@ -35,25 +35,25 @@ returns-in-Ok-clause-cached c =
 
 pub returns-in-Ok-clause-others : goal.returns-in-Ok-clause-others
 returns-in-Ok-clause-others c =
-    subst (λ (o : Option (Vec KnownView)). KnowsOthers o c.args.rows.now c.args.sessions.now c.args.subscriptions.now c.args.publisher.now c.args.subject.now) (sym c.fill.ensures.others) c.others_of-others.ensures
+    subst (λ (o : Option (Vec KnownView)). KnowsOthers o c.args.rows.now c.args.among.sessions.now c.args.among.subscriptions.now c.args.among.publisher.now c.args.subject.now) (sym c.fill.ensures.others) c.others_of-others.ensures
 
 -- what it said already of its publisher and subject stays so
 pub returns-then-not-select-clause-others : goal.returns-then-not-select-clause-others
 returns-then-not-select-clause-others c =
-    let zs = c.args.sessions.now in
-    others_selected c.select.new.self c.args.rows.now zs c.args.subscriptions.now c.args.publisher.now _ _ c.args.subject.now
-    (still_current c.args.self.now.cache c.select.new.self c.args.rows.now zs c.args.subscriptions.now c.requires.cached c.select.ensures.cached)
+    let zs = c.args.among.sessions.now in
+    others_selected c.select.new.self c.args.rows.now zs c.args.among.subscriptions.now c.args.among.publisher.now _ _ c.args.subject.now
+    (still_current c.args.self.now.cache c.select.new.self c.args.rows.now zs c.args.among.subscriptions.now c.requires.cached c.select.ensures.cached)
     c.select.ensures.others c.requires.publisher (ap tokens_of c.bytes.ensures ∙ again c.args.subject.now c.tokens.ensures.grammar)
 
 pub returns-in_default-clause-others : goal.returns-in_default-clause-others
 returns-in_default-clause-others c =
-    let zs = c.args.sessions.now in
-    others_selected c.select.new.self c.args.rows.now zs c.args.subscriptions.now c.args.publisher.now _ _ c.args.subject.now
-    (still_current c.args.self.now.cache c.select.new.self c.args.rows.now zs c.args.subscriptions.now c.requires.cached c.select.ensures.cached)
+    let zs = c.args.among.sessions.now in
+    others_selected c.select.new.self c.args.rows.now zs c.args.among.subscriptions.now c.args.among.publisher.now _ _ c.args.subject.now
+    (still_current c.args.self.now.cache c.select.new.self c.args.rows.now zs c.args.among.subscriptions.now c.requires.cached c.select.ensures.cached)
     c.select.ensures.others c.requires.publisher (ap tokens_of c.bytes.ensures ∙ again c.args.subject.now c.tokens.ensures.grammar)
 
 pub returns-then-not-select-clause-cached : goal.returns-then-not-select-clause-cached
-returns-then-not-select-clause-cached c = still_current c.args.self.now.cache c.select.new.self c.args.rows.now c.args.sessions.now c.args.subscriptions.now c.requires.cached c.select.ensures.cached
+returns-then-not-select-clause-cached c = still_current c.args.self.now.cache c.select.new.self c.args.rows.now c.args.among.sessions.now c.args.among.subscriptions.now c.requires.cached c.select.ensures.cached
 
 pub returns-in_default-clause-cached : goal.returns-in_default-clause-cached
-returns-in_default-clause-cached c = still_current c.args.self.now.cache c.select.new.self c.args.rows.now c.args.sessions.now c.args.subscriptions.now c.requires.cached c.select.ensures.cached
+returns-in_default-clause-cached c = still_current c.args.self.now.cache c.select.new.self c.args.rows.now c.args.among.sessions.now c.args.among.subscriptions.now c.requires.cached c.select.ensures.cached

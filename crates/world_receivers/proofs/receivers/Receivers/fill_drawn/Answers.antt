@@ -5,10 +5,10 @@ use Rattle.subjects.proofs.Text.{again}
 use Rattle.account_mappings.specs.Drawing.{mapped_by}
 use Rattle.account_mappings.specs.declared.drawing.Mapped.TheVariants.{To}
 use Rattle.world_deliveries.specs.Sessions.{session_of}
-use Rattle.world_receivers.specs.Cached.{IsCurrent}
-use Rattle.world_receivers.specs.declared.cache.ReceiverCache.{ReceiverCache}
-use Rattle.world_receivers.proofs.Draws.{same_draw}
-use Rattle.world_receivers.proofs.Told.{kept_current, still_current}
+use Rattle.receiver_cache.specs.Cached.{IsCurrent}
+use Rattle.receiver_cache.specs.declared.cache.ReceiverCache.{ReceiverCache}
+use Rattle.receiver_cache.proofs.Draws.{same_draw}
+use Rattle.receiver_cache.proofs.Told.{kept_current, still_current}
 use Rattle.world_receivers.proofs.receivers.Receivers.fill_drawn.Goals as goal
 
 pub returns-then-not-select_drawn : goal.returns-then-not-select_drawn

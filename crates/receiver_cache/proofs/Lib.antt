@@ -1,0 +1,5 @@
+pub mod Draws
+pub mod Seen
+pub mod Stays
+pub mod Tests
+pub mod Told

@@ -1,0 +1,5 @@
+pub mod Open
+pub mod Receivers
+pub mod Known
+pub mod Drawn
+pub mod Cached

@@ -1,0 +1,373 @@
+//! A message addressed in all its views: its publisher's own, those across import rows, and that of the account that has asked.
+ghost use Rattle.std.specs.Prelude.{◌≡◌, ◌==◌, ◌++◌, ℕ, List, [], All, IfOk, IfSome, OnOk, None, Some, length, true, false, if◌then◌else◌};
+ghost use Rattle.imports.specs.Across.{views};
+ghost use Rattle.imports.specs.Views.{is_route, is_same, rows_of};
+ghost use Rattle.imports.specs.declared.view.ViewItem.TheVariants.{At};
+ghost use Rattle.imports.specs.declared.view.Way.TheVariants.{Own};
+ghost use Rattle.service_exporter.specs.Routes.{Exporter};
+ghost use Rattle.service_routes.specs.Routes.{Name, pruned, spent};
+ghost use Rattle.world_deliveries.specs.Sessions.{session_of};
+ghost use Rattle.receiver_cache.specs.Cached.{IsAllowed, IsCurrent};
+ghost use Rattle.world_receivers.specs.Standing.{addressed_behind_in};
+ghost use Rattle.receiver_cache.specs.Known.{under_subject};
+ghost use Rattle.world_views.specs.Changing.{changed_by, opened_each, AreNoted, IsNotedAt};
+ghost use Rattle.world_views.specs.Requests.{response_by, responses_on};
+ghost use Rattle.world_views.specs.Viewing.{addressed_after, addressing, others_in, others_with, publication, reports_after, reports_in, routes_after, seen_with, tables_at, AreNotedIn};
+
+use crate::changing::RouteChange;
+use crate::viewing::{Among, Found, Report, address_each, address_in};
+use base::{Alike, Boxed, Copying, NoMemory};
+use bytes::Bytes;
+use events::Said;
+use imports::Rows;
+use permissions::By;
+use policy_ready::Ready;
+use service_routes::{Route, Routes};
+use std::alloc::Global;
+use subjects::{Subject, SubjectRef};
+use world_receivers::{Receivers, Sending};
+use world_sessions::Sessions;
+use world_subscriptions::Subscriptions;
+
+/// A message that a session publishes at a moment, under a policy.
+#[derive(Clone, Copy)]
+pub struct Publishing<'a> {
+    pub ready: &'a Ready,
+    pub sending: Sending<'a>,
+    pub now: u64,
+    /// By what lists allow it, if its account has no mappings and its subject is of no response route.
+    pub allowed: Option<By>,
+}
+
+/// What is told of a message between its deliveries, and what becomes of response routes. It stands in a block, since that nothing is
+/// told is handed on for each message.
+#[derive(Drop)]
+pub struct Told {
+    /// The rows across which it isn't seen.
+    pub reports: Vec<Report>,
+    /// The routes that it opens, or the one that it ends.
+    pub routes: RouteChange,
+}
+
+/// Nothing is found yet. It takes no memory.
+fn nothing_found(alloc: Global) -> Found
+    ensures reports { result.reports.items ≡ [] }
+    ensures openings { result.openings.items ≡ [] }
+{
+    Found {
+        reports: Vec::new(alloc),
+        openings: Vec::new(alloc),
+    }
+}
+
+/// Returns what is told, if there is anything.
+fn if_any(alloc: Global, found: Found) -> Result<Option<Boxed<Told>>, NoMemory>
+    ensures reports { IfOk result (λ told. reports_in told ≡ found.reports.items) }
+    ensures opened { IfOk result (λ told. (all : List (Name × Exporter)) → routes_after told all ≡ opened_each found.openings.items all) }
+    ensures noted { IfOk result (λ told. (now : ℕ) → All (IsNotedAt now) found.openings.items → AreNotedIn now told) }
+{
+    let Found { reports, openings } = found;
+    if reports.is_empty() && openings.is_empty() {
+        Ok(None)
+    } else {
+        let told = Told {
+            reports,
+            routes: RouteChange::Opened(openings),
+        };
+        Ok(Some(Boxed::new(alloc, told)?))
+    }
+}
+
+/// Appends the deliveries of a message in its views across rows to those of the receivers, and returns what is told between them and
+/// which routes are to be opened. `NoMemory` where memory could not be had: then some may be appended. Apart, so that a message
+/// pays nothing for it whose views are known.
+#[inline(never)]
+fn address_across(
+    among: Among<'_>,
+    receivers: &mut Receivers,
+    routes: &mut Routes,
+    subject: &SubjectRef<'_>,
+) -> Result<Option<Boxed<Told>>, NoMemory>
+    ensures all { OnOk result (receivers.new.deliveries.items ≡ (addressed_after (tables_at among.entry.ready.now among.entry.now among.entry.sessions.now among.entry.subscriptions.now routes.old.exporters) (publication among.entry.sending.publisher.now among.entry.sending.message.now among.entry.sending.word) (addressing receivers.old.deliveries.items []) (others_in (rows_of among.entry.ready.now) among.entry.sending.publisher.now.user.account subject.now)).deliveries) }
+    ensures reports { IfOk result (λ told. reports_in told ≡ reports_after (tables_at among.entry.ready.now among.entry.now among.entry.sessions.now among.entry.subscriptions.now routes.old.exporters) (publication among.entry.sending.publisher.now among.entry.sending.message.now among.entry.sending.word) (addressing receivers.old.deliveries.items []) (others_in (rows_of among.entry.ready.now) among.entry.sending.publisher.now.user.account subject.now)) }
+    ensures opened { IfOk result (λ told. routes_after told (pruned among.entry.now routes.old.exporters)
+        ≡ opened_each (addressed_after (tables_at among.entry.ready.now among.entry.now among.entry.sessions.now among.entry.subscriptions.now routes.old.exporters) (publication among.entry.sending.publisher.now among.entry.sending.message.now among.entry.sending.word) (addressing receivers.old.deliveries.items []) (others_in (rows_of among.entry.ready.now) among.entry.sending.publisher.now.user.account subject.now)).openings (pruned among.entry.now routes.old.exporters)) }
+    ensures noted { IfOk result (λ told. AreNotedIn among.entry.now told) }
+    ensures cached { receivers.new.cache ≡ receivers.old.cache }
+    ensures routes { routes.new.exporters ≡ routes.old.exporters }
+{
+    let account = among.sending.publisher.user.account.as_slice();
+    let others = among.ready.rows().crossings(among.alloc, account, subject)?;
+    let mut found = nothing_found(among.alloc);
+    let views = others.as_slice();
+    address_each(among, receivers, routes, views, &mut found)?;
+    let told = if_any(among.alloc, found)?;
+    Ok(told)
+}
+
+/// Appends the deliveries of a response in the account that has asked, where the publisher's account has a living route of the
+/// message's subject. `NoMemory` where memory could not be had: then some may be appended.
+#[inline(never)]
+fn address_on_reply(
+    among: Among<'_>,
+    receivers: &mut Receivers,
+    routes: &Routes,
+) -> Result<Option<Boxed<Told>>, NoMemory>
+    ensures all { OnOk result (receivers.new.deliveries.items ≡ (addressed_after (tables_at among.entry.ready.now among.entry.now among.entry.sessions.now among.entry.subscriptions.now routes.now.exporters) (publication among.entry.sending.publisher.now among.entry.sending.message.now among.entry.sending.word) (addressing receivers.old.deliveries.items []) (others_with [] (responses_on (pruned among.entry.now routes.now.exporters) among.entry.sending.publisher.now.user.account among.entry.sending.message.now.subject) among.entry.sending.publisher.now.user.account among.entry.sending.message.now.subject)).deliveries) }
+    ensures reports { IfOk result (λ told. reports_in told ≡ []) }
+    ensures spent { IfOk result (λ told. routes_after told (pruned among.entry.now routes.now.exporters)
+        ≡ spent among.entry.sending.publisher.now.user.account among.entry.sending.message.now.subject (pruned among.entry.now routes.now.exporters)) }
+    ensures noted { IfOk result (λ told. AreNotedIn among.entry.now told) }
+    ensures cached { receivers.new.cache ≡ receivers.old.cache }
+{
+    let answered = RouteChange::Answered {
+        exporter: among.sending.publisher.user.account.clone()?,
+        message: among.sending.message.again()?,
+    };
+    let subject = among.sending.message.subject();
+    let told = address_answer(among, receivers, routes, &subject, answered)?;
+    Ok(told)
+}
+
+/// Appends the deliveries of a response that is sent on under a subject in the account that has asked, where the publisher's account
+/// has a living route of that subject; then `answered` is what becomes of routes. `NoMemory` where memory could not be had: then
+/// some may be appended.
+fn address_answer(
+    among: Among<'_>,
+    receivers: &mut Receivers,
+    routes: &Routes,
+    subject: &SubjectRef<'_>,
+    answered: RouteChange,
+) -> Result<Option<Boxed<Told>>, NoMemory>
+    requires ends { (all : List (Name × Exporter)) → changed_by answered all ≡ spent among.sending.publisher.now.user.account subject.now all }
+    requires noted { AreNoted among.now answered }
+    ensures all { OnOk result (receivers.new.deliveries.items ≡ (addressed_after (tables_at among.entry.ready.now among.entry.now among.entry.sessions.now among.entry.subscriptions.now routes.now.exporters) (publication among.entry.sending.publisher.now among.entry.sending.message.now among.entry.sending.word) (addressing receivers.old.deliveries.items []) (others_with [] (responses_on (pruned among.entry.now routes.now.exporters) among.entry.sending.publisher.now.user.account subject.now) among.entry.sending.publisher.now.user.account subject.now)).deliveries) }
+    ensures reports { IfOk result (λ told. reports_in told ≡ []) }
+    ensures spent { IfOk result (λ told. routes_after told (pruned among.entry.now routes.now.exporters)
+        ≡ spent among.entry.sending.publisher.now.user.account subject.now (pruned among.entry.now routes.now.exporters)) }
+    ensures noted { IfOk result (λ told. AreNotedIn among.entry.now told) }
+    ensures cached { receivers.new.cache ≡ receivers.old.cache }
+{
+    let exporter = &among.sending.publisher.user.account;
+    match routes.find_living(exporter, subject, among.now) {
+        None => Ok(None),
+        Some(route) => {
+            address_unless_own(among, receivers, route, subject)?;
+            let told = Told {
+                reports: Vec::new(among.alloc),
+                routes: answered,
+            };
+            Ok(Some(Boxed::new(among.alloc, told)?))
+        }
+    }
+}
+
+/// Appends the deliveries of the response on a route in the account that has asked, unless that is the message's own view.
+fn address_unless_own(
+    among: Among<'_>,
+    receivers: &mut Receivers,
+    route: &Route,
+    subject: &SubjectRef<'_>,
+) -> Result<(), NoMemory>
+    ensures all { OnOk result (receivers.new.deliveries.items ≡ (if is_same (At among.entry.sending.publisher.now.user.account subject.now Own) (response_by route.now)
+        then receivers.old.deliveries.items
+        else receivers.old.deliveries.items ++ addressed_behind_in among.entry.sessions.now among.entry.subscriptions.now receivers.old.deliveries.items
+        among.entry.sending.publisher.now (seen_with route.now.reply None among.entry.sending.message.now) among.entry.sending.word route.now.row.importer)) }
+    ensures cached { receivers.new.cache ≡ receivers.old.cache }
+{
+    let exporter = &among.sending.publisher.user.account;
+    if is_own(exporter, subject, route) {
+        return Ok(());
+    }
+    address_in(
+        among,
+        receivers,
+        route.requester(),
+        route.reply(),
+        Said::Nothing,
+    )?;
+    Ok(())
+}
+
+/// Returns whether a response is seen in its publisher's own account, under its own subject.
+fn is_own(account: &Bytes, subject: &SubjectRef<'_>, route: &Route) -> bool
+    ensures { result ≡ is_same (At account.now subject.now Own) (response_by route.now) }
+{
+    *account == *route.requester() && subject.is_like(&route.reply().lend())
+}
+
+/// Returns whether a subject begins with the first byte of the token `_R_`. Most don't.
+pub fn may_be_route(subject: &SubjectRef<'_>) -> bool
+    ensures { result ≡ false → is_route subject.now ≡ false }
+{
+    match subject.bytes().first() {
+        None => false,
+        Some(first) => *first == b'_',
+    }
+}
+
+/// Returns whether a subject begins with the token `_R_`. Apart, so that a message doesn't need its locals.
+#[inline(never)]
+pub fn is_route(subject: &SubjectRef<'_>) -> bool
+    ensures { result ≡ is_route subject.now }
+{
+    if !may_be_route(subject) {
+        return false;
+    }
+    let mut tokens = subject.tokens();
+    match tokens.next_piece() {
+        None => false,
+        Some(token) => token == b"_R_".as_slice(),
+    }
+}
+
+/// Returns whether there is neither a row nor a route: then each message is seen in its publisher's account alone.
+#[inline(always)]
+fn is_own_alone(rows: &Rows, routes: &Routes) -> bool
+    ensures { result ≡ true → ((length rows.now == 0) ≡ true) × (routes.now.exporters ≡ []) }
+{
+    if rows.is_empty() {
+        routes.is_empty()
+    } else {
+        false
+    }
+}
+
+/// Addresses a message in all its views: these are the deliveries of the receivers. Returns what is told between them, and what
+/// becomes of routes. `NoMemory` where memory could not be had.
+#[inline(always)]
+pub fn address_all<'p>(
+    sessions: &'p Sessions,
+    subscriptions: &mut Subscriptions,
+    receivers: &mut Receivers,
+    routes: &mut Routes,
+    publishing: Publishing<'p>,
+) -> Result<Option<Boxed<Told>>, NoMemory>
+    requires publisher { session_of sessions.now publishing.sending.publisher.now.conn ≡ Some publishing.sending.publisher.now }
+    requires cached { IsCurrent (rows_of publishing.ready.now) sessions.now subscriptions.old receivers.old.cache }
+    requires allowed { IfSome publishing.allowed (IsAllowed publishing.sending.publisher.now.user publishing.sending.message.now.subject) }
+    ensures all { OnOk result (receivers.new.deliveries.items ≡ (addressed_after (tables_at publishing.entry.ready.now publishing.entry.now sessions.now subscriptions.old routes.old.exporters) (publication publishing.entry.sending.publisher.now publishing.entry.sending.message.now publishing.entry.sending.word) (addressing [] [])
+        (views publishing.entry.ready.now publishing.entry.sending.publisher.now.user.account publishing.entry.sending.message.now.subject
+        (responses_on (pruned publishing.entry.now routes.old.exporters) publishing.entry.sending.publisher.now.user.account publishing.entry.sending.message.now.subject))).deliveries) }
+    ensures reports { IfOk result (λ told. reports_in told ≡ reports_after (tables_at publishing.entry.ready.now publishing.entry.now sessions.now subscriptions.old routes.old.exporters) (publication publishing.entry.sending.publisher.now publishing.entry.sending.message.now publishing.entry.sending.word) (addressing [] [])
+        (views publishing.entry.ready.now publishing.entry.sending.publisher.now.user.account publishing.entry.sending.message.now.subject
+        (responses_on (pruned publishing.entry.now routes.old.exporters) publishing.entry.sending.publisher.now.user.account publishing.entry.sending.message.now.subject))) }
+    ensures changed { IfOk result (λ told. routes_after told (pruned publishing.entry.now routes.old.exporters)
+        ≡ spent publishing.entry.sending.publisher.now.user.account publishing.entry.sending.message.now.subject
+        (opened_each (addressed_after (tables_at publishing.entry.ready.now publishing.entry.now sessions.now subscriptions.old routes.old.exporters) (publication publishing.entry.sending.publisher.now publishing.entry.sending.message.now publishing.entry.sending.word) (addressing [] [])
+        (views publishing.entry.ready.now publishing.entry.sending.publisher.now.user.account publishing.entry.sending.message.now.subject
+        (responses_on (pruned publishing.entry.now routes.old.exporters) publishing.entry.sending.publisher.now.user.account publishing.entry.sending.message.now.subject))).openings (pruned publishing.entry.now routes.old.exporters))) }
+    ensures noted { IfOk result (λ told. AreNotedIn publishing.entry.now told) }
+    ensures same { subscriptions.new ≡ subscriptions.old }
+    ensures cached { IsCurrent (rows_of publishing.entry.ready.now) sessions.now subscriptions.old receivers.new.cache }
+    ensures routes { routes.new.exporters ≡ routes.old.exporters }
+{
+    let Publishing {
+        ready,
+        sending,
+        now,
+        allowed,
+    } = publishing;
+    subscriptions.known();
+    receivers.address(sessions, subscriptions, ready.rows(), sending, allowed)?;
+    if is_own_alone(ready.rows(), routes) {
+        return Ok(None);
+    }
+    let among = Among {
+        alloc: receivers.allocator(),
+        sessions,
+        subscriptions,
+        ready,
+        sending,
+        now,
+    };
+    let subject = sending.message.subject();
+    if is_route(&subject) {
+        let told = address_on_reply(among, receivers, routes)?;
+        return Ok(told);
+    }
+    if receivers.address_others(sending.message, sending.word)? {
+        return Ok(None);
+    }
+    let told = address_across(among, receivers, routes, &subject)?;
+    Ok(told)
+}
+
+/// Addresses a message that its account's mappings send on under another subject, in all its views. These are the deliveries of the
+/// receivers. Returns what is told between them, and what becomes of routes. `NoMemory` where memory could not be had. Apart, since
+/// few messages are so.
+#[inline(never)]
+pub fn address_under<'p>(
+    sessions: &'p Sessions,
+    subscriptions: &'p Subscriptions,
+    receivers: &mut Receivers,
+    routes: &mut Routes,
+    publishing: Publishing<'p>,
+    subject: &Subject,
+) -> Result<Option<Boxed<Told>>, NoMemory>
+    ensures all { OnOk result (receivers.new.deliveries.items ≡ (addressed_after (tables_at publishing.entry.ready.now publishing.entry.now sessions.now subscriptions.now routes.old.exporters) (publication publishing.entry.sending.publisher.now (under_subject subject.now publishing.entry.sending.message.now) publishing.entry.sending.word) (addressing [] [])
+        (views publishing.entry.ready.now publishing.entry.sending.publisher.now.user.account subject.now
+        (responses_on (pruned publishing.entry.now routes.old.exporters) publishing.entry.sending.publisher.now.user.account subject.now))).deliveries) }
+    ensures reports { IfOk result (λ told. reports_in told ≡ reports_after (tables_at publishing.entry.ready.now publishing.entry.now sessions.now subscriptions.now routes.old.exporters) (publication publishing.entry.sending.publisher.now (under_subject subject.now publishing.entry.sending.message.now) publishing.entry.sending.word) (addressing [] [])
+        (views publishing.entry.ready.now publishing.entry.sending.publisher.now.user.account subject.now
+        (responses_on (pruned publishing.entry.now routes.old.exporters) publishing.entry.sending.publisher.now.user.account subject.now))) }
+    ensures changed { IfOk result (λ told. routes_after told (pruned publishing.entry.now routes.old.exporters)
+        ≡ spent publishing.entry.sending.publisher.now.user.account subject.now
+        (opened_each (addressed_after (tables_at publishing.entry.ready.now publishing.entry.now sessions.now subscriptions.now routes.old.exporters) (publication publishing.entry.sending.publisher.now (under_subject subject.now publishing.entry.sending.message.now) publishing.entry.sending.word) (addressing [] [])
+        (views publishing.entry.ready.now publishing.entry.sending.publisher.now.user.account subject.now
+        (responses_on (pruned publishing.entry.now routes.old.exporters) publishing.entry.sending.publisher.now.user.account subject.now))).openings (pruned publishing.entry.now routes.old.exporters))) }
+    ensures noted { IfOk result (λ told. AreNotedIn publishing.entry.now told) }
+    ensures cached { receivers.new.cache ≡ receivers.old.cache }
+    ensures routes { routes.new.exporters ≡ routes.old.exporters }
+{
+    let Publishing {
+        ready,
+        sending,
+        now,
+        allowed: _,
+    } = publishing;
+    let among = Among {
+        alloc: receivers.allocator(),
+        sessions,
+        subscriptions,
+        ready,
+        sending,
+        now,
+    };
+    receivers.take_back(0);
+    let account = &sending.publisher.user.account;
+    address_in(among, receivers, account, subject, Said::AsPublished)?;
+    if is_own_alone(ready.rows(), routes) {
+        return Ok(None);
+    }
+    let seen = subject.lend();
+    if is_route(&seen) {
+        let told = address_answer_under(among, receivers, routes, subject)?;
+        return Ok(told);
+    }
+    let told = address_across(among, receivers, routes, &seen)?;
+    Ok(told)
+}
+
+/// Appends the deliveries of a response that is sent on under this subject, as `address_answer` does.
+fn address_answer_under(
+    among: Among<'_>,
+    receivers: &mut Receivers,
+    routes: &Routes,
+    subject: &Subject,
+) -> Result<Option<Boxed<Told>>, NoMemory>
+    ensures all { OnOk result (receivers.new.deliveries.items ≡ (addressed_after (tables_at among.entry.ready.now among.entry.now among.entry.sessions.now among.entry.subscriptions.now routes.now.exporters) (publication among.entry.sending.publisher.now among.entry.sending.message.now among.entry.sending.word) (addressing receivers.old.deliveries.items []) (others_with [] (responses_on (pruned among.entry.now routes.now.exporters) among.entry.sending.publisher.now.user.account subject.now) among.entry.sending.publisher.now.user.account subject.now)).deliveries) }
+    ensures reports { IfOk result (λ told. reports_in told ≡ []) }
+    ensures spent { IfOk result (λ told. routes_after told (pruned among.entry.now routes.now.exporters)
+        ≡ spent among.entry.sending.publisher.now.user.account subject.now (pruned among.entry.now routes.now.exporters)) }
+    ensures noted { IfOk result (λ told. AreNotedIn among.entry.now told) }
+    ensures cached { receivers.new.cache ≡ receivers.old.cache }
+{
+    let answered = RouteChange::AnsweredUnder {
+        exporter: among.sending.publisher.user.account.clone()?,
+        subject: subject.copy(among.alloc)?,
+    };
+    let seen = subject.lend();
+    let told = address_answer(among, receivers, routes, &seen, answered)?;
+    Ok(told)
+}

@@ -1,0 +1,152 @@
+//! A request that is seen across an import row of a service, and wants a response.
+ghost use Rattle.std.specs.Prelude.{◌≡◌, ◌++◌, ◌∷◌, [], All, IfOk, OnOk, Some, length, if◌then◌else◌};
+ghost use Rattle.service_subjects.specs.Names.{route_subject};
+ghost use Rattle.world_receivers.specs.Standing.{addressed_behind_in, is_for_nobody};
+ghost use Rattle.world_views.specs.Changing.{IsNotedAt};
+ghost use Rattle.world_views.specs.Viewing.{addressing, opening_for, publication, report, reports_by, request_in, seen_with, tables_at, with_effect};
+ghost use Rattle.world_views.specs.declared.viewing.Cause.TheVariants as cause;
+
+use crate::changing::{Opening, count_of};
+use crate::viewing::{Among, Cause, Found, Report};
+use base::{NoMemory, Shared};
+use bytes::Bytes;
+use events::Said;
+use service_routes::{Route, RouteError, Routes, Row, route_subject};
+use service_rows::terms_of;
+use subjects::{Subject, SubjectRef};
+use world_receivers::{Receivers, Seen};
+
+/// Where a request is seen.
+#[derive(Clone, Copy)]
+pub(crate) struct Request<'a> {
+    /// The exporting account.
+    pub exporter: &'a Bytes,
+    /// The subject that the request has there.
+    pub subject: &'a Subject,
+    /// The import row that it crosses.
+    pub row: &'a Shared<Row>,
+    /// The subject on which the requester waits for the response.
+    pub reply: &'a SubjectRef<'a>,
+}
+
+/// Addresses a request with the subject of a route in place of its reply, and notes that this route is to be opened, if anybody
+/// may be sent the request. `RouteFull` stands in its place where the exporter has as many routes as it may have. `NoMemory` where
+/// memory could not be had: then some may be appended.
+pub(crate) fn address_request(
+    among: Among<'_>,
+    receivers: &mut Receivers,
+    routes: &mut Routes,
+    request: Request<'_>,
+    found: &mut Found,
+) -> Result<(), NoMemory>
+    requires noted { All (IsNotedAt among.now) found.old.openings.items }
+    ensures all { OnOk result (addressing receivers.new.deliveries.items found.new.openings.items
+        ≡ with_effect (tables_at among.entry.ready.now among.entry.now among.entry.sessions.now among.entry.subscriptions.now routes.old.exporters) (publication among.entry.sending.publisher.now among.entry.sending.message.now among.entry.sending.word) (addressing receivers.old.deliveries.items found.old.openings.items) (request_in (tables_at among.entry.ready.now among.entry.now among.entry.sessions.now among.entry.subscriptions.now routes.old.exporters) (publication among.entry.sending.publisher.now among.entry.sending.message.now among.entry.sending.word) (addressing receivers.old.deliveries.items found.old.openings.items)
+        request.entry.exporter.now request.entry.subject.now request.entry.row.now (Some request.entry.reply.now))) }
+    ensures reports { OnOk result (found.new.reports.items ≡ found.old.reports.items ++ reports_by (addressing receivers.old.deliveries.items found.old.openings.items) (request_in (tables_at among.entry.ready.now among.entry.now among.entry.sessions.now among.entry.subscriptions.now routes.old.exporters) (publication among.entry.sending.publisher.now among.entry.sending.message.now among.entry.sending.word) (addressing receivers.old.deliveries.items found.old.openings.items)
+        request.entry.exporter.now request.entry.subject.now request.entry.row.now (Some request.entry.reply.now))) }
+    ensures noted { OnOk result (All (IsNotedAt among.entry.now) found.new.openings.items) }
+    ensures cached { receivers.new.cache ≡ receivers.old.cache }
+    ensures routes { routes.new.exporters ≡ routes.old.exporters }
+{
+    let count = count_of(found.openings.as_slice(), request.exporter) as u64;
+    if count == u64::MAX {
+        return Err(NoMemory);
+    }
+    match routes.reserve(request.exporter, count + 1, among.now) {
+        Ok(next) => {
+            address_on_route(among, receivers, request, next + count, found)?;
+            Ok(())
+        }
+        Err(RouteError::RouteFull) => {
+            report_full(among, receivers, request, found)?;
+            Ok(())
+        }
+        Err(RouteError::NoMemory) => Err(NoMemory),
+    }
+}
+
+/// Addresses a request with the subject of the exporter's route of a number in place of its reply, and notes that the route is to be
+/// opened, if anybody may be sent the request.
+fn address_on_route(
+    among: Among<'_>,
+    receivers: &mut Receivers,
+    request: Request<'_>,
+    number: u64,
+    found: &mut Found,
+) -> Result<(), NoMemory>
+    ensures all { OnOk result (receivers.new.deliveries.items ≡ (if is_for_nobody among.entry.sessions.now among.entry.subscriptions.now receivers.old.deliveries.items among.entry.sending.publisher.now request.entry.exporter.now request.entry.subject.now then receivers.old.deliveries.items
+        else receivers.old.deliveries.items ++ addressed_behind_in among.entry.sessions.now among.entry.subscriptions.now receivers.old.deliveries.items
+        among.entry.sending.publisher.now (seen_with request.entry.subject.now (Some (route_subject among.entry.sending.word number)) among.entry.sending.message.now) among.entry.sending.word request.entry.exporter.now)) }
+    ensures openings { OnOk result (found.new.openings.items ≡ (if is_for_nobody among.entry.sessions.now among.entry.subscriptions.now receivers.old.deliveries.items among.entry.sending.publisher.now request.entry.exporter.now request.entry.subject.now then found.old.openings.items
+        else found.old.openings.items ++ opening_for request.entry.exporter.now among.entry.ready.now request.entry.row.now request.entry.reply.now among.entry.sending.word among.entry.now ∷ [])) }
+    ensures reports { found.new.reports ≡ found.old.reports }
+    ensures cached { receivers.new.cache ≡ receivers.old.cache }
+{
+    let subject = route_subject(among.alloc, among.sending.word, number)?;
+    let seen = Seen {
+        account: request.exporter,
+        subject: request.subject,
+        reply: Said::Other(subject),
+    };
+    if receivers.address_seen(among.sessions, among.subscriptions, among.sending, seen)? {
+        return Ok(());
+    }
+    found.openings.push(opening(among, request)?)?;
+    Ok(())
+}
+
+/// Returns the route of a request, which is to be opened.
+fn opening(among: Among<'_>, request: Request<'_>) -> Result<Opening, NoMemory>
+    ensures { IfOk result (λ opening. opening ≡ opening_for request.entry.exporter.now among.entry.ready.now request.entry.row.now request.entry.reply.now among.entry.sending.word among.entry.now) }
+{
+    let row = request.row.get();
+    let own = Row {
+        importer: row.importer.clone()?,
+        index: row.index,
+    };
+    let terms = terms_of(among.ready.policy().doc(), row);
+    let route = Route::new(
+        among.alloc,
+        among.sending.word,
+        own,
+        request.reply,
+        among.now,
+        terms,
+    )?;
+    Ok(Opening {
+        exporter: request.exporter.clone()?,
+        route,
+    })
+}
+
+/// Reports the row of a request whose exporter has as many routes as it may have, if anybody may be sent the request.
+fn report_full(
+    among: Among<'_>,
+    receivers: &mut Receivers,
+    request: Request<'_>,
+    found: &mut Found,
+) -> Result<(), NoMemory>
+    ensures all { OnOk result (receivers.new.deliveries.items ≡ receivers.old.deliveries.items) }
+    ensures openings { found.new.openings ≡ found.old.openings }
+    ensures reports { OnOk result (found.new.reports.items ≡ (if is_for_nobody among.entry.sessions.now among.entry.subscriptions.now receivers.old.deliveries.items among.entry.sending.publisher.now request.entry.exporter.now request.entry.subject.now then found.old.reports.items
+        else found.old.reports.items ++ report (length receivers.old.deliveries.items) cause.RouteFull request.entry.row.now ∷ [])) }
+    ensures cached { receivers.new.cache ≡ receivers.old.cache }
+{
+    let before = receivers.deliveries().len();
+    let seen = Seen {
+        account: request.exporter,
+        subject: request.subject,
+        reply: Said::AsPublished,
+    };
+    let nobody = receivers.address_seen(among.sessions, among.subscriptions, among.sending, seen)?;
+    receivers.take_back(before);
+    if !nobody {
+        found.reports.push(Report {
+            at: before,
+            cause: Cause::RouteFull,
+            row: request.row.again()?,
+        })?;
+    }
+    Ok(())
+}

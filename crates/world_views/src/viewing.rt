@@ -1,0 +1,238 @@
+//! A message addressed in its views one after the other, and the import rows that are reported between its deliveries.
+ghost use Rattle.std.specs.Prelude.{◌≡◌, ◌++◌, ◌-◌, None, All, IfOk, OnOk, take, drop};
+ghost use Rattle.events.specs.Sendings.{named};
+ghost use Rattle.world_receivers.specs.Standing.{addressed_behind_in};
+ghost use Rattle.world_views.specs.Changing.{IsNotedAt};
+ghost use Rattle.world_views.specs.Viewing.{addressed_after, addressing, effect_of, item_of, publication, reports_after, reports_by, seen_with, tables_at, with_effect, with_reports};
+
+use crate::changing::Opening;
+use crate::request::{Request, address_request};
+use base::{NoMemory, Shared};
+use bytes::Bytes;
+use events::{Item, Said};
+use imports::{ViewItem, Way};
+use policy_ready::Ready;
+use service_routes::{Routes, Row};
+use std::alloc::Global;
+use subjects::Subject;
+use world_receivers::{Receivers, Seen, Sending};
+use world_sessions::Sessions;
+use world_subscriptions::Subscriptions;
+
+/// Why a message isn't seen across an import row.
+#[derive(Clone, Copy, Debug, PartialEq, Eq)]
+pub enum Cause {
+    /// Its subject there would be too long.
+    TooLong,
+    /// It is a request, and the exporter has as many response routes as it may have.
+    RouteFull,
+}
+
+/// An import row across which a message isn't seen.
+#[derive(Drop)]
+pub struct Report {
+    /// How many deliveries are before it.
+    pub at: usize,
+    /// Why it isn't.
+    pub cause: Cause,
+    /// The row.
+    pub row: Shared<Row>,
+}
+
+/// What is found beside deliveries, where a message is addressed in its views.
+#[derive(Drop)]
+pub(crate) struct Found {
+    /// The rows across which it isn't seen.
+    pub reports: Vec<Report>,
+    /// The response routes that are to be opened.
+    pub openings: Vec<Opening>,
+}
+
+/// A message, and the tables in which it is addressed at a moment.
+#[derive(Clone, Copy)]
+pub(crate) struct Among<'a> {
+    pub alloc: Global,
+    pub sessions: &'a Sessions,
+    pub subscriptions: &'a Subscriptions,
+    pub ready: &'a Ready,
+    pub sending: Sending<'a>,
+    pub now: u64,
+}
+
+/// Appends the deliveries of a message in one more view to those of the receivers, and what is found beside them. `NoMemory` where
+/// memory could not be had: then some may be appended.
+fn address_one(
+    among: Among<'_>,
+    receivers: &mut Receivers,
+    routes: &mut Routes,
+    view: &ViewItem,
+    found: &mut Found,
+) -> Result<(), NoMemory>
+    requires noted { All (IsNotedAt among.now) found.old.openings.items }
+    ensures all { OnOk result (addressing receivers.new.deliveries.items found.new.openings.items
+        ≡ with_effect (tables_at among.entry.ready.now among.entry.now among.entry.sessions.now among.entry.subscriptions.now routes.old.exporters) (publication among.entry.sending.publisher.now among.entry.sending.message.now among.entry.sending.word) (addressing receivers.old.deliveries.items found.old.openings.items) (effect_of (tables_at among.entry.ready.now among.entry.now among.entry.sessions.now among.entry.subscriptions.now routes.old.exporters) (publication among.entry.sending.publisher.now among.entry.sending.message.now among.entry.sending.word) (addressing receivers.old.deliveries.items found.old.openings.items) view.now)) }
+    ensures reports { OnOk result (found.new.reports.items ≡ found.old.reports.items ++ reports_by (addressing receivers.old.deliveries.items found.old.openings.items) (effect_of (tables_at among.entry.ready.now among.entry.now among.entry.sessions.now among.entry.subscriptions.now routes.old.exporters) (publication among.entry.sending.publisher.now among.entry.sending.message.now among.entry.sending.word) (addressing receivers.old.deliveries.items found.old.openings.items) view.now)) }
+    ensures noted { OnOk result (All (IsNotedAt among.entry.now) found.new.openings.items) }
+    ensures cached { receivers.new.cache ≡ receivers.old.cache }
+    ensures routes { routes.new.exporters ≡ routes.old.exporters }
+{
+    match view {
+        ViewItem::At {
+            account,
+            subject,
+            way: Way::Own,
+        } => address_in(among, receivers, account, subject, Said::AsPublished),
+        ViewItem::At {
+            account,
+            subject,
+            way: Way::Stream(_),
+        } => address_in(among, receivers, account, subject, Said::AsPublished),
+        ViewItem::At {
+            account,
+            subject,
+            way: Way::Response(_),
+        } => address_in(among, receivers, account, subject, Said::Nothing),
+        ViewItem::At {
+            account,
+            subject,
+            way: Way::Service(row),
+        } => match among.sending.message.reply() {
+            None => address_in(among, receivers, account, subject, Said::AsPublished),
+            Some(reply) => {
+                let request = Request {
+                    exporter: account,
+                    subject,
+                    row,
+                    reply: &reply,
+                };
+                address_request(among, receivers, routes, request, found)?;
+                Ok(())
+            }
+        },
+        ViewItem::TooLong(row) => {
+            let report = Report {
+                at: receivers.deliveries().len(),
+                cause: Cause::TooLong,
+                row: row.again()?,
+            };
+            found.reports.push(report)?;
+            Ok(())
+        }
+    }
+}
+
+/// Appends the deliveries of a message in an account, under a subject and with the reply that is said there.
+pub(crate) fn address_in(
+    among: Among<'_>,
+    receivers: &mut Receivers,
+    account: &Bytes,
+    subject: &Subject,
+    reply: Said,
+) -> Result<(), NoMemory>
+    ensures all { OnOk result (receivers.new.deliveries.items ≡ receivers.old.deliveries.items ++ addressed_behind_in among.entry.sessions.now among.entry.subscriptions.now receivers.old.deliveries.items
+        among.entry.sending.publisher.now (named (record { subject = subject.now; reply = reply }) among.entry.sending.message.now) among.entry.sending.word account.now) }
+    ensures cached { receivers.new.cache ≡ receivers.old.cache }
+{
+    let seen = Seen {
+        account,
+        subject,
+        reply,
+    };
+    receivers.address_seen(among.sessions, among.subscriptions, among.sending, seen)?;
+    Ok(())
+}
+
+/// Appends the deliveries of a message in more views to those of the receivers, and what is found beside them. `NoMemory` where
+/// memory could not be had: then some may be appended.
+pub(crate) fn address_each(
+    among: Among<'_>,
+    receivers: &mut Receivers,
+    routes: &mut Routes,
+    views: &[ViewItem],
+    found: &mut Found,
+) -> Result<(), NoMemory>
+    requires noted { All (IsNotedAt among.now) found.old.openings.items }
+    ensures all { OnOk result (addressing receivers.new.deliveries.items found.new.openings.items
+        ≡ addressed_after (tables_at among.entry.ready.now among.entry.now among.entry.sessions.now among.entry.subscriptions.now routes.old.exporters) (publication among.entry.sending.publisher.now among.entry.sending.message.now among.entry.sending.word) (addressing receivers.old.deliveries.items found.old.openings.items) views.now) }
+    ensures reports { OnOk result (found.new.reports.items ≡ found.old.reports.items ++ reports_after (tables_at among.entry.ready.now among.entry.now among.entry.sessions.now among.entry.subscriptions.now routes.old.exporters) (publication among.entry.sending.publisher.now among.entry.sending.message.now among.entry.sending.word) (addressing receivers.old.deliveries.items found.old.openings.items) views.now) }
+    ensures noted { OnOk result (All (IsNotedAt among.entry.now) found.new.openings.items) }
+    ensures cached { receivers.new.cache ≡ receivers.old.cache }
+    ensures routes { routes.new.exporters ≡ routes.old.exporters }
+{
+    for view in views {
+        address_one(among, receivers, routes, view, found)?;
+    }
+    Ok(())
+}
+
+/// Returns the same item. What it names has one more owner.
+fn item_again(item: &Item) -> Result<Item, NoMemory>
+    ensures { IfOk result (λ same. same ≡ item.now) }
+{
+    match item {
+        Item::Entered { conn, sid } => Ok(Item::Entered {
+            conn: *conn,
+            sid: sid.again()?,
+        }),
+        Item::Full { conn, sid } => Ok(Item::Full {
+            conn: *conn,
+            sid: sid.again()?,
+        }),
+        Item::RouteFull(row) => Ok(Item::RouteFull(row.again()?)),
+        Item::MapTooLong(row) => Ok(Item::MapTooLong(row.again()?)),
+        Item::Unmapped => Ok(Item::Unmapped),
+        Item::MappedTooLong(index) => Ok(Item::MappedTooLong(*index)),
+    }
+}
+
+/// Returns what is told of a row across which a message isn't seen.
+fn reported(report: &Report) -> Result<Item, NoMemory>
+    ensures { IfOk result (λ item. item ≡ item_of report.now.cause report.now.row) }
+{
+    let row = report.row.again()?;
+    match report.cause {
+        Cause::TooLong => Ok(Item::MapTooLong(row)),
+        Cause::RouteFull => Ok(Item::RouteFull(row)),
+    }
+}
+
+/// Appends items.
+fn add_items(items: &[Item], all: &mut Vec<Item>) -> Result<(), NoMemory>
+    ensures { OnOk result (all.new.items ≡ all.old.items ++ items.now) }
+{
+    for item in items {
+        all.push(item_again(item)?)?;
+    }
+    Ok(())
+}
+
+/// Appends the items between two places. What is behind the last item is none.
+fn add_between(items: &[Item], from: usize, to: usize, all: &mut Vec<Item>) -> Result<(), NoMemory>
+    ensures { OnOk result (all.new.items ≡ all.old.items ++ take (to - from) (drop from items.now)) }
+{
+    let end = to.min(items.len());
+    if end <= from {
+        return Ok(());
+    }
+    add_items(&items[from..end], all)?;
+    Ok(())
+}
+
+/// Returns what deliveries met, with the reports in their places between them.
+pub fn with_reports(
+    alloc: Global,
+    items: &[Item],
+    reports: &[Report],
+) -> Result<Vec<Item>, NoMemory>
+    ensures { IfOk result (λ all. all.items ≡ with_reports 0 items.now reports.now) }
+{
+    let mut all = Vec::new(alloc);
+    let mut next = 0;
+    for report in reports {
+        add_between(items, next, report.at, &mut all)?;
+        all.push(reported(report)?)?;
+        next = report.at;
+    }
+    add_between(items, next, items.len(), &mut all)?;
+    Ok(all)
+}
