@@ -22,7 +22,11 @@ fn told_of(outcome: &Outcome) -> Told {
     match items.first() {
         None => Told::Nobody,
         Some(Item::MappedTooLong(index)) => {
-            if items.len() == 1 { Told::TooLong(*index) } else { Told::Other }
+            if items.len() == 1 {
+                Told::TooLong(*index)
+            } else {
+                Told::Other
+            }
         }
         Some(_) => Told::Other,
     }
@@ -30,7 +34,8 @@ fn told_of(outcome: &Outcome) -> Told {
 
 /// A policy whose mapping gives each subject one token more. It has no clause, so that the prover knows nothing of its text.
 fn longer(alloc: Global) -> Option<Ready> {
-    let text = "{\"version\":2,\"accounts\":{\"A\":{\"users\":[{\"user\":\"demo\",\"password\":\"demo\"}],\"mappings\":{\">\":\"p.>\"}}}}";
+    let text =
+        "{\"version\":2,\"accounts\":{\"A\":{\"users\":[{\"user\":\"demo\",\"password\":\"demo\"}],\"mappings\":{\">\":\"p.>\"}}}}";
     prepare(alloc, text.as_bytes()).ok()
 }
 
