@@ -1,6 +1,6 @@
 -- A delivery is judged by the marks alone.
-use Rattle.std.proofs.Common.{◌≡◌, ◌∙◌, ◌&&◌, ◌||◌, if◌then◌else◌, ◌+◌, ◌<◌, ◌∷◌, ◌++◌, ℕ, suc, zero, Bool, true, false, cond, not, IsTrue, List, [], length, Option, Some, None, nat_lt, position, nat_le, refl, sym, ap, arith}
-use Rattle.std.specs.List.{enumerate_from, flat_map, find, list_any, position_or_len, slice_get}
+use Rattle.std.proofs.Common.{◌≡◌, ◌∙◌, ◌&&◌, ◌+◌, ◌∷◌, ◌++◌, ℕ, suc, zero, Bool, true, false, cond, not, List, [], length, Option, Some, None, nat_lt, position, nat_le, refl, sym, ap, arith}
+use Rattle.std.specs.List.{find, position_or_len, slice_get}
 use Rattle.std.specs.Option.{option_map}
 use Rattle.std.proofs.lemmas.Bool.Decides.{nat_tests}
 use Rattle.subjects.specs.Subject.{Token, in_set, overlaps}
@@ -9,9 +9,9 @@ use Rattle.permissions.specs.Lists.{Entry, Lists, Queue, is_for}
 use Rattle.permissions.specs.Verdicts.{unless_denied, delivery_verdict, is_allowed}
 use Rattle.permissions.specs.declared.verdict.By.TheVariants.{All as AllowsAll}
 use Rattle.permissions.specs.declared.verdict.Verdict.TheVariants.{Allowed}
-use Rattle.deny_marks.specs.Marks.{is_marked, index_if, marks_from, marks_of, has_subject, has_at, verdict_by, JudgedByMarks, AreFor, lets_through}
+use Rattle.deny_marks.specs.Marks.{is_marked, index_if, marks_from, marks_of, has_subject, has_at, verdict_by, JudgedByMarks, AreFor, kept, with_index, lets_through, is_short, admits_by}
 use Rattle.deny_marks.specs.declared.marks.Marks.{Marks}
-use Rattle.deny_marks.specs.declared.marks.Marks.TheVariants.{Few, Many}
+use Rattle.deny_marks.specs.declared.marks.Marks.TheVariants.{Unmarked, One, Several}
 
 -- ---- the first index
 
@@ -89,27 +89,45 @@ judged_by_marks lists pattern s queue within =
 
 -- ---- as they are kept
 
-any_denies : (deny : List Entry) (s : List Token) (marks : List ℕ) → not (list_any (has_at deny s) marks) ≡ is_allowed (unless_denied (find (has_at deny s) marks) (Allowed AllowsAll))
-any_denies deny s [] = refl
-any_denies deny s (i ∷ marks) = by (has_at deny s i) (any_denies deny s marks)
+-- one that is marked is kept with the others
+abbrev pub kept_with : Marks → List ℕ → Marks
+kept_with Unmarked more = kept more
+kept_with (One i) [] = One i
+kept_with (One i) (j ∷ more) = Several
+kept_with Several more = Several
+
+pub one_more : (marks : Marks) (b : Bool) (i : ℕ) (rest : List ℕ) → kept_with (with_index marks b i) rest ≡ kept_with marks (index_if b i ++ rest)
+one_more marks false i rest = refl
+one_more Unmarked true i [] = refl
+one_more Unmarked true i (j ∷ rest) = refl
+one_more (One j) true i rest = refl
+one_more Several true i rest = refl
+
+-- a delivery is allowed that the entry of what is kept doesn't have
+one_judges : (deny : List Entry) (s : List Token) (i : ℕ) → not (has_at deny s i) ≡ is_allowed (unless_denied (find (has_at deny s) (i ∷ [])) (Allowed AllowsAll))
+one_judges deny s i = by (has_at deny s i)
   where
-    by : (b : Bool) → not (list_any (has_at deny s) marks) ≡ is_allowed (unless_denied (find (has_at deny s) marks) (Allowed AllowsAll))
-        → not (b || list_any (has_at deny s) marks) ≡ is_allowed (unless_denied (cond b (Some i) (find (has_at deny s) marks)) (Allowed AllowsAll))
-    by true rest = refl
-    by false rest = rest
+    by : (b : Bool) → not b ≡ is_allowed (unless_denied (let o : Option ℕ = cond b (Some i) None in o) (Allowed AllowsAll))
+    by true = refl
+    by false = refl
 
-few_of : (marks all : List ℕ) (b : Bool) → Few marks ≡ (if b then Few all else Many) → marks ≡ all
-few_of marks all true same = cc
-few_of marks all false same = absurd (cc)
+kept_judge : (lists : Lists) (s : List Token) (queue : Queue) (marks : List ℕ) → delivery_verdict lists s queue ≡ verdict_by marks lists s → lets_through (kept marks) lists s queue ≡ is_allowed (delivery_verdict lists s queue)
+kept_judge lists s queue [] is = ap is_allowed (sym is)
+kept_judge lists s queue (i ∷ []) is = one_judges lists.subscribe.deny s i ∙ ap is_allowed (sym is)
+kept_judge lists s queue (i ∷ j ∷ marks) is = refl
 
--- where a few are kept, a delivery is allowed that the entry of none of them has
-few_judge : (lists : Lists) (s : List Token) (queue : Queue) (marks : List ℕ) → AreFor lists s queue (Few marks) → not (list_any (has_at lists.subscribe.deny s) marks) ≡ is_allowed (delivery_verdict lists s queue)
-few_judge lists s queue marks are =
-    let all = marks_of lists are.0 queue in
-    any_denies lists.subscribe.deny s marks
-    ∙ ap (λ ms. is_allowed (verdict_by ms lists s)) (few_of marks all (nat_le (length all) 1) are.2)
-    ∙ ap is_allowed (sym (judged_by_marks lists are.0 s queue are.1))
+pub marks_judge : (lists : Lists) (s : List Token) (queue : Queue) (marks : Marks) → AreFor lists s queue marks → admits_by marks lists s queue ≡ is_allowed (delivery_verdict lists s queue)
+marks_judge lists s queue marks are = by (is_short lists) are.2
+  where
+    by : (b : Bool) → marks ≡ cond b (kept (marks_of lists are.0 queue)) Unmarked → cond b (lets_through marks lists s queue) (is_allowed (delivery_verdict lists s queue)) ≡ is_allowed (delivery_verdict lists s queue)
+    by true same = ap (λ (m : Marks). lets_through m lists s queue) same ∙ kept_judge lists s queue (marks_of lists are.0 queue) (judged_by_marks lists are.0 s queue are.1)
+    by false same = refl
 
-pub marks_judge : (lists : Lists) (s : List Token) (queue : Queue) (marks : Marks) → AreFor lists s queue marks → lets_through marks lists s queue ≡ is_allowed (delivery_verdict lists s queue)
-marks_judge lists s queue (Few marks) are = few_judge lists s queue marks are
-marks_judge lists s queue Many are = refl
+-- where there is no deny entry, any marks let a message through
+pub none_denied : (marks : Marks) (lists : Lists) (s : List Token) (queue : Queue) → lists.subscribe.deny ≡ [] → admits_by marks lists s queue ≡ true
+none_denied marks lists s queue none = ap (λ b. cond b (lets_through marks lists s queue) (is_allowed (delivery_verdict lists s queue))) (ap (λ (entries : List Entry). nat_le (length entries) 8) none) ∙ by marks
+  where
+    by : (marks : Marks) → lets_through marks lists s queue ≡ true
+    by Unmarked = refl
+    by (One i) = ap (λ (entries : List Entry). not (has_at entries s i)) none
+    by Several = ap (λ (entries : List Entry). is_allowed (unless_denied (position (λ (e : Entry). is_for queue e && in_set e.subject s) entries) (Allowed AllowsAll))) none

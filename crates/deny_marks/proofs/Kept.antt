@@ -4,7 +4,7 @@ use Rattle.std.specs.Map.{lookup}
 use Rattle.std.proofs.lemmas.Bool.{eqb-true}
 use Rattle.deny_marks.specs.Table.{marks_at}
 use Rattle.deny_marks.specs.declared.marks.Marks.{Marks}
-use Rattle.deny_marks.specs.declared.marks.Marks.TheVariants.{Few}
+use Rattle.deny_marks.specs.declared.marks.Marks.TheVariants.{Unmarked}
 
 found_kept : (stands : ℕ → Bool) (id : ℕ) (es : List (ℕ × Marks)) → stands id ≡ true → lookup (nat_eq id) (filter (λ (e : ℕ × Marks). stands e.0) es) ≡ lookup (nat_eq id) es
 found_kept stands id [] is = refl
@@ -21,4 +21,4 @@ found_kept stands id (e ∷ es) is = by (nat_eq id e.0) (stands e.0) refl refl (
     by false false own stood rest = rest
 
 pub marks_kept : (stands : ℕ → Bool) (id : ℕ) (es kept : List (ℕ × Marks)) → kept ≡ filter (λ (e : ℕ × Marks). stands e.0) es → stands id ≡ true → marks_at kept id ≡ marks_at es id
-marks_kept stands id es kept same is = ap (λ all. marks_at all id) same ∙ ap (λ o. unwrap_or o (Few [])) (found_kept stands id es is)
+marks_kept stands id es kept same is = ap (λ all. marks_at all id) same ∙ ap (λ o. unwrap_or o Unmarked) (found_kept stands id es is)

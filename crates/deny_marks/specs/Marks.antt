@@ -1,6 +1,6 @@
 -- Deny marks: which deny entries of its user's may refuse a subscription a message (docs/POLICY.md, "Delivery").
-use Rattle.std.specs.Prelude.{◌≡◌, ◌&&◌, ◌==◌, ◌∷◌, ℕ, Bool, true, false, IsTrue, List, [], Option, Some, None, if◌then◌else◌, find, not, length, nat_le, slice_get}
-use Rattle.std.specs.List.{enumerate_from, flat_map, list_any}
+use Rattle.std.specs.Prelude.{◌≡◌, ◌&&◌, ◌∷◌, ℕ, Bool, true, false, IsTrue, List, [], Option, Some, None, if◌then◌else◌, find, not, length, nat_le, slice_get}
+use Rattle.std.specs.List.{enumerate_from, flat_map}
 use Rattle.subjects.specs.Subject.{Token, in_set, overlaps}
 use Rattle.permissions.specs.Lists.{Entry, Lists, Queue, is_for}
 use Rattle.permissions.specs.Verdicts.{unless_denied, delivery_verdict, is_allowed}
@@ -8,7 +8,7 @@ use Rattle.permissions.specs.declared.verdict.By.TheVariants.{All as AllowsAll}
 use Rattle.permissions.specs.declared.verdict.Verdict.{Verdict}
 use Rattle.permissions.specs.declared.verdict.Verdict.TheVariants.{Allowed}
 use Rattle.deny_marks.specs.declared.marks.Marks.{Marks}
-use Rattle.deny_marks.specs.declared.marks.Marks.TheVariants.{Few, Many}
+use Rattle.deny_marks.specs.declared.marks.Marks.TheVariants.{Unmarked, One, Several}
 
 -- an entry is marked that is for the subscription, and has a subject of its pattern
 abbrev pub is_marked : List Token → Queue → Entry → Bool
@@ -52,17 +52,36 @@ JudgedByMarks = (lists : Lists) (pattern s : List Token) (queue : Queue) → IsT
 
 -- one is kept; where there are more, the lists are asked
 abbrev pub kept : List ℕ → Marks
-kept marks = if nat_le (length marks) 1 then Few marks else Many
+kept [] = Unmarked
+kept (i ∷ []) = One i
+kept (i ∷ j ∷ more) = Several
 
-abbrev pub is_none : Marks → Bool
-is_none (Few marks) = length marks == 0
-is_none Many = false
+-- and so where one more is found
+abbrev pub with_index : Marks → Bool → ℕ → Marks
+with_index marks false i = marks
+with_index Unmarked true i = One i
+with_index (One j) true i = Several
+with_index Several true i = Several
 
 -- whether marks let a message through to a subscription with this queue, or with none, whose user has these lists
 abbrev pub lets_through : Marks → Lists → List Token → Queue → Bool
-lets_through (Few marks) lists s queue = not (list_any (has_at lists.subscribe.deny s) marks)
-lets_through Many lists s queue = is_allowed (delivery_verdict lists s queue)
+lets_through Unmarked lists s queue = true
+lets_through (One i) lists s queue = not (has_at lists.subscribe.deny s i)
+lets_through Several lists s queue = is_allowed (delivery_verdict lists s queue)
+
+-- ---- where they are kept
+
+-- for a user who has few deny entries
+abbrev pub is_short : Lists → Bool
+is_short lists = nat_le (length lists.subscribe.deny) 8
+
+abbrev pub marks_for : Lists → List Token → Queue → Marks
+marks_for lists pattern queue = if is_short lists then kept (marks_of lists pattern queue) else Unmarked
+
+-- and with more the lists are asked
+abbrev pub admits_by : Marks → Lists → List Token → Queue → Bool
+admits_by marks lists s queue = if is_short lists then lets_through marks lists s queue else is_allowed (delivery_verdict lists s queue)
 
 -- these are the marks of a subscription with this queue, or with none, that has the subject
 abbrev pub AreFor : Lists → List Token → Queue → Marks → Type 0
-AreFor lists s queue marks = (pattern : List Token) × IsTrue (in_set pattern s) × (marks ≡ kept (marks_of lists pattern queue))
+AreFor lists s queue marks = (pattern : List Token) × IsTrue (in_set pattern s) × (marks ≡ marks_for lists pattern queue)

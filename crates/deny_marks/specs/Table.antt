@@ -1,16 +1,16 @@
 -- The marks of subscriptions, by their ids.
-use Rattle.std.specs.Prelude.{◌≡◌, ℕ, List, [], nat_eq, unwrap_or}
+use Rattle.std.specs.Prelude.{◌≡◌, ℕ, List, nat_eq, unwrap_or}
 use Rattle.std.specs.Map.{lookup}
 use Rattle.subjects.specs.Subject.{Token}
 use Rattle.permissions.specs.Lists.{Lists, Queue}
-use Rattle.deny_marks.specs.Marks.{kept, marks_of}
+use Rattle.deny_marks.specs.Marks.{marks_for}
 use Rattle.deny_marks.specs.declared.marks.Marks.{Marks}
-use Rattle.deny_marks.specs.declared.marks.Marks.TheVariants.{Few}
+use Rattle.deny_marks.specs.declared.marks.Marks.TheVariants.{Unmarked}
 
 -- what stands under an id, or no mark
 abbrev pub marks_at : List (ℕ × Marks) → ℕ → Marks
-marks_at table id = unwrap_or (lookup (nat_eq id) table) (Few [])
+marks_at table id = unwrap_or (lookup (nat_eq id) table) Unmarked
 
 -- the marks of the subscription of an id stand there: it is to a pattern, with a queue or without one, and its user has these lists
 abbrev pub IsMarked : List (ℕ × Marks) → ℕ → Lists → List Token → Queue → Type 0
-IsMarked table id lists pattern queue = marks_at table id ≡ kept (marks_of lists pattern queue)
+IsMarked table id lists pattern queue = marks_at table id ≡ marks_for lists pattern queue

@@ -1,28 +1,28 @@
-ghost use Rattle.std.specs.Prelude.{◌≡◌, ◌++◌, IfOk, OnOk};
-ghost use Rattle.std.specs.List.{list_any};
-ghost use Rattle.deny_marks.specs.Marks.{has_at, index_if, is_marked, kept, marks_in};
+ghost use Rattle.std.specs.Prelude.{◌≡◌};
+ghost use Rattle.deny_marks.specs.Marks.{has_at, is_marked, kept, marks_in};
 
-use base::{Items, NoMemory};
 use permission_doc::PermEntry;
 use permissions::{Compiled, is_for};
-use std::alloc::Global;
 use subjects::{Pattern, Subject, SubjectRef};
 
-/// How many entries are tested one by one. To test more takes longer than a search in the lists.
-const FEW: usize = 1;
+/// How many deny entries a user may have for its subscriptions to be marked. To look through more at each SUB takes longer than
+/// the searches in the lists that it saves.
+pub(crate) const SHORT: usize = 8;
 
-/// Which deny entries of its user's may refuse a subscription a message. Deliveries don't go by them yet.
-#[derive(Drop)]
+/// Which deny entries of its user's may refuse a subscription a message.
+#[derive(Clone, Copy, Debug)]
 pub enum Marks {
-    /// Those of these indexes, which rise.
-    Few(Items<usize>),
-    /// So many that the lists are asked.
-    Many,
+    /// None.
+    Unmarked,
+    /// The one of this index.
+    One(usize),
+    /// More than one. The lists are asked: to test two entries takes longer than a search.
+    Several,
 }
 
 /// Returns the deny entries for subscriptions.
 #[inline(always)]
-fn deny_of(rules: &Compiled) -> &[PermEntry]
+pub(crate) fn deny_of(rules: &Compiled) -> &[PermEntry]
     ensures { result.now ≡ rules.now.subscribe.deny }
 {
     match rules.permissions() {
@@ -38,47 +38,15 @@ fn is_marked(entry: &PermEntry, pattern: &Pattern, queue: &Option<Subject>) -> b
     is_for(entry, queue.as_ref()) && entry.subject.overlaps(pattern)
 }
 
-/// Adds the index of an entry, if that is marked.
-fn add_if_marked(
-    marks: &mut Vec<usize>,
-    index: usize,
-    entry: &PermEntry,
-    pattern: &Pattern,
-    queue: &Option<Subject>,
-) -> Result<(), NoMemory>
-    ensures { OnOk result (marks.new.items ≡ marks.old.items ++ index_if (is_marked pattern.now queue.now entry.now) index) }
+/// Returns the marks of a subscription among some entries.
+fn marks_in(entries: &[PermEntry], pattern: &Pattern, queue: &Option<Subject>) -> Marks
+    ensures { result ≡ kept (marks_in (is_marked pattern.now queue.now) entries.now) }
 {
-    if is_marked(entry, pattern, queue) {
-        marks.push(index)?;
-    }
-    Ok(())
-}
-
-/// Returns the indexes of the entries that are marked. Where there are none, it takes no memory.
-fn marks_in(
-    alloc: Global,
-    entries: &[PermEntry],
-    pattern: &Pattern,
-    queue: &Option<Subject>,
-) -> Result<Vec<usize>, NoMemory>
-    ensures { IfOk result (λ marks. marks.items ≡ marks_in (is_marked pattern.now queue.now) entries.now) }
-{
-    let mut marks = Vec::new(alloc);
+    let mut marks = Marks::Unmarked;
     for (index, entry) in entries.iter().enumerate() {
-        add_if_marked(&mut marks, index, entry, pattern, queue)?;
+        marks = marks.with_if(is_marked(entry, pattern, queue), index);
     }
-    Ok(marks)
-}
-
-/// Returns marks as they are kept.
-fn keep_few(marks: Vec<usize>) -> Marks
-    ensures { result ≡ kept marks.items }
-{
-    if marks.len() <= FEW {
-        Marks::Few(Items::from_vec(marks))
-    } else {
-        Marks::Many
-    }
+    marks
 }
 
 /// Returns whether the entry of an index has a subject.
@@ -92,79 +60,51 @@ fn has_at(entries: &[PermEntry], index: usize, subject: &SubjectRef<'_>) -> bool
     }
 }
 
-/// Returns whether the entry of one of these indexes has a subject.
-fn has_any(entries: &[PermEntry], indexes: &[usize], subject: &SubjectRef<'_>) -> bool
-    ensures { result ≡ list_any (has_at entries.now subject.now) indexes.now }
-{
-    for index in indexes {
-        if has_at(entries, *index, subject) {
-            return true;
-        }
-    }
-    false
-}
-
 impl Marks {
-    ghost use Rattle.std.specs.Prelude.{◌≡◌, ◌==◌, [], IfOk};
-    ghost use Rattle.permissions.specs.Verdicts.{delivery_verdict, is_allowed};
-    ghost use Rattle.deny_marks.specs.Marks.{kept, marks_of, lets_through, AreFor, is_none};
-    ghost use Rattle.deny_marks.specs.declared.marks.Marks.TheVariants.{Few};
+    ghost use Rattle.std.specs.Prelude.{◌≡◌};
+    ghost use Rattle.deny_marks.specs.Marks.{marks_for, lets_through, with_index};
 
-    /// Returns no marks. It takes no memory.
-    pub fn none(alloc: Global) -> Marks
-        ensures { result ≡ Few [] }
+    /// Returns the marks of a subscription to a pattern, with a queue or without one, whose user has these rules. If the user has
+    /// more than 8 deny entries, there are none.
+    pub fn of(rules: &Compiled, pattern: &Pattern, queue: &Option<Subject>) -> Marks
+        ensures { result ≡ marks_for rules.now pattern.now queue.now }
     {
-        Marks::Few(Items::new(alloc))
+        let deny = deny_of(rules);
+        if deny.len() > SHORT {
+            return Marks::Unmarked;
+        }
+        marks_in(deny, pattern, queue)
     }
 
-    /// Returns the marks of a subscription to a pattern, with a queue or without one, whose user has these rules. `NoMemory`
-    /// where memory could not be had.
-    pub fn of(
-        alloc: Global,
-        rules: &Compiled,
-        pattern: &Pattern,
-        queue: &Option<Subject>,
-    ) -> Result<Marks, NoMemory>
-        ensures { IfOk result (λ marks. marks ≡ kept (marks_of rules.now pattern.now queue.now)) }
+    /// Returns these marks, with one more entry if that is marked.
+    #[inline(always)]
+    fn with_if(self, is_marked: bool, index: usize) -> Marks
+        ensures { result ≡ with_index self is_marked index }
     {
-        let marks = marks_in(alloc, deny_of(rules), pattern, queue)?;
-        Ok(keep_few(marks))
-    }
-
-    /// Returns whether no deny entry may refuse it a message.
-    pub fn is_none(&self) -> bool
-        ensures { result ≡ is_none self.now }
-    {
+        if !is_marked {
+            return self;
+        }
         match self {
-            Marks::Few(indexes) => indexes.is_empty(),
-            Marks::Many => false,
+            Marks::Unmarked => Marks::One(index),
+            Marks::One(_) => Marks::Several,
+            Marks::Several => Marks::Several,
         }
     }
 
-    /// Returns whether these marks let a message through to a subscription. If they are its marks and it has the subject, it is
-    /// what `Compiled::admits` decides.
-    #[tactic(auto, using(crate::proofs::Judged::marks_judge))]
-    pub fn admit(&self, rules: &Compiled, subject: &SubjectRef<'_>, queue: &Option<Subject>) -> bool
-        ensures marks { result ≡ lets_through self.now rules.now subject.now queue.now }
-        ensures lists { AreFor rules.now subject.now queue.now self.now → result ≡ is_allowed (delivery_verdict rules.now subject.now queue.now) }
-    {
-        let lets = self.let_through(rules, subject, queue);
-        lets
-    }
-
-    /// The same, by the marks alone.
+    /// Returns whether these marks let a message through to a subscription.
     #[inline(always)]
-    fn let_through(
-        &self,
+    pub(crate) fn let_through(
+        self,
         rules: &Compiled,
         subject: &SubjectRef<'_>,
         queue: &Option<Subject>,
     ) -> bool
-        ensures { result ≡ lets_through self.now rules.now subject.now queue.now }
+        ensures { result ≡ lets_through self rules.now subject.now queue.now }
     {
         match self {
-            Marks::Few(indexes) => !has_any(deny_of(rules), indexes.as_slice(), subject),
-            Marks::Many => rules.admits(subject, queue.as_ref()).is_allowed(),
+            Marks::Unmarked => true,
+            Marks::One(index) => !has_at(deny_of(rules), index, subject),
+            Marks::Several => rules.admits(subject, queue.as_ref()).is_allowed(),
         }
     }
 }

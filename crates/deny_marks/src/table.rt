@@ -1,4 +1,5 @@
 use crate::Marks;
+use crate::marks::{SHORT, deny_of};
 use base::NoMemory;
 use indexmap::IndexMap;
 use permissions::Compiled;
@@ -49,7 +50,7 @@ fn keep_standing<S: Stands>(by_id: &mut IndexMap<u64, Marks>, standing: &S)
 impl DenyMarks {
     ghost use Rattle.std.specs.Prelude.{◌≡◌, ◌==◌, ℕ, [], true, OnOk, OnErr, if◌then◌else◌};
     ghost use Rattle.permissions.specs.Verdicts.{delivery_verdict, is_allowed};
-    ghost use Rattle.deny_marks.specs.Marks.{lets_through, AreFor};
+    ghost use Rattle.deny_marks.specs.Marks.{admits_by, AreFor};
     ghost use Rattle.deny_marks.specs.Table.{marks_at};
 
     /// Returns a table without marks. It takes no memory.
@@ -61,7 +62,18 @@ impl DenyMarks {
         }
     }
 
-    /// Returns whether the marks of a subscription let a message through to it. If they are its marks and it has the subject, it is
+    /// Returns the marks of a subscription.
+    #[inline(always)]
+    pub fn at(&self, id: u64) -> Marks
+        ensures { result ≡ marks_at self.now id }
+    {
+        match self.by_id.get(&id) {
+            None => Marks::Unmarked,
+            Some(marks) => *marks,
+        }
+    }
+
+    /// Returns whether a message is let through to a subscription, by its marks. If they are its marks and it has the subject, it is
     /// what `Compiled::admits` decides.
     #[inline(always)]
     #[tactic(auto, using(crate::proofs::Judged::marks_judge))]
@@ -72,14 +84,14 @@ impl DenyMarks {
         subject: &SubjectRef<'_>,
         queue: &Option<Subject>,
     ) -> bool
-        ensures marks { result ≡ lets_through (marks_at self.now id) rules.now subject.now queue.now }
+        ensures marks { result ≡ admits_by (marks_at self.now id) rules.now subject.now queue.now }
         ensures lists { AreFor rules.now subject.now queue.now (marks_at self.now id) → result ≡ is_allowed (delivery_verdict rules.now subject.now queue.now) }
     {
         let lets = self.let_through(id, rules, subject, queue);
         lets
     }
 
-    /// The same, by the marks alone.
+    /// The same, by the marks alone. Nobody is looked up for a user who is denied nothing.
     #[inline(always)]
     fn let_through(
         &self,
@@ -88,12 +100,16 @@ impl DenyMarks {
         subject: &SubjectRef<'_>,
         queue: &Option<Subject>,
     ) -> bool
-        ensures { result ≡ lets_through (marks_at self.now id) rules.now subject.now queue.now }
+        ensures { result ≡ admits_by (marks_at self.now id) rules.now subject.now queue.now }
     {
-        match self.by_id.get(&id) {
-            None => true,
-            Some(marks) => marks.admit(rules, subject, queue),
+        let deny = deny_of(rules);
+        if deny.is_empty() {
+            return true;
         }
+        if deny.len() > SHORT {
+            return rules.admits(subject, queue.as_ref()).is_allowed();
+        }
+        self.at(id).let_through(rules, subject, queue)
     }
 
     /// Puts the marks of a subscription in the place of what stands under its id. Where memory could not be had, nothing has
@@ -102,7 +118,7 @@ impl DenyMarks {
         ensures ok { OnOk result ((other : ℕ) → marks_at self.new other ≡ (if id == other then marks else marks_at self.old other)) }
         ensures err { OnErr result (self.new ≡ self.old) }
     {
-        if marks.is_none() {
+        if matches!(marks, Marks::Unmarked) {
             self.by_id.swap_remove(&id);
             return Ok(());
         }

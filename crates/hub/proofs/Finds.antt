@@ -1,4 +1,4 @@
--- The first element that passes a test, in a filtered list or a mapped one.
+-- The first element that passes a test, in a filtered list.
 use Rattle.std.proofs.Common.{◌≡◌, ◌∙◌, suc, ◌<◌, ◌||◌, Bool, true, false, cond, List, [], ◌∷◌, map, filter, length, Some, None, ap, refl, subst, arith}
 use Rattle.std.specs.Prelude.{find, All, AllPairs}
 use Rattle.std.specs.List.{list_any}
@@ -7,6 +7,7 @@ use Rattle.std.proofs.lemmas.List.{get_or-map, length-map}
 use Rattle.std.proofs.lemmas.List.Elements.{All-head, All-tail, All-cons, All-nil}
 pub use Rattle.receiver_cache.proofs.Tests.{find-passes}
 pub use Rattle.world_routing.proofs.Remembered.{find-All}
+pub use Rattle.world_marks.proofs.Finds.{find-map, find-nothing, AllPairs-head, AllPairs-tail}
 
 pub find-none : {X : Type 0} (t : X → Bool) (xs : List X) → find t xs ≡ None → All (λ x. t x ≡ false) xs
 find-none t [] e = All-nil (λ x. t x ≡ false)
@@ -36,30 +37,8 @@ find-filter t p (x ∷ xs) kept = here (p x) (t x) refl refl (find-filter t p xs
     here false true h k later = let q : p x ≡ true = kept x k in absurd (cc)
     here false false h k later = later
 
--- a map that the test doesn't see
-pub find-map : {X : Type 0} (t : X → Bool) (f : X → X) (xs : List X) → ((x : X) → t (f x) ≡ t x) → find t (map f xs) ≡ option_map f (find t xs)
-find-map t f [] same = refl
-find-map t f (x ∷ xs) same = ap (λ b. cond b (Some (f x)) (find t (map f xs))) (same x) ∙ here (t x) (find-map t f xs same)
-  where
-    here : (b : Bool) → find t (map f xs) ≡ option_map f (find t xs) → cond b (Some (f x)) (find t (map f xs)) ≡ option_map f (cond b (Some x) (find t xs))
-    here true later = refl
-    here false later = later
-
--- what holds of all pairs holds of the first and each other one
-pub AllPairs-head : {X : Type 0} (R : X → X → Type 0) (x : X) (xs : List X) → AllPairs R (x ∷ xs) → All (R x) xs
-AllPairs-head R x xs all k d h = all 0 (suc k) d (omega arith) (omega arith)
-
-pub AllPairs-tail : {X : Type 0} (R : X → X → Type 0) (x : X) (xs : List X) → AllPairs R (x ∷ xs) → AllPairs R xs
-AllPairs-tail R x xs all i j d h k = all (suc i) (suc j) d (omega arith) (omega arith)
-
 -- a map that the relation doesn't see
 pub AllPairs-map : {X : Type 0} (R : X → X → Type 0) (f : X → X) (xs : List X) → ((x y : X) → R x y → R (f x) (f y)) → AllPairs R xs → AllPairs R (map f xs)
 AllPairs-map R f xs kept all i j d h k =
     let lj : j < length xs = omega (arith, length-map xs f) in
     rw (get_or-map f xs i d d (omega arith), get_or-map f xs j d d lj) (kept _ _ (all i j d h lj))
-
--- where each element fails the test, it finds nothing
-pub find-nothing : {X : Type 0} (t : X → Bool) (xs : List X) → All (λ x. t x ≡ false) xs → find t xs ≡ None
-find-nothing t [] none = refl
-find-nothing t (x ∷ xs) none =
-    ap (λ b. cond b (Some x) (find t xs)) (All-head (λ y. t y ≡ false) x xs none) ∙ find-nothing t xs (All-tail (λ y. t y ≡ false) x xs none)

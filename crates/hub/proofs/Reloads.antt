@@ -33,6 +33,8 @@ use Rattle.hub.specs.InForce.{goes_on_for, goes_on, under, removal_for, IsInForc
 use Rattle.hub.proofs.Finds.{find-map, find-passes, find-All, find-nothing, AllPairs-head, AllPairs-tail, AllPairs-map}
 use Rattle.policy_ready.proofs.Names.{name_of, are_named_once, unlike}
 use Rattle.hub.proofs.Naming.{named_again}
+use Rattle.world_sessions.proofs.Remaining.{with_user-conn}
+use Rattle.world_marks.proofs.Staying.{passing, session_of-filter, session_of-remaining}
 use Rattle.world_sessions.proofs.Ascending.{AreApart, among-ascending, ascending-rises}
 use Rattle.hub.proofs.Grants.{kept_judged}
 use Rattle.hub.proofs.Routes.{routed-kept, routed-pruned}
@@ -103,10 +105,6 @@ stay-same now doc (z ∷ zs) valid =
     by_name None e later = later
     by_name (Some u) e later = by_login u e (pointwise nat_eq u.password z.user.password && pointwise nat_eq u.account z.user.account) refl later
 
-with_user-conn : (now : ℕ) (z : Session) (o : Option User) → (with_user now z o).conn ≡ z.conn
-with_user-conn now z None = refl
-with_user-conn now z (Some u) = refl
-
 with_user-bound : (now : ℕ) (capacity : ℕ) (z : Session) (o : Option User) → HasBound capacity z → HasBound capacity (with_user now z o)
 with_user-bound now capacity z None is = is
 with_user-bound now capacity z (Some u) is = is
@@ -122,33 +120,6 @@ renewed-of_policy now doc z valid = here (user_again_of doc z) refl
     here : (o : Option User) → user_again_of doc z ≡ o → is_some o ≡ true → user_named doc (with_user now z o).user.user ≡ Some (with_user now z o).user
     here None is stay = absurd (cc)
     here (Some u) is stay = named_again (λ x. is_same_user x z.user) doc u valid is
-
--- ---- a connection's session
-
--- the session, if it passes
-abbrev passing : (Session → Bool) → Option Session → Option Session
-passing p None = None
-passing p (Some z) = cond (p z) (Some z) None
-
-session_of-filter : (p : Session → Bool) (conn : ℕ) (zs : List Session) → AllPairs IsApart zs → session_of (filter p zs) conn ≡ passing p (session_of zs conn)
-session_of-filter p conn [] apart = refl
-session_of-filter p conn (z ∷ zs) apart = here (p z) (z.conn == conn) refl refl (session_of-filter p conn zs (AllPairs-tail IsApart z zs apart))
-  where
-    nobody : (z.conn == conn) ≡ true → session_of zs conn ≡ None
-    nobody is = find-nothing (λ (y : Session). y.conn == conn) zs (λ k d h. ne_eqb _ _ (λ same. AllPairs-head IsApart z zs apart k d h (eqb-true z.conn conn is ∙ sym same)))
-
-    here : (b c : Bool) → p z ≡ b → (z.conn == conn) ≡ c → session_of (filter p zs) conn ≡ passing p (session_of zs conn) →
-        session_of (cond b (z ∷ filter p zs) (filter p zs)) conn ≡ passing p (cond c (Some z) (session_of zs conn))
-    here true true h is later = ap (λ d. cond d (Some z) (session_of (filter p zs) conn)) is ∙ sym (ap (λ d. cond d (Some z) None) h)
-    here true false h is later = ap (λ d. cond d (Some z) (session_of (filter p zs) conn)) is ∙ later
-    here false true h is later = later ∙ ap (passing p) (nobody is) ∙ sym (ap (λ d. cond d (Some z) None) h)
-    here false false h is later = later
-
-session_of-remaining : (now : ℕ) (doc : PolicyDoc) (conn : ℕ) (zs : List Session) → AllPairs IsApart zs →
-    session_of (remaining now doc zs) conn ≡ option_map (renewed now doc) (passing (stays doc) (session_of zs conn))
-session_of-remaining now doc conn zs apart =
-    find-map (λ (z : Session). z.conn == conn) (renewed now doc) (filter (stays doc) zs) (λ z. ap (λ n. n == conn) (with_user-conn now z (user_again_of doc z)))
-    ∙ ap (option_map (renewed now doc)) (session_of-filter (stays doc) conn zs apart)
 
 -- whom a connection acts for afterwards
 user_behind-remaining : (now : ℕ) (doc : PolicyDoc) (conn : ℕ) (zs : List Session) → IsValidPolicy doc → AllPairs IsApart zs →

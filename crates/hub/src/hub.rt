@@ -9,7 +9,8 @@ use std::collections::VecDeque;
 use std::hash::RandomState;
 use std::marker::Model;
 use std::mem;
-use world::{PlainWorld, Standing, World};
+use world::{PlainWorld, World};
+use world_copies::Standing;
 use world_leniency::{Lenient, LenientToAll};
 
 /// The limits that a hub is given at its opening.

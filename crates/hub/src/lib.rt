@@ -11,5 +11,6 @@ pub use events::{
 pub use hub::{Caps, Hub};
 pub use policy_ready::{Ready, User};
 pub use segment::Segment;
-pub use world::{PlainWorld, Standing};
+pub use world::PlainWorld;
+pub use world_copies::Standing;
 pub use world_leniency::{Lenient, LenientToAll};

@@ -1,4 +1,5 @@
 pub mod Draws
+pub mod Marked
 pub mod Seen
 pub mod Stays
 pub mod Tests

@@ -1,4 +1,5 @@
 pub mod Open
+pub mod Marked
 pub mod Receivers
 pub mod Known
 pub mod Drawn

@@ -1,6 +1,7 @@
 //! The views of a message behind its publisher's own, known for the next message of that publisher on that subject.
 ghost use Rattle.std.specs.Prelude.{◌≡◌, ◌∷◌, [], IfOk, IfSome, OnOk, true, map};
 ghost use Rattle.std.specs.List.{list_any};
+ghost use Rattle.receiver_cache.specs.Marked.{AreMarked};
 ghost use Rattle.receiver_cache.specs.Known.{AreSeen, IsKnown, Says, addressed_in, addressed_in_each, has_limit};
 
 use crate::names::names_of;
@@ -8,6 +9,7 @@ use crate::open::Open;
 use crate::receiver::address_each_under;
 use crate::whom::{Whom, address_chosen_under, whom_of};
 use base::{Alike, NoMemory, Shared};
+use deny_marks::DenyMarks;
 use events::{Addressed, Message, Names, Said};
 use imports::{ViewItem, Way};
 use std::alloc::Global;
@@ -29,6 +31,7 @@ pub struct KnownView {
 pub struct Among<'a> {
     pub sessions: &'a Sessions,
     pub subscriptions: &'a Subscriptions,
+    pub marks: &'a DenyMarks,
     pub publisher: &'a Session,
 }
 
@@ -70,11 +73,13 @@ pub fn known_at(
     subject: &Subject,
     ids: &mut Vec<u64>,
 ) -> Result<Option<KnownView>, NoMemory>
+    requires marked { AreMarked among.sessions.now among.subscriptions.now among.marks.now }
     ensures { IfOk result (λ known. IsKnown known among.entry.sessions.now among.entry.subscriptions.now among.entry.publisher.now account.now subject.now) }
 {
     let local = subject.lend();
     let open = Open {
         sessions: among.sessions,
+        marks: among.marks,
         publisher: among.publisher,
         subject: &local,
     };
@@ -97,6 +102,7 @@ fn known_view(
     view: &ViewItem,
     ids: &mut Vec<u64>,
 ) -> Result<Option<KnownView>, NoMemory>
+    requires marked { AreMarked among.sessions.now among.subscriptions.now among.marks.now }
     ensures { IfOk result (λ known. IfSome known (λ known. AreSeen among.entry.sessions.now among.entry.subscriptions.now among.entry.publisher.now (known ∷ []) (view.now ∷ []))) }
 {
     match view {
@@ -125,6 +131,7 @@ pub fn known_views(
     views: &[ViewItem],
     ids: &mut Vec<u64>,
 ) -> Result<Option<Vec<KnownView>>, NoMemory>
+    requires marked { AreMarked among.sessions.now among.subscriptions.now among.marks.now }
     ensures { IfOk result (λ all. IfSome all (λ known. AreSeen among.entry.sessions.now among.entry.subscriptions.now among.entry.publisher.now known.items views.now)) }
 {
     let mut all = Vec::with_capacity(alloc, views.len())?;

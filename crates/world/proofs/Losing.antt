@@ -1,8 +1,9 @@
 -- Which subscriptions stand on, and the ids of those that don't.
-use Rattle.std.proofs.Common.{◌≡◌, ◌∙◌, ◌∷◌, ◌++◌, ℕ, Bool, true, false, cond, not, Decides, List, [], filter, Option, Some, None, ap, sym, refl, subst}
-use Rattle.std.specs.Prelude.{IsSomeAnd}
+use Rattle.std.proofs.Common.{◌≡◌, ◌∙◌, ◌∷◌, ◌++◌, ℕ, Bool, true, false, cond, not, Decides, List, [], filter, Option, Some, None, ap, sym, refl, subst, true≢false}
+use Rattle.std.specs.Prelude.{All, IsSomeAnd, is_some}
 use Rattle.std.specs.List.{filter_map, cons_option}
 use Rattle.std.proofs.lemmas.List.{append-nil}
+use Rattle.std.proofs.lemmas.List.Elements.{All-weaker}
 use Rattle.policy_doc.specs.declared.document.PolicyDoc.{PolicyDoc}
 use Rattle.permissions.specs.Lists.{Rules}
 use Rattle.permissions.specs.Verdicts.{subscribe_by, is_allowed}
@@ -15,7 +16,7 @@ use Rattle.world_deliveries.specs.declared.session.Session.{Session}
 use Rattle.world_subscriptions.specs.Index.{ids_of}
 use Rattle.world_rows.specs.declared.subscription.Subscription.{Subscription}
 use Rattle.world.specs.Changes.{lost_id}
-use Rattle.world.specs.Reload.{user_before, user_after, verdict_for, verdict_before, may_stand, stands_on, removed_by, removal, removal_after}
+use Rattle.world.specs.Reload.{user_before, user_after, verdict_for, verdict_before, may_stand, AllMayStand, stands_on, removed_by, removal, removal_after}
 
 -- they are the ids of those that fail the test
 pub lost_ids : (k : Subscription → Bool) (subs : List Subscription) → filter_map (λ (s : Subscription). cond (k s) None (Some s.id)) subs ≡ ids_of (filter (λ (s : Subscription). not (k s)) subs)
@@ -55,3 +56,12 @@ not_removed sub (Some v) may = ap (λ b. cond b None (Some (removed_by sub v))) 
 
 pub no_removal : (doc : PolicyDoc) (zs : List Session) (sub : Subscription) (removed : List Removed) → stands_on doc zs sub ≡ true → removed ≡ removed ++ filter_map (removal_after doc zs) (sub ∷ [])
 no_removal doc zs sub removed stands = none_more (removal_after doc zs) sub removed (not_removed sub _ stands)
+
+-- one that its user may have has a session
+pub have_sessions : (zs : List Session) (subs : List Subscription) → AllMayStand zs subs → All (λ (sub : Subscription). is_some (session_of zs sub.conn) ≡ true) subs
+have_sessions zs subs may =
+    All-weaker (λ (sub : Subscription). may_stand (verdict_before zs sub) ≡ true) (λ (sub : Subscription). is_some (session_of zs sub.conn) ≡ true) (λ sub. has sub (session_of zs sub.conn)) subs may
+  where
+    has : (sub : Subscription) (o : Option Session) → may_stand (verdict_for (user_before o) sub) ≡ true → is_some o ≡ true
+    has sub None may = absurd (true≢false (sym may))
+    has sub (Some z) may = refl

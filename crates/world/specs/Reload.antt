@@ -12,17 +12,13 @@ use Rattle.events.specs.declared.answer.Removed.{Removed}
 use Rattle.events.specs.declared.answer.Outcome.{Outcome}
 use Rattle.events.specs.declared.answer.Outcome.TheVariants.{Reloaded}
 use Rattle.world_deliveries.specs.Sessions.{session_of}
-use Rattle.world_sessions.specs.Renewal.{user_again_of, remaining, closed_conns, HaveOneUser}
+use Rattle.world_sessions.specs.Renewal.{remaining, closed_conns, HaveOneUser}
 use Rattle.world_deliveries.specs.declared.session.Session.{Session}
 use Rattle.world_rows.specs.declared.subscription.Subscription.{Subscription}
 use Rattle.service_routes.specs.Routes.{kept, pruned}
 use Rattle.service_rows.specs.Rows.{again}
 use Rattle.world_routing.specs.World.{World}
-
--- whom a session that stays acts for
-abbrev pub user_after : PolicyDoc → Option Session → Option User
-user_after doc None = None
-user_after doc (Some z) = user_again_of doc z
+pub use Rattle.world_marks.specs.Again.{user_after}
 
 -- the verdict on a subscription, with its queue, where there is a user
 abbrev pub verdict_for : Option User → Subscription → Option Verdict

@@ -2,19 +2,23 @@
 ghost use Rattle.std.specs.Prelude.{◌≡◌};
 ghost use Rattle.service_routes.specs.Routes.{kept, pruned};
 ghost use Rattle.service_rows.specs.Rows.{again};
-ghost use Rattle.world.specs.Changes.{items_in};
 
 use crate::change::Change;
 use crate::reload::remove_lost;
 use crate::world::World;
-use base::NoMemory;
-use events::{Item, Outcome};
+use base::{Boxed, NoMemory};
+use deny_marks::DenyMarks;
+use events::{Outcome, Sid};
 use policy_ready::{Ready, User};
 use service_routes::Routes;
 use service_rows::RowsAgain;
 use std::collections::VecDeque;
+use world_leniency::items_in;
+use world_marks::{mark_next, trim_marks};
 use world_receivers::Receivers;
 use world_routing::{Deliveries, Routing, carry_publish};
+use world_sessions::Session;
+use world_subscriptions::NewSubscription;
 use world_views::change_routes;
 
 impl World {
@@ -22,7 +26,9 @@ impl World {
     ghost use Rattle.world_rows.specs.declared.subscription.Subscription.{Subscription};
     ghost use Rattle.std.specs.List.{filter_map};
     ghost use Rattle.events.specs.declared.answer.Outcome.{Outcome};
-    ghost use Rattle.world_sessions.specs.Renewal.{user_again_of};
+    ghost use Rattle.world_sessions.specs.Renewal.{remaining, user_again_of};
+    ghost use Rattle.receiver_cache.specs.Marked.{AreMarked};
+    ghost use Rattle.world.specs.Reload.{AllMayStand};
     ghost use Rattle.world.specs.Changes.{done, lost_id, pruned_world, IsFit};
     ghost use Rattle.world.specs.declared.change.Change.TheVariants as change;
 
@@ -34,22 +40,16 @@ impl World {
         requires fresh { self.old.number < 18446744073709551615 }
         requires epoch { self.old.epoch ≤ self.old.number + 1 }
         requires ids { All (λ (s : Subscription). s.id ≤ self.old.number) self.old.subscriptions }
+        requires sound { AllMayStand self.old.sessions self.old.subscriptions }
         ensures ok { OnOk result (pruned_world self.new ≡ done (pruned_world self.old) change told.now) }
         ensures err { OnErr result (self.new ≡ self.old) }
     {
         match change {
             Change::Nothing => Ok(()),
-            Change::Open(session) => {
-                self.caches.receivers.clear_cache();
-                self.sessions.push(session.into_inner())
-            }
-            Change::Stand(wanted) => {
-                self.caches.receivers.clear_cache();
-                self.subscriptions.add(self.number + 1, wanted.into_inner())
-            }
+            Change::Open(session) => self.open(session, told),
+            Change::Stand(wanted) => self.stand(wanted, told),
             Change::Limit { conn, sid, most } => {
-                self.caches.receivers.clear_cache();
-                self.subscriptions.limit(conn, &sid, most);
+                self.limit(conn, &sid, most);
                 Ok(())
             }
             Change::Deliver(deliveries) => {
@@ -70,8 +70,13 @@ impl World {
                 self.leave(conn);
                 Ok(())
             }
-            Change::Install { ready, users, lost } => {
-                self.install(ready, users, lost);
+            Change::Install {
+                ready,
+                users,
+                lost,
+                marks,
+            } => {
+                self.install(ready, users, lost, marks);
                 Ok(())
             }
         }
@@ -92,25 +97,71 @@ impl World {
         );
     }
 
+    /// Opens a session. On `NoMemory` nothing has changed.
+    #[inline(never)]
+    fn open(&mut self, session: Boxed<Session>, told: &Outcome) -> Result<(), NoMemory>
+        requires fit { IsFit (pruned_world self.old) (change.Open session) told.now }
+        requires sound { AllMayStand self.old.sessions self.old.subscriptions }
+        ensures ok { OnOk result (pruned_world self.new ≡ done (pruned_world self.old) (change.Open session) told.now) }
+        ensures err { OnErr result (self.new ≡ self.old) }
+    {
+        self.caches.receivers.clear_cache();
+        self.sessions.push(session.into_inner())?;
+        Ok(())
+    }
+
+    /// Adds a subscription, with its marks. On `NoMemory` nothing that is shown has changed. Apart, so that a message pays
+    /// nothing for it.
+    #[inline(never)]
+    fn stand(&mut self, wanted: Boxed<NewSubscription>, told: &Outcome) -> Result<(), NoMemory>
+        requires fit { IsFit (pruned_world self.old) (change.Stand wanted) told.now }
+        requires fresh { self.old.number < 18446744073709551615 }
+        requires ids { All (λ (s : Subscription). s.id ≤ self.old.number) self.old.subscriptions }
+        ensures ok { OnOk result (pruned_world self.new ≡ done (pruned_world self.old) (change.Stand wanted) told.now) }
+        ensures err { OnErr result (self.new ≡ self.old) }
+    {
+        self.caches.receivers.clear_cache();
+        let id = self.number + 1;
+        let wanted = wanted.into_inner();
+        let marks = &mut self.caches.marks;
+        mark_next(marks, &self.sessions, &self.subscriptions, id, &wanted)?;
+        self.subscriptions.add(id, wanted)?;
+        Ok(())
+    }
+
+    /// Ends a subscription, at once or once it has received so many messages.
+    #[inline(never)]
+    fn limit(&mut self, conn: u64, sid: &Sid, most: Option<u64>)
+        ensures { (told : Outcome) → self.new ≡ done self.old (change.Limit conn sid.now most) told }
+    {
+        self.caches.receivers.clear_cache();
+        self.subscriptions.limit(conn, sid, most);
+    }
+
     /// Removes a session with its subscriptions.
     fn leave(&mut self, conn: u64)
         ensures { (told : Outcome) → self.new ≡ done self.old (change.Leave conn) told }
     {
         self.caches.receivers.clear_cache();
+        self.sessions.known();
         self.sessions.remove(conn);
         self.subscriptions.remove(conn);
+        trim_marks(&mut self.caches.marks, &self.subscriptions);
     }
 
-    /// Puts a policy into force, with the users of the sessions that stay, and removes the subscriptions of these ids.
-    fn install(&mut self, ready: Ready, users: VecDeque<User>, lost: Vec<u64>)
+    /// Puts a policy into force, with the users of the sessions that stay, removes the subscriptions of these ids, and has
+    /// these marks for the others.
+    fn install(&mut self, ready: Ready, users: VecDeque<User>, lost: Vec<u64>, marks: DenyMarks)
         requires users { users.items ≡ filter_map (user_again_of ready) self.old.sessions }
         requires lost { lost.items ≡ filter_map (lost_id ready self.old.sessions) self.old.subscriptions }
+        requires marks { AreMarked (remaining self.old.moment ready self.old.sessions) self.old.subscriptions marks }
         requires epoch { self.old.epoch < 340282366920938463463374607431768211455 }
-        ensures { (told : Outcome) → pruned_world self.new ≡ done (pruned_world self.old) (change.Install ready users lost) told }
+        ensures { (told : Outcome) → pruned_world self.new ≡ done (pruned_world self.old) (change.Install ready users lost marks) told }
     {
         // What is cached goes with the policy under which it was so.
         self.caches.receivers = Receivers::new(self.alloc, self.keys);
         self.caches.verdicts.next_policy();
+        self.caches.marks = marks;
         remove_lost(&mut self.subscriptions, lost.as_slice());
         self.sessions.renew(&ready, users, self.moment);
         keep_routes(&mut self.routes, &self.ready, &ready, self.moment);
@@ -128,23 +179,4 @@ fn keep_routes(routes: &mut Routes, old: &Ready, new: &Ready, now: u64)
         old: old.policy().doc(),
         new: new.policy().doc(),
     });
-}
-
-/// Returns the items of an outcome.
-pub(crate) fn items_in(outcome: &Outcome) -> &[Item]
-    ensures { result.now ≡ items_in outcome.now }
-{
-    match outcome {
-        Outcome::Published(_, items) => items.as_slice(),
-        Outcome::Connected => &[],
-        Outcome::AuthViolation => &[],
-        Outcome::Subscribed => &[],
-        Outcome::SameSid => &[],
-        Outcome::SubLimit => &[],
-        Outcome::Denied(_) => &[],
-        Outcome::Taken(_, _) => &[],
-        Outcome::Unsubscribed => &[],
-        Outcome::Closed => &[],
-        Outcome::Reloaded { .. } => &[],
-    }
 }

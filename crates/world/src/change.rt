@@ -1,5 +1,6 @@
 //! What a command comes to is decided first, and then done.
 use base::Boxed;
+use deny_marks::DenyMarks;
 use events::{Outcome, Sid};
 use policy_ready::{Ready, User};
 use std::collections::VecDeque;
@@ -37,12 +38,13 @@ pub(crate) enum Change {
     Leave {
         conn: u64,
     },
-    /// A policy comes into force, with the users of the sessions that stay, session by session, and the ids of the
-    /// subscriptions that go, oldest first.
+    /// A policy comes into force, with the users of the sessions that stay, session by session, the ids of the
+    /// subscriptions that go, oldest first, and the marks of those that stay.
     Install {
         ready: Ready,
         users: VecDeque<User>,
         lost: Vec<u64>,
+        marks: DenyMarks,
     },
 }
 

@@ -12,6 +12,7 @@ use permissions::Verdict;
 use policy_ready::Ready;
 use std::alloc::Global;
 use subjects::{Pattern, Subject};
+use world_marks::{Renewing, marks_again};
 use world_routing::{Plan, Publish, plan_publish};
 use world_sessions::Session;
 use world_subscriptions::NewSubscription;
@@ -256,7 +257,7 @@ impl World {
         })
     }
 
-    /// Decides a reload: whose sessions stay, and which subscriptions they lose.
+    /// Decides a reload: whose sessions stay, which subscriptions they lose, and the marks of the others.
     fn reload(&self, ready: &Ready) -> Result<Decided, HubRefusal>
         requires sound { AreEntitled self.now.sessions self.now.subscriptions }
         ensures decided { IsDecided (pruned_world self.now) (moved (pruned_world self.now) (command.Reload ready.now)) result }
@@ -265,7 +266,16 @@ impl World {
         is_valid(ready);
         let users = self.sessions.users_again(ready)?;
         let gone = self.sessions.closed(ready)?;
-        let lost = lost_by(self.alloc, ready, &self.sessions, &self.subscriptions)?;
+        let same = self.sessions.same_lists(ready)?;
+        let same = same.as_slice();
+        let lost = lost_by(self.alloc, ready, &self.sessions, &self.subscriptions, same)?;
+        let renewing = Renewing {
+            ready,
+            sessions: &self.sessions,
+            same,
+            marks: &self.caches.marks,
+        };
+        let marks = marks_again(self.alloc, renewing, &self.subscriptions)?;
         let ready = ready.copy(self.alloc)?;
         let Lost { removed, ids } = lost;
         Ok(Decided {
@@ -277,6 +287,7 @@ impl World {
                 ready,
                 users,
                 lost: ids,
+                marks,
             },
         })
     }

@@ -6,10 +6,8 @@ mod change;
 mod decide;
 mod plain;
 mod reload;
-mod standing;
 mod verdict;
 mod world;
 
 pub use plain::PlainWorld;
-pub use standing::Standing;
 pub use world::World;

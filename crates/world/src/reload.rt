@@ -8,7 +8,7 @@ ghost use Rattle.policy_doc.specs.Document.{IsValidPolicy};
 ghost use Rattle.policy_doc.specs.declared.document.PolicyDoc.{PolicyDoc};
 ghost use Rattle.world_deliveries.specs.declared.session.Session.{Session};
 ghost use Rattle.world.specs.Changes.{lost_id};
-ghost use Rattle.world.specs.Reload.{user_after, verdict_after, verdict_before, may_stand, stands_on, removed_by, removal_after, AreEntitled, IsReasonedVerdict};
+ghost use Rattle.world.specs.Reload.{user_after, verdict_after, verdict_before, may_stand, stands_on, removed_by, removal_after, AllMayStand, IsReasonedVerdict};
 
 use crate::verdict::on_subscription;
 use base::{Copying, NoMemory};
@@ -125,15 +125,17 @@ pub(crate) fn is_valid(ready: &Ready)
 }
 
 /// Returns the subscriptions that don't stand on. Only those of users whose subscribe lists change are judged: the
-/// others may stand as they are.
+/// others may stand as they are. `same` is what `Sessions::same_lists` gives for the policy.
 #[tactic(auto, using(world_groups::proofs::Lists::filter_map_first))]
 pub(crate) fn lost_by(
     alloc: Global,
     ready: &Ready,
     sessions: &Sessions,
     subscriptions: &Subscriptions,
+    same: &[bool],
 ) -> Result<Lost, NoMemory>
-    requires sound { AreEntitled sessions.now subscriptions.now }
+    requires same { AreSameLists ready.now sessions.now same.now }
+    requires sound { AllMayStand sessions.now subscriptions.now }
     ensures removed { IfOk result (λ lost. lost.removed.items ≡ filter_map (removal_after ready.now sessions.now) subscriptions.now) }
     ensures ids { IfOk result (λ lost. lost.ids.items ≡ filter_map (lost_id ready.now sessions.now) subscriptions.now) }
     ensures reason { OnOk result (All (IsReasonedVerdict ready.now sessions.now) subscriptions.now) }
@@ -142,17 +144,9 @@ pub(crate) fn lost_by(
         removed: Vec::new(alloc),
         ids: Vec::new(alloc),
     };
-    let same = sessions.same_lists(ready)?;
     for subscription in subscriptions.values() {
         has_reason(subscription);
-        add_if_lost(
-            alloc,
-            &mut lost,
-            ready,
-            sessions,
-            same.as_slice(),
-            subscription,
-        )?;
+        add_if_lost(alloc, &mut lost, ready, sessions, same, subscription)?;
     }
     Ok(lost)
 }

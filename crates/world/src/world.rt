@@ -1,9 +1,7 @@
 //! The tables, and one step of them.
-use crate::carry_out::items_in;
 use crate::change::{Change, Decided};
 use crate::decide::SESSIONS;
 use crate::reload::is_valid;
-use crate::standing::{Standing, standing_all};
 use base::{Copying, Items, NoMemory, Shared};
 use events::{Answer, Command, Entry, Event, HubRefusal, Outcome, PublishRefusal};
 use policy_ready::Ready;
@@ -11,7 +9,8 @@ use service_routes::Routes;
 use std::alloc::Global;
 use std::hash::RandomState;
 use std::marker::Model;
-use world_leniency::{Lenient, LenientToAll, note_held};
+use world_copies::{Standing, standing_all};
+use world_leniency::{Lenient, LenientToAll, items_in, note_held};
 use world_routing::Caches;
 use world_sessions::Sessions;
 use world_subscriptions::Subscriptions;
@@ -42,6 +41,7 @@ impl Model for World {
     ghost use Rattle.imports.specs.Views.{rows_of};
     ghost use Rattle.service_routes.specs.Routes.{pruned};
     ghost use Rattle.receiver_cache.specs.Cached.{IsCurrent};
+    ghost use Rattle.receiver_cache.specs.Marked.{AreMarked};
     ghost use Rattle.world_routing.specs.Remembered.{AreRemembered};
     ghost use Rattle.world_routing.specs.World as worlds;
 
@@ -58,7 +58,7 @@ impl Model for World {
       number = w.number;
     } };
 
-    ghost invariant = { λ w. (1 ≤ w.capacity) × (w.routes_at ≤ w.moment) × IsCurrent (rows_of w.ready) w.sessions w.subscriptions w.caches.receivers.cache × AreRemembered w.ready w.caches.verdicts };
+    ghost invariant = { λ w. (1 ≤ w.capacity) × (w.routes_at ≤ w.moment) × IsCurrent (rows_of w.ready) w.sessions w.subscriptions w.caches.receivers.cache × AreRemembered w.ready w.caches.verdicts × AreMarked w.sessions w.subscriptions w.caches.marks };
 }
 
 impl World {
@@ -225,6 +225,7 @@ impl World {
         requires fresh { self.old.number < 18446744073709551615 }
         requires epoch { self.old.epoch ≤ self.old.number + 1 }
         requires ids { All (λ (s : Subscription). s.id ≤ self.old.number) self.old.subscriptions }
+        requires sound { AreEntitled self.old.sessions self.old.subscriptions }
         requires decided { IsDecided (pruned_world self.old) (moved (pruned_world self.old) event.now.what) (Ok (record { outcome = outcome; change = change })) }
         ensures step { IsMoved (pruned_world self.old) event.entry.now result (pruned_world self.new) }
         ensures err { OnErr result (self.new ≡ self.old) }

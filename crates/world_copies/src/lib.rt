@@ -3,7 +3,9 @@
 #![tactic(auto)]
 
 mod session;
+mod standing;
 mod subscription;
 
 pub use session::{PlainSession, plain_sessions};
+pub use standing::{Standing, standing_all};
 pub use subscription::{PlainSubscription, plain_subscriptions};

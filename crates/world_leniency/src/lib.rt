@@ -3,9 +3,11 @@
 #![tactic(auto)]
 
 mod held;
+mod items;
 mod lenient;
 mod weight;
 
 pub use held::note_held;
+pub use items::items_in;
 pub use lenient::{Lenient, LenientToAll};
 pub use weight::bytes_of;

@@ -9,6 +9,7 @@ ghost use Rattle.world_deliveries.specs.Sessions.{session_of};
 ghost use Rattle.world_deliveries.specs.declared.session.Session.{Session as SessionModel};
 ghost use Rattle.world_rows.specs.declared.subscription.Subscription.{Subscription};
 ghost use Rattle.receiver_cache.specs.Cached.{IsAllowed, IsAloneAt, IsAloneOf, IsCurrent, KnowsOthers, TellsOthers, IsEmpty};
+ghost use Rattle.receiver_cache.specs.Marked.{AreMarked};
 ghost use Rattle.receiver_cache.specs.Drawn.{IsSent, IsSentOn, KnowsDrawn, subject_of};
 ghost use Rattle.receiver_cache.specs.Receivers.{addressed_among};
 ghost use Rattle.world_receivers.specs.Standing.{addressed_behind_in, is_for_nobody, is_nil};
@@ -17,6 +18,7 @@ use crate::naming::address_under;
 use crate::standing::Standing;
 use base::{NoMemory, Shared};
 use bytes::Bytes;
+use deny_marks::DenyMarks;
 use events::{Addressed, Message, Said};
 use imports::Rows;
 use permissions::By;
@@ -40,6 +42,8 @@ pub struct Sending<'a> {
     pub message: &'a Message,
     /// What chooses a member of each queue group.
     pub word: u64,
+    /// By what lists allow it, if its account has no mappings and its subject is of no response route.
+    pub allowed: Option<By>,
 }
 
 /// Another account in which a message is seen.
@@ -62,6 +66,7 @@ fn find_others(
     subject: &SubjectRef<'_>,
     ids: &mut Vec<u64>,
 ) -> Result<Option<Vec<KnownView>>, NoMemory>
+    requires marked { AreMarked among.sessions.now among.subscriptions.now among.marks.now }
     ensures { IfOk result (λ others. KnowsOthers others rows.now among.entry.sessions.now among.entry.subscriptions.now among.entry.publisher.now subject.now) }
 {
     let account = among.publisher.user.account.as_slice();
@@ -78,6 +83,7 @@ fn others_of(
     subject: &SubjectRef<'_>,
     ids: &mut Vec<u64>,
 ) -> Option<Vec<KnownView>>
+    requires marked { AreMarked among.sessions.now among.subscriptions.now among.marks.now }
     ensures { KnowsOthers result rows.now among.entry.sessions.now among.entry.subscriptions.now among.entry.publisher.now subject.now }
 {
     match find_others(alloc, among, rows, subject, ids) {
@@ -95,7 +101,8 @@ fn find_drawn(
     subject: &Subject,
     ids: &mut Vec<u64>,
 ) -> Result<Option<Shared<Drawn>>, NoMemory>
-    requires { is_route subject.now ≡ false }
+    requires marked { AreMarked among.sessions.now among.subscriptions.now among.marks.now }
+    requires unrouted { is_route subject.now ≡ false }
     ensures { IfOk result (λ found. IfSome found (λ drawn. IsSent rows.now among.entry.sessions.now among.entry.subscriptions.now among.entry.publisher.now drawn × (subject_of drawn ≡ subject.now))) }
 {
     let account = among.publisher.user.account.as_slice();
@@ -117,6 +124,7 @@ fn drawn_under(
     subject: &Subject,
     ids: &mut Vec<u64>,
 ) -> Result<Option<Shared<Drawn>>, NoMemory>
+    requires marked { AreMarked among.sessions.now among.subscriptions.now among.marks.now }
     requires unrouted { is_route subject.now ≡ false }
     ensures { IfOk result (λ found. IfSome found (λ drawn. (conn : ℕ) (text : List ℕ) → KnowsDrawn known.now.by_draw.items rows.now conn text among.entry.sessions.now among.entry.subscriptions.now
         → session_of among.entry.sessions.now conn ≡ Some among.entry.publisher.now → IsSent rows.now among.entry.sessions.now among.entry.subscriptions.now among.entry.publisher.now drawn × (subject_of drawn ≡ subject.now))) }
@@ -136,6 +144,7 @@ fn drawn_of(
     subject: &Subject,
     ids: &mut Vec<u64>,
 ) -> Option<Shared<Drawn>>
+    requires marked { AreMarked among.sessions.now among.subscriptions.now among.marks.now }
     requires unrouted { is_route subject.now ≡ false }
     ensures { IfSome result (λ drawn. (conn : ℕ) (text : List ℕ) → KnowsDrawn known.now.by_draw.items rows.now conn text among.entry.sessions.now among.entry.subscriptions.now
         → session_of among.entry.sessions.now conn ≡ Some among.entry.publisher.now → IsSent rows.now among.entry.sessions.now among.entry.subscriptions.now among.entry.publisher.now drawn × (subject_of drawn ≡ subject.now)) }
@@ -244,7 +253,7 @@ impl Receivers {
     /// Addresses a message to those of the publisher's account that it is for, oldest subscription first: to the plain
     /// subscriptions that may be sent it, and to the member of each queue group that the word chooses. These are its `deliveries`.
     /// Their sessions don't note replies yet. The ids that its subject reaches are cached for the next messages of
-    /// that subject, and its receivers for the publisher's next ones on it, with by what lists allow them, if that is given. `NoMemory`
+    /// that subject, and its receivers for the publisher's next ones on it, with by what lists allow them, if that is known. `NoMemory`
     /// where memory could not be had.
     #[inline(always)]
     pub fn address(
@@ -252,12 +261,13 @@ impl Receivers {
         sessions: &Sessions,
         subscriptions: &mut Subscriptions,
         rows: &Rows,
+        marks: &DenyMarks,
         sending: Sending<'_>,
-        allowed: Option<By>,
     ) -> Result<(), NoMemory>
         requires publisher { session_of sessions.now sending.publisher.now.conn ≡ Some sending.publisher.now }
         requires cached { IsCurrent rows.now sessions.now subscriptions.old self.old.cache }
-        requires allowed { IfSome allowed (IsAllowed sending.publisher.now.user sending.message.now.subject) }
+        requires allowed { IfSome sending.allowed (IsAllowed sending.publisher.now.user sending.message.now.subject) }
+        requires marked { AreMarked sessions.now subscriptions.old marks.now }
         ensures all { OnOk result (self.new.deliveries.items ≡ addressed_among sessions.now subscriptions.old sending.entry.publisher.now sending.entry.message.now sending.entry.word) }
         ensures others { OnOk result (KnowsOthers self.new.cache.others rows.now sessions.now subscriptions.old sending.entry.publisher.now sending.entry.message.now.subject) }
         ensures same { subscriptions.new ≡ subscriptions.old }
@@ -267,6 +277,7 @@ impl Receivers {
             publisher,
             message,
             word,
+            allowed,
         } = sending;
         let subject = message.subject();
         let _ = subject.tokens();
@@ -283,11 +294,13 @@ impl Receivers {
         let among = Among {
             sessions,
             subscriptions,
+            marks,
             publisher,
         };
         self.fill_cache(among, rows, &subject, allowed);
         let open = Open {
             sessions,
+            marks,
             publisher,
             subject: &subject,
         };
@@ -351,9 +364,11 @@ impl Receivers {
         &mut self,
         sessions: &Sessions,
         subscriptions: &Subscriptions,
+        marks: &DenyMarks,
         sending: Sending<'_>,
         seen: Seen<'_>,
     ) -> Result<bool, NoMemory>
+        requires marked { AreMarked sessions.now subscriptions.now marks.now }
         ensures all { OnOk result (self.new.deliveries.items ≡ self.old.deliveries.items ++ addressed_behind_in sessions.now subscriptions.now self.old.deliveries.items
             sending.entry.publisher.now (named (record { subject = seen.entry.subject.now; reply = seen.entry.reply }) sending.entry.message.now) sending.entry.word seen.entry.account.now) }
         ensures nobody { IfOk result (λ nobody. nobody ≡ is_for_nobody sessions.now subscriptions.now self.old.deliveries.items
@@ -364,6 +379,7 @@ impl Receivers {
         let standing = Standing {
             open: Open {
                 sessions,
+                marks,
                 publisher: sending.publisher,
                 subject: &subject,
             },
@@ -409,37 +425,29 @@ impl Receivers {
         Ok(done)
     }
 
-    /// Caches what the publisher's next messages on the message's subject with its draw are sent as, where this is the second of them
-    /// in a row: mappings send it on under this subject.
+    /// Caches what a publisher's next messages on a message's subject with its draw are sent as, where this is the second of them in
+    /// a row: mappings send it on under this subject.
     pub fn fill_drawn(
         &mut self,
-        sessions: &Sessions,
-        subscriptions: &Subscriptions,
+        among: Among<'_>,
         rows: &Rows,
-        sending: Sending<'_>,
+        message: &Message,
+        word: u64,
         subject: &Subject,
     )
-        requires publisher { session_of sessions.now sending.publisher.now.conn ≡ Some sending.publisher.now }
-        requires cached { IsCurrent rows.now sessions.now subscriptions.now self.old.cache }
-        requires mapped { mapped_by sending.publisher.now.user.mappings sending.message.now.subject sending.word ≡ To subject.now }
+        requires publisher { session_of among.sessions.now among.publisher.now.conn ≡ Some among.publisher.now }
+        requires cached { IsCurrent rows.now among.sessions.now among.subscriptions.now self.old.cache }
+        requires marked { AreMarked among.sessions.now among.subscriptions.now among.marks.now }
+        requires mapped { mapped_by among.publisher.now.user.mappings message.now.subject word ≡ To subject.now }
         requires unrouted { is_route subject.now ≡ false }
-        ensures cached { IsCurrent rows.now sessions.now subscriptions.now self.new.cache }
+        ensures cached { IsCurrent rows.now among.entry.sessions.now among.entry.subscriptions.now self.new.cache }
     {
-        let Sending {
-            publisher,
-            message,
-            word,
-        } = sending;
         let published = message.subject();
         let _ = published.tokens();
-        if !self.cache.select_drawn(publisher.conn, published.bytes()) {
+        let conn = among.publisher.conn;
+        if !self.cache.select_drawn(conn, published.bytes()) {
             return;
         }
-        let among = Among {
-            sessions,
-            subscriptions,
-            publisher,
-        };
         let known = &self.cache.drawn;
         if let Some(drawn) = drawn_of(self.alloc, known, among, rows, subject, &mut self.ids) {
             self.cache.drawn.keep(draw_of(word), drawn);
@@ -466,12 +474,14 @@ impl Receivers {
         requires publisher { session_of among.sessions.now among.publisher.now.conn ≡ Some among.publisher.now }
         requires cached { IsCurrent rows.now among.sessions.now among.subscriptions.now self.old.cache }
         requires allowed { IfSome allowed (IsAllowed among.publisher.now.user subject.now) }
+        requires marked { AreMarked among.sessions.now among.subscriptions.now among.marks.now }
         ensures cached { IsCurrent rows.now among.entry.sessions.now among.entry.subscriptions.now self.new.cache }
         ensures others { KnowsOthers self.new.cache.others rows.now among.entry.sessions.now among.entry.subscriptions.now among.entry.publisher.now subject.now }
     {
         let Among {
             sessions,
             subscriptions,
+            marks,
             publisher,
         } = among;
         let _ = subject.tokens();
@@ -480,6 +490,7 @@ impl Receivers {
         }
         let open = Open {
             sessions,
+            marks,
             publisher,
             subject,
         };

@@ -83,10 +83,10 @@ pub(crate) struct Standing<'a> {
 
 impl Keeps for Standing<'_> {
     ghost use Rattle.std.specs.Prelude.{◌&&◌};
-    ghost use Rattle.receiver_cache.specs.Open.{is_open};
+    ghost use Rattle.receiver_cache.specs.Marked.{is_marked_open};
     ghost use Rattle.world_receivers.specs.Standing.{stands_behind};
 
-    ghost keeps = { λ test sub. is_open test.open.sessions.now test.open.publisher.now test.open.subject.now sub && stands_behind test.open.sessions.now test.before.now sub };
+    ghost keeps = { λ test sub. is_marked_open test.open.marks.now test.open.sessions.now test.open.publisher.now test.open.subject.now sub && stands_behind test.open.sessions.now test.before.now sub };
 
     fn keeps(&self, subscription: &SharedSubscription) -> bool {
         self.open.keeps(subscription)

@@ -1,15 +1,18 @@
 //! What a publish remembers for the next ones.
+use deny_marks::DenyMarks;
 use std::alloc::Global;
 use std::hash::RandomState;
 use verdict_cache::Verdicts;
 use world_receivers::Receivers;
 
-/// What publishes remember for later ones: whom messages are for, and verdicts of users' lists. Nothing that is answered goes by it.
+/// What is kept so that publishes are answered faster: whom messages are for, verdicts of users' lists, and deny marks.
 pub struct Caches {
     /// Whom messages are for.
     pub receivers: Receivers,
     /// The verdicts of users' lists.
     pub verdicts: Verdicts,
+    /// Which deny entries may refuse a standing subscription a message.
+    pub marks: DenyMarks,
 }
 
 impl Drop for Caches {
@@ -18,11 +21,13 @@ impl Drop for Caches {
         let Self {
             receivers: _,
             verdicts: _,
+            marks: _,
         } = self;
     }
 }
 
 impl Caches {
+    ghost use Rattle.std.specs.Prelude.{◌≡◌, []};
     ghost use Rattle.policy_doc.specs.declared.document.PolicyDoc.{PolicyDoc};
     ghost use Rattle.receiver_cache.specs.Cached.{IsEmpty};
     ghost use Rattle.world_routing.specs.Remembered.{AreRemembered};
@@ -31,10 +36,12 @@ impl Caches {
     pub fn new(alloc: Global, keys: RandomState) -> Caches
         ensures receivers { IsEmpty result.receivers.cache }
         ensures verdicts { (doc : PolicyDoc) → AreRemembered doc result.verdicts }
+        ensures marks { result.marks ≡ [] }
     {
         Caches {
             receivers: Receivers::new(alloc, keys),
             verdicts: Verdicts::new(alloc, keys),
+            marks: DenyMarks::new(alloc),
         }
     }
 }

@@ -7,6 +7,7 @@ ghost use Rattle.world_deliveries.specs.Sessions.{session_of};
 ghost use Rattle.world_deliveries.specs.Delivered.{delivered};
 ghost use Rattle.world_deliveries.specs.Replying.{noted_for};
 ghost use Rattle.world_deliveries.specs.declared.session.Session.{Session as SessionModel};
+ghost use Rattle.receiver_cache.specs.Marked.{AreMarked};
 ghost use Rattle.receiver_cache.specs.Cached.{IsCurrent, IsOfLists};
 ghost use Rattle.world_routing.specs.Remembered.{AreOfPolicy, AreRemembered};
 ghost use Rattle.world_routing.specs.World.{World};
@@ -21,10 +22,12 @@ use crate::carrying::{Deliveries, Routing};
 use crate::verdict::on_publish;
 use account_mappings::Mapped;
 use base::{Boxed, Items, NoMemory};
+use deny_marks::DenyMarks;
 use events::{Addressed, HubRefusal, Item, Message, Met};
 use imports::Rows;
 use permissions::{By, Verdict};
 use policy_ready::Ready;
+use receiver_cache::Among;
 use service_routes::Routes;
 use std::alloc::Global;
 use std::hash::RandomState;
@@ -218,6 +221,8 @@ struct Diverted<'p> {
     /// By what it is allowed.
     by: By,
     elsewhere: Elsewhere,
+    /// The deny marks of all that stand.
+    marks: &'p DenyMarks,
 }
 
 /// Returns what such a publish comes to, as `plan_publish` does.
@@ -230,6 +235,7 @@ fn plan_diverted<'p>(
     diverted: Diverted<'p>,
 ) -> Result<Plan, HubRefusal>
     requires plain { IsPlain diverted.elsewhere }
+    requires marked { AreMarked sessions.old subscriptions.now diverted.marks.now }
     ensures planned { (w : World) → tables_of w ≡ tables_at ready.now diverted.entry.publish.now sessions.old subscriptions.now routes.old.exporters
         → IsPlanned w (in_session (session_of w.sessions diverted.entry.publish.conn) (λ z. diverted_to w z diverted.entry.by diverted.entry.publish.message.now diverted.entry.publish.word diverted.entry.elsewhere)) result }
     ensures sessions { sessions.new ≡ sessions.old }
@@ -240,6 +246,7 @@ fn plan_diverted<'p>(
         publish,
         by,
         elsewhere,
+        marks,
     } = diverted;
     subscriptions.known();
     let (answered, told) = match sessions.find(publish.conn) {
@@ -261,9 +268,10 @@ fn plan_diverted<'p>(
                             publisher: session,
                             message: publish.message,
                             word: publish.word,
+                            allowed: None,
                         },
                         now: publish.now,
-                        allowed: None,
+                        marks,
                     };
                     let told = address_under(
                         sessions,
@@ -288,6 +296,8 @@ struct Permitted<'p> {
     publish: Publish<'p>,
     /// By what it is allowed.
     by: By,
+    /// The deny marks of all that stand.
+    marks: &'p DenyMarks,
 }
 
 /// Returns what a publish that is allowed comes to, if it is seen under the subject that it is published on.
@@ -300,6 +310,7 @@ fn plan_own<'p>(
     permitted: Permitted<'p>,
 ) -> Result<Plan, HubRefusal>
     requires cached { IsCurrent (rows_of ready.now) sessions.old subscriptions.old receivers.old.cache }
+    requires marked { AreMarked sessions.old subscriptions.old permitted.marks.now }
     ensures planned { (w : World) → tables_of w ≡ tables_at ready.now permitted.entry.publish.now sessions.old subscriptions.old routes.old.exporters
         → IsPlanned w (in_session (session_of w.sessions permitted.entry.publish.conn) (λ z. seen_as w z permitted.entry.by permitted.entry.publish.message.now.subject permitted.entry.publish.message.now permitted.entry.publish.word)) result }
     ensures sessions { sessions.new ≡ sessions.old }
@@ -307,7 +318,7 @@ fn plan_own<'p>(
     ensures routes { routes.new.exporters ≡ routes.old.exporters }
     ensures cached { IsCurrent (rows_of ready.now) sessions.new subscriptions.new receivers.new.cache }
 {
-    let Permitted { publish, by } = permitted;
+    let Permitted { publish, by, marks } = permitted;
     subscriptions.known();
     let (answered, told) = match sessions.find(publish.conn) {
         None => return Err(HubRefusal::NoSession),
@@ -324,9 +335,10 @@ fn plan_own<'p>(
                         publisher: session,
                         message: publish.message,
                         word: publish.word,
+                        allowed: None,
                     },
                     now: publish.now,
-                    allowed: None,
+                    marks,
                 },
             )?,
         ),
@@ -337,17 +349,18 @@ fn plan_own<'p>(
 
 /// Caches what a publisher's next messages on a message's subject are sent as, if its account's mappings send it on under another.
 fn keep_drawn(
-    sessions: &Sessions,
-    subscriptions: &Subscriptions,
     receivers: &mut Receivers,
+    among: Among<'_>,
     rows: &Rows,
-    sending: Sending<'_>,
+    message: &Message,
+    word: u64,
     elsewhere: &Option<Elsewhere>,
 )
-    requires publisher { session_of sessions.now sending.publisher.now.conn ≡ Some sending.publisher.now }
-    requires cached { IsCurrent rows.now sessions.now subscriptions.now receivers.old.cache }
-    requires elsewhere { IsElsewhere (mapped_by sending.publisher.now.user.mappings sending.message.now.subject sending.word) (Ok elsewhere.now) }
-    ensures cached { IsCurrent rows.now sessions.now subscriptions.now receivers.new.cache }
+    requires publisher { session_of among.sessions.now among.publisher.now.conn ≡ Some among.publisher.now }
+    requires cached { IsCurrent rows.now among.sessions.now among.subscriptions.now receivers.old.cache }
+    requires marked { AreMarked among.sessions.now among.subscriptions.now among.marks.now }
+    requires elsewhere { IsElsewhere (mapped_by among.publisher.now.user.mappings message.now.subject word) (Ok elsewhere.now) }
+    ensures cached { IsCurrent rows.now among.entry.sessions.now among.entry.subscriptions.now receivers.new.cache }
 {
     match elsewhere {
         None => {}
@@ -355,7 +368,7 @@ fn keep_drawn(
             Elsewhere::Nowhere(_) => {}
             Elsewhere::Under(other) => {
                 if !is_route(&other.lend()) {
-                    receivers.fill_drawn(sessions, subscriptions, rows, sending, other);
+                    receivers.fill_drawn(among, rows, message, word, other);
                 }
             }
         },
@@ -372,6 +385,7 @@ fn plan_anew<'p>(
     permitted: Permitted<'p>,
 ) -> Result<Plan, HubRefusal>
     requires cached { IsCurrent (rows_of ready.now) sessions.old subscriptions.old receivers.old.cache }
+    requires marked { AreMarked sessions.old subscriptions.old permitted.marks.now }
     ensures planned { (w : World) → tables_of w ≡ tables_at ready.now permitted.entry.publish.now sessions.old subscriptions.old routes.old.exporters
         → IsPlanned w (in_session (session_of w.sessions permitted.entry.publish.conn) (λ z. mapped_to w z permitted.entry.by permitted.entry.publish.message.now permitted.entry.publish.word (mapped_by z.user.mappings permitted.entry.publish.message.now.subject permitted.entry.publish.word))) result }
     ensures sessions { sessions.new ≡ sessions.old }
@@ -379,26 +393,21 @@ fn plan_anew<'p>(
     ensures routes { routes.new.exporters ≡ routes.old.exporters }
     ensures cached { IsCurrent (rows_of ready.now) sessions.new subscriptions.new receivers.new.cache }
 {
-    let Permitted { publish, by } = permitted;
+    let Permitted { publish, by, marks } = permitted;
     let elsewhere = match sessions.find(publish.conn) {
         None => return Err(HubRefusal::NoSession),
         Some(publisher) => {
             let alloc = receivers.allocator();
             let elsewhere = drawn_for(alloc, publisher, publish.message, publish.word)?;
-            let sending = Sending {
-                publisher,
-                message: publish.message,
-                word: publish.word,
-            };
-            let rows = ready.rows();
-            keep_drawn(
+            let among = Among {
                 sessions,
                 subscriptions,
-                receivers,
-                rows,
-                sending,
-                &elsewhere,
-            );
+                marks,
+                publisher,
+            };
+            let rows = ready.rows();
+            let (message, word) = (publish.message, publish.word);
+            keep_drawn(receivers, among, rows, message, word, &elsewhere);
             elsewhere
         }
     };
@@ -412,6 +421,7 @@ fn plan_anew<'p>(
                 publish,
                 by,
                 elsewhere,
+                marks,
             };
             let plan = plan_diverted(sessions, subscriptions, receivers, routes, ready, diverted)?;
             Ok(plan)
@@ -431,6 +441,7 @@ fn plan_mapped<'p>(
     permitted: Permitted<'p>,
 ) -> Result<Plan, HubRefusal>
     requires cached { IsCurrent (rows_of ready.now) sessions.old subscriptions.old receivers.old.cache }
+    requires marked { AreMarked sessions.old subscriptions.old permitted.marks.now }
     ensures planned { (w : World) → tables_of w ≡ tables_at ready.now permitted.entry.publish.now sessions.old subscriptions.old routes.old.exporters
         → IsPlanned w (in_session (session_of w.sessions permitted.entry.publish.conn) (λ z. mapped_to w z permitted.entry.by permitted.entry.publish.message.now permitted.entry.publish.word (mapped_by z.user.mappings permitted.entry.publish.message.now.subject permitted.entry.publish.word))) result }
     ensures sessions { sessions.new ≡ sessions.old }
@@ -438,7 +449,11 @@ fn plan_mapped<'p>(
     ensures routes { routes.new.exporters ≡ routes.old.exporters }
     ensures cached { IsCurrent (rows_of ready.now) sessions.new subscriptions.new receivers.new.cache }
 {
-    let Permitted { publish, by } = permitted;
+    let Permitted {
+        publish,
+        by,
+        marks: _,
+    } = permitted;
     subscriptions.known();
     let answered = match sessions.find(publish.conn) {
         None => return Err(HubRefusal::NoSession),
@@ -518,6 +533,7 @@ fn plan_judged<'p>(
     requires users { AreOfPolicy ready.now sessions.old }
     requires verdicts { AreRemembered ready.now caches.old.verdicts }
     requires cached { IsCurrent (rows_of ready.now) sessions.old subscriptions.old caches.old.receivers.cache }
+    requires marked { AreMarked sessions.old subscriptions.old caches.old.marks }
     ensures planned { (w : World) → tables_of w ≡ tables_at ready.now publish.entry.now sessions.old subscriptions.old routes.old.exporters
         → IsPlanned w (published_by w publish.entry.conn publish.entry.message.now publish.entry.word) result }
     ensures reason { IfOk result (λ plan. IfSome (session_of sessions.old publish.entry.conn) (λ (z : SessionModel).
@@ -526,6 +542,7 @@ fn plan_judged<'p>(
     ensures subscriptions { subscriptions.new ≡ subscriptions.old }
     ensures routes { routes.new.exporters ≡ routes.old.exporters }
     ensures verdicts { AreRemembered ready.now caches.new.verdicts }
+    ensures marked { caches.new.marks ≡ caches.old.marks }
     ensures cached { IsCurrent (rows_of ready.now) sessions.new subscriptions.new caches.new.receivers.cache }
 {
     subscriptions.known();
@@ -541,7 +558,11 @@ fn plan_judged<'p>(
         ) {
             Verdict::Allowed(by) => {
                 if is_mapped(session) {
-                    let permitted = Permitted { publish, by };
+                    let permitted = Permitted {
+                        publish,
+                        by,
+                        marks: &caches.marks,
+                    };
                     let receivers = &mut caches.receivers;
                     let plan = plan_mapped(
                         sessions,
@@ -567,9 +588,10 @@ fn plan_judged<'p>(
                                 publisher: session,
                                 message: publish.message,
                                 word: publish.word,
+                                allowed: allowed_by(by, &subject),
                             },
                             now: publish.now,
-                            allowed: allowed_by(by, &subject),
+                            marks: &caches.marks,
                         },
                     )?,
                 )
@@ -609,6 +631,7 @@ pub fn plan_publish<'p>(
     requires users { AreOfPolicy ready.now sessions.old }
     requires verdicts { AreRemembered ready.now caches.old.verdicts }
     requires cached { IsCurrent (rows_of ready.now) sessions.old subscriptions.old caches.old.receivers.cache }
+    requires marked { AreMarked sessions.old subscriptions.old caches.old.marks }
     ensures planned { (w : World) → tables_of w ≡ tables_at ready.now publish.entry.now sessions.old subscriptions.old routes.old.exporters
         → IsPlanned w (published_by w publish.entry.conn publish.entry.message.now publish.entry.word) result }
     ensures reason { IfOk result (λ plan. IfSome (session_of sessions.old publish.entry.conn) (λ (z : SessionModel).
@@ -617,6 +640,7 @@ pub fn plan_publish<'p>(
     ensures subscriptions { subscriptions.new ≡ subscriptions.old }
     ensures routes { routes.new.exporters ≡ routes.old.exporters }
     ensures verdicts { AreRemembered ready.now caches.new.verdicts }
+    ensures marked { caches.new.marks ≡ caches.old.marks }
     ensures cached { IsCurrent (rows_of ready.now) sessions.new subscriptions.new caches.new.receivers.cache }
 {
     subscriptions.known();

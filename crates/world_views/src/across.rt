@@ -7,6 +7,7 @@ ghost use Rattle.imports.specs.declared.view.Way.TheVariants.{Own};
 ghost use Rattle.service_exporter.specs.Routes.{Exporter};
 ghost use Rattle.service_routes.specs.Routes.{Name, pruned, spent};
 ghost use Rattle.world_deliveries.specs.Sessions.{session_of};
+ghost use Rattle.receiver_cache.specs.Marked.{AreMarked};
 ghost use Rattle.receiver_cache.specs.Cached.{IsAllowed, IsCurrent};
 ghost use Rattle.world_receivers.specs.Standing.{addressed_behind_in};
 ghost use Rattle.receiver_cache.specs.Known.{under_subject};
@@ -18,9 +19,9 @@ use crate::changing::RouteChange;
 use crate::viewing::{Among, Found, Report, address_each, address_in};
 use base::{Alike, Boxed, Copying, NoMemory};
 use bytes::Bytes;
+use deny_marks::DenyMarks;
 use events::Said;
 use imports::Rows;
-use permissions::By;
 use policy_ready::Ready;
 use service_routes::{Route, Routes};
 use std::alloc::Global;
@@ -35,8 +36,8 @@ pub struct Publishing<'a> {
     pub ready: &'a Ready,
     pub sending: Sending<'a>,
     pub now: u64,
-    /// By what lists allow it, if its account has no mappings and its subject is of no response route.
-    pub allowed: Option<By>,
+    /// The deny marks of all that stand.
+    pub marks: &'a DenyMarks,
 }
 
 /// What is told of a message between its deliveries, and what becomes of response routes. It stands in a block, since that nothing is
@@ -88,6 +89,7 @@ fn address_across(
     routes: &mut Routes,
     subject: &SubjectRef<'_>,
 ) -> Result<Option<Boxed<Told>>, NoMemory>
+    requires marked { AreMarked among.sessions.now among.subscriptions.now among.marks.now }
     ensures all { OnOk result (receivers.new.deliveries.items ≡ (addressed_after (tables_at among.entry.ready.now among.entry.now among.entry.sessions.now among.entry.subscriptions.now routes.old.exporters) (publication among.entry.sending.publisher.now among.entry.sending.message.now among.entry.sending.word) (addressing receivers.old.deliveries.items []) (others_in (rows_of among.entry.ready.now) among.entry.sending.publisher.now.user.account subject.now)).deliveries) }
     ensures reports { IfOk result (λ told. reports_in told ≡ reports_after (tables_at among.entry.ready.now among.entry.now among.entry.sessions.now among.entry.subscriptions.now routes.old.exporters) (publication among.entry.sending.publisher.now among.entry.sending.message.now among.entry.sending.word) (addressing receivers.old.deliveries.items []) (others_in (rows_of among.entry.ready.now) among.entry.sending.publisher.now.user.account subject.now)) }
     ensures opened { IfOk result (λ told. routes_after told (pruned among.entry.now routes.old.exporters)
@@ -113,6 +115,7 @@ fn address_on_reply(
     receivers: &mut Receivers,
     routes: &Routes,
 ) -> Result<Option<Boxed<Told>>, NoMemory>
+    requires marked { AreMarked among.sessions.now among.subscriptions.now among.marks.now }
     ensures all { OnOk result (receivers.new.deliveries.items ≡ (addressed_after (tables_at among.entry.ready.now among.entry.now among.entry.sessions.now among.entry.subscriptions.now routes.now.exporters) (publication among.entry.sending.publisher.now among.entry.sending.message.now among.entry.sending.word) (addressing receivers.old.deliveries.items []) (others_with [] (responses_on (pruned among.entry.now routes.now.exporters) among.entry.sending.publisher.now.user.account among.entry.sending.message.now.subject) among.entry.sending.publisher.now.user.account among.entry.sending.message.now.subject)).deliveries) }
     ensures reports { IfOk result (λ told. reports_in told ≡ []) }
     ensures spent { IfOk result (λ told. routes_after told (pruned among.entry.now routes.now.exporters)
@@ -139,6 +142,7 @@ fn address_answer(
     subject: &SubjectRef<'_>,
     answered: RouteChange,
 ) -> Result<Option<Boxed<Told>>, NoMemory>
+    requires marked { AreMarked among.sessions.now among.subscriptions.now among.marks.now }
     requires ends { (all : List (Name × Exporter)) → changed_by answered all ≡ spent among.sending.publisher.now.user.account subject.now all }
     requires noted { AreNoted among.now answered }
     ensures all { OnOk result (receivers.new.deliveries.items ≡ (addressed_after (tables_at among.entry.ready.now among.entry.now among.entry.sessions.now among.entry.subscriptions.now routes.now.exporters) (publication among.entry.sending.publisher.now among.entry.sending.message.now among.entry.sending.word) (addressing receivers.old.deliveries.items []) (others_with [] (responses_on (pruned among.entry.now routes.now.exporters) among.entry.sending.publisher.now.user.account subject.now) among.entry.sending.publisher.now.user.account subject.now)).deliveries) }
@@ -169,6 +173,7 @@ fn address_unless_own(
     route: &Route,
     subject: &SubjectRef<'_>,
 ) -> Result<(), NoMemory>
+    requires marked { AreMarked among.sessions.now among.subscriptions.now among.marks.now }
     ensures all { OnOk result (receivers.new.deliveries.items ≡ (if is_same (At among.entry.sending.publisher.now.user.account subject.now Own) (response_by route.now)
         then receivers.old.deliveries.items
         else receivers.old.deliveries.items ++ addressed_behind_in among.entry.sessions.now among.entry.subscriptions.now receivers.old.deliveries.items
@@ -245,7 +250,8 @@ pub fn address_all<'p>(
 ) -> Result<Option<Boxed<Told>>, NoMemory>
     requires publisher { session_of sessions.now publishing.sending.publisher.now.conn ≡ Some publishing.sending.publisher.now }
     requires cached { IsCurrent (rows_of publishing.ready.now) sessions.now subscriptions.old receivers.old.cache }
-    requires allowed { IfSome publishing.allowed (IsAllowed publishing.sending.publisher.now.user publishing.sending.message.now.subject) }
+    requires allowed { IfSome publishing.sending.allowed (IsAllowed publishing.sending.publisher.now.user publishing.sending.message.now.subject) }
+    requires marked { AreMarked sessions.now subscriptions.old publishing.marks.now }
     ensures all { OnOk result (receivers.new.deliveries.items ≡ (addressed_after (tables_at publishing.entry.ready.now publishing.entry.now sessions.now subscriptions.old routes.old.exporters) (publication publishing.entry.sending.publisher.now publishing.entry.sending.message.now publishing.entry.sending.word) (addressing [] [])
         (views publishing.entry.ready.now publishing.entry.sending.publisher.now.user.account publishing.entry.sending.message.now.subject
         (responses_on (pruned publishing.entry.now routes.old.exporters) publishing.entry.sending.publisher.now.user.account publishing.entry.sending.message.now.subject))).deliveries) }
@@ -266,10 +272,10 @@ pub fn address_all<'p>(
         ready,
         sending,
         now,
-        allowed,
+        marks,
     } = publishing;
     subscriptions.known();
-    receivers.address(sessions, subscriptions, ready.rows(), sending, allowed)?;
+    receivers.address(sessions, subscriptions, ready.rows(), marks, sending)?;
     if is_own_alone(ready.rows(), routes) {
         return Ok(None);
     }
@@ -277,6 +283,7 @@ pub fn address_all<'p>(
         alloc: receivers.allocator(),
         sessions,
         subscriptions,
+        marks,
         ready,
         sending,
         now,
@@ -305,6 +312,7 @@ pub fn address_under<'p>(
     publishing: Publishing<'p>,
     subject: &Subject,
 ) -> Result<Option<Boxed<Told>>, NoMemory>
+    requires marked { AreMarked sessions.now subscriptions.now publishing.marks.now }
     ensures all { OnOk result (receivers.new.deliveries.items ≡ (addressed_after (tables_at publishing.entry.ready.now publishing.entry.now sessions.now subscriptions.now routes.old.exporters) (publication publishing.entry.sending.publisher.now (under_subject subject.now publishing.entry.sending.message.now) publishing.entry.sending.word) (addressing [] [])
         (views publishing.entry.ready.now publishing.entry.sending.publisher.now.user.account subject.now
         (responses_on (pruned publishing.entry.now routes.old.exporters) publishing.entry.sending.publisher.now.user.account subject.now))).deliveries) }
@@ -324,12 +332,13 @@ pub fn address_under<'p>(
         ready,
         sending,
         now,
-        allowed: _,
+        marks,
     } = publishing;
     let among = Among {
         alloc: receivers.allocator(),
         sessions,
         subscriptions,
+        marks,
         ready,
         sending,
         now,
@@ -356,6 +365,7 @@ fn address_answer_under(
     routes: &Routes,
     subject: &Subject,
 ) -> Result<Option<Boxed<Told>>, NoMemory>
+    requires marked { AreMarked among.sessions.now among.subscriptions.now among.marks.now }
     ensures all { OnOk result (receivers.new.deliveries.items ≡ (addressed_after (tables_at among.entry.ready.now among.entry.now among.entry.sessions.now among.entry.subscriptions.now routes.now.exporters) (publication among.entry.sending.publisher.now among.entry.sending.message.now among.entry.sending.word) (addressing receivers.old.deliveries.items []) (others_with [] (responses_on (pruned among.entry.now routes.now.exporters) among.entry.sending.publisher.now.user.account subject.now) among.entry.sending.publisher.now.user.account subject.now)).deliveries) }
     ensures reports { IfOk result (λ told. reports_in told ≡ []) }
     ensures spent { IfOk result (λ told. routes_after told (pruned among.entry.now routes.now.exporters)

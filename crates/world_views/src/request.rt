@@ -1,6 +1,7 @@
 //! A request that is seen across an import row of a service, and wants a response.
 ghost use Rattle.std.specs.Prelude.{◌≡◌, ◌++◌, ◌∷◌, [], All, IfOk, OnOk, Some, length, if◌then◌else◌};
 ghost use Rattle.service_subjects.specs.Names.{route_subject};
+ghost use Rattle.receiver_cache.specs.Marked.{AreMarked};
 ghost use Rattle.world_receivers.specs.Standing.{addressed_behind_in, is_for_nobody};
 ghost use Rattle.world_views.specs.Changing.{IsNotedAt};
 ghost use Rattle.world_views.specs.Viewing.{addressing, opening_for, publication, report, reports_by, request_in, seen_with, tables_at, with_effect};
@@ -39,6 +40,7 @@ pub(crate) fn address_request(
     request: Request<'_>,
     found: &mut Found,
 ) -> Result<(), NoMemory>
+    requires marked { AreMarked among.sessions.now among.subscriptions.now among.marks.now }
     requires noted { All (IsNotedAt among.now) found.old.openings.items }
     ensures all { OnOk result (addressing receivers.new.deliveries.items found.new.openings.items
         ≡ with_effect (tables_at among.entry.ready.now among.entry.now among.entry.sessions.now among.entry.subscriptions.now routes.old.exporters) (publication among.entry.sending.publisher.now among.entry.sending.message.now among.entry.sending.word) (addressing receivers.old.deliveries.items found.old.openings.items) (request_in (tables_at among.entry.ready.now among.entry.now among.entry.sessions.now among.entry.subscriptions.now routes.old.exporters) (publication among.entry.sending.publisher.now among.entry.sending.message.now among.entry.sending.word) (addressing receivers.old.deliveries.items found.old.openings.items)
@@ -75,6 +77,7 @@ fn address_on_route(
     number: u64,
     found: &mut Found,
 ) -> Result<(), NoMemory>
+    requires marked { AreMarked among.sessions.now among.subscriptions.now among.marks.now }
     ensures all { OnOk result (receivers.new.deliveries.items ≡ (if is_for_nobody among.entry.sessions.now among.entry.subscriptions.now receivers.old.deliveries.items among.entry.sending.publisher.now request.entry.exporter.now request.entry.subject.now then receivers.old.deliveries.items
         else receivers.old.deliveries.items ++ addressed_behind_in among.entry.sessions.now among.entry.subscriptions.now receivers.old.deliveries.items
         among.entry.sending.publisher.now (seen_with request.entry.subject.now (Some (route_subject among.entry.sending.word number)) among.entry.sending.message.now) among.entry.sending.word request.entry.exporter.now)) }
@@ -89,7 +92,13 @@ fn address_on_route(
         subject: request.subject,
         reply: Said::Other(subject),
     };
-    if receivers.address_seen(among.sessions, among.subscriptions, among.sending, seen)? {
+    if receivers.address_seen(
+        among.sessions,
+        among.subscriptions,
+        among.marks,
+        among.sending,
+        seen,
+    )? {
         return Ok(());
     }
     found.openings.push(opening(among, request)?)?;
@@ -127,6 +136,7 @@ fn report_full(
     request: Request<'_>,
     found: &mut Found,
 ) -> Result<(), NoMemory>
+    requires marked { AreMarked among.sessions.now among.subscriptions.now among.marks.now }
     ensures all { OnOk result (receivers.new.deliveries.items ≡ receivers.old.deliveries.items) }
     ensures openings { found.new.openings ≡ found.old.openings }
     ensures reports { OnOk result (found.new.reports.items ≡ (if is_for_nobody among.entry.sessions.now among.entry.subscriptions.now receivers.old.deliveries.items among.entry.sending.publisher.now request.entry.exporter.now request.entry.subject.now then found.old.reports.items
@@ -139,7 +149,13 @@ fn report_full(
         subject: request.subject,
         reply: Said::AsPublished,
     };
-    let nobody = receivers.address_seen(among.sessions, among.subscriptions, among.sending, seen)?;
+    let nobody = receivers.address_seen(
+        among.sessions,
+        among.subscriptions,
+        among.marks,
+        among.sending,
+        seen,
+    )?;
     receivers.take_back(before);
     if !nobody {
         found.reports.push(Report {

@@ -1,6 +1,7 @@
 //! A message addressed in its views one after the other, and the import rows that are reported between its deliveries.
 ghost use Rattle.std.specs.Prelude.{◌≡◌, ◌++◌, ◌-◌, None, All, IfOk, OnOk, take, drop};
 ghost use Rattle.events.specs.Sendings.{named};
+ghost use Rattle.receiver_cache.specs.Marked.{AreMarked};
 ghost use Rattle.world_receivers.specs.Standing.{addressed_behind_in};
 ghost use Rattle.world_views.specs.Changing.{IsNotedAt};
 ghost use Rattle.world_views.specs.Viewing.{addressed_after, addressing, effect_of, item_of, publication, reports_after, reports_by, seen_with, tables_at, with_effect, with_reports};
@@ -9,6 +10,7 @@ use crate::changing::Opening;
 use crate::request::{Request, address_request};
 use base::{NoMemory, Shared};
 use bytes::Bytes;
+use deny_marks::DenyMarks;
 use events::{Item, Said};
 use imports::{ViewItem, Way};
 use policy_ready::Ready;
@@ -54,6 +56,7 @@ pub(crate) struct Among<'a> {
     pub alloc: Global,
     pub sessions: &'a Sessions,
     pub subscriptions: &'a Subscriptions,
+    pub marks: &'a DenyMarks,
     pub ready: &'a Ready,
     pub sending: Sending<'a>,
     pub now: u64,
@@ -68,6 +71,7 @@ fn address_one(
     view: &ViewItem,
     found: &mut Found,
 ) -> Result<(), NoMemory>
+    requires marked { AreMarked among.sessions.now among.subscriptions.now among.marks.now }
     requires noted { All (IsNotedAt among.now) found.old.openings.items }
     ensures all { OnOk result (addressing receivers.new.deliveries.items found.new.openings.items
         ≡ with_effect (tables_at among.entry.ready.now among.entry.now among.entry.sessions.now among.entry.subscriptions.now routes.old.exporters) (publication among.entry.sending.publisher.now among.entry.sending.message.now among.entry.sending.word) (addressing receivers.old.deliveries.items found.old.openings.items) (effect_of (tables_at among.entry.ready.now among.entry.now among.entry.sessions.now among.entry.subscriptions.now routes.old.exporters) (publication among.entry.sending.publisher.now among.entry.sending.message.now among.entry.sending.word) (addressing receivers.old.deliveries.items found.old.openings.items) view.now)) }
@@ -129,6 +133,7 @@ pub(crate) fn address_in(
     subject: &Subject,
     reply: Said,
 ) -> Result<(), NoMemory>
+    requires marked { AreMarked among.sessions.now among.subscriptions.now among.marks.now }
     ensures all { OnOk result (receivers.new.deliveries.items ≡ receivers.old.deliveries.items ++ addressed_behind_in among.entry.sessions.now among.entry.subscriptions.now receivers.old.deliveries.items
         among.entry.sending.publisher.now (named (record { subject = subject.now; reply = reply }) among.entry.sending.message.now) among.entry.sending.word account.now) }
     ensures cached { receivers.new.cache ≡ receivers.old.cache }
@@ -138,7 +143,13 @@ pub(crate) fn address_in(
         subject,
         reply,
     };
-    receivers.address_seen(among.sessions, among.subscriptions, among.sending, seen)?;
+    receivers.address_seen(
+        among.sessions,
+        among.subscriptions,
+        among.marks,
+        among.sending,
+        seen,
+    )?;
     Ok(())
 }
 
@@ -151,6 +162,7 @@ pub(crate) fn address_each(
     views: &[ViewItem],
     found: &mut Found,
 ) -> Result<(), NoMemory>
+    requires marked { AreMarked among.sessions.now among.subscriptions.now among.marks.now }
     requires noted { All (IsNotedAt among.now) found.old.openings.items }
     ensures all { OnOk result (addressing receivers.new.deliveries.items found.new.openings.items
         ≡ addressed_after (tables_at among.entry.ready.now among.entry.now among.entry.sessions.now among.entry.subscriptions.now routes.old.exporters) (publication among.entry.sending.publisher.now among.entry.sending.message.now among.entry.sending.word) (addressing receivers.old.deliveries.items found.old.openings.items) views.now) }

@@ -17,7 +17,7 @@ returns-in_ok-new-in-Some-2 c =
     let z = c.args.among.publisher.now in
     let s : List Token = c.args.subject.now in
     subst (λ (d : Drawn). IsSent c.args.rows.now zs subs z d × (subject_of d ≡ s)) (sym c.in_ok-new-in-Some-2.ensures)
-    (sent_under c.args.rows.now zs subs z c.in-Some.own c.in-Some-2.others s c.requires
+    (sent_under c.args.rows.now zs subs z c.in-Some.own c.in-Some-2.others s c.requires.unrouted
     (subst (λ (account : List ℕ). IsSeen zs subs z c.in-Some.own account s) c.as_slice-account.ensures
     (subst (λ (o : Option KnownView). IsKnown o zs subs z c.as_slice-account.result.now s) c.in-Some.is c.in_ok-known_at.ensures))
     (subst (λ (t : List Token). KnowsOthers (Some c.in-Some-2.others) c.args.rows.now zs subs z t) c.lend.ensures

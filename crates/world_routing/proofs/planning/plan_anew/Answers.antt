@@ -21,7 +21,10 @@ pub plan_diverted-requires : goal.plan_diverted-requires
 plan_diverted-requires c =
     let m = c.args.permitted.publish.message.now in
     let mapped = mapped_by c.in-Some.publisher.now.user.mappings m.subject c.args.permitted.publish.word in
-    record { plain = plain_elsewhere mapped c.in-Some-elsewhere.elsewhere (subst (λ (o : Option Elsewhere). IsElsewhere mapped (Ok o)) c.in-Some-elsewhere.is c.in_ok-elsewhere-in-Some.ensures) }
+    record {
+      plain = plain_elsewhere mapped c.in-Some-elsewhere.elsewhere (subst (λ (o : Option Elsewhere). IsElsewhere mapped (Ok o)) c.in-Some-elsewhere.is c.in_ok-elsewhere-in-Some.ensures);
+      marked = c.requires.marked;
+    }
 
 pub returns-in_ok-plan-in-None-elsewhere-clause-planned : goal.returns-in_ok-plan-in-None-elsewhere-clause-planned
 returns-in_ok-plan-in-None-elsewhere-clause-planned c = λ w of.

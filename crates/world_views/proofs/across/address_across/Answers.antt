@@ -13,7 +13,7 @@ use Rattle.world_views.specs.declared.viewing.Report.{Report}
 use Rattle.world_views.proofs.across.address_across.Goals as goal
 
 pub address_each-requires : goal.address_each-requires
-address_each-requires c = record { noted = subst (λ (os : List Opening). All (IsNotedAt c.args.among.now) os) (sym c.nothing_found-found.ensures.openings) (All-nil (IsNotedAt c.args.among.now)) }
+address_each-requires c = record { marked = c.requires.marked; noted = subst (λ (os : List Opening). All (IsNotedAt c.args.among.now) os) (sym c.nothing_found-found.ensures.openings) (All-nil (IsNotedAt c.args.among.now)) }
 
 pub returns-clause-all : goal.returns-clause-all
 returns-clause-all c =

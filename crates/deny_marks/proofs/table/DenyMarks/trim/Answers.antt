@@ -1,5 +1,5 @@
 -- what stands is kept
-use Rattle.std.proofs.Common.{◌∙◌, ap, ℕ, List, filter}
+use Rattle.std.proofs.Common.{◌∙◌, ap, ℕ, filter}
 use Rattle.deny_marks.specs.declared.marks.Marks.{Marks}
 use Rattle.deny_marks.proofs.Kept.{marks_kept}
 use Rattle.deny_marks.proofs.table.DenyMarks.trim.Goals as goal

@@ -1,5 +1,5 @@
 -- the deliveries are those to whom is cached, or to whom it was found to be for
-use Rattle.std.proofs.Common.{◌∙◌, ℕ, List, map, filter, ap}
+use Rattle.std.proofs.Common.{◌∙◌, ℕ, Bool, List, map, filter, ap}
 use Rattle.subjects.specs.Subject.{Token, tokens_of}
 use Rattle.subjects.proofs.Text.{again}
 use Rattle.events.specs.Messages.{Message}
@@ -8,6 +8,8 @@ use Rattle.world_subscriptions.specs.Addressing.{addressed_to}
 use Rattle.world_rows.specs.declared.subscription.Subscription.{Subscription}
 use Rattle.world_groups.specs.Served.{served}
 use Rattle.receiver_cache.specs.Open.{is_open}
+use Rattle.receiver_cache.specs.Marked.{is_marked_open}
+use Rattle.receiver_cache.proofs.Marked.{open_marked}
 use Rattle.receiver_cache.proofs.Tests.{both}
 use Rattle.receiver_cache.proofs.Told.{told_are, others_are}
 use Rattle.world_receivers.proofs.receivers.Receivers.address.Goals as goal
@@ -31,8 +33,9 @@ returns-clause-all c =
     let subs = c.args.subscriptions.now in
     let z = c.args.sending.publisher.now in
     let m : Message = c.args.sending.message.now in
+    let passes : List Token → Subscription → Bool = λ s. is_marked_open c.args.marks.now zs z s in
     c.in_ok-address_served.ensures
-    ∙ ap (λ (s : List Token). map (addressed_to m) (served c.args.sending.word (filter (is_open zs z s) (having c.as_slice-account.result.now m.subject c.remember.new.self)))) c.subject-subject.ensures
-    ∙ ap (λ (a : List ℕ). map (addressed_to m) (served c.args.sending.word (filter (is_open zs z m.subject) (having a m.subject c.remember.new.self)))) c.as_slice-account.ensures
-    ∙ ap (λ (now : List Subscription). map (addressed_to m) (served c.args.sending.word (filter (is_open zs z m.subject) (having z.user.account m.subject now)))) c.remember.ensures
-    ∙ ap (λ (xs : List Subscription). map (addressed_to m) (served c.args.sending.word xs)) (both (is_open zs z m.subject) (has_subject z.user.account m.subject) subs)
+    ∙ ap (λ (s : List Token). map (addressed_to m) (served c.args.sending.word (filter (passes s) (having c.as_slice-account.result.now m.subject c.remember.new.self)))) c.subject-subject.ensures
+    ∙ ap (λ (a : List ℕ). map (addressed_to m) (served c.args.sending.word (filter (passes m.subject) (having a m.subject c.remember.new.self)))) c.as_slice-account.ensures
+    ∙ ap (λ (now : List Subscription). map (addressed_to m) (served c.args.sending.word (filter (passes m.subject) (having z.user.account m.subject now)))) c.remember.ensures
+    ∙ ap (λ (xs : List Subscription). map (addressed_to m) (served c.args.sending.word xs)) (open_marked c.args.marks.now zs z z.user.account m.subject (λ b sub. b) subs c.requires.marked ∙ both (is_open zs z m.subject) (has_subject z.user.account m.subject) subs)

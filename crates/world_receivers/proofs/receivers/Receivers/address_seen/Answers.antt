@@ -9,14 +9,17 @@ use Rattle.world_subscriptions.specs.Addressing.{addressed_to}
 use Rattle.world_subscriptions.specs.Subscriptions.{has_subject, having}
 use Rattle.world_rows.specs.declared.subscription.Subscription.{Subscription}
 use Rattle.world_groups.specs.Served.{served}
+use Rattle.deny_marks.specs.declared.marks.Marks.{Marks}
 use Rattle.receiver_cache.specs.Open.{is_open}
+use Rattle.receiver_cache.specs.Marked.{AreMarked, is_marked_open}
 use Rattle.world_receivers.specs.Standing.{is_nil, stands_behind, standing_among}
+use Rattle.receiver_cache.proofs.Marked.{open_marked}
 use Rattle.receiver_cache.proofs.Tests.{both}
 use Rattle.world_receivers.proofs.receivers.Receivers.address_seen.Goals as goal
 
-module _ (zs : List Session) (subs : List Subscription) (z : Session) (account : List ℕ) (s : List Token) (before : List Addressed) where
+module _ (table : List (ℕ × Marks)) (zs : List Session) (subs : List Subscription) (marked : AreMarked zs subs table) (z : Session) (account : List ℕ) (s : List Token) (before : List Addressed) where
   abbrev keeps : List Token → List Addressed → Subscription → Bool
-  keeps t all sub = is_open zs z t sub && stands_behind zs all sub
+  keeps t all sub = is_marked_open table zs z t sub && stands_behind zs all sub
 
   -- those that are found, by whatever names
   standing : (found : List Subscription) (t : List Token) (all : List Addressed) (a : List ℕ) → found ≡ filter (keeps t all) (having a t subs) → t ≡ s → all ≡ before → a ≡ account →
@@ -26,7 +29,8 @@ module _ (zs : List Session) (subs : List Subscription) (z : Session) (account :
       ∙ ap (λ (x : List Token). filter (keeps x all) (having a x subs)) same
       ∙ ap (λ (ds : List Addressed). filter (keeps s ds) (having a s subs)) behind
       ∙ ap (λ (x : List ℕ). filter (keeps s before) (having x s subs)) own
-      ∙ both (keeps s before) (has_subject account s) subs
+      ∙ open_marked table zs z account s (λ b sub. b && stands_behind zs before sub) subs marked
+      ∙ both (λ sub. is_open zs z s sub && stands_behind zs before sub) (has_subject account s) subs
 
 pub returns-clause-all : goal.returns-clause-all
 returns-clause-all c =
@@ -38,10 +42,10 @@ returns-clause-all c =
     c.in_ok-address_under.ensures
     ∙ ap (λ xs. all (map (λ x. x.now) xs)) c.as_slice-4.ensures.value
     ∙ ap all (c.in_ok-keep_chosen.ensures c.in_ok-found.ensures.rising ∙ ap (served c.args.sending.word)
-    (standing c.args.sessions.now c.args.subscriptions.now c.args.sending.publisher.now c.args.seen.account.now s before _ _ _ _ c.in_ok-found.ensures.found c.lend-subject.ensures c.as_slice.ensures.value c.as_slice-2.ensures))
+    (standing c.args.marks.now c.args.sessions.now c.args.subscriptions.now c.requires.marked c.args.sending.publisher.now c.args.seen.account.now s before _ _ _ _ c.in_ok-found.ensures.found c.lend-subject.ensures c.as_slice.ensures.value c.as_slice-2.ensures))
 
 pub returns-clause-nobody : goal.returns-clause-nobody
 returns-clause-nobody c =
     c.is_nil-nobody.ensures
     ∙ ap (λ xs. is_nil (map (λ x. x.now) xs)) c.as_slice-3.ensures.value
-    ∙ ap is_nil (standing c.args.sessions.now c.args.subscriptions.now c.args.sending.publisher.now c.args.seen.account.now c.args.seen.subject.now c.args.self.now.deliveries.items _ _ _ _ c.in_ok-found.ensures.found c.lend-subject.ensures c.as_slice.ensures.value c.as_slice-2.ensures)
+    ∙ ap is_nil (standing c.args.marks.now c.args.sessions.now c.args.subscriptions.now c.requires.marked c.args.sending.publisher.now c.args.seen.account.now c.args.seen.subject.now c.args.self.now.deliveries.items _ _ _ _ c.in_ok-found.ensures.found c.lend-subject.ensures c.as_slice.ensures.value c.as_slice-2.ensures)

@@ -6,8 +6,10 @@ use Rattle.subjects.proofs.Text.{again}
 use Rattle.world_deliveries.specs.Sessions.{session_of}
 use Rattle.world_subscriptions.specs.Subscriptions.{has_subject, having}
 use Rattle.receiver_cache.specs.Open.{is_open}
+use Rattle.receiver_cache.specs.Marked.{is_marked_open}
 use Rattle.receiver_cache.specs.Cached.{KnowsOthers}
 use Rattle.receiver_cache.specs.declared.known.KnownView.{KnownView}
+use Rattle.receiver_cache.proofs.Marked.{open_marked}
 use Rattle.receiver_cache.proofs.Tests.{both}
 use Rattle.receiver_cache.proofs.Told.{alone_filled, drawn_same, filled_current, still_current, others_selected}
 use Rattle.world_receivers.proofs.receivers.Receivers.fill_cache.Goals as goal
@@ -28,7 +30,8 @@ returns-in-Ok-clause-cached c =
     there
     (ap (map (λ x. x.now)) c.as_slice.ensures.value
     ∙ c.in-Ok.ensures.found
-    ∙ ap (λ account. filter (is_open zs z s) (having account s subs)) c.as_slice-account.ensures
+    ∙ ap (λ account. filter (is_marked_open c.args.among.marks.now zs z s) (having account s subs)) c.as_slice-account.ensures
+    ∙ open_marked c.args.among.marks.now zs z z.user.account s (λ b sub. b) subs c.requires.marked
     ∙ both (is_open zs z s) (has_subject z.user.account s) subs)
     same
     (alone_filled _ _ _ c.args.rows.now zs subs z s _ _ c.fill.ensures.alone c.requires.allowed c.others_of-others.ensures there same)

@@ -13,23 +13,23 @@ use Rattle.world_receivers.proofs.receivers.Receivers.fill_drawn.Goals as goal
 
 pub returns-then-not-select_drawn : goal.returns-then-not-select_drawn
 returns-then-not-select_drawn c = record {
-  cached = still_current c.args.self.now.cache c.select_drawn.new.self c.args.rows.now c.args.sessions.now c.args.subscriptions.now c.requires.cached c.select_drawn.ensures.cached;
+  cached = still_current c.args.self.now.cache c.select_drawn.new.self c.args.rows.now c.args.among.sessions.now c.args.among.subscriptions.now c.requires.cached c.select_drawn.ensures.cached;
 }
 
 pub returns-in_default : goal.returns-in_default
 returns-in_default c = record {
-  cached = still_current c.args.self.now.cache c.select_drawn.new.self c.args.rows.now c.args.sessions.now c.args.subscriptions.now c.requires.cached c.select_drawn.ensures.cached;
+  cached = still_current c.args.self.now.cache c.select_drawn.new.self c.args.rows.now c.args.among.sessions.now c.args.among.subscriptions.now c.requires.cached c.select_drawn.ensures.cached;
 }
 
 pub returns-in-Some : goal.returns-in-Some
 returns-in-Some c = record {
   cached =
       let rows = c.args.rows.now in
-      let zs = c.args.sessions.now in
-      let subs = c.args.subscriptions.now in
-      let z = c.args.sending.publisher.now in
-      let m = c.args.sending.message.now in
-      let word = c.args.sending.word in
+      let zs = c.args.among.sessions.now in
+      let subs = c.args.among.subscriptions.now in
+      let z = c.args.among.publisher.now in
+      let m = c.args.message.now in
+      let word = c.args.word in
       let old : ReceiverCache = c.select_drawn.new.self in
       let new : ReceiverCache = record old { drawn = c.keep.new.self } in
       let current : IsCurrent rows zs subs old = still_current c.args.self.now.cache old rows zs subs c.requires.cached c.select_drawn.ensures.cached in

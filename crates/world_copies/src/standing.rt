@@ -1,5 +1,5 @@
 ghost use Rattle.std.specs.Prelude.{◌≡◌, IfOk, map};
-ghost use Rattle.world.specs.Shown.{standing_of};
+ghost use Rattle.world_copies.specs.Shown.{standing_of};
 
 use base::{Copying, Items, NoMemory, Shared};
 use events::Sid;
@@ -26,8 +26,8 @@ pub struct Standing {
     pub most: Option<u64>,
 }
 
-/// The standing subscriptions, oldest first.
-pub(crate) fn standing_all(
+/// Returns the standing subscriptions, oldest first. `NoMemory` where memory could not be had.
+pub fn standing_all(
     alloc: Global,
     subscriptions: &Subscriptions,
 ) -> Result<Items<Standing>, NoMemory>
@@ -40,6 +40,7 @@ pub(crate) fn standing_all(
     Ok(Items::from_vec(all))
 }
 
+/// Returns a standing subscription as it is shown.
 fn show_standing(alloc: Global, subscription: &SharedSubscription) -> Result<Standing, NoMemory>
     ensures { IfOk result (λ shown. shown ≡ standing_of subscription.now) }
 {

@@ -1,0 +1,4 @@
+pub mod Finds
+pub mod Kept
+pub mod Marking
+pub mod Staying

@@ -1,0 +1,74 @@
+ghost use Rattle.std.specs.Prelude.{◌≡◌, ◌<◌, ◌++◌, ◌∷◌, List, [], OnOk, All};
+ghost use Rattle.receiver_cache.specs.Marked.{AreMarked};
+ghost use Rattle.world_deliveries.specs.declared.session.Session.{Session};
+ghost use Rattle.world_rows.specs.declared.subscription.Subscription.{Subscription};
+ghost use Rattle.world_subscriptions.specs.Subscriptions.{subscription_of};
+
+use base::NoMemory;
+use deny_marks::{DenyMarks, Marks, Stands};
+use world_sessions::Sessions;
+use world_subscriptions::{NewSubscription, Subscriptions};
+
+/// The ids of those that stand.
+#[derive(Drop)]
+struct StandingIds<'s> {
+    subscriptions: &'s Subscriptions,
+}
+
+impl Stands for StandingIds<'_> {
+    ghost use Rattle.std.specs.Prelude.{◌≡◌};
+    ghost use Rattle.world_marks.specs.Standing.{has_id};
+
+    ghost stands = { λ s id. has_id id s.subscriptions.now };
+
+    fn stands(&self, id: u64) -> bool
+        ensures { result ≡ has_id id self.now.subscriptions.now }
+    {
+        self.subscriptions.get(id).is_some()
+    }
+
+    fn count(&self) -> usize {
+        self.subscriptions.len()
+    }
+}
+
+/// Drops marks of subscriptions that have gone, where most are of such. Those that stand keep theirs.
+pub fn trim_marks(marks: &mut DenyMarks, subscriptions: &Subscriptions)
+    ensures { (zs : List Session) → AreMarked zs subscriptions.now marks.old → AreMarked zs subscriptions.now marks.new }
+{
+    marks.trim(&StandingIds { subscriptions });
+}
+
+/// Returns the marks of a subscription that is to stand, by the lists of its session's user.
+fn marks_for(sessions: &Sessions, wanted: &NewSubscription) -> Marks
+    ensures { AreMarksFor result wanted.now (session_of sessions.now wanted.now.conn) }
+{
+    match sessions.find(wanted.conn) {
+        None => Marks::Unmarked,
+        Some(session) => Marks::of(&session.user.rules, wanted.subject.get(), &wanted.queue),
+    }
+}
+
+/// Puts the marks of a subscription that is to stand next under this id. Those that stand keep theirs, also where memory could
+/// not be had.
+#[inline(never)]
+pub fn mark_next(
+    marks: &mut DenyMarks,
+    sessions: &Sessions,
+    subscriptions: &Subscriptions,
+    id: u64,
+    wanted: &NewSubscription,
+) -> Result<(), NoMemory>
+    requires above { All (λ (s : Subscription). s.id < id) subscriptions.now }
+    requires marked { AreMarked sessions.now subscriptions.now marks.old }
+    ensures kept { AreMarked sessions.now subscriptions.now marks.new }
+    ensures ok { OnOk result (AreMarked sessions.now (subscriptions.now
+        ++ subscription_of id wanted.now.conn wanted.now.account wanted.now.subject wanted.now.queue wanted.now.sid ∷ []) marks.new) }
+{
+    trim_marks(marks, subscriptions);
+    marks.put(id, marks_for(sessions, wanted))?;
+    Ok(())
+}
+
+ghost use Rattle.world_deliveries.specs.Sessions.{session_of};
+ghost use Rattle.world_marks.specs.Standing.{AreMarksFor};
