@@ -15,7 +15,7 @@ use Rattle.imports.specs.Across.{views}
 use Rattle.imports.specs.Views.{is_route, rows_of}
 use Rattle.imports.specs.declared.view.ViewItem.{ViewItem}
 use Rattle.service_exporter.specs.Routes.{Exporter}
-use Rattle.service_routes.specs.Routes.{Name, pruned, spent}
+use Rattle.service_routes.specs.Routes.{Name, spent}
 use Rattle.world_deliveries.specs.Sessions.{session_of}
 use Rattle.world_deliveries.specs.Replying.{is_granted}
 use Rattle.world_deliveries.specs.declared.session.Session.{Session}
@@ -23,14 +23,14 @@ use Rattle.world_subscriptions.specs.Limit.{unended}
 use Rattle.world_subscriptions.specs.Kept.{Apart}
 use Rattle.world_rows.specs.declared.subscription.Subscription.{Subscription}
 use Rattle.receiver_cache.specs.Cached.{IsAllowed, IsAloneAt, IsAloneOf, IsOfLists}
-use Rattle.receiver_cache.specs.Known.{others_in, others_with}
+use Rattle.receiver_cache.specs.Known.{others_with}
 use Rattle.world_receivers.specs.Standing.{addressed_behind_in}
 use Rattle.world_routing.specs.World.{World}
 use Rattle.world_views.specs.Changing.{opened_each}
 use Rattle.world_routing.specs.Granting.{or_granted, verdict_on}
 use Rattle.world_routing.specs.Handing.{answered_by}
 use Rattle.world_views.specs.Requests.{responses_on}
-use Rattle.world_views.specs.Viewing.{Tables, Publication, Addressing, addressing, addressed_after, publication, reports_after, reports_in, routes_after, tables_at}
+use Rattle.world_views.specs.Viewing.{Tables, Publication, Addressing, addressing, addressed_after, publication, reports_after, tables_at}
 use Rattle.world_routing.specs.Publishing.{IsPlanned, IsRefusal, IsToldPlan, in_session, mapped_to, published_by, tables_of}
 use Rattle.events.specs.declared.refusal.HubRefusal.{HubRefusal}
 use Rattle.events.specs.declared.refusal.HubRefusal.TheVariants as refusal

@@ -1,8 +1,7 @@
 -- A message that is published.
-use Rattle.std.proofs.Common.{◌≡◌, ◌∙◌, ◌==◌, ◌∷◌, ◌++◌, inl, inr, ℕ, Bool, true, false, cond, List, [], Option, Some, None, Result, Ok, All, map, ap, sym, refl, subst}
+use Rattle.std.proofs.Common.{◌≡◌, ◌∙◌, ◌==◌, ◌∷◌, inl, inr, ℕ, Bool, true, false, cond, List, [], Option, Some, None, Result, Ok, map, ap, sym, refl, subst}
 use Rattle.std.specs.Prelude.{IfSome, Err}
 use Rattle.std.specs.Option.{unwrap_or}
-use Rattle.std.proofs.lemmas.List.Elements.{All-map}
 use Rattle.subjects.specs.Subject.{Token}
 use Rattle.permissions.specs.Verdicts.{publish_verdict, IsJustifiedPublish}
 use Rattle.permissions.specs.declared.verdict.By.{By}
@@ -22,19 +21,15 @@ use Rattle.world_deliveries.specs.Planned.{rooms_of, planned}
 use Rattle.world_deliveries.specs.Replying.{noted_for, answering}
 use Rattle.world_deliveries.specs.declared.session.Session.{Session}
 use Rattle.world_deliveries.proofs.Plans.{planned-delivered}
-use Rattle.world_subscriptions.specs.Addressing.{addressed_to}
 use Rattle.world_subscriptions.specs.Limit.{unended}
 use Rattle.world_subscriptions.specs.Counting.{entered_ids, in_turn}
 use Rattle.world_subscriptions.specs.Kept.{Apart}
-use Rattle.world_rows.specs.declared.subscription.Subscription.{Subscription}
-use Rattle.world_groups.specs.Served.{served}
-use Rattle.receiver_cache.specs.Receivers.{addressed_among}
 use Rattle.world_routing.specs.World.{World}
 use Rattle.world_routing.specs.Granting.{verdict_on, counted_on, ended_on}
 use Rattle.service_exporter.specs.Routes.{Exporter}
 use Rattle.service_routes.specs.Routes.{Name, spent}
 use Rattle.world_views.specs.Changing.{changed_by, opened_each, AreNoted}
-use Rattle.world_routing.specs.Routing.{in_views}
+use Rattle.world_routing.specs.Routing.{in_views, under_subject}
 use Rattle.world_views.specs.Requests.{responses_on}
 use Rattle.world_routing.specs.Handing.{met, is_of_delivery, of_deliveries, answered_by, handed_over, carried}
 use Rattle.world_views.specs.Viewing.{Tables, Publication, publication, Addressing, addressing, addressed_after, reports_after, with_reports, reports_in, routes_after, AreNotedIn}
@@ -42,7 +37,7 @@ use Rattle.world_views.specs.declared.across.Told.{Told}
 use Rattle.world_views.specs.declared.viewing.Report.{Report}
 use Rattle.world_routing.proofs.Together.{so_far, items_after, views_are, told_are, plain_is, entered_of}
 use Rattle.world_receivers.proofs.Left.{AllAgree, none_disagree}
-use Rattle.world_routing.specs.Publishing.{seen_as, seen_nowhere, mapped_to, diverted_to, published, in_session, published_by, tables_of, IsElsewhere, IsPlain, IsPlanOf, IsPlanned, IsToldPlan}
+use Rattle.world_routing.specs.Publishing.{seen_as, seen_nowhere, mapped_to, published, in_session, published_by, tables_of, IsElsewhere, IsPlanOf, IsPlanned, IsToldPlan}
 use Rattle.world_routing.specs.declared.planning.Elsewhere.{Elsewhere}
 use Rattle.world_routing.specs.declared.planning.Elsewhere.TheVariants.{Under, Nowhere}
 use Rattle.account_mappings.specs.Drawing.{SourceMap, is_route, mapped_by, mapped_from}
@@ -52,7 +47,7 @@ use Rattle.base.specs.declared.no_memory.NoMemory.{NoMemory}
 use Rattle.events.specs.declared.refusal.HubRefusal.{HubRefusal}
 use Rattle.world_routing.specs.declared.answered.Answered.{Answered}
 use Rattle.world_routing.specs.declared.planning.Plan.{Plan}
-use Rattle.world_routing.specs.declared.planning.Plan.TheVariants.{ToNobody, ToSome, OnRoutes}
+use Rattle.world_routing.specs.declared.planning.Plan.TheVariants.{ToNobody, ToSome}
 use Rattle.world_routing.proofs.Views.{sent}
 
 -- ---- an answer that is counted
@@ -150,6 +145,11 @@ by_verdict w o z m word s by is same which =
     ap (λ (x : Option Session). in_session x (λ z. published w z m word (verdict_on w.moment z m.subject))) (sym is)
     ∙ ap (λ (x : Verdict). Ok (published w z m word x)) (sym (which ∙ ap (verdict_on w.moment z) same))
 
+-- a message that goes elsewhere than under its own subject
+abbrev pub diverted_to : World → Session → By → Message → ℕ → Elsewhere → Outcome × World
+diverted_to w z by m word (Under s) = seen_as w z by m.subject (under_subject s m) word
+diverted_to w z by m word (Nowhere item) = seen_nowhere w z by m.subject item
+
 -- a message goes elsewhere as it is mapped, or stays under its own subject
 stays_at : (w : World) (z : Session) (by : By) (m : Message) (word : ℕ) (mapped : Mapped) → IsElsewhere mapped (Ok None) → mapped_to w z by m word mapped ≡ seen_as w z by m.subject m word
 stays_at w z by m word Same is = refl
@@ -166,6 +166,11 @@ goes_to w z by m word Same e is = absurd (cc)
 goes_to w z by m word (To s) e is = ap (λ (x : Option Elsewhere). diverted_to w z by m word (unwrap_or x e)) (sym is)
 goes_to w z by m word Unmapped e is = ap (λ (x : Result (Option Elsewhere) NoMemory). diverted_to w z by m word (elsewhere_in e x)) (sym is)
 goes_to w z by m word (TooLong index) e is = ap (λ (x : Result (Option Elsewhere) NoMemory). diverted_to w z by m word (elsewhere_in e x)) (sym is)
+
+-- its item, where it goes nowhere, is of no delivery
+abbrev pub IsPlain : Elsewhere → Type 0
+IsPlain (Under s) = Unit {0}
+IsPlain (Nowhere item) = is_of_delivery item ≡ false
 
 pub plain_elsewhere : (mapped : Mapped) (e : Elsewhere) → IsElsewhere mapped (Ok (Some e)) → IsPlain e
 plain_elsewhere Same e is = absurd (cc)

@@ -5,7 +5,6 @@ use Rattle.std.proofs.Math.Bool.{and-false}
 use Rattle.std.proofs.lemmas.List.Elements.{All-head, All-tail}
 use Rattle.world_deliveries.specs.Sessions.{session_of}
 use Rattle.world_deliveries.specs.declared.session.Session.{Session}
-use Rattle.subjects.specs.Subject.{Token, IsSubject, text_of, tokens_of}
 use Rattle.subjects.proofs.Text.{again}
 use Rattle.permissions.specs.Verdicts.{publish_verdict, is_allowed}
 use Rattle.permissions.specs.declared.verdict.By.TheVariants.{Grant}

@@ -1,16 +1,13 @@
 -- The deliveries of the views, addressed one after the other, are those of the guarantee; and so are the items with the rows
 -- that are reported between them.
-use Rattle.std.proofs.Common.{◌≡◌, ◌∙◌, ◌&&◌, ◌+◌, ◌-◌, ◌≤◌, ◌++◌, ◌∷◌, ℕ, suc, Bool, true, false, cond, List, [], All, Option, Some, None, nat_lt, length, map, filter, take, drop, ap, sym, refl, subst, arith}
-use Rattle.std.proofs.lemmas.List.{append-nil, append_assoc, length-append, length-map, map-append, take-append-drop}
-use Rattle.std.proofs.lemmas.List.Elements.{All-append, All-map}
-use Rattle.std.specs.Global.{Vec}
+use Rattle.std.proofs.Common.{◌≡◌, ◌∙◌, ◌&&◌, ◌+◌, ◌-◌, ◌≤◌, ◌++◌, ◌∷◌, ℕ, suc, Bool, true, false, cond, List, [], Option, Some, None, nat_lt, length, map, filter, take, drop, ap, sym, refl, subst, arith}
+use Rattle.std.proofs.lemmas.List.{append-nil, append_assoc, length-append, length-map, map-append}
 use Rattle.subjects.specs.Subject.{Token}
 use Rattle.exports.specs.declared.document.Row.{Row}
 use Rattle.events.specs.Messages.{Message}
 use Rattle.events.specs.declared.answer.Addressed.{Addressed}
 use Rattle.events.specs.declared.answer.Item.{Item}
 use Rattle.events.specs.declared.answer.Item.TheVariants.{Entered, Full, RouteFull, MapTooLong, Unmapped, MappedTooLong}
-use Rattle.imports.specs.declared.rows.ImportRow.{ImportRow}
 use Rattle.imports.specs.declared.view.ViewItem.{ViewItem}
 use Rattle.imports.specs.declared.view.ViewItem.TheVariants.{At, TooLong}
 use Rattle.imports.specs.declared.view.Way.TheVariants.{Own, Stream, Service, Response}
@@ -29,14 +26,7 @@ use Rattle.world_rows.specs.declared.subscription.Subscription.{Subscription}
 use Rattle.world_groups.specs.Served.{served, is_served}
 use Rattle.receiver_cache.specs.Open.{is_open}
 use Rattle.world_receivers.specs.Standing.{stands_behind, standing_among, addressed_behind_in, is_for_nobody, is_nil}
-use Rattle.receiver_cache.specs.Known.{under_subject}
-use Rattle.receiver_cache.specs.Receivers.{addressed_among}
-use Rattle.receiver_cache.specs.Known.{IsSeen, AreSeen, addressed_in, addressed_in_each, others_in}
-use Rattle.receiver_cache.specs.Cached.{KnowsOthers, TellsOthers}
-use Rattle.receiver_cache.specs.declared.known.KnownView.{KnownView}
-use Rattle.world_receivers.proofs.Behind.{view_told}
-use Rattle.world_receivers.proofs.Left.{AllAgree, none_disagree, admitted_made, all_agree_append, addressed_agree, addressed_left, passing_left, standing_same}
-use Rattle.receiver_cache.proofs.Stays.{made}
+use Rattle.world_receivers.proofs.Left.{AllAgree, admitted_made, all_agree_append, addressed_agree, addressed_left, passing_left, standing_same}
 use Rattle.receiver_cache.proofs.Tests.{both}
 use Rattle.world_receivers.proofs.Left.{nil_map}
 use Rattle.world_routing.specs.World.{World}
@@ -44,10 +34,9 @@ use Rattle.service_exporter.specs.Limit.{is_full}
 use Rattle.service_exporter.specs.Routes.{Exporter}
 use Rattle.service_routes.specs.Routes.{Name, exporter_of}
 use Rattle.world_views.specs.Changing.{opened_each}
-use Rattle.world_views.specs.declared.changing.Opening.{Opening}
-use Rattle.world_routing.specs.Routing.{View, view_of, is_admitted, admitted, deliveries, routed, requested_by, requested, in_view, in_views}
-use Rattle.world_routing.specs.Handing.{met, left_by, of_deliveries}
-use Rattle.world_views.specs.Viewing.{Tables, Publication, Addressing, addressing, Effect, seen, reports, nothing, seen_with, requested_if, request_in, effect_of, with_effect, addressed_after, report, reports_by, reports_after, item_of, with_reports}
+use Rattle.world_routing.specs.Routing.{View, view_of, admitted, deliveries, routed, requested_by, requested, in_view, in_views}
+use Rattle.world_routing.specs.Handing.{met, of_deliveries}
+use Rattle.world_views.specs.Viewing.{Tables, Publication, Addressing, addressing, Effect, seen, reports, nothing, requested_if, request_in, effect_of, with_effect, addressed_after, report, reports_by, reports_after, item_of, with_reports}
 use Rattle.world_views.specs.declared.viewing.Cause.{Cause}
 use Rattle.world_views.specs.declared.viewing.Cause.TheVariants as cause
 use Rattle.world_views.specs.declared.viewing.Report.{Report}

@@ -1,5 +1,5 @@
 -- One view of a message is its deliveries, handed over behind those before and counted.
-use Rattle.std.proofs.Common.{◌≡◌, ◌∙◌, ◌&&◌, ℕ, List, [], ◌∷◌, ◌++◌, map, ap, sym, refl, subst}
+use Rattle.std.proofs.Common.{◌≡◌, ◌∙◌, ◌&&◌, ℕ, List, ◌++◌, map, ap, sym, subst}
 use Rattle.events.specs.declared.answer.Addressed.{Addressed}
 use Rattle.events.specs.declared.answer.Item.{Item}
 use Rattle.world_deliveries.specs.Delivered.{delivered}

@@ -1,5 +1,5 @@
 -- What a publish comes to (docs/GUARANTEE.md, "The step").
-use Rattle.std.specs.Prelude.{⊤, false, ◌≡◌, ◌⊎◌, ◌∷◌, ℕ, List, [], Option, Some, None, Result, Ok, Err, map}
+use Rattle.std.specs.Prelude.{⊤, ◌≡◌, ◌⊎◌, ◌∷◌, ℕ, List, [], Option, Some, None, Result, Ok, Err, map}
 use Rattle.subjects.specs.Subject.{Token}
 use Rattle.base.specs.declared.no_memory.NoMemory.{NoMemory}
 use Rattle.account_mappings.specs.Drawing.{mapped_by}
@@ -19,12 +19,18 @@ use Rattle.events.specs.declared.refusal.HubRefusal.TheVariants as refusal
 use Rattle.world_deliveries.specs.Sessions.{session_of}
 use Rattle.world_deliveries.specs.declared.session.Session.{Session}
 use Rattle.world_routing.specs.World.{World}
+use Rattle.imports.specs.declared.rows.ImportRow.{ImportRow}
+use Rattle.receiver_cache.specs.Cached.{IsCurrent}
+use Rattle.receiver_cache.specs.declared.cache.ReceiverCache.{ReceiverCache}
+use Rattle.service_exporter.specs.Routes.{Exporter}
+use Rattle.service_routes.specs.Routes.{Name}
+use Rattle.world_rows.specs.declared.subscription.Subscription.{Subscription}
 use Rattle.world_routing.specs.Granting.{verdict_on, counted_on, ended_on}
 use Rattle.imports.specs.Across.{views}
 use Rattle.service_routes.specs.Routes.{spent}
 use Rattle.world_routing.specs.Routing.{in_views, under_subject}
 use Rattle.world_views.specs.Requests.{responses_on}
-use Rattle.world_routing.specs.Handing.{met, carried, is_of_delivery, of_deliveries}
+use Rattle.world_routing.specs.Handing.{met, carried, of_deliveries}
 use Rattle.world_views.specs.Changing.{changed_by, AreNoted}
 use Rattle.world_views.specs.Viewing.{Tables, with_reports}
 use Rattle.world_views.specs.declared.across.Told.{Told}
@@ -113,6 +119,14 @@ IsToldPlan zs by answered told all plan =
     ((plan ≡ ToNobody by) × (all ≡ []) × (told ≡ None) × (answered ≡ None))
     ⊎ ((met : List Item) × ((n : ℕ) → met ≡ (delivered n (map (noted_for zs) all) zs).1) × IsPlanOf by met (record { all = map (noted_for zs) all; answered = answered }) told plan)
 
+-- Nothing that is shown has changed, and what is cached is current.
+pub record IsKept (rows : List ImportRow) (zs : List Session) (subs : List Subscription) (exporters : List (Name × Exporter))
+    (zs_after : List Session) (subs_after : List Subscription) (exporters_after : List (Name × Exporter)) (cache : ReceiverCache) : Type 0 where
+  pub sessions : zs_after ≡ zs
+  pub subscriptions : subs_after ≡ subs
+  pub routes : exporters_after ≡ exporters
+  pub cached : IsCurrent rows zs_after subs_after cache
+
 -- ---- where a message goes that isn't seen under the subject that it is published on
 
 -- it is where its account's mappings send it, for which memory is wanted only by a subject
@@ -122,13 +136,3 @@ IsElsewhere (To s) (Ok found) = found ≡ Some (Under s)
 IsElsewhere (To s) (Err _) = ⊤
 IsElsewhere Unmapped answer = answer ≡ Ok (Some (Nowhere UnmappedItem))
 IsElsewhere (TooLong index) answer = answer ≡ Ok (Some (Nowhere (MappedTooLong index)))
-
--- its item, where it goes nowhere, is of no delivery
-abbrev pub IsPlain : Elsewhere → Type 0
-IsPlain (Under s) = Unit {0}
-IsPlain (Nowhere item) = is_of_delivery item ≡ false
-
--- a message that goes there
-abbrev pub diverted_to : World → Session → By → Message → ℕ → Elsewhere → Outcome × World
-diverted_to w z by m word (Under s) = seen_as w z by m.subject (under_subject s m) word
-diverted_to w z by m word (Nowhere item) = seen_nowhere w z by m.subject item

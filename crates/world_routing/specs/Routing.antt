@@ -1,5 +1,5 @@
 -- Whom a message reaches (docs/GUARANTEE.md, "Delivery").
-use Rattle.std.specs.Prelude.{◌&&◌, ◌∷◌, ◌++◌, ◌+◌, ℕ, List, [], Bool, true, false, Option, Some, None, filter, map}
+use Rattle.std.specs.Prelude.{◌&&◌, ◌∷◌, ◌++◌, ℕ, List, [], Bool, true, false, Option, Some, None, filter, map}
 use Rattle.subjects.specs.Subject.{Token}
 use Rattle.events.specs.Messages.{Message}
 use Rattle.events.specs.declared.answer.Addressed.{Addressed}

@@ -13,7 +13,9 @@ ghost use Rattle.world_routing.specs.Remembered.{AreOfPolicy, AreRemembered};
 ghost use Rattle.world_routing.specs.World.{World};
 ghost use Rattle.world_views.specs.Viewing.{tables_at};
 ghost use Rattle.account_mappings.specs.Drawing.{mapped_by};
-ghost use Rattle.world_routing.specs.Publishing.{IsElsewhere, IsPlain, IsPlanned, IsPlanOf, IsToldPlan, diverted_to, in_session, mapped_to, published_by, seen_as, tables_of};
+ghost use Rattle.world_routing.specs.Handing.{is_of_delivery};
+ghost use Rattle.world_routing.specs.Routing.{under_subject};
+ghost use Rattle.world_routing.specs.Publishing.{IsElsewhere, IsKept, IsPlanned, IsPlanOf, IsToldPlan, in_session, mapped_to, published_by, seen_as, seen_nowhere, tables_of};
 ghost use Rattle.imports.specs.Views.{is_route, rows_of};
 
 use crate::answered::{Answered, answered_by};
@@ -145,8 +147,9 @@ fn on_routes(
 }
 
 /// Returns the plan of a publish that is allowed, by the deliveries of the receivers and by what is told between them. All memory is
-/// taken that handing over needs. `NoMemory` where it could not be had. `plan_judged` has its lines once more: a plan that is handed
-/// on costs each message 75 instructions.
+/// taken that handing over needs. `NoMemory` where it could not be had. `plan_judged` takes the plan by `?`: a result that it returns
+/// as it is costs each message up to 75 instructions.
+#[inline(always)]
 fn plan_told(
     sessions: &mut Sessions,
     receivers: &mut Receivers,
@@ -154,9 +157,10 @@ fn plan_told(
     by: By,
     answered: Option<Answered>,
     told: Option<Boxed<Told>>,
-) -> Result<Plan, NoMemory>
+) -> Result<Plan, HubRefusal>
     requires { message.now.reply ≡ None → All (λ (a : AddressedModel). a.delivery.message.reply ≡ None) receivers.old.deliveries.items }
     ensures planned { IfOk result (λ plan. IsToldPlan sessions.old by answered told receivers.old.deliveries.items plan) }
+    ensures refused { IfErr result (λ reason. reason ≡ refusal.NoMemory) }
     ensures sessions { sessions.new ≡ sessions.old }
     ensures cached { receivers.new.cache ≡ receivers.old.cache }
 {
@@ -214,82 +218,6 @@ fn drawn_for(
     }
 }
 
-/// A publish that is allowed and isn't seen under the subject that it is published on.
-#[derive(Drop)]
-struct Diverted<'p> {
-    publish: Publish<'p>,
-    /// By what it is allowed.
-    by: By,
-    elsewhere: Elsewhere,
-    /// The deny marks of all that stand.
-    marks: &'p DenyMarks,
-}
-
-/// Returns what such a publish comes to, as `plan_publish` does.
-fn plan_diverted<'p>(
-    sessions: &mut Sessions,
-    subscriptions: &Subscriptions,
-    receivers: &mut Receivers,
-    routes: &mut Routes,
-    ready: &'p Ready,
-    diverted: Diverted<'p>,
-) -> Result<Plan, HubRefusal>
-    requires plain { IsPlain diverted.elsewhere }
-    requires marked { AreMarked sessions.old subscriptions.now diverted.marks.now }
-    ensures planned { (w : World) → tables_of w ≡ tables_at ready.now diverted.entry.publish.now sessions.old subscriptions.now routes.old.exporters
-        → IsPlanned w (in_session (session_of w.sessions diverted.entry.publish.conn) (λ z. diverted_to w z diverted.entry.by diverted.entry.publish.message.now diverted.entry.publish.word diverted.entry.elsewhere)) result }
-    ensures sessions { sessions.new ≡ sessions.old }
-    ensures routes { routes.new.exporters ≡ routes.old.exporters }
-    ensures cached { receivers.new.cache ≡ receivers.old.cache }
-{
-    let Diverted {
-        publish,
-        by,
-        elsewhere,
-        marks,
-    } = diverted;
-    subscriptions.known();
-    let (answered, told) = match sessions.find(publish.conn) {
-        None => return Err(HubRefusal::NoSession),
-        Some(session) => {
-            let answered = answered_by(by, session.conn, publish.message)?;
-            match elsewhere {
-                Elsewhere::Nowhere(item) => {
-                    return Ok(Plan::ToSome(
-                        by,
-                        Met::one(item),
-                        no_deliveries(receivers.allocator(), answered),
-                    ));
-                }
-                Elsewhere::Under(subject) => {
-                    let publishing = Publishing {
-                        ready,
-                        sending: Sending {
-                            publisher: session,
-                            message: publish.message,
-                            word: publish.word,
-                            allowed: None,
-                        },
-                        now: publish.now,
-                        marks,
-                    };
-                    let told = address_under(
-                        sessions,
-                        subscriptions,
-                        receivers,
-                        routes,
-                        publishing,
-                        &subject,
-                    )?;
-                    (answered, told)
-                }
-            }
-        }
-    };
-    let plan = plan_told(sessions, receivers, publish.message, by, answered, told)?;
-    Ok(plan)
-}
-
 /// A publish that is allowed.
 #[derive(Clone, Copy)]
 struct Permitted<'p> {
@@ -298,6 +226,95 @@ struct Permitted<'p> {
     by: By,
     /// The deny marks of all that stand.
     marks: &'p DenyMarks,
+}
+
+/// No deliveries, of a message that may be an answer.
+fn no_deliveries(alloc: Global, answered: Option<Answered>) -> Deliveries
+    ensures all { result.all ≡ [] }
+    ensures answered { result.answered ≡ answered }
+{
+    Deliveries {
+        all: Items::new(alloc),
+        answered,
+    }
+}
+
+/// Returns what a publish that is allowed comes to, if its account's mappings send it on nowhere: this item.
+fn plan_nowhere(
+    sessions: &Sessions,
+    alloc: Global,
+    publish: Publish<'_>,
+    by: By,
+    item: Item,
+) -> Result<Plan, HubRefusal>
+    requires plain { is_of_delivery item ≡ false }
+    ensures planned { (w : World) → w.sessions ≡ sessions.now
+        → IsPlanned w (in_session (session_of w.sessions publish.entry.conn) (λ z. seen_nowhere w z by publish.entry.message.now.subject item)) result }
+{
+    match sessions.find(publish.conn) {
+        None => Err(HubRefusal::NoSession),
+        Some(session) => {
+            let answered = answered_by(by, session.conn, publish.message)?;
+            let deliveries = no_deliveries(alloc, answered);
+            Ok(Plan::ToSome(by, Met::one(item), deliveries))
+        }
+    }
+}
+
+/// A publish that is allowed, and that its account's mappings send on under another subject.
+#[derive(Drop)]
+struct SentOn<'p> {
+    permitted: Permitted<'p>,
+    subject: Subject,
+}
+
+/// Returns what such a publish comes to, as `plan_publish` does.
+fn plan_under<'p>(
+    sessions: &mut Sessions,
+    subscriptions: &Subscriptions,
+    receivers: &mut Receivers,
+    routes: &mut Routes,
+    ready: &'p Ready,
+    sent_on: SentOn<'p>,
+) -> Result<Plan, HubRefusal>
+    requires marked { AreMarked sessions.old subscriptions.now sent_on.permitted.marks.now }
+    ensures planned { (w : World) → tables_of w ≡ tables_at ready.now sent_on.entry.permitted.publish.now sessions.old subscriptions.now routes.old.exporters
+        → IsPlanned w (in_session (session_of w.sessions sent_on.entry.permitted.publish.conn) (λ z. seen_as w z sent_on.entry.permitted.by sent_on.entry.permitted.publish.message.now.subject (under_subject sent_on.entry.subject sent_on.entry.permitted.publish.message.now) sent_on.entry.permitted.publish.word)) result }
+    ensures sessions { sessions.new ≡ sessions.old }
+    ensures routes { routes.new.exporters ≡ routes.old.exporters }
+    ensures cached { receivers.new.cache ≡ receivers.old.cache }
+{
+    let SentOn { permitted, subject } = sent_on;
+    let Permitted { publish, by, marks } = permitted;
+    subscriptions.known();
+    let (answered, told) = match sessions.find(publish.conn) {
+        None => return Err(HubRefusal::NoSession),
+        Some(session) => {
+            let answered = answered_by(by, session.conn, publish.message)?;
+            let publishing = Publishing {
+                ready,
+                sending: Sending {
+                    publisher: session,
+                    message: publish.message,
+                    word: publish.word,
+                    allowed: None,
+                },
+                now: publish.now,
+                marks,
+            };
+            let told = address_under(
+                sessions,
+                subscriptions,
+                receivers,
+                routes,
+                publishing,
+                &subject,
+            )?;
+            (answered, told)
+        }
+    };
+    let plan = plan_told(sessions, receivers, publish.message, by, answered, told)?;
+    Ok(plan)
 }
 
 /// Returns what a publish that is allowed comes to, if it is seen under the subject that it is published on.
@@ -313,10 +330,7 @@ fn plan_own<'p>(
     requires marked { AreMarked sessions.old subscriptions.old permitted.marks.now }
     ensures planned { (w : World) → tables_of w ≡ tables_at ready.now permitted.entry.publish.now sessions.old subscriptions.old routes.old.exporters
         → IsPlanned w (in_session (session_of w.sessions permitted.entry.publish.conn) (λ z. seen_as w z permitted.entry.by permitted.entry.publish.message.now.subject permitted.entry.publish.message.now permitted.entry.publish.word)) result }
-    ensures sessions { sessions.new ≡ sessions.old }
-    ensures subscriptions { subscriptions.new ≡ subscriptions.old }
-    ensures routes { routes.new.exporters ≡ routes.old.exporters }
-    ensures cached { IsCurrent (rows_of ready.now) sessions.new subscriptions.new receivers.new.cache }
+    ensures kept { IsKept (rows_of ready.now) sessions.old subscriptions.old routes.old.exporters sessions.new subscriptions.new routes.new.exporters receivers.new.cache }
 {
     let Permitted { publish, by, marks } = permitted;
     subscriptions.known();
@@ -388,10 +402,7 @@ fn plan_anew<'p>(
     requires marked { AreMarked sessions.old subscriptions.old permitted.marks.now }
     ensures planned { (w : World) → tables_of w ≡ tables_at ready.now permitted.entry.publish.now sessions.old subscriptions.old routes.old.exporters
         → IsPlanned w (in_session (session_of w.sessions permitted.entry.publish.conn) (λ z. mapped_to w z permitted.entry.by permitted.entry.publish.message.now permitted.entry.publish.word (mapped_by z.user.mappings permitted.entry.publish.message.now.subject permitted.entry.publish.word))) result }
-    ensures sessions { sessions.new ≡ sessions.old }
-    ensures subscriptions { subscriptions.new ≡ subscriptions.old }
-    ensures routes { routes.new.exporters ≡ routes.old.exporters }
-    ensures cached { IsCurrent (rows_of ready.now) sessions.new subscriptions.new receivers.new.cache }
+    ensures kept { IsKept (rows_of ready.now) sessions.old subscriptions.old routes.old.exporters sessions.new subscriptions.new routes.new.exporters receivers.new.cache }
 {
     let Permitted { publish, by, marks } = permitted;
     let elsewhere = match sessions.find(publish.conn) {
@@ -416,16 +427,17 @@ fn plan_anew<'p>(
             let plan = plan_own(sessions, subscriptions, receivers, routes, ready, permitted)?;
             Ok(plan)
         }
-        Some(elsewhere) => {
-            let diverted = Diverted {
-                publish,
-                by,
-                elsewhere,
-                marks,
-            };
-            let plan = plan_diverted(sessions, subscriptions, receivers, routes, ready, diverted)?;
-            Ok(plan)
-        }
+        Some(elsewhere) => match elsewhere {
+            Elsewhere::Nowhere(item) => {
+                let plan = plan_nowhere(sessions, receivers.allocator(), publish, by, item)?;
+                Ok(plan)
+            }
+            Elsewhere::Under(subject) => {
+                let sent_on = SentOn { permitted, subject };
+                let plan = plan_under(sessions, subscriptions, receivers, routes, ready, sent_on)?;
+                Ok(plan)
+            }
+        },
     }
 }
 
@@ -444,10 +456,7 @@ fn plan_mapped<'p>(
     requires marked { AreMarked sessions.old subscriptions.old permitted.marks.now }
     ensures planned { (w : World) → tables_of w ≡ tables_at ready.now permitted.entry.publish.now sessions.old subscriptions.old routes.old.exporters
         → IsPlanned w (in_session (session_of w.sessions permitted.entry.publish.conn) (λ z. mapped_to w z permitted.entry.by permitted.entry.publish.message.now permitted.entry.publish.word (mapped_by z.user.mappings permitted.entry.publish.message.now.subject permitted.entry.publish.word))) result }
-    ensures sessions { sessions.new ≡ sessions.old }
-    ensures subscriptions { subscriptions.new ≡ subscriptions.old }
-    ensures routes { routes.new.exporters ≡ routes.old.exporters }
-    ensures cached { IsCurrent (rows_of ready.now) sessions.new subscriptions.new receivers.new.cache }
+    ensures kept { IsKept (rows_of ready.now) sessions.old subscriptions.old routes.old.exporters sessions.new subscriptions.new routes.new.exporters receivers.new.cache }
 {
     let Permitted {
         publish,
@@ -467,17 +476,6 @@ fn plan_mapped<'p>(
     };
     let plan = plan_told(sessions, receivers, publish.message, by, answered, None)?;
     Ok(plan)
-}
-
-/// No deliveries, of a message that may be an answer.
-fn no_deliveries(alloc: Global, answered: Option<Answered>) -> Deliveries
-    ensures all { result.all ≡ [] }
-    ensures answered { result.answered ≡ answered }
-{
-    Deliveries {
-        all: Items::new(alloc),
-        answered,
-    }
 }
 
 /// Returns by what lists allow a message, if it isn't a grant that allows it, and its subject can't be of a response route.
@@ -538,80 +536,45 @@ fn plan_judged<'p>(
         → IsPlanned w (published_by w publish.entry.conn publish.entry.message.now publish.entry.word) result }
     ensures reason { IfOk result (λ plan. IfSome (session_of sessions.old publish.entry.conn) (λ (z : SessionModel).
         IsJustifiedPublish publish.entry.message.now.subject z.user.rules.publish (publish_verdict z.user.rules publish.entry.message.now.subject))) }
-    ensures sessions { sessions.new ≡ sessions.old }
-    ensures subscriptions { subscriptions.new ≡ subscriptions.old }
-    ensures routes { routes.new.exporters ≡ routes.old.exporters }
+    ensures kept { IsKept (rows_of ready.now) sessions.old subscriptions.old routes.old.exporters sessions.new subscriptions.new routes.new.exporters caches.new.receivers.cache }
     ensures verdicts { AreRemembered ready.now caches.new.verdicts }
     ensures marked { caches.new.marks ≡ caches.old.marks }
-    ensures cached { IsCurrent (rows_of ready.now) sessions.new subscriptions.new caches.new.receivers.cache }
 {
     subscriptions.known();
-    let subject = publish.message.subject();
-    let (by, answered, told) = match sessions.find(publish.conn) {
-        None => return Err(HubRefusal::NoSession),
-        Some(session) => match on_publish(
-            &mut caches.verdicts,
-            ready,
-            session,
-            &subject,
-            publish.now,
-        ) {
-            Verdict::Allowed(by) => {
-                if is_mapped(session) {
-                    let permitted = Permitted {
-                        publish,
-                        by,
-                        marks: &caches.marks,
-                    };
-                    let receivers = &mut caches.receivers;
-                    let plan = plan_mapped(
-                        sessions,
-                        subscriptions,
-                        receivers,
-                        routes,
-                        ready,
-                        permitted,
-                    )?;
-                    return Ok(plan);
-                }
-                (
-                    by,
-                    answered_by(by, session.conn, publish.message)?,
-                    address_all(
-                        sessions,
-                        subscriptions,
-                        &mut caches.receivers,
-                        routes,
-                        Publishing {
-                            ready,
-                            sending: Sending {
-                                publisher: session,
-                                message: publish.message,
-                                word: publish.word,
-                                allowed: allowed_by(by, &subject),
-                            },
-                            now: publish.now,
-                            marks: &caches.marks,
-                        },
-                    )?,
-                )
-            }
-            Verdict::DeniedBy(index) => return Ok(Plan::Refused(Verdict::DeniedBy(index))),
-            Verdict::NoAllow => return Ok(Plan::Refused(Verdict::NoAllow)),
-            Verdict::NoQueueAllow(index) => return Ok(Plan::Refused(Verdict::NoQueueAllow(index))),
-        },
-    };
+    let message = publish.message;
+    let subject = message.subject();
     let receivers = &mut caches.receivers;
-    if is_silent(receivers.deliveries(), &told, &answered) {
-        return Ok(Plan::ToNobody(by));
-    }
-    let mut all = receivers.take_deliveries();
-    let met = plan_all(sessions, receivers.keys(), publish.message, &mut all)?;
-    let deliveries = Deliveries {
-        all: Items::from_vec(all),
-        answered,
+    let verdicts = &mut caches.verdicts;
+    let session = match sessions.find(publish.conn) {
+        None => return Err(HubRefusal::NoSession),
+        Some(session) => session,
     };
-    let plan = plan_of(receivers.allocator(), by, met, deliveries, told)?;
+    let by = match on_publish(verdicts, ready, session, &subject, publish.now) {
+        Verdict::Allowed(by) => by,
+        Verdict::DeniedBy(index) => return Ok(Plan::Refused(Verdict::DeniedBy(index))),
+        Verdict::NoAllow => return Ok(Plan::Refused(Verdict::NoAllow)),
+        Verdict::NoQueueAllow(index) => return Ok(Plan::Refused(Verdict::NoQueueAllow(index))),
+    };
+    let marks = &caches.marks;
+    if is_mapped(session) {
+        let permitted = Permitted { publish, by, marks };
+        let plan = plan_mapped(sessions, subscriptions, receivers, routes, ready, permitted)?;
+        return Ok(plan);
+    }
+    let answered = answered_by(by, session.conn, message)?;
+    let publishing = Publishing {
+        ready,
+        sending: Sending {
+            publisher: session,
+            message,
+            word: publish.word,
+            allowed: allowed_by(by, &subject),
+        },
+        now: publish.now,
+        marks,
+    };
+    let told = address_all(sessions, subscriptions, receivers, routes, publishing)?;
+    let plan = plan_told(sessions, receivers, message, by, answered, told)?;
     Ok(plan)
 }
 

@@ -16,7 +16,7 @@ ghost use Rattle.world_views.specs.Requests.{response_by, responses_on};
 ghost use Rattle.world_views.specs.Viewing.{addressed_after, addressing, others_in, others_with, publication, reports_after, reports_in, routes_after, seen_with, tables_at, AreNotedIn};
 
 use crate::changing::RouteChange;
-use crate::viewing::{Among, Found, Report, address_each, address_in};
+use crate::viewing::{Found, Occasion, Report, address_each, address_in};
 use base::{Alike, Boxed, Copying, NoMemory};
 use bytes::Bytes;
 use deny_marks::DenyMarks;
@@ -84,26 +84,29 @@ fn if_any(alloc: Global, found: Found) -> Result<Option<Boxed<Told>>, NoMemory>
 /// pays nothing for it whose views are known.
 #[inline(never)]
 fn address_across(
-    among: Among<'_>,
+    occasion: Occasion<'_>,
     receivers: &mut Receivers,
     routes: &mut Routes,
     subject: &SubjectRef<'_>,
 ) -> Result<Option<Boxed<Told>>, NoMemory>
-    requires marked { AreMarked among.sessions.now among.subscriptions.now among.marks.now }
-    ensures all { OnOk result (receivers.new.deliveries.items ≡ (addressed_after (tables_at among.entry.ready.now among.entry.now among.entry.sessions.now among.entry.subscriptions.now routes.old.exporters) (publication among.entry.sending.publisher.now among.entry.sending.message.now among.entry.sending.word) (addressing receivers.old.deliveries.items []) (others_in (rows_of among.entry.ready.now) among.entry.sending.publisher.now.user.account subject.now)).deliveries) }
-    ensures reports { IfOk result (λ told. reports_in told ≡ reports_after (tables_at among.entry.ready.now among.entry.now among.entry.sessions.now among.entry.subscriptions.now routes.old.exporters) (publication among.entry.sending.publisher.now among.entry.sending.message.now among.entry.sending.word) (addressing receivers.old.deliveries.items []) (others_in (rows_of among.entry.ready.now) among.entry.sending.publisher.now.user.account subject.now)) }
-    ensures opened { IfOk result (λ told. routes_after told (pruned among.entry.now routes.old.exporters)
-        ≡ opened_each (addressed_after (tables_at among.entry.ready.now among.entry.now among.entry.sessions.now among.entry.subscriptions.now routes.old.exporters) (publication among.entry.sending.publisher.now among.entry.sending.message.now among.entry.sending.word) (addressing receivers.old.deliveries.items []) (others_in (rows_of among.entry.ready.now) among.entry.sending.publisher.now.user.account subject.now)).openings (pruned among.entry.now routes.old.exporters)) }
-    ensures noted { IfOk result (λ told. AreNotedIn among.entry.now told) }
+    requires marked { AreMarked occasion.sessions.now occasion.subscriptions.now occasion.marks.now }
+    ensures all { OnOk result (receivers.new.deliveries.items ≡ (addressed_after (tables_at occasion.entry.ready.now occasion.entry.now occasion.entry.sessions.now occasion.entry.subscriptions.now routes.old.exporters) (publication occasion.entry.sending.publisher.now occasion.entry.sending.message.now occasion.entry.sending.word) (addressing receivers.old.deliveries.items []) (others_in (rows_of occasion.entry.ready.now) occasion.entry.sending.publisher.now.user.account subject.now)).deliveries) }
+    ensures reports { IfOk result (λ told. reports_in told ≡ reports_after (tables_at occasion.entry.ready.now occasion.entry.now occasion.entry.sessions.now occasion.entry.subscriptions.now routes.old.exporters) (publication occasion.entry.sending.publisher.now occasion.entry.sending.message.now occasion.entry.sending.word) (addressing receivers.old.deliveries.items []) (others_in (rows_of occasion.entry.ready.now) occasion.entry.sending.publisher.now.user.account subject.now)) }
+    ensures opened { IfOk result (λ told. routes_after told (pruned occasion.entry.now routes.old.exporters)
+        ≡ opened_each (addressed_after (tables_at occasion.entry.ready.now occasion.entry.now occasion.entry.sessions.now occasion.entry.subscriptions.now routes.old.exporters) (publication occasion.entry.sending.publisher.now occasion.entry.sending.message.now occasion.entry.sending.word) (addressing receivers.old.deliveries.items []) (others_in (rows_of occasion.entry.ready.now) occasion.entry.sending.publisher.now.user.account subject.now)).openings (pruned occasion.entry.now routes.old.exporters)) }
+    ensures noted { IfOk result (λ told. AreNotedIn occasion.entry.now told) }
     ensures cached { receivers.new.cache ≡ receivers.old.cache }
     ensures routes { routes.new.exporters ≡ routes.old.exporters }
 {
-    let account = among.sending.publisher.user.account.as_slice();
-    let others = among.ready.rows().crossings(among.alloc, account, subject)?;
-    let mut found = nothing_found(among.alloc);
+    let account = occasion.sending.publisher.user.account.as_slice();
+    let others = occasion
+        .ready
+        .rows()
+        .crossings(occasion.alloc, account, subject)?;
+    let mut found = nothing_found(occasion.alloc);
     let views = others.as_slice();
-    address_each(among, receivers, routes, views, &mut found)?;
-    let told = if_any(among.alloc, found)?;
+    address_each(occasion, receivers, routes, views, &mut found)?;
+    let told = if_any(occasion.alloc, found)?;
     Ok(told)
 }
 
@@ -111,24 +114,24 @@ fn address_across(
 /// message's subject. `NoMemory` where memory could not be had: then some may be appended.
 #[inline(never)]
 fn address_on_reply(
-    among: Among<'_>,
+    occasion: Occasion<'_>,
     receivers: &mut Receivers,
     routes: &Routes,
 ) -> Result<Option<Boxed<Told>>, NoMemory>
-    requires marked { AreMarked among.sessions.now among.subscriptions.now among.marks.now }
-    ensures all { OnOk result (receivers.new.deliveries.items ≡ (addressed_after (tables_at among.entry.ready.now among.entry.now among.entry.sessions.now among.entry.subscriptions.now routes.now.exporters) (publication among.entry.sending.publisher.now among.entry.sending.message.now among.entry.sending.word) (addressing receivers.old.deliveries.items []) (others_with [] (responses_on (pruned among.entry.now routes.now.exporters) among.entry.sending.publisher.now.user.account among.entry.sending.message.now.subject) among.entry.sending.publisher.now.user.account among.entry.sending.message.now.subject)).deliveries) }
+    requires marked { AreMarked occasion.sessions.now occasion.subscriptions.now occasion.marks.now }
+    ensures all { OnOk result (receivers.new.deliveries.items ≡ (addressed_after (tables_at occasion.entry.ready.now occasion.entry.now occasion.entry.sessions.now occasion.entry.subscriptions.now routes.now.exporters) (publication occasion.entry.sending.publisher.now occasion.entry.sending.message.now occasion.entry.sending.word) (addressing receivers.old.deliveries.items []) (others_with [] (responses_on (pruned occasion.entry.now routes.now.exporters) occasion.entry.sending.publisher.now.user.account occasion.entry.sending.message.now.subject) occasion.entry.sending.publisher.now.user.account occasion.entry.sending.message.now.subject)).deliveries) }
     ensures reports { IfOk result (λ told. reports_in told ≡ []) }
-    ensures spent { IfOk result (λ told. routes_after told (pruned among.entry.now routes.now.exporters)
-        ≡ spent among.entry.sending.publisher.now.user.account among.entry.sending.message.now.subject (pruned among.entry.now routes.now.exporters)) }
-    ensures noted { IfOk result (λ told. AreNotedIn among.entry.now told) }
+    ensures spent { IfOk result (λ told. routes_after told (pruned occasion.entry.now routes.now.exporters)
+        ≡ spent occasion.entry.sending.publisher.now.user.account occasion.entry.sending.message.now.subject (pruned occasion.entry.now routes.now.exporters)) }
+    ensures noted { IfOk result (λ told. AreNotedIn occasion.entry.now told) }
     ensures cached { receivers.new.cache ≡ receivers.old.cache }
 {
     let answered = RouteChange::Answered {
-        exporter: among.sending.publisher.user.account.clone()?,
-        message: among.sending.message.again()?,
+        exporter: occasion.sending.publisher.user.account.clone()?,
+        message: occasion.sending.message.again()?,
     };
-    let subject = among.sending.message.subject();
-    let told = address_answer(among, receivers, routes, &subject, answered)?;
+    let subject = occasion.sending.message.subject();
+    let told = address_answer(occasion, receivers, routes, &subject, answered)?;
     Ok(told)
 }
 
@@ -136,56 +139,56 @@ fn address_on_reply(
 /// has a living route of that subject; then `answered` is what becomes of routes. `NoMemory` where memory could not be had: then
 /// some may be appended.
 fn address_answer(
-    among: Among<'_>,
+    occasion: Occasion<'_>,
     receivers: &mut Receivers,
     routes: &Routes,
     subject: &SubjectRef<'_>,
     answered: RouteChange,
 ) -> Result<Option<Boxed<Told>>, NoMemory>
-    requires marked { AreMarked among.sessions.now among.subscriptions.now among.marks.now }
-    requires ends { (all : List (Name × Exporter)) → changed_by answered all ≡ spent among.sending.publisher.now.user.account subject.now all }
-    requires noted { AreNoted among.now answered }
-    ensures all { OnOk result (receivers.new.deliveries.items ≡ (addressed_after (tables_at among.entry.ready.now among.entry.now among.entry.sessions.now among.entry.subscriptions.now routes.now.exporters) (publication among.entry.sending.publisher.now among.entry.sending.message.now among.entry.sending.word) (addressing receivers.old.deliveries.items []) (others_with [] (responses_on (pruned among.entry.now routes.now.exporters) among.entry.sending.publisher.now.user.account subject.now) among.entry.sending.publisher.now.user.account subject.now)).deliveries) }
+    requires marked { AreMarked occasion.sessions.now occasion.subscriptions.now occasion.marks.now }
+    requires ends { (all : List (Name × Exporter)) → changed_by answered all ≡ spent occasion.sending.publisher.now.user.account subject.now all }
+    requires noted { AreNoted occasion.now answered }
+    ensures all { OnOk result (receivers.new.deliveries.items ≡ (addressed_after (tables_at occasion.entry.ready.now occasion.entry.now occasion.entry.sessions.now occasion.entry.subscriptions.now routes.now.exporters) (publication occasion.entry.sending.publisher.now occasion.entry.sending.message.now occasion.entry.sending.word) (addressing receivers.old.deliveries.items []) (others_with [] (responses_on (pruned occasion.entry.now routes.now.exporters) occasion.entry.sending.publisher.now.user.account subject.now) occasion.entry.sending.publisher.now.user.account subject.now)).deliveries) }
     ensures reports { IfOk result (λ told. reports_in told ≡ []) }
-    ensures spent { IfOk result (λ told. routes_after told (pruned among.entry.now routes.now.exporters)
-        ≡ spent among.entry.sending.publisher.now.user.account subject.now (pruned among.entry.now routes.now.exporters)) }
-    ensures noted { IfOk result (λ told. AreNotedIn among.entry.now told) }
+    ensures spent { IfOk result (λ told. routes_after told (pruned occasion.entry.now routes.now.exporters)
+        ≡ spent occasion.entry.sending.publisher.now.user.account subject.now (pruned occasion.entry.now routes.now.exporters)) }
+    ensures noted { IfOk result (λ told. AreNotedIn occasion.entry.now told) }
     ensures cached { receivers.new.cache ≡ receivers.old.cache }
 {
-    let exporter = &among.sending.publisher.user.account;
-    match routes.find_living(exporter, subject, among.now) {
+    let exporter = &occasion.sending.publisher.user.account;
+    match routes.find_living(exporter, subject, occasion.now) {
         None => Ok(None),
         Some(route) => {
-            address_unless_own(among, receivers, route, subject)?;
+            address_unless_own(occasion, receivers, route, subject)?;
             let told = Told {
-                reports: Vec::new(among.alloc),
+                reports: Vec::new(occasion.alloc),
                 routes: answered,
             };
-            Ok(Some(Boxed::new(among.alloc, told)?))
+            Ok(Some(Boxed::new(occasion.alloc, told)?))
         }
     }
 }
 
 /// Appends the deliveries of the response on a route in the account that has asked, unless that is the message's own view.
 fn address_unless_own(
-    among: Among<'_>,
+    occasion: Occasion<'_>,
     receivers: &mut Receivers,
     route: &Route,
     subject: &SubjectRef<'_>,
 ) -> Result<(), NoMemory>
-    requires marked { AreMarked among.sessions.now among.subscriptions.now among.marks.now }
-    ensures all { OnOk result (receivers.new.deliveries.items ≡ (if is_same (At among.entry.sending.publisher.now.user.account subject.now Own) (response_by route.now)
+    requires marked { AreMarked occasion.sessions.now occasion.subscriptions.now occasion.marks.now }
+    ensures all { OnOk result (receivers.new.deliveries.items ≡ (if is_same (At occasion.entry.sending.publisher.now.user.account subject.now Own) (response_by route.now)
         then receivers.old.deliveries.items
-        else receivers.old.deliveries.items ++ addressed_behind_in among.entry.sessions.now among.entry.subscriptions.now receivers.old.deliveries.items
-        among.entry.sending.publisher.now (seen_with route.now.reply None among.entry.sending.message.now) among.entry.sending.word route.now.row.importer)) }
+        else receivers.old.deliveries.items ++ addressed_behind_in occasion.entry.sessions.now occasion.entry.subscriptions.now receivers.old.deliveries.items
+        occasion.entry.sending.publisher.now (seen_with route.now.reply None occasion.entry.sending.message.now) occasion.entry.sending.word route.now.row.importer)) }
     ensures cached { receivers.new.cache ≡ receivers.old.cache }
 {
-    let exporter = &among.sending.publisher.user.account;
+    let exporter = &occasion.sending.publisher.user.account;
     if is_own(exporter, subject, route) {
         return Ok(());
     }
     address_in(
-        among,
+        occasion,
         receivers,
         route.requester(),
         route.reply(),
@@ -279,7 +282,7 @@ pub fn address_all<'p>(
     if is_own_alone(ready.rows(), routes) {
         return Ok(None);
     }
-    let among = Among {
+    let occasion = Occasion {
         alloc: receivers.allocator(),
         sessions,
         subscriptions,
@@ -290,13 +293,13 @@ pub fn address_all<'p>(
     };
     let subject = sending.message.subject();
     if is_route(&subject) {
-        let told = address_on_reply(among, receivers, routes)?;
+        let told = address_on_reply(occasion, receivers, routes)?;
         return Ok(told);
     }
     if receivers.address_others(sending.message, sending.word)? {
         return Ok(None);
     }
-    let told = address_across(among, receivers, routes, &subject)?;
+    let told = address_across(occasion, receivers, routes, &subject)?;
     Ok(told)
 }
 
@@ -334,7 +337,7 @@ pub fn address_under<'p>(
         now,
         marks,
     } = publishing;
-    let among = Among {
+    let occasion = Occasion {
         alloc: receivers.allocator(),
         sessions,
         subscriptions,
@@ -345,39 +348,39 @@ pub fn address_under<'p>(
     };
     receivers.take_back(0);
     let account = &sending.publisher.user.account;
-    address_in(among, receivers, account, subject, Said::AsPublished)?;
+    address_in(occasion, receivers, account, subject, Said::AsPublished)?;
     if is_own_alone(ready.rows(), routes) {
         return Ok(None);
     }
     let seen = subject.lend();
     if is_route(&seen) {
-        let told = address_answer_under(among, receivers, routes, subject)?;
+        let told = address_answer_under(occasion, receivers, routes, subject)?;
         return Ok(told);
     }
-    let told = address_across(among, receivers, routes, &seen)?;
+    let told = address_across(occasion, receivers, routes, &seen)?;
     Ok(told)
 }
 
 /// Appends the deliveries of a response that is sent on under this subject, as `address_answer` does.
 fn address_answer_under(
-    among: Among<'_>,
+    occasion: Occasion<'_>,
     receivers: &mut Receivers,
     routes: &Routes,
     subject: &Subject,
 ) -> Result<Option<Boxed<Told>>, NoMemory>
-    requires marked { AreMarked among.sessions.now among.subscriptions.now among.marks.now }
-    ensures all { OnOk result (receivers.new.deliveries.items ≡ (addressed_after (tables_at among.entry.ready.now among.entry.now among.entry.sessions.now among.entry.subscriptions.now routes.now.exporters) (publication among.entry.sending.publisher.now among.entry.sending.message.now among.entry.sending.word) (addressing receivers.old.deliveries.items []) (others_with [] (responses_on (pruned among.entry.now routes.now.exporters) among.entry.sending.publisher.now.user.account subject.now) among.entry.sending.publisher.now.user.account subject.now)).deliveries) }
+    requires marked { AreMarked occasion.sessions.now occasion.subscriptions.now occasion.marks.now }
+    ensures all { OnOk result (receivers.new.deliveries.items ≡ (addressed_after (tables_at occasion.entry.ready.now occasion.entry.now occasion.entry.sessions.now occasion.entry.subscriptions.now routes.now.exporters) (publication occasion.entry.sending.publisher.now occasion.entry.sending.message.now occasion.entry.sending.word) (addressing receivers.old.deliveries.items []) (others_with [] (responses_on (pruned occasion.entry.now routes.now.exporters) occasion.entry.sending.publisher.now.user.account subject.now) occasion.entry.sending.publisher.now.user.account subject.now)).deliveries) }
     ensures reports { IfOk result (λ told. reports_in told ≡ []) }
-    ensures spent { IfOk result (λ told. routes_after told (pruned among.entry.now routes.now.exporters)
-        ≡ spent among.entry.sending.publisher.now.user.account subject.now (pruned among.entry.now routes.now.exporters)) }
-    ensures noted { IfOk result (λ told. AreNotedIn among.entry.now told) }
+    ensures spent { IfOk result (λ told. routes_after told (pruned occasion.entry.now routes.now.exporters)
+        ≡ spent occasion.entry.sending.publisher.now.user.account subject.now (pruned occasion.entry.now routes.now.exporters)) }
+    ensures noted { IfOk result (λ told. AreNotedIn occasion.entry.now told) }
     ensures cached { receivers.new.cache ≡ receivers.old.cache }
 {
     let answered = RouteChange::AnsweredUnder {
-        exporter: among.sending.publisher.user.account.clone()?,
-        subject: subject.copy(among.alloc)?,
+        exporter: occasion.sending.publisher.user.account.clone()?,
+        subject: subject.copy(occasion.alloc)?,
     };
     let seen = subject.lend();
-    let told = address_answer(among, receivers, routes, &seen, answered)?;
+    let told = address_answer(occasion, receivers, routes, &seen, answered)?;
     Ok(told)
 }

@@ -8,7 +8,7 @@ ghost use Rattle.world_views.specs.Viewing.{addressing, opening_for, publication
 ghost use Rattle.world_views.specs.declared.viewing.Cause.TheVariants as cause;
 
 use crate::changing::{Opening, count_of};
-use crate::viewing::{Among, Cause, Found, Report};
+use crate::viewing::{Cause, Found, Occasion, Report};
 use base::{NoMemory, Shared};
 use bytes::Bytes;
 use events::Said;
@@ -34,20 +34,20 @@ pub(crate) struct Request<'a> {
 /// may be sent the request. `RouteFull` stands in its place where the exporter has as many routes as it may have. `NoMemory` where
 /// memory could not be had: then some may be appended.
 pub(crate) fn address_request(
-    among: Among<'_>,
+    occasion: Occasion<'_>,
     receivers: &mut Receivers,
     routes: &mut Routes,
     request: Request<'_>,
     found: &mut Found,
 ) -> Result<(), NoMemory>
-    requires marked { AreMarked among.sessions.now among.subscriptions.now among.marks.now }
-    requires noted { All (IsNotedAt among.now) found.old.openings.items }
+    requires marked { AreMarked occasion.sessions.now occasion.subscriptions.now occasion.marks.now }
+    requires noted { All (IsNotedAt occasion.now) found.old.openings.items }
     ensures all { OnOk result (addressing receivers.new.deliveries.items found.new.openings.items
-        ≡ with_effect (tables_at among.entry.ready.now among.entry.now among.entry.sessions.now among.entry.subscriptions.now routes.old.exporters) (publication among.entry.sending.publisher.now among.entry.sending.message.now among.entry.sending.word) (addressing receivers.old.deliveries.items found.old.openings.items) (request_in (tables_at among.entry.ready.now among.entry.now among.entry.sessions.now among.entry.subscriptions.now routes.old.exporters) (publication among.entry.sending.publisher.now among.entry.sending.message.now among.entry.sending.word) (addressing receivers.old.deliveries.items found.old.openings.items)
+        ≡ with_effect (tables_at occasion.entry.ready.now occasion.entry.now occasion.entry.sessions.now occasion.entry.subscriptions.now routes.old.exporters) (publication occasion.entry.sending.publisher.now occasion.entry.sending.message.now occasion.entry.sending.word) (addressing receivers.old.deliveries.items found.old.openings.items) (request_in (tables_at occasion.entry.ready.now occasion.entry.now occasion.entry.sessions.now occasion.entry.subscriptions.now routes.old.exporters) (publication occasion.entry.sending.publisher.now occasion.entry.sending.message.now occasion.entry.sending.word) (addressing receivers.old.deliveries.items found.old.openings.items)
         request.entry.exporter.now request.entry.subject.now request.entry.row.now (Some request.entry.reply.now))) }
-    ensures reports { OnOk result (found.new.reports.items ≡ found.old.reports.items ++ reports_by (addressing receivers.old.deliveries.items found.old.openings.items) (request_in (tables_at among.entry.ready.now among.entry.now among.entry.sessions.now among.entry.subscriptions.now routes.old.exporters) (publication among.entry.sending.publisher.now among.entry.sending.message.now among.entry.sending.word) (addressing receivers.old.deliveries.items found.old.openings.items)
+    ensures reports { OnOk result (found.new.reports.items ≡ found.old.reports.items ++ reports_by (addressing receivers.old.deliveries.items found.old.openings.items) (request_in (tables_at occasion.entry.ready.now occasion.entry.now occasion.entry.sessions.now occasion.entry.subscriptions.now routes.old.exporters) (publication occasion.entry.sending.publisher.now occasion.entry.sending.message.now occasion.entry.sending.word) (addressing receivers.old.deliveries.items found.old.openings.items)
         request.entry.exporter.now request.entry.subject.now request.entry.row.now (Some request.entry.reply.now))) }
-    ensures noted { OnOk result (All (IsNotedAt among.entry.now) found.new.openings.items) }
+    ensures noted { OnOk result (All (IsNotedAt occasion.entry.now) found.new.openings.items) }
     ensures cached { receivers.new.cache ≡ receivers.old.cache }
     ensures routes { routes.new.exporters ≡ routes.old.exporters }
 {
@@ -55,13 +55,13 @@ pub(crate) fn address_request(
     if count == u64::MAX {
         return Err(NoMemory);
     }
-    match routes.reserve(request.exporter, count + 1, among.now) {
+    match routes.reserve(request.exporter, count + 1, occasion.now) {
         Ok(next) => {
-            address_on_route(among, receivers, request, next + count, found)?;
+            address_on_route(occasion, receivers, request, next + count, found)?;
             Ok(())
         }
         Err(RouteError::RouteFull) => {
-            report_full(among, receivers, request, found)?;
+            report_full(occasion, receivers, request, found)?;
             Ok(())
         }
         Err(RouteError::NoMemory) => Err(NoMemory),
@@ -71,56 +71,56 @@ pub(crate) fn address_request(
 /// Addresses a request with the subject of the exporter's route of a number in place of its reply, and notes that the route is to be
 /// opened, if anybody may be sent the request.
 fn address_on_route(
-    among: Among<'_>,
+    occasion: Occasion<'_>,
     receivers: &mut Receivers,
     request: Request<'_>,
     number: u64,
     found: &mut Found,
 ) -> Result<(), NoMemory>
-    requires marked { AreMarked among.sessions.now among.subscriptions.now among.marks.now }
-    ensures all { OnOk result (receivers.new.deliveries.items ≡ (if is_for_nobody among.entry.sessions.now among.entry.subscriptions.now receivers.old.deliveries.items among.entry.sending.publisher.now request.entry.exporter.now request.entry.subject.now then receivers.old.deliveries.items
-        else receivers.old.deliveries.items ++ addressed_behind_in among.entry.sessions.now among.entry.subscriptions.now receivers.old.deliveries.items
-        among.entry.sending.publisher.now (seen_with request.entry.subject.now (Some (route_subject among.entry.sending.word number)) among.entry.sending.message.now) among.entry.sending.word request.entry.exporter.now)) }
-    ensures openings { OnOk result (found.new.openings.items ≡ (if is_for_nobody among.entry.sessions.now among.entry.subscriptions.now receivers.old.deliveries.items among.entry.sending.publisher.now request.entry.exporter.now request.entry.subject.now then found.old.openings.items
-        else found.old.openings.items ++ opening_for request.entry.exporter.now among.entry.ready.now request.entry.row.now request.entry.reply.now among.entry.sending.word among.entry.now ∷ [])) }
+    requires marked { AreMarked occasion.sessions.now occasion.subscriptions.now occasion.marks.now }
+    ensures all { OnOk result (receivers.new.deliveries.items ≡ (if is_for_nobody occasion.entry.sessions.now occasion.entry.subscriptions.now receivers.old.deliveries.items occasion.entry.sending.publisher.now request.entry.exporter.now request.entry.subject.now then receivers.old.deliveries.items
+        else receivers.old.deliveries.items ++ addressed_behind_in occasion.entry.sessions.now occasion.entry.subscriptions.now receivers.old.deliveries.items
+        occasion.entry.sending.publisher.now (seen_with request.entry.subject.now (Some (route_subject occasion.entry.sending.word number)) occasion.entry.sending.message.now) occasion.entry.sending.word request.entry.exporter.now)) }
+    ensures openings { OnOk result (found.new.openings.items ≡ (if is_for_nobody occasion.entry.sessions.now occasion.entry.subscriptions.now receivers.old.deliveries.items occasion.entry.sending.publisher.now request.entry.exporter.now request.entry.subject.now then found.old.openings.items
+        else found.old.openings.items ++ opening_for request.entry.exporter.now occasion.entry.ready.now request.entry.row.now request.entry.reply.now occasion.entry.sending.word occasion.entry.now ∷ [])) }
     ensures reports { found.new.reports ≡ found.old.reports }
     ensures cached { receivers.new.cache ≡ receivers.old.cache }
 {
-    let subject = route_subject(among.alloc, among.sending.word, number)?;
+    let subject = route_subject(occasion.alloc, occasion.sending.word, number)?;
     let seen = Seen {
         account: request.exporter,
         subject: request.subject,
         reply: Said::Other(subject),
     };
     if receivers.address_seen(
-        among.sessions,
-        among.subscriptions,
-        among.marks,
-        among.sending,
+        occasion.sessions,
+        occasion.subscriptions,
+        occasion.marks,
+        occasion.sending,
         seen,
     )? {
         return Ok(());
     }
-    found.openings.push(opening(among, request)?)?;
+    found.openings.push(opening(occasion, request)?)?;
     Ok(())
 }
 
 /// Returns the route of a request, which is to be opened.
-fn opening(among: Among<'_>, request: Request<'_>) -> Result<Opening, NoMemory>
-    ensures { IfOk result (λ opening. opening ≡ opening_for request.entry.exporter.now among.entry.ready.now request.entry.row.now request.entry.reply.now among.entry.sending.word among.entry.now) }
+fn opening(occasion: Occasion<'_>, request: Request<'_>) -> Result<Opening, NoMemory>
+    ensures { IfOk result (λ opening. opening ≡ opening_for request.entry.exporter.now occasion.entry.ready.now request.entry.row.now request.entry.reply.now occasion.entry.sending.word occasion.entry.now) }
 {
     let row = request.row.get();
     let own = Row {
         importer: row.importer.clone()?,
         index: row.index,
     };
-    let terms = terms_of(among.ready.policy().doc(), row);
+    let terms = terms_of(occasion.ready.policy().doc(), row);
     let route = Route::new(
-        among.alloc,
-        among.sending.word,
+        occasion.alloc,
+        occasion.sending.word,
         own,
         request.reply,
-        among.now,
+        occasion.now,
         terms,
     )?;
     Ok(Opening {
@@ -131,15 +131,15 @@ fn opening(among: Among<'_>, request: Request<'_>) -> Result<Opening, NoMemory>
 
 /// Reports the row of a request whose exporter has as many routes as it may have, if anybody may be sent the request.
 fn report_full(
-    among: Among<'_>,
+    occasion: Occasion<'_>,
     receivers: &mut Receivers,
     request: Request<'_>,
     found: &mut Found,
 ) -> Result<(), NoMemory>
-    requires marked { AreMarked among.sessions.now among.subscriptions.now among.marks.now }
+    requires marked { AreMarked occasion.sessions.now occasion.subscriptions.now occasion.marks.now }
     ensures all { OnOk result (receivers.new.deliveries.items ≡ receivers.old.deliveries.items) }
     ensures openings { found.new.openings ≡ found.old.openings }
-    ensures reports { OnOk result (found.new.reports.items ≡ (if is_for_nobody among.entry.sessions.now among.entry.subscriptions.now receivers.old.deliveries.items among.entry.sending.publisher.now request.entry.exporter.now request.entry.subject.now then found.old.reports.items
+    ensures reports { OnOk result (found.new.reports.items ≡ (if is_for_nobody occasion.entry.sessions.now occasion.entry.subscriptions.now receivers.old.deliveries.items occasion.entry.sending.publisher.now request.entry.exporter.now request.entry.subject.now then found.old.reports.items
         else found.old.reports.items ++ report (length receivers.old.deliveries.items) cause.RouteFull request.entry.row.now ∷ [])) }
     ensures cached { receivers.new.cache ≡ receivers.old.cache }
 {
@@ -150,10 +150,10 @@ fn report_full(
         reply: Said::AsPublished,
     };
     let nobody = receivers.address_seen(
-        among.sessions,
-        among.subscriptions,
-        among.marks,
-        among.sending,
+        occasion.sessions,
+        occasion.subscriptions,
+        occasion.marks,
+        occasion.sending,
         seen,
     )?;
     receivers.take_back(before);

@@ -52,7 +52,7 @@ pub(crate) struct Found {
 
 /// A message, and the tables in which it is addressed at a moment.
 #[derive(Clone, Copy)]
-pub(crate) struct Among<'a> {
+pub(crate) struct Occasion<'a> {
     pub alloc: Global,
     pub sessions: &'a Sessions,
     pub subscriptions: &'a Subscriptions,
@@ -65,18 +65,18 @@ pub(crate) struct Among<'a> {
 /// Appends the deliveries of a message in one more view to those of the receivers, and what is found beside them. `NoMemory` where
 /// memory could not be had: then some may be appended.
 fn address_one(
-    among: Among<'_>,
+    occasion: Occasion<'_>,
     receivers: &mut Receivers,
     routes: &mut Routes,
     view: &ViewItem,
     found: &mut Found,
 ) -> Result<(), NoMemory>
-    requires marked { AreMarked among.sessions.now among.subscriptions.now among.marks.now }
-    requires noted { All (IsNotedAt among.now) found.old.openings.items }
+    requires marked { AreMarked occasion.sessions.now occasion.subscriptions.now occasion.marks.now }
+    requires noted { All (IsNotedAt occasion.now) found.old.openings.items }
     ensures all { OnOk result (addressing receivers.new.deliveries.items found.new.openings.items
-        ≡ with_effect (tables_at among.entry.ready.now among.entry.now among.entry.sessions.now among.entry.subscriptions.now routes.old.exporters) (publication among.entry.sending.publisher.now among.entry.sending.message.now among.entry.sending.word) (addressing receivers.old.deliveries.items found.old.openings.items) (effect_of (tables_at among.entry.ready.now among.entry.now among.entry.sessions.now among.entry.subscriptions.now routes.old.exporters) (publication among.entry.sending.publisher.now among.entry.sending.message.now among.entry.sending.word) (addressing receivers.old.deliveries.items found.old.openings.items) view.now)) }
-    ensures reports { OnOk result (found.new.reports.items ≡ found.old.reports.items ++ reports_by (addressing receivers.old.deliveries.items found.old.openings.items) (effect_of (tables_at among.entry.ready.now among.entry.now among.entry.sessions.now among.entry.subscriptions.now routes.old.exporters) (publication among.entry.sending.publisher.now among.entry.sending.message.now among.entry.sending.word) (addressing receivers.old.deliveries.items found.old.openings.items) view.now)) }
-    ensures noted { OnOk result (All (IsNotedAt among.entry.now) found.new.openings.items) }
+        ≡ with_effect (tables_at occasion.entry.ready.now occasion.entry.now occasion.entry.sessions.now occasion.entry.subscriptions.now routes.old.exporters) (publication occasion.entry.sending.publisher.now occasion.entry.sending.message.now occasion.entry.sending.word) (addressing receivers.old.deliveries.items found.old.openings.items) (effect_of (tables_at occasion.entry.ready.now occasion.entry.now occasion.entry.sessions.now occasion.entry.subscriptions.now routes.old.exporters) (publication occasion.entry.sending.publisher.now occasion.entry.sending.message.now occasion.entry.sending.word) (addressing receivers.old.deliveries.items found.old.openings.items) view.now)) }
+    ensures reports { OnOk result (found.new.reports.items ≡ found.old.reports.items ++ reports_by (addressing receivers.old.deliveries.items found.old.openings.items) (effect_of (tables_at occasion.entry.ready.now occasion.entry.now occasion.entry.sessions.now occasion.entry.subscriptions.now routes.old.exporters) (publication occasion.entry.sending.publisher.now occasion.entry.sending.message.now occasion.entry.sending.word) (addressing receivers.old.deliveries.items found.old.openings.items) view.now)) }
+    ensures noted { OnOk result (All (IsNotedAt occasion.entry.now) found.new.openings.items) }
     ensures cached { receivers.new.cache ≡ receivers.old.cache }
     ensures routes { routes.new.exporters ≡ routes.old.exporters }
 {
@@ -85,23 +85,23 @@ fn address_one(
             account,
             subject,
             way: Way::Own,
-        } => address_in(among, receivers, account, subject, Said::AsPublished),
+        } => address_in(occasion, receivers, account, subject, Said::AsPublished),
         ViewItem::At {
             account,
             subject,
             way: Way::Stream(_),
-        } => address_in(among, receivers, account, subject, Said::AsPublished),
+        } => address_in(occasion, receivers, account, subject, Said::AsPublished),
         ViewItem::At {
             account,
             subject,
             way: Way::Response(_),
-        } => address_in(among, receivers, account, subject, Said::Nothing),
+        } => address_in(occasion, receivers, account, subject, Said::Nothing),
         ViewItem::At {
             account,
             subject,
             way: Way::Service(row),
-        } => match among.sending.message.reply() {
-            None => address_in(among, receivers, account, subject, Said::AsPublished),
+        } => match occasion.sending.message.reply() {
+            None => address_in(occasion, receivers, account, subject, Said::AsPublished),
             Some(reply) => {
                 let request = Request {
                     exporter: account,
@@ -109,7 +109,7 @@ fn address_one(
                     row,
                     reply: &reply,
                 };
-                address_request(among, receivers, routes, request, found)?;
+                address_request(occasion, receivers, routes, request, found)?;
                 Ok(())
             }
         },
@@ -127,15 +127,15 @@ fn address_one(
 
 /// Appends the deliveries of a message in an account, under a subject and with the reply that is said there.
 pub(crate) fn address_in(
-    among: Among<'_>,
+    occasion: Occasion<'_>,
     receivers: &mut Receivers,
     account: &Bytes,
     subject: &Subject,
     reply: Said,
 ) -> Result<(), NoMemory>
-    requires marked { AreMarked among.sessions.now among.subscriptions.now among.marks.now }
-    ensures all { OnOk result (receivers.new.deliveries.items ≡ receivers.old.deliveries.items ++ addressed_behind_in among.entry.sessions.now among.entry.subscriptions.now receivers.old.deliveries.items
-        among.entry.sending.publisher.now (named (record { subject = subject.now; reply = reply }) among.entry.sending.message.now) among.entry.sending.word account.now) }
+    requires marked { AreMarked occasion.sessions.now occasion.subscriptions.now occasion.marks.now }
+    ensures all { OnOk result (receivers.new.deliveries.items ≡ receivers.old.deliveries.items ++ addressed_behind_in occasion.entry.sessions.now occasion.entry.subscriptions.now receivers.old.deliveries.items
+        occasion.entry.sending.publisher.now (named (record { subject = subject.now; reply = reply }) occasion.entry.sending.message.now) occasion.entry.sending.word account.now) }
     ensures cached { receivers.new.cache ≡ receivers.old.cache }
 {
     let seen = Seen {
@@ -144,10 +144,10 @@ pub(crate) fn address_in(
         reply,
     };
     receivers.address_seen(
-        among.sessions,
-        among.subscriptions,
-        among.marks,
-        among.sending,
+        occasion.sessions,
+        occasion.subscriptions,
+        occasion.marks,
+        occasion.sending,
         seen,
     )?;
     Ok(())
@@ -156,23 +156,23 @@ pub(crate) fn address_in(
 /// Appends the deliveries of a message in more views to those of the receivers, and what is found beside them. `NoMemory` where
 /// memory could not be had: then some may be appended.
 pub(crate) fn address_each(
-    among: Among<'_>,
+    occasion: Occasion<'_>,
     receivers: &mut Receivers,
     routes: &mut Routes,
     views: &[ViewItem],
     found: &mut Found,
 ) -> Result<(), NoMemory>
-    requires marked { AreMarked among.sessions.now among.subscriptions.now among.marks.now }
-    requires noted { All (IsNotedAt among.now) found.old.openings.items }
+    requires marked { AreMarked occasion.sessions.now occasion.subscriptions.now occasion.marks.now }
+    requires noted { All (IsNotedAt occasion.now) found.old.openings.items }
     ensures all { OnOk result (addressing receivers.new.deliveries.items found.new.openings.items
-        ≡ addressed_after (tables_at among.entry.ready.now among.entry.now among.entry.sessions.now among.entry.subscriptions.now routes.old.exporters) (publication among.entry.sending.publisher.now among.entry.sending.message.now among.entry.sending.word) (addressing receivers.old.deliveries.items found.old.openings.items) views.now) }
-    ensures reports { OnOk result (found.new.reports.items ≡ found.old.reports.items ++ reports_after (tables_at among.entry.ready.now among.entry.now among.entry.sessions.now among.entry.subscriptions.now routes.old.exporters) (publication among.entry.sending.publisher.now among.entry.sending.message.now among.entry.sending.word) (addressing receivers.old.deliveries.items found.old.openings.items) views.now) }
-    ensures noted { OnOk result (All (IsNotedAt among.entry.now) found.new.openings.items) }
+        ≡ addressed_after (tables_at occasion.entry.ready.now occasion.entry.now occasion.entry.sessions.now occasion.entry.subscriptions.now routes.old.exporters) (publication occasion.entry.sending.publisher.now occasion.entry.sending.message.now occasion.entry.sending.word) (addressing receivers.old.deliveries.items found.old.openings.items) views.now) }
+    ensures reports { OnOk result (found.new.reports.items ≡ found.old.reports.items ++ reports_after (tables_at occasion.entry.ready.now occasion.entry.now occasion.entry.sessions.now occasion.entry.subscriptions.now routes.old.exporters) (publication occasion.entry.sending.publisher.now occasion.entry.sending.message.now occasion.entry.sending.word) (addressing receivers.old.deliveries.items found.old.openings.items) views.now) }
+    ensures noted { OnOk result (All (IsNotedAt occasion.entry.now) found.new.openings.items) }
     ensures cached { receivers.new.cache ≡ receivers.old.cache }
     ensures routes { routes.new.exporters ≡ routes.old.exporters }
 {
     for view in views {
-        address_one(among, receivers, routes, view, found)?;
+        address_one(occasion, receivers, routes, view, found)?;
     }
     Ok(())
 }

@@ -1,5 +1,5 @@
 -- what is planned is what the publish comes to, and the verdict on it has its reason
-use Rattle.std.proofs.Common.{◌≡◌, ◌∙◌, ◌==◌, ◌∷◌, List, [], All, None, Ok, map, ap, sym, refl, subst}
+use Rattle.std.proofs.Common.{◌≡◌, ◌∙◌, ◌==◌, List, [], All, None, Ok, ap, sym, refl, subst}
 use Rattle.std.proofs.lemmas.Bool.{eqb-true}
 use Rattle.std.proofs.lemmas.List.Elements.{All-nil}
 use Rattle.std.specs.Prelude.{IfSome}
@@ -9,8 +9,6 @@ use Rattle.receiver_cache.specs.Cached.{IsAllowed}
 use Rattle.imports.specs.Across.{views}
 use Rattle.imports.specs.declared.view.ViewItem.{ViewItem}
 use Rattle.world_deliveries.specs.Sessions.{session_of}
-use Rattle.world_deliveries.specs.Delivered.{delivered}
-use Rattle.world_deliveries.specs.Replying.{noted_for}
 use Rattle.world_deliveries.specs.declared.session.Session.{Session}
 use Rattle.receiver_cache.proofs.Tests.{find-passes}
 use Rattle.world_views.specs.Requests.{responses_on}
@@ -19,8 +17,7 @@ use Rattle.world_routing.proofs.Alone.{lists_allow}
 use Rattle.world_routing.proofs.Remembered.{named}
 use Rattle.world_views.proofs.Addressed.{unsaid_after}
 use Rattle.world_routing.specs.Granting.{verdict_on}
-use Rattle.world_routing.specs.declared.planning.Plan.TheVariants.{ToNobody}
-use Rattle.world_routing.proofs.Publishing.{planned_by, planned_nobody, planned_publish, planned_unmapped, publish_reason}
+use Rattle.world_routing.proofs.Publishing.{planned_publish, planned_told, planned_unmapped, publish_reason}
 use Rattle.world_routing.proofs.planning.plan_judged.Goals as goal
 
 pub on_publish-requires-clause-user : goal.on_publish-requires-clause-user
@@ -40,14 +37,14 @@ address_all-requires-clause-allowed c =
     (lists_allow c.allowed_by.result c.in-Allowed.by c.args.publish.now z s s c.allowed_by.ensures refl c.in-Allowed.ensures.verdict c.on_publish.ensures.justified
     (c.is_mapped.ensures c.if-is_mapped.false))
 
-pub plan_all-requires : goal.plan_all-requires
-plan_all-requires c = λ none.
+pub plan_told-requires : goal.plan_told-requires
+plan_told-requires c = λ none.
     let reply : Addressed → Type 0 = λ a. a.delivery.message.reply ≡ None in
     let z = c.in-Some.session.now in
     let m = c.args.publish.message.now in
     let t : Tables = tables_at c.args.ready.now c.args.publish.now c.args.sessions.now c.args.subscriptions.now c.args.routes.now.exporters in
     let vs : List ViewItem = views t.policy z.user.account m.subject (responses_on t.routes z.user.account m.subject) in
-    subst (All reply) (sym (c.take_deliveries-all.ensures.all ∙ c.in_ok-address_all-in-Allowed.ensures.all))
+    subst (All reply) (sym c.in_ok-told.ensures.all)
     (unsaid_after t (publication z m c.args.publish.word) (addressing [] []) vs none (All-nil reply))
 
 pub returns-then-is_mapped-clause-planned : goal.returns-then-is_mapped-clause-planned
@@ -55,35 +52,12 @@ returns-then-is_mapped-clause-planned c = λ w of.
     let conn = c.args.publish.conn in
     let z = c.in-Some.session.now in
     let found = c.in-Some.ensures ∙ ap (λ (x : Tables). session_of x.sessions conn) (sym of) in
-    planned_publish conn z w found (Ok c.in_ok-plan-in-Allowed.plan) c.in-Allowed.by c.args.publish.message.now c.args.publish.word c.subject-subject.result c.subject-subject.ensures
+    planned_publish conn z w found (Ok c.in_ok-plan.plan) c.in-Allowed.by c.args.publish.message.now c.args.publish.word c.subject-subject.result c.subject-subject.ensures
     (c.in-Allowed.ensures.verdict ∙ ap (λ (x : Tables). verdict_on x.now z c.subject-subject.result) (sym of))
-    (c.in_ok-plan-in-Allowed.ensures.planned w of)
+    (c.in_ok-plan.ensures.planned w of)
 
 pub returns-then-is_mapped-clause-reason : goal.returns-then-is_mapped-clause-reason
 returns-then-is_mapped-clause-reason c = publish_reason _ _ _ _ _ c.in-Some.ensures c.subject-subject.ensures refl c.on_publish.ensures.justified
-
-pub returns-then-is_silent-clause-planned : goal.returns-then-is_silent-clause-planned
-returns-then-is_silent-clause-planned c = λ w of.
-    let conn = c.args.publish.conn in
-    let m = c.args.publish.message.now in
-    let word = c.args.publish.word in
-    let zs = c.args.sessions.now in
-    let z = c.in-Some.session.now in
-    let by = c.in-Allowed.by in
-    let t : Tables = tables_at c.args.ready.now c.args.publish.now zs c.args.subscriptions.now c.args.routes.now.exporters in
-    let noted : List Addressed → List Addressed = map (noted_for zs) in
-    let found = c.in-Some.ensures ∙ ap (λ (x : Tables). session_of x.sessions conn) (sym of) in
-    let silent = c.is_silent.ensures c.if-is_silent.true in
-    let plan = Ok (ToNobody by) in
-    planned_publish conn z w found plan by m word c.subject-subject.result c.subject-subject.ensures (c.in-Allowed.ensures.verdict ∙ ap (λ (x : Tables). verdict_on x.now z c.subject-subject.result) (sym of))
-    (planned_unmapped conn z w found plan by m word (c.is_mapped.ensures c.if-is_mapped.false)
-    (planned_nobody t conn m word z m c.in-Some.ensures by c.known.ensures.apart c.known.ensures.going
-    c.in_ok-answered_by-in-Allowed.field-0 c.in_ok-answered_by-in-Allowed.ensures c.in_ok-address_all-in-Allowed.field-0
-    c.in_ok-address_all-in-Allowed.ensures.reports c.in_ok-address_all-in-Allowed.ensures.changed c.in_ok-address_all-in-Allowed.ensures.noted w of
-    (noted c.deliveries.result.now) (ap noted (c.deliveries.ensures ∙ c.in_ok-address_all-in-Allowed.ensures.all)) (ap noted silent.0) silent.1 silent.2))
-
-pub returns-then-is_silent-clause-reason : goal.returns-then-is_silent-clause-reason
-returns-then-is_silent-clause-reason c = publish_reason _ _ _ _ _ c.in-Some.ensures c.subject-subject.ensures refl c.on_publish.ensures.justified
 
 pub returns-clause-planned : goal.returns-clause-planned
 returns-clause-planned c = λ w of.
@@ -94,18 +68,13 @@ returns-clause-planned c = λ w of.
     let z = c.in-Some.session.now in
     let by = c.in-Allowed.by in
     let t : Tables = tables_at c.args.ready.now c.args.publish.now zs c.args.subscriptions.now c.args.routes.now.exporters in
-    let noted : List Addressed → List Addressed = map (noted_for zs) in
     let found = c.in-Some.ensures ∙ ap (λ (x : Tables). session_of x.sessions conn) (sym of) in
-    let plan = Ok c.in_ok-plan.plan in
+    let plan = Ok c.in_ok-plan-2.plan in
     planned_publish conn z w found plan by m word c.subject-subject.result c.subject-subject.ensures (c.in-Allowed.ensures.verdict ∙ ap (λ (x : Tables). verdict_on x.now z c.subject-subject.result) (sym of))
     (planned_unmapped conn z w found plan by m word (c.is_mapped.ensures c.if-is_mapped.false)
-    (planned_by t conn m word z m c.in-Some.ensures by c.known.ensures.apart c.known.ensures.going
-    c.in_ok-answered_by-in-Allowed.field-0 c.in_ok-answered_by-in-Allowed.ensures c.in_ok-address_all-in-Allowed.field-0
-    c.in_ok-address_all-in-Allowed.ensures.reports c.in_ok-address_all-in-Allowed.ensures.changed c.in_ok-address_all-in-Allowed.ensures.noted w of
-    c.from_vec.result c.in_ok-met.met c.in_ok-plan.plan
-    (c.from_vec.ensures ∙ c.in_ok-met.ensures.noted ∙ ap noted (c.take_deliveries-all.ensures.all ∙ c.in_ok-address_all-in-Allowed.ensures.all))
-    (λ n. c.in_ok-met.ensures.items n ∙ ap (λ (all : List Addressed). (delivered n all zs).1) (sym c.from_vec.ensures))
-    c.in_ok-plan.ensures))
+    (planned_told t conn m word z m c.in-Some.ensures by c.known.ensures.apart c.known.ensures.going
+    _ c.in_ok-answered.ensures _ c.in_ok-told.ensures.reports c.in_ok-told.ensures.changed c.in_ok-told.ensures.noted
+    _ c.in_ok-told.ensures.all _ c.in_ok-plan-2.ensures.planned w of))
 
 pub returns-clause-reason : goal.returns-clause-reason
 returns-clause-reason c = publish_reason _ _ _ _ _ c.in-Some.ensures c.subject-subject.ensures refl c.on_publish.ensures.justified

@@ -1,5 +1,5 @@
 -- what is remembered is what the lists say, and a live grant allows what they refuse
-use Rattle.std.proofs.Common.{rules, ◌≡◌, ◌∙◌, subst, ap, sym}
+use Rattle.std.proofs.Common.{rules, ◌≡◌, ◌∙◌, subst, sym}
 use Rattle.permissions.specs.Verdicts.{publish_verdict}
 use Rattle.verdict_cache.specs.Verdicts.{Judges}
 use Rattle.world_routing.specs.Remembered.{judged_by}

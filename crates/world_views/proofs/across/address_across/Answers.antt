@@ -13,14 +13,14 @@ use Rattle.world_views.specs.declared.viewing.Report.{Report}
 use Rattle.world_views.proofs.across.address_across.Goals as goal
 
 pub address_each-requires : goal.address_each-requires
-address_each-requires c = record { marked = c.requires.marked; noted = subst (λ (os : List Opening). All (IsNotedAt c.args.among.now) os) (sym c.nothing_found-found.ensures.openings) (All-nil (IsNotedAt c.args.among.now)) }
+address_each-requires c = record { marked = c.requires.marked; noted = subst (λ (os : List Opening). All (IsNotedAt c.args.occasion.now) os) (sym c.nothing_found-found.ensures.openings) (All-nil (IsNotedAt c.args.occasion.now)) }
 
 pub returns-clause-all : goal.returns-clause-all
 returns-clause-all c =
-    let doc = c.args.among.ready.now in
-    let account = c.args.among.sending.publisher.now.user.account in
-    let t : Tables = tables_at doc c.args.among.now c.args.among.sessions.now c.args.among.subscriptions.now c.args.routes.now.exporters in
-    let p : Publication = publication c.args.among.sending.publisher.now c.args.among.sending.message.now c.args.among.sending.word in
+    let doc = c.args.occasion.ready.now in
+    let account = c.args.occasion.sending.publisher.now.user.account in
+    let t : Tables = tables_at doc c.args.occasion.now c.args.occasion.sessions.now c.args.occasion.subscriptions.now c.args.routes.now.exporters in
+    let p : Publication = publication c.args.occasion.sending.publisher.now c.args.occasion.sending.message.now c.args.occasion.sending.word in
     let by_openings : List Opening → Addressing = λ os. addressed_after t p (addressing c.args.receivers.now.deliveries.items os) c.as_slice-views.result.now in
     let by_views : List ViewItem → Addressing = λ vs. addressed_after t p (addressing c.args.receivers.now.deliveries.items []) vs in
     ap (λ (a : Addressing). a.deliveries)
@@ -33,10 +33,10 @@ returns-clause-all c =
 
 pub returns-clause-reports : goal.returns-clause-reports
 returns-clause-reports c =
-    let doc = c.args.among.ready.now in
-    let account = c.args.among.sending.publisher.now.user.account in
-    let t : Tables = tables_at doc c.args.among.now c.args.among.sessions.now c.args.among.subscriptions.now c.args.routes.now.exporters in
-    let p : Publication = publication c.args.among.sending.publisher.now c.args.among.sending.message.now c.args.among.sending.word in
+    let doc = c.args.occasion.ready.now in
+    let account = c.args.occasion.sending.publisher.now.user.account in
+    let t : Tables = tables_at doc c.args.occasion.now c.args.occasion.sessions.now c.args.occasion.subscriptions.now c.args.routes.now.exporters in
+    let p : Publication = publication c.args.occasion.sending.publisher.now c.args.occasion.sending.message.now c.args.occasion.sending.word in
     let by_openings : List Opening → List Report = λ os. reports_after t p (addressing c.args.receivers.now.deliveries.items os) c.as_slice-views.result.now in
     let by_views : List ViewItem → List Report = λ vs. reports_after t p (addressing c.args.receivers.now.deliveries.items []) vs in
     c.in_ok-told.ensures.reports
@@ -50,11 +50,11 @@ returns-clause-reports c =
 
 pub returns-clause-opened : goal.returns-clause-opened
 returns-clause-opened c =
-    let doc = c.args.among.ready.now in
-    let account = c.args.among.sending.publisher.now.user.account in
-    let seen = pruned c.args.among.now c.args.routes.now.exporters in
-    let t : Tables = tables_at doc c.args.among.now c.args.among.sessions.now c.args.among.subscriptions.now c.args.routes.now.exporters in
-    let p : Publication = publication c.args.among.sending.publisher.now c.args.among.sending.message.now c.args.among.sending.word in
+    let doc = c.args.occasion.ready.now in
+    let account = c.args.occasion.sending.publisher.now.user.account in
+    let seen = pruned c.args.occasion.now c.args.routes.now.exporters in
+    let t : Tables = tables_at doc c.args.occasion.now c.args.occasion.sessions.now c.args.occasion.subscriptions.now c.args.routes.now.exporters in
+    let p : Publication = publication c.args.occasion.sending.publisher.now c.args.occasion.sending.message.now c.args.occasion.sending.word in
     let by_openings : List Opening → Addressing = λ os. addressed_after t p (addressing c.args.receivers.now.deliveries.items os) c.as_slice-views.result.now in
     let by_views : List ViewItem → Addressing = λ vs. addressed_after t p (addressing c.args.receivers.now.deliveries.items []) vs in
     c.in_ok-told.ensures.opened seen
@@ -67,4 +67,4 @@ returns-clause-opened c =
     ∙ ap (λ (a : List ℕ). others_in (rows_of doc) a c.args.subject.now) c.as_slice-account.ensures))
 
 pub returns-clause-noted : goal.returns-clause-noted
-returns-clause-noted c = c.in_ok-told.ensures.noted c.args.among.now c.in_ok-address_each.ensures.noted
+returns-clause-noted c = c.in_ok-told.ensures.noted c.args.occasion.now c.in_ok-address_each.ensures.noted

@@ -14,29 +14,29 @@ use Rattle.world_views.proofs.across.address_answer.Goals as goal
 
 pub returns-in-None-clause-all : goal.returns-in-None-clause-all
 returns-in-None-clause-all c =
-    let account : Name = c.args.among.sending.publisher.now.user.account in
+    let account : Name = c.args.occasion.sending.publisher.now.user.account in
     let s : List Token = c.args.subject.now in
-    let seen : List (Name × Exporter) = pruned c.args.among.now c.args.routes.now.exporters in
-    let t : Tables = tables_at c.args.among.ready.now c.args.among.now c.args.among.sessions.now c.args.among.subscriptions.now c.args.routes.now.exporters in
-    let p : Publication = publication c.args.among.sending.publisher.now c.args.among.sending.message.now c.args.among.sending.word in
+    let seen : List (Name × Exporter) = pruned c.args.occasion.now c.args.routes.now.exporters in
+    let t : Tables = tables_at c.args.occasion.ready.now c.args.occasion.now c.args.occasion.sessions.now c.args.occasion.subscriptions.now c.args.routes.now.exporters in
+    let p : Publication = publication c.args.occasion.sending.publisher.now c.args.occasion.sending.message.now c.args.occasion.sending.word in
     let none : route_on s (exporter_of account seen).routes ≡ None = sym c.in-None.ensures in
     ap (λ (vs : List ViewItem). (addressed_after t p (addressing c.args.receivers.now.deliveries.items []) vs).deliveries)
     (sym (ap (λ (rs : List ViewItem). others_with [] rs account s) (no_response seen account s none) ∙ others_none account s))
 
 pub returns-in-None-clause-spent : goal.returns-in-None-clause-spent
 returns-in-None-clause-spent c =
-    let account : Name = c.args.among.sending.publisher.now.user.account in
+    let account : Name = c.args.occasion.sending.publisher.now.user.account in
     let s : List Token = c.args.subject.now in
-    let seen : List (Name × Exporter) = pruned c.args.among.now c.args.routes.now.exporters in
+    let seen : List (Name × Exporter) = pruned c.args.occasion.now c.args.routes.now.exporters in
     sym (spent_none account s seen (sym c.in-None.ensures))
 
 pub returns-in_ok-new-in-Some-clause-all : goal.returns-in_ok-new-in-Some-clause-all
 returns-in_ok-new-in-Some-clause-all c =
-    let account : Name = c.args.among.sending.publisher.now.user.account in
+    let account : Name = c.args.occasion.sending.publisher.now.user.account in
     let s : List Token = c.args.subject.now in
-    let seen : List (Name × Exporter) = pruned c.args.among.now c.args.routes.now.exporters in
-    let t : Tables = tables_at c.args.among.ready.now c.args.among.now c.args.among.sessions.now c.args.among.subscriptions.now c.args.routes.now.exporters in
-    let p : Publication = publication c.args.among.sending.publisher.now c.args.among.sending.message.now c.args.among.sending.word in
+    let seen : List (Name × Exporter) = pruned c.args.occasion.now c.args.routes.now.exporters in
+    let t : Tables = tables_at c.args.occasion.ready.now c.args.occasion.now c.args.occasion.sessions.now c.args.occasion.subscriptions.now c.args.routes.now.exporters in
+    let p : Publication = publication c.args.occasion.sending.publisher.now c.args.occasion.sending.message.now c.args.occasion.sending.word in
     let ds : List Addressed = c.args.receivers.now.deliveries.items in
     let r : Route = c.in-Some.route.now in
     let found : Some r ≡ route_on s (exporter_of account seen).routes = c.in-Some.ensures in

@@ -16,12 +16,12 @@ use Rattle.world_views.proofs.request.address_request.Goals as goal
 pub returns-in_ok-address_on_route-in-Ok-clause-all : goal.returns-in_ok-address_on_route-in-Ok-clause-all
 returns-in_ok-address_on_route-in-Ok-clause-all c =
     let r = c.args.request in
-    let n = c.args.among.now in
+    let n = c.args.occasion.now in
     let os : List Opening = c.args.found.now.openings.items in
     let all = c.args.routes.now.exporters in
     let opened : List (Name × Exporter) = opened_each os (pruned n all) in
-    let t : Tables = tables_at c.args.among.ready.now n c.args.among.sessions.now c.args.among.subscriptions.now all in
-    let m : Publication = publication c.args.among.sending.publisher.now c.args.among.sending.message.now c.args.among.sending.word in
+    let t : Tables = tables_at c.args.occasion.ready.now n c.args.occasion.sessions.now c.args.occasion.subscriptions.now all in
+    let m : Publication = publication c.args.occasion.sending.publisher.now c.args.occasion.sending.message.now c.args.occasion.sending.word in
     let a : Addressing = addressing c.args.receivers.now.deliveries.items os in
     let nobody : Bool = is_for_nobody t.sessions t.subscriptions a.deliveries m.publisher r.exporter.now r.subject.now in
     let count : c.count_of-count.result ≡ count_of r.exporter.now os = c.count_of-count.ensures.count ∙ ap (count_of r.exporter.now) c.as_slice.ensures.value in
@@ -36,12 +36,12 @@ returns-in_ok-address_on_route-in-Ok-clause-all c =
 pub returns-in_ok-address_on_route-in-Ok-clause-reports : goal.returns-in_ok-address_on_route-in-Ok-clause-reports
 returns-in_ok-address_on_route-in-Ok-clause-reports c =
     let r = c.args.request in
-    let n = c.args.among.now in
+    let n = c.args.occasion.now in
     let os : List Opening = c.args.found.now.openings.items in
     let all = c.args.routes.now.exporters in
     let opened : List (Name × Exporter) = opened_each os (pruned n all) in
-    let t : Tables = tables_at c.args.among.ready.now n c.args.among.sessions.now c.args.among.subscriptions.now all in
-    let m : Publication = publication c.args.among.sending.publisher.now c.args.among.sending.message.now c.args.among.sending.word in
+    let t : Tables = tables_at c.args.occasion.ready.now n c.args.occasion.sessions.now c.args.occasion.subscriptions.now all in
+    let m : Publication = publication c.args.occasion.sending.publisher.now c.args.occasion.sending.message.now c.args.occasion.sending.word in
     let a : Addressing = addressing c.args.receivers.now.deliveries.items os in
     let before : List Report = c.args.found.now.reports.items in
     let nobody : Bool = is_for_nobody t.sessions t.subscriptions a.deliveries m.publisher r.exporter.now r.subject.now in
@@ -55,8 +55,8 @@ pub returns-in_ok-address_on_route-in-Ok-clause-noted : goal.returns-in_ok-addre
 returns-in_ok-address_on_route-in-Ok-clause-noted c =
     let r = c.args.request in
     let all = c.args.routes.now.exporters in
-    let t : Tables = tables_at c.args.among.ready.now c.args.among.now c.args.among.sessions.now c.args.among.subscriptions.now all in
-    let m : Publication = publication c.args.among.sending.publisher.now c.args.among.sending.message.now c.args.among.sending.word in
+    let t : Tables = tables_at c.args.occasion.ready.now c.args.occasion.now c.args.occasion.sessions.now c.args.occasion.subscriptions.now all in
+    let m : Publication = publication c.args.occasion.sending.publisher.now c.args.occasion.sending.message.now c.args.occasion.sending.word in
     let a : Addressing = addressing c.args.receivers.now.deliveries.items c.args.found.now.openings.items in
     opened_noted t m a all r.exporter.now r.subject.now r.row.now r.reply.now
     (is_for_nobody t.sessions t.subscriptions a.deliveries m.publisher r.exporter.now r.subject.now) c.address_on_route.new.found.openings.items c.in_ok-address_on_route-in-Ok.ensures.openings c.requires.noted
@@ -64,12 +64,12 @@ returns-in_ok-address_on_route-in-Ok-clause-noted c =
 pub returns-in_ok-report_full-in-Err-RouteFull-clause-all : goal.returns-in_ok-report_full-in-Err-RouteFull-clause-all
 returns-in_ok-report_full-in-Err-RouteFull-clause-all c =
     let r = c.args.request in
-    let n = c.args.among.now in
+    let n = c.args.occasion.now in
     let os : List Opening = c.args.found.now.openings.items in
     let all = c.args.routes.now.exporters in
     let opened : List (Name × Exporter) = opened_each os (pruned n all) in
-    let t : Tables = tables_at c.args.among.ready.now n c.args.among.sessions.now c.args.among.subscriptions.now all in
-    let m : Publication = publication c.args.among.sending.publisher.now c.args.among.sending.message.now c.args.among.sending.word in
+    let t : Tables = tables_at c.args.occasion.ready.now n c.args.occasion.sessions.now c.args.occasion.subscriptions.now all in
+    let m : Publication = publication c.args.occasion.sending.publisher.now c.args.occasion.sending.message.now c.args.occasion.sending.word in
     let a : Addressing = addressing c.args.receivers.now.deliveries.items os in
     let nobody : Bool = is_for_nobody t.sessions t.subscriptions a.deliveries m.publisher r.exporter.now r.subject.now in
     let count : c.count_of-count.result ≡ count_of r.exporter.now os = c.count_of-count.ensures.count ∙ ap (count_of r.exporter.now) c.as_slice.ensures.value in
@@ -83,12 +83,12 @@ returns-in_ok-report_full-in-Err-RouteFull-clause-all c =
 pub returns-in_ok-report_full-in-Err-RouteFull-clause-reports : goal.returns-in_ok-report_full-in-Err-RouteFull-clause-reports
 returns-in_ok-report_full-in-Err-RouteFull-clause-reports c =
     let r = c.args.request in
-    let n = c.args.among.now in
+    let n = c.args.occasion.now in
     let os : List Opening = c.args.found.now.openings.items in
     let all = c.args.routes.now.exporters in
     let opened : List (Name × Exporter) = opened_each os (pruned n all) in
-    let t : Tables = tables_at c.args.among.ready.now n c.args.among.sessions.now c.args.among.subscriptions.now all in
-    let m : Publication = publication c.args.among.sending.publisher.now c.args.among.sending.message.now c.args.among.sending.word in
+    let t : Tables = tables_at c.args.occasion.ready.now n c.args.occasion.sessions.now c.args.occasion.subscriptions.now all in
+    let m : Publication = publication c.args.occasion.sending.publisher.now c.args.occasion.sending.message.now c.args.occasion.sending.word in
     let a : Addressing = addressing c.args.receivers.now.deliveries.items os in
     let before : List Report = c.args.found.now.reports.items in
     let nobody : Bool = is_for_nobody t.sessions t.subscriptions a.deliveries m.publisher r.exporter.now r.subject.now in

@@ -6,13 +6,13 @@ use Rattle.world_views.proofs.viewing.address_each.Given as goal
 
 abbrev pub invariant-loop-view : goal.invariant-loop-view
 invariant-loop-view l =
-    let t = tables_at l.among.ready.now l.among.now l.among.sessions.now l.among.subscriptions.now l.initial.routes.exporters in
-    let p = publication l.among.sending.publisher.now l.among.sending.message.now l.among.sending.word in
+    let t = tables_at l.occasion.ready.now l.occasion.now l.occasion.sessions.now l.occasion.subscriptions.now l.initial.routes.exporters in
+    let p = publication l.occasion.sending.publisher.now l.occasion.sending.message.now l.occasion.sending.word in
     let before = addressing l.initial.receivers.deliveries.items l.initial.found.openings.items in
     let now = addressing l.receivers.deliveries.items l.found.openings.items in record {
       all : addressed_after t p now (drop l.view-index l.views) ≡ addressed_after t p before l.views;
       reports : l.found.reports.items ++ reports_after t p now (drop l.view-index l.views) ≡ l.initial.found.reports.items ++ reports_after t p before l.views;
-      noted : All (IsNotedAt l.among.now) l.found.openings.items;
+      noted : All (IsNotedAt l.occasion.now) l.found.openings.items;
       cached : l.receivers.cache ≡ l.initial.receivers.cache;
       routes : l.routes.exporters ≡ l.initial.routes.exporters;
     }
