@@ -34,16 +34,30 @@ impl Totals {
 }
 
 /// Whether audits are refused for receipts that are forged of the second, which is that of a Subscribed, and handed in behind
-/// all others: a copy beside it, one with the number of another entry, one with this number, which no entry has. What is missing
-/// counts first: a seat, and then a segment.
+/// all others: a copy beside it, one with the number of another entry, beside that entry's receipt and in its place, one with this
+/// number, which no entry has. What is missing counts first: a seat, and then a segment.
 pub fn refuses_forged<L: Run>(alloc: Global, slot: &mut Option<Parts<L>>, number: u64) -> bool
     requires { L.seats ≡ L.parts }
 {
     let (other, own) = (number_of(slot, 0), number_of(slot, 1));
     refuses_remade(alloc, slot, own)
         && refuses_remade(alloc, slot, other)
+        && refuses_in_place_of_last(alloc, slot)
         && refuses_remade(alloc, slot, number)
         && refuses_incomplete(alloc, slot, number)
+}
+
+/// Whether an audit is refused for the second receipt remade with the number of the last, which isn't handed in.
+fn refuses_in_place_of_last<L: Run>(alloc: Global, slot: &mut Option<Parts<L>>) -> bool
+    requires { L.seats ≡ L.parts }
+{
+    match take_receipt(slot) {
+        None => false,
+        Some(last) => {
+            let refused = refuses_remade(alloc, slot, last.number());
+            put_receipt(slot, last) && refused
+        }
+    }
 }
 
 /// Whether an audit with a forged receipt is refused for the last segment, while that lacks, and for a seat, while both lack.
@@ -56,7 +70,7 @@ fn refuses_incomplete<L: Run>(alloc: Global, slot: &mut Option<Parts<L>>, number
     let missed = misses_a_seat(alloc, slot);
     let refused = is_refused(alloc, slot, AuditFault::SegmentGap(gap));
     let put = put_segment(slot, withheld);
-    drop_receipt(slot);
+    drop(take_receipt(slot));
     made && missed && refused && put
 }
 
@@ -119,7 +133,7 @@ fn refuses_remade<L: Run>(alloc: Global, slot: &mut Option<Parts<L>>, number: u6
 {
     let made = add_remade(alloc, slot, number);
     let refused = is_refused(alloc, slot, AuditFault::ReceiptMismatch(number));
-    drop_receipt(slot);
+    drop(take_receipt(slot));
     made && refused
 }
 
@@ -256,9 +270,17 @@ fn add_remade<L: Run>(alloc: Global, slot: &mut Option<Parts<L>>, number: u64) -
     }
 }
 
-fn drop_receipt<L: Run>(slot: &mut Option<Parts<L>>) {
-    if let Some(parts) = slot {
-        parts.receipts.pop();
+fn take_receipt<L: Run>(slot: &mut Option<Parts<L>>) -> Option<Receipt> {
+    match slot {
+        None => None,
+        Some(parts) => parts.receipts.pop(),
+    }
+}
+
+fn put_receipt<L: Run>(slot: &mut Option<Parts<L>>, receipt: Receipt) -> bool {
+    match slot {
+        None => false,
+        Some(parts) => parts.receipts.push(receipt).is_ok(),
     }
 }
 

@@ -200,6 +200,7 @@ fn a_run_changes_nothing_once_the_history_is_full(rt: HostRuntime) -> Result<(),
     Ok(())
 }
 
+// What is refused in between, with room, takes no number.
 #[test]
 fn a_rotation_makes_room_and_numbers_go_on(rt: HostRuntime) -> Result<(), Fail> {
     let keys = RandomState::new(&rt)?;
@@ -208,6 +209,8 @@ fn a_rotation_makes_room_and_numbers_go_on(rt: HostRuntime) -> Result<(), Fail> 
         Ask::Sub,
         Ask::Pub,
         Ask::Rotate,
+        Ask::StrangeTake,
+        Ask::Connect,
         Ask::Pub,
         Ask::Rotate,
         Ask::Rotate,
@@ -218,6 +221,8 @@ fn a_rotation_makes_room_and_numbers_go_on(rt: HostRuntime) -> Result<(), Fail> 
         Told::Entry(2),
         FULL,
         Told::Segment(1, 2),
+        Told::Refused(HubRefusal::NoSession),
+        Told::Refused(HubRefusal::SessionTaken),
         Told::Entry(3),
         Told::Segment(3, 1),
         Told::Segment(4, 0),

@@ -1,8 +1,8 @@
-use base::{Shared, SharedBytes, SharedText};
+use base::{Shared, SharedBytes, SharedText, count_blanks};
 use events::{Command, Message};
 use std::alloc::Global;
 use subjects::Pattern;
-use wire_message::{MessageText, TextsAt};
+use wire_message::{MessageText, Span, TextsAt};
 
 fn text(alloc: Global, text: &str) -> Option<SharedText> {
     SharedText::of(alloc, text.as_bytes()).ok()
@@ -10,8 +10,13 @@ fn text(alloc: Global, text: &str) -> Option<SharedText> {
 
 /// A Connect of user demo.
 pub fn connect(alloc: Global, conn: u64) -> Option<Command> {
-    let user = text(alloc, "demo")?;
-    let password = text(alloc, "demo")?;
+    connect_as(alloc, conn, "demo")
+}
+
+/// A Connect of a user whose password is its name.
+pub fn connect_as(alloc: Global, conn: u64, name: &str) -> Option<Command> {
+    let user = text(alloc, name)?;
+    let password = text(alloc, name)?;
     Some(Command::Connect {
         conn,
         user: Some(user),
@@ -53,4 +58,34 @@ pub fn publish(alloc: Global, conn: u64, subject: &str) -> Option<Command> {
         message: Message::of(MessageText::new(text, at).ok()?)?,
         word: 0,
     })
+}
+
+/// A message whose payload is its subject, with a subject to answer on.
+pub fn request(alloc: Global, conn: u64, subject: &str, reply: &str) -> Option<Command> {
+    let text = format!(in alloc; "{subject} {reply}{subject}").ok()?;
+    Some(Command::Pub {
+        conn,
+        message: message(alloc, text.as_str().as_bytes(), subject.len(), reply.len())?,
+        word: 0,
+    })
+}
+
+/// The message of a text: a subject of so many bytes, blanks, a reply of so many bytes, and a payload.
+fn message(alloc: Global, text: &[u8], subject: usize, reply: usize) -> Option<Message> {
+    if subject > text.len() {
+        return None;
+    }
+    let start = subject.checked_add(count_blanks(&text[subject..]))?;
+    let end = start.checked_add(reply)?;
+    if start >= end || end > text.len() {
+        return None;
+    }
+    let at = TextsAt {
+        subject,
+        reply: Some(Span { start, end }),
+        head: 0,
+        payload: text.len() - end,
+    };
+    let block = SharedBytes::copy_from_slice(alloc, text).ok()?;
+    Message::of(MessageText::new(block, at).ok()?)
 }

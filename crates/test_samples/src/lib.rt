@@ -4,6 +4,7 @@
 
 mod commands;
 mod policies;
+mod services;
 
-pub use commands::{connect, publish, sub};
+pub use commands::{connect, connect_as, publish, request, sub};
 pub use policies::{Given, ready_of};

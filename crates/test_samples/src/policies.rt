@@ -1,3 +1,4 @@
+use crate::services::served;
 use base::Items;
 use bytes::Bytes;
 use permission_doc::{Direction, PermDoc, PermEntry};
@@ -6,7 +7,7 @@ use policy_ready::Ready;
 use std::alloc::Global;
 use subjects::Pattern;
 
-/// The policies of the tests. Each has one account, of user demo if there is one.
+/// The policies of the tests. User demo, if there is one, is of account A.
 #[derive(Clone, Copy)]
 pub enum Given {
     /// User demo may do everything.
@@ -15,21 +16,41 @@ pub enum Given {
     Only(&'static str),
     /// There is no user.
     Nobody,
+    /// User demo may publish `ask`, `x.secret`, and subjects of so many forms that verdicts are remembered, `t.x.y.z.8` among
+    /// them. `ask` is a service of account B, of user serve, that account A imports. Any number of answers may come.
+    Wide,
+    /// As `Wide`, but user demo may not publish `t.x.y.z.8` and isn't sent `x.secret`, and account A imports another service first.
+    Narrow,
 }
 
 /// The policy, ready for use. There is none where memory could not be had.
 pub fn ready_of(alloc: Global, given: Given) -> Option<Ready> {
     let users = match given {
-        Given::All => one_user(alloc, None)?,
-        Given::Only(subject) => {
-            one_user(alloc, Some(permissions(entry(alloc, subject)?, alloc)?))?
-        }
+        Given::All => one_user(alloc, b"demo", None)?,
+        Given::Only(subject) => only(alloc, subject)?,
         Given::Nobody => Items::new(alloc),
+        Given::Wide => return ready(alloc, served(alloc, "t.*.*.*.8", &[], &["ask"])?),
+        Given::Narrow => {
+            let hidden = ["y.*", "x.secret"];
+            return ready(
+                alloc,
+                served(alloc, "t.*.*.*.9", &hidden, &["else", "ask"])?,
+            );
+        }
     };
-    ready(alloc, account(alloc, users))
+    let mut accounts = Accounts::new(alloc);
+    accounts
+        .insert(Bytes::from_static(b"A"), account(alloc, users))
+        .ok()?;
+    ready(alloc, accounts)
 }
 
-fn entry(alloc: Global, subject: &str) -> Option<PermEntry> {
+fn only(alloc: Global, subject: &str) -> Option<Items<UserDoc>> {
+    let permissions = permissions(entry(alloc, subject)?, alloc)?;
+    one_user(alloc, b"demo", Some(permissions))
+}
+
+pub(crate) fn entry(alloc: Global, subject: &str) -> Option<PermEntry> {
     Some(PermEntry {
         subject: Pattern::parse(alloc, subject.as_bytes()).ok()?,
         queue: None,
@@ -52,14 +73,19 @@ fn permissions(entry: PermEntry, alloc: Global) -> Option<PermDoc> {
     })
 }
 
-fn one_user(alloc: Global, permissions: Option<PermDoc>) -> Option<Items<UserDoc>> {
+/// One user, whose password is its name.
+pub(crate) fn one_user(
+    alloc: Global,
+    name: &'static [u8],
+    permissions: Option<PermDoc>,
+) -> Option<Items<UserDoc>> {
     let mut users = Vec::new(alloc);
-    let demo = UserDoc {
-        user: Bytes::from_static(b"demo"),
-        password: Bytes::from_static(b"demo"),
+    let user = UserDoc {
+        user: Bytes::from_static(name),
+        password: Bytes::from_static(name),
         permissions,
     };
-    users.push(demo).ok()?;
+    users.push(user).ok()?;
     Some(Items::from_vec(users))
 }
 
@@ -72,9 +98,7 @@ fn account(alloc: Global, users: Items<UserDoc>) -> AccountDoc {
     }
 }
 
-fn ready(alloc: Global, account: AccountDoc) -> Option<Ready> {
-    let mut accounts = Accounts::new(alloc);
-    accounts.insert(Bytes::from_static(b"A"), account).ok()?;
+fn ready(alloc: Global, accounts: Accounts) -> Option<Ready> {
     let doc = PolicyDoc {
         accounts,
         version: Version::One,

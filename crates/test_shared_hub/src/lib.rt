@@ -4,6 +4,8 @@
 #[cfg(test)]
 mod runs;
 #[cfg(test)]
+mod services;
+#[cfg(test)]
 mod tests;
 #[cfg(test)]
 mod worker;

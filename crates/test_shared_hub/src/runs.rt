@@ -1,6 +1,7 @@
 //! A run of a shared hub: threads, each with a seat, and the closing audits.
 ghost use Rattle.std.specs.Prelude.{◌≡◌, length};
 
+use crate::services::are_judged;
 use crate::worker::{Place, Row, Site, Stock, Worker};
 use hub::{Caps, Hub};
 use shared_hub::{Blank, Parts, Receipt, Run, Seat, SharedHub, Unlocked};
@@ -22,7 +23,8 @@ pub(crate) enum Plan {
     Forged(u64),
     /// With a gap at this number, without the last segment.
     Gap(u64),
-    /// With a gap at this number, behind a segment in place of the last, which a run with these keys has handed out.
+    /// With a gap at 1, without the only segment; and with one at this number, behind a segment in its place, which a run with
+    /// these keys has handed out.
     Foreign(RandomState, u64),
 }
 
@@ -170,11 +172,13 @@ fn is_as_planned<L: Run>(alloc: Global, slot: &mut Option<Parts<L>>, plan: Plan)
         Plan::None => true,
         Plan::Forged(number) => refuses_forged(alloc, slot, number),
         Plan::Gap(number) => has_a_gap(alloc, slot, number),
-        Plan::Foreign(keys, number) => refuses_foreign(alloc, slot, keys, number),
+        Plan::Foreign(keys, number) => {
+            has_a_gap(alloc, slot, 1) && refuses_foreign(alloc, slot, keys, number)
+        }
     }
 }
 
-/// What the workers hand in, if each was told what its rows say, and its receipts' numbers rise.
+/// What the workers hand in, if each was told what its rows say, and its receipts' numbers rise and are judged by their policies.
 fn gathered<L: Run>(
     alloc: Global,
     run: Unlocked<L>,
@@ -195,7 +199,11 @@ fn gathered<L: Run>(
 
 fn hand_in_all<L: Run>(parts: &mut Parts<L>, workers: &mut [Worker<L>]) -> bool {
     for worker in workers {
-        if !worker.is_right || !rises(worker.receipts.as_slice()) || !hand_in(parts, worker) {
+        let receipts = worker.receipts.as_slice();
+        if !worker.is_right || !rises(receipts) || !are_judged(receipts) {
+            return false;
+        }
+        if !hand_in(parts, worker) {
             return false;
         }
     }

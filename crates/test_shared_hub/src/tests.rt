@@ -185,6 +185,7 @@ const ONE_SEGMENT: &[Row] = &[
     (Ask::Subs("b", 1), Said::Subscribed),
 ];
 
+// The hub's own entry has number 3.
 #[test]
 fn a_segment_of_another_policy_does_not_join(rt: HostRuntime) -> Result<(), Fail> {
     let keys = RandomState::new(&rt)?;
@@ -226,19 +227,33 @@ fn a_connection_whose_user_goes_enters_nothing_more(rt: HostRuntime) -> Result<(
     Ok(())
 }
 
-const CHAT: &[Row] = &[
+// The first policy has no service, so the thread puts one in force that has it, as all have that are installed meanwhile.
+const REQUEST: &[Row] = &[
+    (Ask::Races(Given::Wide, Given::Wide, 1), Said::Raced),
     (Ask::Connect, Said::Connected),
-    (Ask::Subs("x", 1), Said::Subscribed),
-    (Ask::Chat("x", 2_400), Said::Chatted),
+    (Ask::Subs("in", 1), Said::Subscribed),
+    (Ask::Serve, Said::Subscribed),
+    (Ask::Requests(1_201), Said::Answered),
 ];
 
-const RACE: &[Row] = &[(Ask::Races(Given::All, Given::Only("x"), 198), Said::Raced)];
+const CHAT: &[Row] = &[
+    (Ask::Connect, Said::Connected),
+    (Ask::Subs("x.*", 1), Said::Subscribed),
+    (Ask::Subs("t.>", 1), Said::Subscribed),
+    (Ask::Chat(958), Said::Chatted),
+];
 
+const RACE: &[Row] = &[(Ask::Races(Given::Wide, Given::Narrow, 198), Said::Raced)];
+
+// The response routes of all requests stand to the end, through reloads that move their import row, so the worlds that the audit
+// compares have them. The two policies differ in a deny list and in what may be published: a mark, a verdict or a receiver that
+// outlived a reload would show in a receipt.
 #[test]
-fn two_threads_chat_while_two_reload_and_rotate(rt: HostRuntime) -> Result<(), Fail> {
+fn two_threads_serve_and_chat_while_two_reload_and_rotate(rt: HostRuntime) -> Result<(), Fail> {
     let keys = RandomState::new(&rt)?;
-    let totals = run(&rt, rt.alloc(), keys, &[CHAT, CHAT, RACE, RACE], Plan::None)?;
-    assert!(rt; totals.are(10_000, &[4_802, 4_802, 198, 198]));
+    let jobs = [REQUEST, CHAT, RACE, RACE];
+    let totals = run(&rt, rt.alloc(), keys, &jobs, Plan::None)?;
+    assert!(rt; totals.are(10_000, &[4_811, 4_793, 198, 198]));
     Ok(())
 }
 

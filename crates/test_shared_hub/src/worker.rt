@@ -1,4 +1,5 @@
 //! What the threads of the tests do.
+use crate::services::{chat, make_requests, serve};
 use hub::{Command, Delivery, Entry, Event, HubRefusal, Outcome, Port, Ready, Segment};
 use shared_hub::{Receipt, Run, Seat, SharedHub, SharedPort};
 use std::alloc::Global;
@@ -23,23 +24,27 @@ pub(crate) enum Ask {
     Reload,
     /// A rotation.
     Rotate,
-    /// As many times a message to a subject and a Take, which may give any messages.
-    Chat(&'static str, u64),
+    /// A Connect of user serve and its subscription to the service `ask`, on another connection.
+    Serve,
+    /// As many requests to that service, each of which is answered, and one more answer to the first.
+    Requests(u64),
+    /// As many times two messages on each of two subjects, which may be denied, and a Take, which may give any of them.
+    Chat(u64),
     /// As many times, by turns, one of these policies and a reload of it, which ends nothing; behind each tenth a rotation.
     Races(Given, Given, u64),
     /// Takes for a connection until it has a session.
     Meet(u64),
-    /// Messages to a subject until the session is gone, and then some more, each of which is refused.
+    /// Subscriptions to a subject under one id until the session is gone, and then some more, each of which is refused.
     Outlive(&'static str),
 }
 
 /// How often a thread waits for another. It rests so long each time that this is ten seconds or more.
 const LOOKS: u64 = 100_000;
 
-/// How many messages a thread sends before it rests behind each.
+/// How many subscriptions a thread asks for before it rests behind each.
 const QUICK: u64 = 1_000;
 
-/// How many messages it sends at most, so that all fit the history.
+/// How many it asks for at most, so that all fit the history.
 const MOST: u64 = 9_000;
 
 /// What the thread is told.
@@ -59,11 +64,13 @@ pub(crate) enum Said {
         removed: usize,
     },
     Rotated,
+    Answered,
     Chatted,
     Raced,
     Met,
     Outlived,
     Denied,
+    SameSid,
     NoSession,
     /// Anything else, or that there was no memory.
     Otherwise,
@@ -135,7 +142,7 @@ struct Seated<'a, L: Run, R: Wait> {
 }
 
 /// What a thread needs of its port. Its users have no clause of the port's to look through.
-trait Desk {
+pub(crate) trait Desk {
     /// Submits a command. A Take is to give this payload.
     fn submit(&mut self, what: Command, payload: &str) -> Said;
 
@@ -188,24 +195,13 @@ fn told<D: Desk>(desk: &mut D, alloc: Global, conn: u64, ask: Ask, stock: &mut S
         Ask::Prepare(given) => prepare(alloc, given, &mut stock.policies),
         Ask::Reload => submit(desk, reload(&mut stock.policies), ""),
         Ask::Rotate => keep(desk.rotate(), &mut stock.segments),
-        Ask::Chat(subject, times) => chat(desk, alloc, conn, subject, times),
+        Ask::Serve => serve(desk, alloc, conn),
+        Ask::Requests(times) => make_requests(desk, alloc, conn, times),
+        Ask::Chat(times) => chat(desk, alloc, conn, times),
         Ask::Races(one, other, times) => race(desk, alloc, [one, other], times, stock),
         Ask::Meet(other) => meet(desk, other),
         Ask::Outlive(subject) => outlive(desk, alloc, conn, subject),
     }
-}
-
-fn chat<D: Desk>(desk: &mut D, alloc: Global, conn: u64, subject: &str, times: u64) -> Said {
-    for _ in 0..times {
-        if submit(desk, publish(alloc, conn, subject), "") != Said::Published {
-            return Said::Otherwise;
-        }
-        match desk.submit(Command::Take { conn, most: 5 }, subject) {
-            Said::Took | Said::TookOthers => {}
-            _ => return Said::Otherwise,
-        }
-    }
-    Said::Chatted
 }
 
 fn race<D: Desk>(
@@ -256,30 +252,30 @@ fn meet<D: Desk>(desk: &mut D, other: u64) -> Said {
 }
 
 fn outlive<D: Desk>(desk: &mut D, alloc: Global, conn: u64, subject: &str) -> Said {
-    for sent in 0..MOST {
-        match submit(desk, publish(alloc, conn, subject), "") {
-            Said::Published => {}
+    for asked in 0..MOST {
+        match submit(desk, sub(alloc, conn, subject, 0), "") {
+            Said::Subscribed | Said::SameSid => {}
             Said::NoSession => return stay_gone(desk, alloc, conn, subject),
             _ => return Said::Otherwise,
         }
-        if sent >= QUICK {
+        if asked >= QUICK {
             desk.rest();
         }
     }
     Said::Otherwise
 }
 
-/// Whether some more messages are each refused, since there is no session.
+/// Whether some more subscriptions are each refused, since there is no session.
 fn stay_gone<D: Desk>(desk: &mut D, alloc: Global, conn: u64, subject: &str) -> Said {
     for _ in 0..QUICK {
-        if submit(desk, publish(alloc, conn, subject), "") != Said::NoSession {
+        if submit(desk, sub(alloc, conn, subject, 0), "") != Said::NoSession {
             return Said::Otherwise;
         }
     }
     Said::Outlived
 }
 
-fn submit<D: Desk>(desk: &mut D, what: Option<Command>, payload: &str) -> Said {
+pub(crate) fn submit<D: Desk>(desk: &mut D, what: Option<Command>, payload: &str) -> Said {
     match what {
         None => Said::Otherwise,
         Some(what) => desk.submit(what, payload),
@@ -340,6 +336,7 @@ fn said_of(entry: &Entry, payload: &str) -> Said {
             removed: removed.len(),
         },
         Outcome::Denied(_) => Said::Denied,
+        Outcome::SameSid => Said::SameSid,
         _ => Said::Otherwise,
     }
 }
