@@ -1,14 +1,19 @@
-/* Loads a NATS server and prints what it measured, for bench/serve: loader PORT TASK SIZE RECEIVERS COUNT WINDOW
+/* Loads a NATS server and prints what it measured, for bench/serve: loader PORT TASK SIZE RECEIVERS COUNT WINDOW [SUBJECTS]
  *
  * TASK is `all` (every receiver gets each of COUNT messages), `stream` (the same, with receivers in another account, that of
- * the user `importer`, which has the publisher's subjects under the prefix `from`), `mapped` (the same as `all`, where the publisher's
- * account maps its subject to some below `mapped`), `queue` (the receivers are one queue
- * group), `pairs` (each receiver has a publisher and a subject of its own, and gets COUNT messages), `several` (RECEIVERS
- * publishers send COUNT messages each to one receiver) or `ask` (one asks COUNT times in turn, one answers). A message has SIZE bytes. A publisher writes up to 64 KiB at once, and is no more than WINDOW messages before
- * the slowest of its receivers, or before the group. It prints for `ask` the median and the 99th percentile of the
- * microseconds from a request to its answer, and else the deliveries a second.
+ * the user `importer`, which has the publisher's subjects under the prefix `from`), `mapped` (the same as `all`, where the
+ * publisher's account maps its subject to some below `mapped`), `listed` (the same as `all`, where the user `listed` publishes
+ * on `orders.1000.new`, `orders.1001.new` and so on in turn), `hot` (the same as `all`, on `hot.1000`, `hot.1001` and so on in
+ * turn, where every receiver has a subscription to each), `queue` (the receivers are one queue group), `pairs` (each receiver
+ * has a publisher and a subject of its own, and gets COUNT messages), `several` (RECEIVERS publishers send COUNT messages each
+ * to one receiver) or `ask` (one asks COUNT times in turn, one answers). `listed` and `hot` take SUBJECTS subjects in turn,
+ * one if it is left out. A message has SIZE bytes. A publisher writes up to 64 KiB at once, and is no more than WINDOW messages
+ * before the slowest of its receivers, or before the group. It prints for `ask` the median and the 99th percentile of the
+ * microseconds from a request to its answer, and else the deliveries a second; where RECEIVERS is 0, the messages a second
+ * until the PING behind them is answered. It fails if a receiver misses a message.
  * Each connection has a thread of its own, with blocking reads and writes. */
 #include <arpa/inet.h>
+#include <limits.h>
 #include <netinet/tcp.h>
 #include <pthread.h>
 #include <stdatomic.h>
@@ -19,19 +24,34 @@
 #include <time.h>
 #include <unistd.h>
 
-enum { PIECE = 65536, MOST = 1024 };
+/* Subjects are numbered from FIRST, so that up to MOST_SUBJECTS have names of one length. */
+enum { PIECE = 65536, MOST = 1024, FIRST = 1000, MOST_SUBJECTS = 9000, LONGEST = 8192 };
 
+/* At the first of the receivers that publishers share, `sent` counts what these have sent or send next. */
 typedef struct {
     int socket;
-    _Atomic long received;
+    _Atomic long received, sent;
     char padding[64];
 } Receiver;
 
+/* A task in which one publishes to all receivers. A subject's number stands for %d; a wish that has it is sent for each. */
+typedef struct {
+    const char *name, *publisher, *subject, *receiver, *wish;
+} Task;
+
+static const Task tasks[] = {
+    {"all", "demo", "load", "demo", "SUB load 1\r\n"},
+    {"stream", "demo", "load", "importer", "SUB from.load 1\r\n"},
+    {"mapped", "demo", "load", "demo", "SUB mapped.* 1\r\n"},
+    {"listed", "listed", "orders.%d.new", "demo", "SUB orders.> 1\r\n"},
+    {"hot", "demo", "hot.%d", "demo", "SUB hot.%1$d %1$d\r\n"},
+    {"queue", "demo", "load", "demo", "SUB load group 1\r\n"},
+};
+
 static Receiver receivers[MOST];
-static int port, size, count_of_receivers;
+static int port, size, count_of_receivers, subjects = 1;
 static long count, window;
 static _Atomic int all_received;
-static const char *receiver = "demo", *wish = "SUB load 1\r\n";
 static int is_queue;
 
 static void die(const char *why)
@@ -94,11 +114,21 @@ static int connected(const char *user)
     return it;
 }
 
-static void subscribe(int socket, const char *line)
+/* Returns once the server has done all that it was sent. */
+static void ping(int socket)
 {
-    send_all(socket, line, strlen(line));
     send_all(socket, "PING\r\n", 6);
     read_pong(socket);
+}
+
+/* Sends a SUB for each of some subjects. */
+static void subscribe(int socket, const char *wish, int first, int wishes)
+{
+    for (int i = 0; i < wishes; i++) {
+        char line[64];
+        send_all(socket, line, snprintf(line, sizeof line, wish, first + i));
+    }
+    ping(socket);
 }
 
 /* Counts the messages of a stream: the state between its pieces. */
@@ -170,34 +200,71 @@ static void *receive(void *closure)
     }
 }
 
-/* How many messages are done: of all receivers the least, of a queue group the sum. */
-static long done(void)
+/* How many messages are done: of these receivers the least, of a queue group the sum; without receivers any number. */
+static long done(const Receiver *by, int how_many)
 {
-    long least = 0, sum = 0;
-    for (int i = 0; i < count_of_receivers; i++) {
-        long it = atomic_load_explicit(&receivers[i].received, memory_order_relaxed);
-        if (i == 0 || it < least)
+    long least = LONG_MAX, sum = 0;
+    for (int i = 0; i < how_many; i++) {
+        long it = atomic_load_explicit(&by[i].received, memory_order_relaxed);
+        if (it < least)
             least = it;
         sum += it;
     }
     return is_queue ? sum : least;
 }
 
-/* As many PUBs on a subject as are written at once, each of `length` bytes. */
-static char *publishes(const char *subject, int *each, int *length)
+/* Waits until so many messages are done; dies if for a minute none is. */
+static void wait_for(long wanted, const Receiver *by, int how_many)
 {
-    char one[8192];
-    int head = snprintf(one, sizeof one, "PUB %s %d\r\n", subject, size);
-    *length = head + size + 2;
-    memset(one + head, 'x', size);
-    memcpy(one + head + size, "\r\n", 2);
-    *each = PIECE / *length;
-    if (*each > window)
-        *each = window;
-    char *piece = malloc((size_t)*each * *length);
-    for (int i = 0; i < *each; i++)
-        memcpy(piece + (size_t)i * *length, one, *length);
-    return piece;
+    double last = now();
+    for (long before = -1, it; (it = done(by, how_many)) < wanted; before = it) {
+        if (it != before)
+            last = now();
+        if (now() - last > 60)
+            die("messages were lost");
+        usleep(20);
+    }
+}
+
+/* Writes a PUB, of at most LONGEST bytes, and returns its length. */
+static int write_publish(char *to, const char *subject, int number)
+{
+    char name[64];
+    snprintf(name, sizeof name, subject, number);
+    int head = sprintf(to, "PUB %s %d\r\n", name, size);
+    memset(to + head, 'x', size);
+    memcpy(to + head + size, "\r\n", 2);
+    return head + size + 2;
+}
+
+/* The PUBs that are written at once, each of `length` bytes: whole rounds of the subjects. */
+typedef struct {
+    char *text;
+    int each, length;
+} Piece;
+
+static Piece publishes(const char *subject, int first, int in_turn)
+{
+    char one[LONGEST];
+    Piece it = {.length = write_publish(one, subject, first)};
+    int most = PIECE / it.length < window ? PIECE / it.length : window;
+    it.each = most - most % in_turn;
+    if (it.each == 0)
+        die("the subjects are too many for a piece or the window");
+    it.text = malloc((size_t)it.each * it.length);
+    for (int i = 0; i < it.each; i++)
+        write_publish(it.text + (size_t)i * it.length, subject, first + i % in_turn);
+    return it;
+}
+
+/* Publishes COUNT messages to these receivers. */
+static void publish(int publisher, Piece piece, Receiver *to, int how_many)
+{
+    for (long sent = 0, part; sent < count; sent += part) {
+        part = count - sent < piece.each ? count - sent : piece.each;
+        wait_for(atomic_fetch_add(&to->sent, part) + part - window, to, how_many);
+        send_all(publisher, piece.text, (size_t)part * piece.length);
+    }
 }
 
 static void end_receivers(pthread_t *threads)
@@ -209,60 +276,32 @@ static void end_receivers(pthread_t *threads)
         pthread_join(threads[i], NULL);
 }
 
-static double flood(void)
+static double flood(const Task *task)
 {
     pthread_t threads[MOST];
-    int each, length;
-    char *piece = publishes("load", &each, &length);
+    Piece piece = publishes(task->subject, FIRST, subjects);
+    int wishes = strchr(task->wish, '%') ? subjects : 1;
     for (int i = 0; i < count_of_receivers; i++) {
-        receivers[i].socket = connected(receiver);
-        subscribe(receivers[i].socket, wish);
+        receivers[i].socket = connected(task->receiver);
+        subscribe(receivers[i].socket, task->wish, FIRST, wishes);
         pthread_create(&threads[i], NULL, receive, &receivers[i]);
     }
-    int publisher = connected("demo");
+    int publisher = connected(task->publisher);
     double begin = now();
-    for (long sent = 0; sent < count;) {
-        long part = count - sent < each ? count - sent : each;
-        while (sent + part - done() > window)
-            usleep(20);
-        send_all(publisher, piece, (size_t)part * length);
-        sent += part;
-    }
-    double last = now();
-    for (long before = -1, it; (it = done()) < count; before = it) {
-        if (it != before)
-            last = now();
-        if (now() - last > 60)
-            die("messages were lost");
-        usleep(50);
-    }
+    publish(publisher, piece, receivers, count_of_receivers);
+    ping(publisher);
+    wait_for(count, receivers, count_of_receivers);
     double passed = now() - begin;
     end_receivers(threads);
-    return count * (double)(is_queue ? 1 : count_of_receivers) / passed;
+    return count * (double)(is_queue || count_of_receivers == 0 ? 1 : count_of_receivers) / passed;
 }
 
 /* Publishes to one receiver until it has all. */
 static void *publish_to(void *closure)
 {
     Receiver *to = closure;
-    char subject[32];
-    int each, length, publisher = connected("demo");
-    snprintf(subject, sizeof subject, "load.%d", (int)(to - receivers));
-    char *piece = publishes(subject, &each, &length);
-    double last = now();
-    for (long sent = 0, got, before = -1; (got = atomic_load_explicit(&to->received, memory_order_relaxed)) < count; before = got) {
-        long part = count - sent < each ? count - sent : each;
-        if (got != before)
-            last = now();
-        if (now() - last > 60)
-            die("messages were lost");
-        if (part == 0 || sent + part - got > window) {
-            usleep(20);
-            continue;
-        }
-        send_all(publisher, piece, (size_t)part * length);
-        sent += part;
-    }
+    publish(connected("demo"), publishes("load.%d", to - receivers, 1), to, 1);
+    wait_for(count, to, 1);
     return NULL;
 }
 
@@ -270,10 +309,8 @@ static double pairs(void)
 {
     pthread_t readers[MOST], writers[MOST];
     for (int i = 0; i < count_of_receivers; i++) {
-        char line[64];
-        snprintf(line, sizeof line, "SUB load.%d 1\r\n", i);
         receivers[i].socket = connected("demo");
-        subscribe(receivers[i].socket, line);
+        subscribe(receivers[i].socket, "SUB load.%d 1\r\n", i, 1);
         pthread_create(&readers[i], NULL, receive, &receivers[i]);
     }
     double begin = now();
@@ -286,22 +323,10 @@ static double pairs(void)
     return count * (double)count_of_receivers / passed;
 }
 
-/* How many messages all publishers to one receiver have sent. */
-static _Atomic long sent_by_all;
-
 static void *publish_part(void *closure)
 {
-    int each, length, publisher = connected("demo");
-    char *piece = publishes("load", &each, &length);
     (void)closure;
-    for (long sent = 0; sent < count;) {
-        long part = count - sent < each ? count - sent : each;
-        while (atomic_load(&sent_by_all) + part - atomic_load(&receivers[0].received) > window)
-            usleep(20);
-        atomic_fetch_add(&sent_by_all, part);
-        send_all(publisher, piece, (size_t)part * length);
-        sent += part;
-    }
+    publish(connected("demo"), publishes("load", FIRST, 1), receivers, 1);
     return NULL;
 }
 
@@ -311,18 +336,12 @@ static double several(void)
     int publishers = count_of_receivers;
     count_of_receivers = 1;
     receivers[0].socket = connected("demo");
-    subscribe(receivers[0].socket, wish);
+    subscribe(receivers[0].socket, "SUB load 1\r\n", FIRST, 1);
     pthread_create(&reader, NULL, receive, &receivers[0]);
-    double begin = now(), last = begin;
+    double begin = now();
     for (int i = 0; i < publishers; i++)
         pthread_create(&writers[i], NULL, publish_part, NULL);
-    for (long before = -1, it; (it = done()) < count * publishers; before = it) {
-        if (it != before)
-            last = now();
-        if (now() - last > 60)
-            die("messages were lost");
-        usleep(50);
-    }
+    wait_for(count * publishers, receivers, 1);
     double passed = now() - begin;
     for (int i = 0; i < publishers; i++)
         pthread_join(writers[i], NULL);
@@ -334,10 +353,8 @@ static void *answer(void *closure)
 {
     int socket = *(int *)closure;
     Parser parser = {.held = 0, .skip = 0};
-    char *piece = malloc(PIECE), back[8192];
-    int head = snprintf(back, sizeof back, "PUB reply %d\r\n", size), length = head + size + 2;
-    memset(back + head, 'y', size);
-    memcpy(back + head + size, "\r\n", 2);
+    char *piece = malloc(PIECE), back[LONGEST];
+    int length = write_publish(back, "reply", FIRST);
     for (;;) {
         ssize_t got = recv(socket, piece, PIECE, 0);
         if (got <= 0)
@@ -358,13 +375,11 @@ static void ask(void)
     pthread_t thread;
     Parser parser = {.held = 0, .skip = 0};
     int asks = connected("demo"), answers = connected("demo");
-    char piece[PIECE], out[8192];
+    char piece[PIECE], out[LONGEST];
     double *took = malloc(count * sizeof *took);
-    int head = snprintf(out, sizeof out, "PUB ask reply %d\r\n", size), length = head + size + 2;
-    memset(out + head, 'x', size);
-    memcpy(out + head + size, "\r\n", 2);
-    subscribe(answers, "SUB ask 1\r\n");
-    subscribe(asks, "SUB reply 1\r\n");
+    int length = write_publish(out, "ask reply", FIRST);
+    subscribe(answers, "SUB ask 1\r\n", FIRST, 1);
+    subscribe(asks, "SUB reply 1\r\n", FIRST, 1);
     pthread_create(&thread, NULL, answer, &answers);
     for (long i = 0; i < count; i++) {
         double begin = now();
@@ -384,31 +399,37 @@ static void ask(void)
     printf("%.1f %.1f\n", took[count / 2], took[count * 99 / 100]);
 }
 
+static const Task *task_named(const char *name)
+{
+    for (size_t i = 0; i < sizeof tasks / sizeof *tasks; i++)
+        if (!strcmp(tasks[i].name, name))
+            return &tasks[i];
+    die("no such task");
+    return NULL;
+}
+
 int main(int argc, char **argv)
 {
-    if (argc != 7)
-        die("PORT TASK SIZE RECEIVERS COUNT WINDOW");
+    if (argc < 7 || argc > 8)
+        die("PORT TASK SIZE RECEIVERS COUNT WINDOW [SUBJECTS]");
     port = atoi(argv[1]);
     size = atoi(argv[3]);
     count_of_receivers = atoi(argv[4]);
     count = atol(argv[5]);
     window = atol(argv[6]);
+    if (argc == 8)
+        subjects = atoi(argv[7]);
     is_queue = !strcmp(argv[2], "queue");
-    if (is_queue)
-        wish = "SUB load group 1\r\n";
-    if (!strcmp(argv[2], "stream")) {
-        receiver = "importer";
-        wish = "SUB from.load 1\r\n";
-    }
-    if (!strcmp(argv[2], "mapped"))
-        wish = "SUB mapped.* 1\r\n";
-    if (size < 0 || size > 4096 || count_of_receivers < 1 || count_of_receivers > MOST || count < 1 || window < 1)
+    if (size < 0 || size > 4096 || count_of_receivers < 0 || count_of_receivers > MOST || count < 1 || window < 1 ||
+        subjects < 1 || subjects > MOST_SUBJECTS)
         die("a number is out of range");
     if (!strcmp(argv[2], "ask"))
         ask();
     else if (!strcmp(argv[2], "several"))
         printf("%.0f\n", several());
+    else if (!strcmp(argv[2], "pairs"))
+        printf("%.0f\n", pairs());
     else
-        printf("%.0f\n", strcmp(argv[2], "pairs") ? flood() : pairs());
+        printf("%.0f\n", flood(task_named(argv[2])));
     return 0;
 }
