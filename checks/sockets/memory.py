@@ -80,18 +80,31 @@ def header_blocks(program, divide, workers):
     return f"at most {most} MiB"
 
 
-@storm(2)
-def subscriptions_come_and_go(program, divide, workers):
-    """1,000,000 SUBs and as many UNSUBs by 4 clients"""
+def come_and_go(program, workers, *words, bound=MOST, **more):
+    """1,000,000 SUBs and as many UNSUBs by 4 clients of a server with these words. Returns the most memory that it has, in MiB."""
     each, count = 500, 1_000_000
-    with Server(program, "--workers", workers) as server:
+    with Server(program, "--workers", workers, *words, **more) as server:
         clients = spread(server, 4, workers)
         piece = b"".join(b"SUB some.%d.> %d\r\nUNSUB %d\r\n" % (it, it, it) for it in range(each))
         writing = [Sending(it, piece, times=count // each // 4) for it in clients]
-        most = watched(server, lambda: all(it.is_over() for it in writing), "not all is read")
+        most = watched(server, lambda: all(it.is_over() for it in writing), "not all is read", bound)
         for it in clients:
             it.ping()
     return f"at most {most} MiB"
+
+
+@storm(2)
+def subscriptions_come_and_go(program, divide, workers):
+    """1,000,000 SUBs and as many UNSUBs by 4 clients"""
+    return come_and_go(program, workers)
+
+
+@storm(2)
+def marked_ones_come_and_go(program, divide, workers):
+    """The same where a deny entry overlaps each, and the history keeps little: less than 24 MiB"""
+    user = {"user": "demo", "password": "demo", "permissions": {"subscribe": {"deny": "some.*.secret"}}}
+    policy = {"accounts": {"A": {"users": [user]}}}
+    return come_and_go(program, workers, "--history-bytes", 1 << 20, bound=24, policy=policy)
 
 
 @storm(2)
@@ -168,5 +181,5 @@ def pause_of_large(program, divide, workers):
 
 
 if __name__ == "__main__":
-    run(__doc__, unknown_peers, large_messages, header_blocks, subscriptions_come_and_go, scattered, wide_messages,
-        deaf_to_large, pause_of_large)
+    run(__doc__, unknown_peers, large_messages, header_blocks, subscriptions_come_and_go, marked_ones_come_and_go, scattered,
+        wide_messages, deaf_to_large, pause_of_large)
