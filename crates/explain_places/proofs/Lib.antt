@@ -1,4 +1,3 @@
 pub mod Asked
 pub mod Known
 pub mod Leading
-pub mod Parsing

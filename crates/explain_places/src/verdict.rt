@@ -5,7 +5,6 @@ ghost use Rattle.explain.specs.Fault.{Answers};
 ghost use Rattle.explain.specs.declared.explanation.Explanation.{Explanation};
 ghost use Rattle.explain.specs.declared.fault.ExplainFault.TheVariants.{NoSuchUser};
 ghost use Rattle.explain_places.specs.Verdict.{delivery_asked, delivery_of, publish_asked, publish_of, queue_if, subscribe_asked, subscribe_of, verdict_of, verdict_on};
-ghost use Rattle.subjects.specs.Fault.{pattern_if, subject_if};
 
 use base::NoMemory;
 use command_line::{Question, QuestionKind};
@@ -13,6 +12,7 @@ use explain::{ExplainFault, Explanation, explain_delivery, explain_publish, expl
 use permissions::Verdict;
 use policy_doc::Policy;
 use std::alloc::Global;
+use subject_texts::{pattern_if, subject_if};
 use subjects::{Pattern, Subject};
 
 /// Returns the verdict on a question, if it has one: a user of that name, and a subject, a pattern and a queue that are some.
@@ -148,37 +148,5 @@ fn queue_if(alloc: Global, text: &Option<String>) -> Result<Option<Option<Subjec
             None => Ok(None),
             Some(queue) => Ok(Some(Some(queue))),
         },
-    }
-}
-
-/// Returns the subject of a text, if it is one.
-fn subject_if(alloc: Global, text: &[u8]) -> Result<Option<Subject>, NoMemory>
-    ensures { IfOk result (λ subject. subject ≡ subject_if text.now) }
-{
-    match Subject::parse(alloc, text) {
-        Ok(subject) => Ok(Some(subject)),
-        Err(error) => {
-            if error.is_no_memory() {
-                Err(NoMemory)
-            } else {
-                Ok(None)
-            }
-        }
-    }
-}
-
-/// Returns the pattern of a text, if it is one.
-fn pattern_if(alloc: Global, text: &[u8]) -> Result<Option<Pattern>, NoMemory>
-    ensures { IfOk result (λ pattern. pattern ≡ pattern_if text.now) }
-{
-    match Pattern::parse(alloc, text) {
-        Ok(pattern) => Ok(Some(pattern)),
-        Err(error) => {
-            if error.is_no_memory() {
-                Err(NoMemory)
-            } else {
-                Ok(None)
-            }
-        }
     }
 }

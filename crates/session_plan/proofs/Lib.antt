@@ -1,2 +1,1 @@
-mod Parsing
 pub mod Short

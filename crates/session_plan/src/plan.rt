@@ -3,7 +3,6 @@ ghost use Rattle.std.specs.Prelude.{◌≡◌, ℕ, None, IfOk, IfSome};
 ghost use Rattle.connect_opts.specs.Opts.{opts_of};
 ghost use Rattle.session_plan.specs.declared.stage.Stage.{Stage};
 ghost use Rattle.session_plan.specs.declared.plan.Plan.TheVariants.{Publishes};
-ghost use Rattle.subjects.specs.Fault.{subject_if, pattern_if};
 ghost use Rattle.events.specs.Messages as read;
 ghost use Rattle.session_plan.specs.Plans.{plan_of, fresh_plan, connected_plan, connect_plan, message_in, message_if, published_by, headed_fault, subscribe_plan, error_plan, named_if};
 
@@ -14,7 +13,8 @@ use base::{NoMemory, Shared, SharedBytes, SharedText};
 use connect_opts::{ConnectError, ConnectOpts};
 use events::{Command, Message};
 use std::alloc::Global;
-use subjects::{Pattern, Subject};
+use subject_texts::{pattern_if, subject_if};
+use subjects::Subject;
 use wire_message::MessageText;
 use wire_read::Frame;
 use wire_write::ServerError;
@@ -30,38 +30,6 @@ pub enum Plan {
     Publishes(Message),
 }
 
-/// The subject of a text, if it is one, with bytes of its own.
-fn subject_of(alloc: Global, text: &[u8]) -> Result<Option<Subject>, NoMemory>
-    ensures { IfOk result (λ subject. subject ≡ subject_if text.now) }
-{
-    match Subject::parse(alloc, text) {
-        Ok(subject) => Ok(Some(subject)),
-        Err(error) => {
-            if error.is_no_memory() {
-                Err(NoMemory)
-            } else {
-                Ok(None)
-            }
-        }
-    }
-}
-
-/// The pattern of a text, if it is one.
-fn pattern_of(alloc: Global, text: &[u8]) -> Result<Option<Pattern>, NoMemory>
-    ensures { IfOk result (λ pattern. pattern ≡ pattern_if text.now) }
-{
-    match Pattern::parse(alloc, text) {
-        Ok(pattern) => Ok(Some(pattern)),
-        Err(error) => {
-            if error.is_no_memory() {
-                Err(NoMemory)
-            } else {
-                Ok(None)
-            }
-        }
-    }
-}
-
 /// The queue name that a SUB names, with bytes of its own, since it may stand for long: none where it names none, and
 /// where it names no subject there is no answer.
 fn queue_of(alloc: Global, text: &Option<SharedBytes>) -> Result<Option<Option<Subject>>, NoMemory>
@@ -69,7 +37,7 @@ fn queue_of(alloc: Global, text: &Option<SharedBytes>) -> Result<Option<Option<S
 {
     match text {
         None => Ok(Some(None)),
-        Some(text) => match subject_of(alloc, text.as_slice())? {
+        Some(text) => match subject_if(alloc, text.as_slice())? {
             None => Ok(None),
             Some(queue) => Ok(Some(Some(queue))),
         },
@@ -162,7 +130,7 @@ fn plan_subscribe(
 ) -> Result<Plan, NoMemory>
     ensures { IfOk result (λ plan. plan ≡ subscribe_plan conn stage subject.now queue.now sid.now) }
 {
-    match pattern_of(alloc, subject.as_slice())? {
+    match pattern_if(alloc, subject.as_slice())? {
         None => Ok(plan_of_error(ServerError::InvalidSubject, stage)),
         Some(pattern) => match queue_of(alloc, queue)? {
             None => Ok(plan_of_error(ServerError::InvalidSubject, stage)),
