@@ -11,7 +11,8 @@ use Rattle.policy_walk.specs.declared.fault.ConfigFault.{ConfigFault}
 use Rattle.policy_walk.specs.Fault.{Read, ◌>>=◌}
 use Rattle.policy_walk.specs.Object.{members_at}
 use Rattle.policy_walk.specs.Path.{Path, at_key, at_index}
-use Rattle.account_config.specs.Policy.{each, accounts_from, named_account_at}
+use Rattle.policy_walk.specs.Lists.{each}
+use Rattle.account_config.specs.Policy.{accounts_from, named_account_at}
 use Rattle.account_config.specs.Place.{Place, itself, unknown, missing, under, named, IsBefore, Faults, IsFirst, IsReading}
 use Rattle.account_config.specs.Tables.{in_value, members_faults}
 use Rattle.account_config.specs.Standing.{account_faults}

@@ -1,32 +1,29 @@
 -- The exports of an account are read as their faults and what is written say.
-use Rattle.std.proofs.Common.{◌≡◌, ◌++◌, Option, Some, None, option_map, Ok, Err, Bool, true, false, ◌||◌, codes, if◌then◌else◌, bytes_eq, refl}
+use Rattle.std.proofs.Common.{◌≡◌, Option, Some, None, option_map, Ok, Err, Bool, true, false, ◌||◌, codes, if◌then◌else◌, bytes_eq, refl}
 use Rattle.serde_json.specs.Data.{Data}
 use Rattle.serde_json.specs.Find.{get}
 use Rattle.policy_walk.specs.declared.fault.ConfigFault.{ConfigFault}
 use Rattle.policy_walk.specs.declared.fault.ConfigFault.TheVariants.{WrongType}
 use Rattle.policy_walk.specs.Path.{Path, at_key}
-use Rattle.policy_rows.specs.Names.{account_name_at, kind_of}
-use Rattle.policy_rows.specs.Exports.{accounts_at, accounts_under, either_rows, export_at, export_by, exports_at, exports_under, neither_at, offered_at, response_at, service_at, single_at, single_from, single_under, stream_at, ttl_under}
-use Rattle.account_config.specs.Policy.{or_empty}
+use Rattle.policy_walk.specs.Lists.{list_at}
+use Rattle.policy_rows.specs.Names.{account_name_at, pattern_at}
+use Rattle.policy_rows.specs.Exports.{accounts_under, either_rows, export_at, response_at, service_at, single_at, single_from, single_under, stream_at, ttl_under}
 use Rattle.account_config.specs.Place.{IsReading}
 use Rattle.account_config.specs.Tables.{in_value, object_faults, text_faults, list_faults}
-use Rattle.account_config.specs.Standing.{duration_faults, name_faults, is_response_type, kindless_faults, stream_export_keys, service_export_keys, export_faults}
+use Rattle.account_config.specs.Standing.{duration_faults, name_faults, is_response_type, stream_export_keys, service_export_keys, export_faults}
 use Rattle.account_config.specs.Values.{text_in, list_in}
 use Rattle.account_config.specs.Written.{pattern_under, accounts_list_in, single_in, ttl_in, stream_export_in, service_export_in, export_in}
 use Rattle.account_config.proofs.Order.{IsOrdered, Meets, under-ordered}
 use Rattle.account_config.proofs.First.{go_on}
-use Rattle.account_config.proofs.Objects.{then_object, none_left, kindless_read}
+use Rattle.account_config.proofs.Objects.{then_object, none_left}
 use Rattle.account_config.proofs.Each.{Reads}
 use Rattle.account_config.proofs.Values.{text_read, list_read, optional_read, duration_read}
 use Rattle.account_config.proofs.Rows.{go_into, name_read, pattern_read, row_read}
 
-accounts_read : Reads (list_faults name_faults) (list_in text_in) accounts_at
-unfolding accounts_at
-accounts_read path d up = list_read name_faults text_in account_name_at name_read path d up
-
 accounts_under_read : (path : Path) (found : Option Data) → Meets IsOrdered found → IsReading (in_value (list_faults name_faults) path found) (option_map (list_in text_in) found) (accounts_under path found)
 accounts_under_read path None up = (λ p. refl, refl)
-accounts_under_read path (Some d) up = optional_read (list_faults name_faults) (list_in text_in) accounts_at accounts_read path d up
+accounts_under_read path (Some d) up =
+    optional_read (list_faults name_faults) (list_in text_in) (list_at account_name_at) (list_read name_faults text_in account_name_at name_read) path d up
 
 single_is : (single stream : Bool) (fault : ConfigFault) → (if single then Ok true else (if stream then Ok false else Err fault)) ≡ (if single || stream then Ok single else Err fault)
 single_is true stream fault = refl
@@ -45,19 +42,19 @@ ttl_under_read path None up = (λ p. refl, refl)
 ttl_under_read path (Some d) up = duration_read path d up
 
 stream_read : Reads (object_faults stream_export_keys) stream_export_in stream_at
-unfolding stream_at offered_at
+unfolding stream_at
 stream_read path d up =
     then_object stream_export_keys path d (stream_export_in d) _ up λ clear.
-    go_on _ 0 (pattern_under (codes "stream") d) (stream_export_in d) (offered_at (codes "stream") path d) _ clear (pattern_read (codes "stream") path d (clear.at_missing 0)) λ clear.
+    go_on _ 0 (pattern_under (codes "stream") d) (stream_export_in d) (pattern_at (codes "stream") path d) _ clear (pattern_read (codes "stream") path d (clear.at_missing 0)) λ clear.
     go_on _ 1 (accounts_list_in d) (stream_export_in d) (accounts_under (at_key path (codes "accounts")) (get (codes "accounts") d)) _ clear
     (accounts_under_read _ _ (under-ordered (codes "accounts") d up)) λ clear.
     (none_left stream_export_keys path d clear, refl)
 
 service_read : Reads (object_faults service_export_keys) service_export_in service_at
-unfolding service_at offered_at response_at
+unfolding service_at response_at
 service_read path d up =
     then_object service_export_keys path d (service_export_in d) _ up λ clear.
-    go_on _ 0 (pattern_under (codes "service") d) (service_export_in d) (offered_at (codes "service") path d) _ clear (pattern_read (codes "service") path d (clear.at_missing 0)) λ clear.
+    go_on _ 0 (pattern_under (codes "service") d) (service_export_in d) (pattern_at (codes "service") path d) _ clear (pattern_read (codes "service") path d (clear.at_missing 0)) λ clear.
     go_on _ 1 (accounts_list_in d) (service_export_in d) (accounts_under (at_key path (codes "accounts")) (get (codes "accounts") d)) _ clear
     (accounts_under_read _ _ (under-ordered (codes "accounts") d up)) λ clear.
     go_into _ 2 (single_in (get (codes "response_type") d)) (service_export_in d) (single_under (at_key path (codes "response_type")) (get (codes "response_type") d)) _ _ clear
@@ -74,20 +71,7 @@ both_kinds false true false more = refl
 both_kinds false false true more = refl
 both_kinds false false false more = refl
 
-neither_read : (path : Path) (d : Data) → IsOrdered d →
-    IsReading (kindless_faults (stream_export_keys ++ service_export_keys) path d) (stream_export_in d) (neither_at path d)
-unfolding neither_at
-neither_read path d up =
-    kindless_read either_rows (stream_export_keys ++ service_export_keys) path d (stream_export_in d) up
-    (λ key. both_kinds (bytes_eq (codes "stream") key) (bytes_eq (codes "service") key) (bytes_eq (codes "accounts") key) _) refl
-
-export_read : Reads export_faults export_in export_at
-export_read path d up =
-    row_read stream_export_keys service_export_keys stream_export_in service_export_in path d (export_by path d) (stream_read path d up) (service_read path d up)
-    (neither_read path d up) (kind_of d)
-
-pub exports_under_read : (path : Path) (found : Option Data) → Meets IsOrdered found →
-    IsReading (in_value (list_faults export_faults) path found) (or_empty (option_map (list_in export_in) found)) (exports_under path found)
-unfolding exports_at
-exports_under_read path None up = (λ p. refl, refl)
-exports_under_read path (Some d) up = list_read export_faults export_in export_at export_read path d up
+pub export_read : Reads export_faults export_in export_at
+export_read =
+    row_read stream_export_keys service_export_keys stream_export_in service_export_in stream_at service_at either_rows stream_read service_read
+    (λ key. both_kinds (bytes_eq (codes "stream") key) (bytes_eq (codes "service") key) (bytes_eq (codes "accounts") key) _) (λ d. refl)

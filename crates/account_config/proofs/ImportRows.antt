@@ -1,5 +1,6 @@
 -- The imports of an account are read as their faults and what is written say.
-use Rattle.std.proofs.Common.{◌≡◌, ◌++◌, List, ℕ, Option, Some, None, option_map, Ok, Err, Bool, true, false, not, ◌||◌, codes, if◌then◌else◌, is_some, bytes_eq, refl}
+use Rattle.std.proofs.Common.{◌≡◌, List, ℕ, Option, Some, None, option_map, Ok, Err, Bool, true, false, not, ◌||◌, codes, if◌then◌else◌, is_some, bytes_eq, refl}
+use Rattle.std.specs.Option.{ok_or}
 use Rattle.serde_json.specs.Data.{Data}
 use Rattle.serde_json.specs.Find.{get}
 use Rattle.subjects.specs.Subject.{tokens_of}
@@ -7,29 +8,28 @@ use Rattle.subjects.specs.Fault.{subject_fault}
 use Rattle.policy_walk.specs.declared.fault.ConfigFault.TheVariants.{WrongType, BadSubject}
 use Rattle.policy_walk.specs.Fault.{◌>>=◌}
 use Rattle.policy_walk.specs.Path.{Path, at_key}
-use Rattle.policy_rows.specs.Names.{kind_of}
-use Rattle.policy_rows.specs.Imports.{account_at, either_rows, import_at, import_by, imports_at, imports_under, neither_at, prefix_under, service_at, source_at, source_in, source_of, stream_at, subject_at, subject_from, to_under}
-use Rattle.account_config.specs.Policy.{or_empty}
+use Rattle.policy_rows.specs.Names.{pattern_at}
+use Rattle.policy_rows.specs.Imports.{account_at, either_rows, import_at, prefix_under, service_at, source_at, source_in, source_of, stream_at, subject_from, to_under}
 use Rattle.account_config.specs.Place.{IsReading}
-use Rattle.account_config.specs.Tables.{unless_found, in_value, object_faults, text_faults, list_faults}
-use Rattle.account_config.specs.Standing.{any_text_faults, is_subject_text, source_keys, kindless_faults, stream_import_keys, service_import_keys, import_faults}
-use Rattle.account_config.specs.Values.{text_in, list_in, value_under}
+use Rattle.account_config.specs.Tables.{unless_found, in_value, object_faults, text_faults}
+use Rattle.account_config.specs.Standing.{any_text_faults, is_subject_text, source_keys, stream_import_keys, service_import_keys, import_faults}
+use Rattle.account_config.specs.Values.{text_in, value_under}
 use Rattle.account_config.specs.Written.{pattern_under, stream_import_in, service_import_in, import_in}
-use Rattle.account_config.proofs.Order.{IsOrdered, Meets, under-ordered}
+use Rattle.account_config.proofs.Order.{IsOrdered, under-ordered}
 use Rattle.account_config.proofs.First.{go_on}
-use Rattle.account_config.proofs.Objects.{then_object, none_left, kindless_read}
+use Rattle.account_config.proofs.Objects.{then_object, none_left}
 use Rattle.account_config.proofs.Each.{Reads}
-use Rattle.account_config.proofs.Values.{text_read, list_read, required_value_read}
+use Rattle.account_config.proofs.Values.{text_read, required_value_read}
 use Rattle.account_config.proofs.Rows.{pattern_read, name_under_read, row_read}
 
 -- ---- what is imported, and under which names
 
 source_read : Reads (object_faults source_keys) (λ d. source_of (text_in (value_under (codes "account") d)) (pattern_under (codes "subject") d)) source_at
-unfolding source_at account_at subject_at
+unfolding source_at account_at
 source_read path d up =
     then_object source_keys path d _ _ up λ clear.
     go_on _ 0 (text_in (value_under (codes "account") d)) _ (account_at path d) _ clear (name_under_read (codes "account") path d (clear.at_missing 0)) λ clear.
-    go_on _ 1 (pattern_under (codes "subject") d) _ (subject_at path d) _ clear (pattern_read (codes "subject") path d (clear.at_missing 1)) λ clear.
+    go_on _ 1 (pattern_under (codes "subject") d) _ (pattern_at (codes "subject") path d) _ clear (pattern_read (codes "subject") path d (clear.at_missing 1)) λ clear.
     (none_left source_keys path d clear, refl)
 
 source_under_read : (key : List ℕ) (path : Path) (d : Data) → IsOrdered d → unless_found (get key d) (WrongType (at_key path key)) ≡ None →
@@ -43,7 +43,7 @@ to_under_read path None = (λ p. refl, refl)
 to_under_read path (Some d) = text_read (λ text. true) WrongType (λ text. Some text) path (λ text. Ok (Some text)) (λ text. refl) d
 
 prefix_is : (path : Path) (text : List ℕ) (faulty : Bool) →
-    ((if faulty then Err (BadSubject path) else Ok (tokens_of text)) >>= λ prefix. Ok (Some prefix)) ≡ (if not faulty then Ok (Some (tokens_of text)) else Err (BadSubject path))
+    (ok_or (if faulty then None else Some (tokens_of text)) (BadSubject path) >>= λ prefix. Ok (Some prefix)) ≡ (if not faulty then Ok (Some (tokens_of text)) else Err (BadSubject path))
 prefix_is path text true = refl
 prefix_is path text false = refl
 
@@ -84,20 +84,7 @@ both_kinds false false true prefix = refl
 both_kinds false false false true = refl
 both_kinds false false false false = refl
 
-neither_read : (path : Path) (d : Data) → IsOrdered d →
-    IsReading (kindless_faults (stream_import_keys ++ service_import_keys) path d) (stream_import_in d) (neither_at path d)
-unfolding neither_at
-neither_read path d up =
-    kindless_read either_rows (stream_import_keys ++ service_import_keys) path d (stream_import_in d) up
-    (λ key. both_kinds (bytes_eq (codes "stream") key) (bytes_eq (codes "service") key) (bytes_eq (codes "to") key) (bytes_eq (codes "prefix") key)) refl
-
-import_read : Reads import_faults import_in import_at
-import_read path d up =
-    row_read stream_import_keys service_import_keys stream_import_in service_import_in path d (import_by path d) (stream_read path d up) (service_read path d up)
-    (neither_read path d up) (kind_of d)
-
-pub imports_under_read : (path : Path) (found : Option Data) → Meets IsOrdered found →
-    IsReading (in_value (list_faults import_faults) path found) (or_empty (option_map (list_in import_in) found)) (imports_under path found)
-unfolding imports_at
-imports_under_read path None up = (λ p. refl, refl)
-imports_under_read path (Some d) up = list_read import_faults import_in import_at import_read path d up
+pub import_read : Reads import_faults import_in import_at
+import_read =
+    row_read stream_import_keys service_import_keys stream_import_in service_import_in stream_at service_at either_rows stream_read service_read
+    (λ key. both_kinds (bytes_eq (codes "stream") key) (bytes_eq (codes "service") key) (bytes_eq (codes "to") key) (bytes_eq (codes "prefix") key)) (λ d. refl)

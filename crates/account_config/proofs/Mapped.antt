@@ -13,6 +13,7 @@ use Rattle.policy_walk.specs.declared.fault.ConfigFault.{ConfigFault}
 use Rattle.policy_walk.specs.declared.fault.ConfigFault.TheVariants.{BadSubject, BadDestination, BadWeight}
 use Rattle.policy_walk.specs.Fault.{◌>>=◌}
 use Rattle.policy_walk.specs.Path.{Path, at_key}
+use Rattle.policy_walk.specs.Lists.{list_at}
 use Rattle.policy_walk.specs.Texts.{required_text_at}
 use Rattle.policy_mappings.specs.Mappings.{map_at, map_from, mappings_at, mappings_under, maps_from, object_shares, share_at, shares_at, template_at, template_from, text_shares, weight_at as weight_read_at, weight_under}
 use Rattle.account_config.specs.Policy.{or_empty}
@@ -76,7 +77,7 @@ unfolding object_shares
 one_read source path d up = mapped (object_faults (destination_keys source) path d) (λ share. share ∷ []) (share_in source d) (share_at source path d) (share_read source path d up)
 
 shares_read : (source : List Token) → Reads (destinations_faults source) (shares_in source) (shares_at source)
-unfolding text_shares
+unfolding text_shares list_at
 shares_read source path null up = one_read source path null up
 shares_read source path (boolean b) up = one_read source path (boolean b) up
 shares_read source path (number n) up = one_read source path (number n) up
@@ -119,7 +120,7 @@ map_read key path d up = by (is_some (pattern_fault key)) refl
     F = source_faults key path d
 
     by : (b : Bool) → is_some (pattern_fault key) ≡ b → IsReading F (map_in key d)
-        ((if b then Err (BadSubject path) else Ok (tokens_of key)) >>= λ source. (shares_at source path d >>= λ shares. map_from path (map_of source shares)))
+        (ok_or (if b then None else Some (tokens_of key)) (BadSubject path) >>= λ source. (shares_at source path d >>= λ shares. map_from path (map_of source shares)))
     by true e = first_itself F (BadSubject path) (rw e refl)
     by false e =
         go_on F 0 (shares_in (tokens_of key) d) (map_in key d) (shares_at (tokens_of key) path d) (λ shares. map_from path (map_of (tokens_of key) shares))

@@ -9,6 +9,7 @@ use Rattle.policy_walk.specs.declared.fault.ConfigFault.TheVariants.{UnknownKey,
 use Rattle.policy_walk.specs.Fault.{Read, ◌>>=◌}
 use Rattle.policy_walk.specs.Path.{Path, at_key}
 use Rattle.policy_walk.specs.Object.{Row, is_known, unknown_key, missing_key, refuse, judged}
+use Rattle.policy_rows.specs.Names.{kindless_at}
 use Rattle.account_config.specs.Place.{Place, itself, unknown, missing, under, named, IsBefore, Faults, IsFirst, IsReading}
 use Rattle.account_config.specs.Tables.{Key, required, optional, spelled, unless_found, has_key, missing_at, under_at, of_key, object_faults}
 use Rattle.account_config.specs.Standing.{kindless_faults}
@@ -181,8 +182,8 @@ refused path F y kind first (Some u) m is e = first_unknown_is path F u kind is
 -- it is judged by the keys of rows, and then refused
 pub kindless_read : {X : Type 0} (rows : List Row) (keys : List Key) (path : Path) (d : Data) (y : X) → IsOrdered d →
     ((key : List ℕ) → is_known rows key ≡ has_key keys key) → missing_key rows d ≡ None →
-    IsReading (kindless_faults keys path d) y (judged rows path d >>= λ known. Err (WrongType path))
-unfolding judged
+    IsReading (kindless_faults keys path d) y (kindless_at rows path d)
+unfolding judged kindless_at
 kindless_read rows keys path null y up same none = first_itself _ _ refl
 kindless_read rows keys path (boolean b) y up same none = first_itself _ _ refl
 kindless_read rows keys path (number n) y up same none = first_itself _ _ refl

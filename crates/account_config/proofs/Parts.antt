@@ -20,10 +20,13 @@ use Rattle.policy_permissions.specs.Entry.{is_entry_text, entry_written}
 use Rattle.policy_walk.specs.Fault.{◌>>=◌}
 use Rattle.policy_walk.specs.Texts.{required_text_at}
 use Rattle.policy_walk.specs.Path.{Path, at_key}
-use Rattle.account_config.specs.Policy.{entry_from, entry_at, entries_at, entries_under, or_empty, lists_at, allow_at, direction_at, spelled_from, is_bound, max_at, max_under, duration_at, expires_under, terms_at, responses_at, responses_under, allow_responses_at, permissions_at, permissions_under, has_name_length, is_hashed, user_name_at, password_at, user_permissions_at, user_at, users_at, users_under, exports_under, imports_under, mappings_under, account_rows, account_at, is_account_name, named_account_at, accounts_from, accounts_at, top_rows, version_in, version_of, version_under, document_at}
+use Rattle.policy_walk.specs.Lists.{list_under}
+use Rattle.policy_rows.specs.Exports.{export_at}
+use Rattle.policy_rows.specs.Imports.{import_at}
+use Rattle.account_config.specs.Policy.{entry_from, entry_at, entries_at, entries_under, or_empty, lists_at, allow_at, direction_at, spelled_from, is_bound, max_at, max_under, duration_at, expires_under, terms_at, responses_at, responses_under, allow_responses_at, permissions_at, permissions_under, has_name_length, is_hashed, user_name_at, password_at, user_permissions_at, user_at, exports_under, imports_under, mappings_under, account_rows, account_at, is_account_name, named_account_at, accounts_from, accounts_at, top_rows, version_in, version_of, version_under, document_at}
 use Rattle.account_config.specs.Place.{Place, itself, unknown, missing, under, named, Faults, IsReading}
-use Rattle.account_config.specs.Tables.{unless_found, in_value, in_spelled, object_faults, list_faults}
-use Rattle.account_config.specs.Standing.{entry_faults, entries_faults, direction_keys, direction_faults, max_faults, duration_faults, terms_keys, responses_faults, permission_keys, user_keys, account_keys, account_faults, accounts_faults, version_faults, top_keys}
+use Rattle.account_config.specs.Tables.{unless_found, in_value, in_spelled, object_faults}
+use Rattle.account_config.specs.Standing.{entry_faults, entries_faults, direction_keys, direction_faults, max_faults, duration_faults, terms_keys, responses_faults, permission_keys, user_keys, export_faults, import_faults, account_keys, account_faults, accounts_faults, version_faults, top_keys}
 use Rattle.account_config.specs.Values.{text_in, list_in, value_under}
 use Rattle.account_config.specs.Mapped.{mappings_in}
 use Rattle.account_config.specs.Written.{entry_in, entries_in, lists_in, direction_in, bound_in, max_in, duration_in, terms_in, responses_in, permissions_in, user_in, export_in, import_in, account_in, accounts_in, document_in}
@@ -32,9 +35,9 @@ use Rattle.policy_permissions.proofs.Entries.{entry_is}
 use Rattle.account_config.proofs.First.{IsClear, go_on, whole, first_itself, same_faults, mapped}
 use Rattle.account_config.proofs.Objects.{absent_read, none_left, not_there, rows_of, then_object, then_rows}
 use Rattle.account_config.proofs.Each.{Reads, accounts_read, members_read}
-use Rattle.account_config.proofs.Values.{text_read, turned, list_read, optional_read, duration_read, required_read}
-use Rattle.account_config.proofs.ExportRows.{exports_under_read}
-use Rattle.account_config.proofs.ImportRows.{imports_under_read}
+use Rattle.account_config.proofs.Values.{text_read, turned, list_read, list_under_read, optional_read, duration_read, required_read}
+use Rattle.account_config.proofs.ExportRows.{export_read}
+use Rattle.account_config.proofs.ImportRows.{import_read}
 use Rattle.account_config.proofs.Mapped.{mappings_under_read}
 
 -- ---- permissions
@@ -178,14 +181,6 @@ user_read path d up =
 
 -- ---- accounts
 
-users_read : Reads (list_faults (object_faults user_keys)) (list_in user_in) users_at
-unfolding users_at
-users_read path d up = list_read (object_faults user_keys) user_in user_at user_read path d up
-
-users_under_read : (path : Path) (found : Option Data) → Meets IsOrdered found → IsReading (in_value (list_faults (object_faults user_keys)) path found) (or_empty (option_map (list_in user_in) found)) (users_under path found)
-users_under_read path None up = (λ p. refl, refl)
-users_under_read path (Some d) up = users_read path d up
-
 account_rows_are : (version : Version) → rows_of (account_keys version) ≡ account_rows version
 account_rows_are One = refl
 account_rows_are Two = refl
@@ -216,14 +211,14 @@ account_read : (version : Version) → Reads (object_faults (account_keys versio
 unfolding account_at
 account_read version path d up =
     then_rows (account_keys version) (account_rows version) (account_rows_are version) path d (account_in d) _ up λ clear.
-    go_on _ 0 (or_empty (option_map (list_in user_in) (get (codes "users") d))) (account_in d) (users_under (at_key path (codes "users")) (get (codes "users") d)) _ clear
-    (users_under_read _ _ (under-ordered (codes "users") d up)) λ clear.
+    go_on _ 0 (or_empty (option_map (list_in user_in) (get (codes "users") d))) (account_in d) (list_under user_at (at_key path (codes "users")) (get (codes "users") d)) _ clear
+    (list_under_read (object_faults user_keys) user_in user_at user_read _ _ (under-ordered (codes "users") d up)) λ clear.
     go_on _ 1 (or_empty (option_map (list_in export_in) (get (codes "exports") d))) (account_in d)
     (exports_under (at_key path (codes "exports")) (get (codes "exports") d)) _ clear
-    (exports_under_read _ _ (under-ordered (codes "exports") d up)) λ clear.
+    (list_under_read export_faults export_in export_at export_read _ _ (under-ordered (codes "exports") d up)) λ clear.
     go_on _ 2 (or_empty (option_map (list_in import_in) (get (codes "imports") d))) (account_in d)
     (imports_under (at_key path (codes "imports")) (get (codes "imports") d)) _ clear
-    (imports_under_read _ _ (under-ordered (codes "imports") d up)) λ clear.
+    (list_under_read import_faults import_in import_at import_read _ _ (under-ordered (codes "imports") d up)) λ clear.
     mappings_last version path d up clear
 
 named_read : (version : Version) (path : Path) (name : List ℕ) (d : Data) → IsOrdered d →

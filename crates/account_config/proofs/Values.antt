@@ -1,5 +1,5 @@
 -- Reading texts, lists, and what stands under a key.
-use Rattle.std.proofs.Common.{◌≡◌, ℕ, ◌+◌, List, Option, Some, None, Ok, Err, Bool, true, false, not, if◌then◌else◌, is_some, refl, ap, true≢false, zero-add, arith}
+use Rattle.std.proofs.Common.{◌≡◌, ℕ, ◌+◌, List, Option, Some, None, option_map, Ok, Err, Bool, true, false, not, if◌then◌else◌, is_some, refl, ap, true≢false, zero-add, arith}
 use Rattle.std.specs.Option.{ok_or, unwrap_or}
 use Rattle.serde_json.specs.Data.{Data, null, boolean, number, string, array, object}
 use Rattle.serde_json.specs.Find.{get_item}
@@ -7,9 +7,10 @@ use Rattle.policy_walk.specs.declared.fault.ConfigFault.{ConfigFault}
 use Rattle.policy_walk.specs.declared.fault.ConfigFault.TheVariants.{WrongType, BadDuration}
 use Rattle.policy_walk.specs.Durations.{duration_of}
 use Rattle.policy_walk.specs.Fault.{Read, ◌>>=◌}
-use Rattle.policy_walk.specs.Texts.{text_at, items_at}
+use Rattle.policy_walk.specs.Lists.{list_at, list_under}
+use Rattle.policy_walk.specs.Texts.{text_at}
 use Rattle.policy_walk.specs.Path.{Path, at_index}
-use Rattle.account_config.specs.Policy.{each, duration_from, duration_at}
+use Rattle.account_config.specs.Policy.{or_empty, duration_from, duration_at}
 use Rattle.account_config.specs.Place.{Place, itself, unknown, missing, under, named, Faults, IsReading}
 use Rattle.account_config.specs.Tables.{unless_found, in_value, text_faults, list_faults}
 use Rattle.account_config.specs.Standing.{duration_faults}
@@ -50,7 +51,8 @@ turned false x y = refl
 
 -- a list of values, each of which is read
 pub list_read : {X : Type 0} (faults : Path → Data → Faults) (written : Data → X) (reader : Path → Data → Read X) → Reads faults written reader →
-    (path : Path) (d : Data) → IsOrdered d → IsReading (list_faults faults path d) (list_in written d) (items_at path d >>= λ items. each reader path 0 items)
+    Reads (list_faults faults) (list_in written) (list_at reader)
+unfolding list_at
 list_read faults written reader reads path null up = first_itself _ _ refl
 list_read faults written reader reads path (boolean b) up = first_itself _ _ refl
 list_read faults written reader reads path (number n) up = first_itself _ _ refl
@@ -60,6 +62,13 @@ list_read faults written reader reads path (array ds) up =
     each_from faults written reader reads path (list_faults faults path (array ds)) (λ k p. refl) 0 ds up
     (λ n p. ap (λ m. in_value faults (at_index path (0 + n)) (get_item m ds) p) (zero-add n))
     (record { at_itself = refl; at_unknown = λ k. refl; at_missing = λ i. refl; at_under = λ i p lt. absurd (omega arith) })
+
+-- a list that may be there
+pub list_under_read : {X : Type 0} (faults : Path → Data → Faults) (written : Data → X) (reader : Path → Data → Read X) → Reads faults written reader →
+    (path : Path) (found : Option Data) → Meets IsOrdered found →
+    IsReading (in_value (list_faults faults) path found) (or_empty (option_map (list_in written) found)) (list_under reader path found)
+list_under_read faults written reader reads path None up = (λ p. refl, refl)
+list_under_read faults written reader reads path (Some d) up = list_read faults written reader reads path d up
 
 -- a value that may be there
 pub optional_read : {X : Type 0} (faults : Path → Data → Faults) (written : Data → X) (reader : Path → Data → Read X) → Reads faults written reader →

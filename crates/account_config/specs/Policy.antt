@@ -18,8 +18,9 @@ use Rattle.policy_walk.specs.declared.fault.ConfigFault.TheVariants.{TooLarge, N
 use Rattle.policy_walk.specs.Fault.{Read, ◌>>=◌}
 use Rattle.policy_walk.specs.Path.{Path, at_key}
 use Rattle.policy_walk.specs.Object.{Row, judged, members_at, required_at}
-use Rattle.policy_walk.specs.Texts.{items_at, required_text_at}
-pub use Rattle.policy_permissions.specs.Permissions.{direction_at, direction_rows, duration_from, each, entries_under, entry_from, expires_under, is_bound, max_at, max_from, max_under, one_answer, or_empty, parts_from, pattern_from, permission_rows, permissions_under, queue_from, responses_at, responses_from, responses_under, spelled_at, spelled_from, terms_rows}
+use Rattle.policy_walk.specs.Texts.{required_text_at}
+use Rattle.policy_walk.specs.Lists.{list_under}
+pub use Rattle.policy_permissions.specs.Permissions.{direction_at, direction_rows, duration_from, entries_under, entry_from, expires_under, is_bound, max_at, max_from, max_under, one_answer, or_empty, parts_from, pattern_from, permission_rows, permissions_under, queue_from, responses_at, responses_from, responses_under, spelled_at, spelled_from, terms_rows}
 unfoldable pub use Rattle.policy_permissions.specs.Permissions.{allow_at, allow_responses_at, duration_at, entries_at, entry_at, lists_at, permissions_at, terms_at}
 pub use Rattle.policy_rows.specs.Names.{account_name_from, has_name_length, is_account_name}
 pub use Rattle.policy_rows.specs.Exports.{exports_under}
@@ -77,20 +78,10 @@ user_at path d = do
 
 -- ---- accounts
 
-unfoldable pub users_at : Path → Data → Read (List UserDoc)
-users_at path d = do
-  items ← items_at path d
-  each user_at path 0 items
-
--- absent users are none
-abbrev pub users_under : Path → Option Data → Read (List UserDoc)
-users_under path None = Ok []
-users_under path (Some d) = users_at path d
-
 unfoldable pub account_at : Version → Path → Data → Read AccountDoc
 account_at version path d = do
   known ← judged (account_rows version) path d
-  users ← users_under (at_key path (codes "users")) (get (codes "users") d)
+  users ← list_under user_at (at_key path (codes "users")) (get (codes "users") d)
   exports ← exports_under (at_key path (codes "exports")) (get (codes "exports") d)
   imports ← imports_under (at_key path (codes "imports")) (get (codes "imports") d)
   mappings ← mappings_under (at_key path (codes "mappings")) (get (codes "mappings") d)

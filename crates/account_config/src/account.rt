@@ -1,16 +1,15 @@
 //! The accounts of a policy.
-ghost use Rattle.std.specs.Prelude.{◌≡◌, [], option_map};
-ghost use Rattle.serde_json.specs.View.{view, items_view, members_view};
+ghost use Rattle.std.specs.Prelude.{◌≡◌, []};
+ghost use Rattle.serde_json.specs.View.{view, members_view};
 ghost use Rattle.policy_walk.specs.Fault.{Gives};
-ghost use Rattle.account_config.specs.Policy.{account_at, account_name_from, account_rows, accounts_at, accounts_from, each, exports_under, imports_under, mappings_under, named_account_at, user_at, users_at, users_under};
+ghost use Rattle.account_config.specs.Policy.{account_at, account_name_from, account_rows, accounts_at, accounts_from, exports_under, imports_under, mappings_under, named_account_at};
 ghost use Rattle.policy_walk.specs.Object.{judged};
 
-use crate::user::user_of;
-use base::Items;
-use policy_doc::{AccountDoc, Accounts, NamedAccount, UserDoc, Version};
+use crate::user::User;
+use policy_doc::{AccountDoc, Accounts, NamedAccount, Version};
 use policy_mappings::mappings_under;
 use policy_rows::{account_name_from, exports_under, imports_under};
-use policy_walk::{ConfigFault, Path, items_of, judge, members_of};
+use policy_walk::{ConfigFault, Path, judge, list_under, members_of};
 use serde_json::{Map, Value};
 use std::alloc::Global;
 
@@ -80,7 +79,7 @@ fn account_of(
 {
     judge_account(alloc, version, path, value)?;
     let below = path.key(alloc, "users")?;
-    let users = users_under(alloc, &below, value.get("users"))?;
+    let users = list_under(alloc, &User, &below, value.get("users"))?;
     let below = path.key(alloc, "exports")?;
     let exports = exports_under(alloc, &below, value.get("exports"))?;
     let below = path.key(alloc, "imports")?;
@@ -114,40 +113,4 @@ fn judge_account(
         Version::One => Ok(judge(alloc, &rows[..3], path, value)?),
         Version::Two => Ok(judge(alloc, &rows, path, value)?),
     }
-}
-
-/// The users of a list, if it is there.
-fn users_under(
-    alloc: Global,
-    path: &Path,
-    found: Option<&Value>,
-) -> Result<Items<UserDoc>, ConfigFault>
-    ensures { Gives (λ x. x) result (users_under path.now (option_map (λ v. view v.now) found.entry)) }
-{
-    match found {
-        None => Ok(Items::new(alloc)),
-        Some(value) => Ok(users_of(alloc, path, value)?),
-    }
-}
-
-/// The users of a list.
-#[tactic(auto, unfolding(crate::specs::Policy::users_at))]
-fn users_of(alloc: Global, path: &Path, value: &Value) -> Result<Items<UserDoc>, ConfigFault>
-    ensures { Gives (λ x. x) result (users_at path.now (view value.now)) }
-{
-    let values = items_of(alloc, path, value)?;
-    Ok(each_user(alloc, path, values)?)
-}
-
-/// The users of a list's values in order.
-fn each_user(alloc: Global, path: &Path, values: &[Value]) -> Result<Items<UserDoc>, ConfigFault>
-    ensures { Gives (λ x. x) result (each user_at path.now 0 (items_view values.now)) }
-{
-    let mut users = Vec::with_capacity(alloc, values.len())?;
-    for (index, value) in values.iter().enumerate() {
-        let below = path.index(alloc, index)?;
-        let user = user_of(alloc, &below, value)?;
-        users.push(user)?;
-    }
-    Ok(Items::from_vec(users))
 }

@@ -9,13 +9,27 @@ use permission_doc::PermDoc;
 use policy_doc::UserDoc;
 use policy_permissions::permissions_under;
 use policy_rows::has_name_length;
-use policy_walk::{ConfigFault, Path, judge, required_text_of};
+use policy_walk::{ConfigFault, Path, Reader, judge, required_text_of};
 use serde_json::Value;
 use std::alloc::Global;
 
+/// Reads a user.
+#[derive(Drop)]
+pub(crate) struct User;
+
+impl Reader for User {
+    type Out = UserDoc;
+
+    ghost reads = { λ _. user_at };
+
+    fn read(&self, alloc: Global, path: &Path, value: &Value) -> Result<UserDoc, ConfigFault> {
+        user_of(alloc, path, value)
+    }
+}
+
 /// A user: its name, its password and, if they are there, its permissions.
 #[tactic(auto, unfolding(crate::specs::Policy::user_at))]
-pub(crate) fn user_of(alloc: Global, path: &Path, value: &Value) -> Result<UserDoc, ConfigFault>
+fn user_of(alloc: Global, path: &Path, value: &Value) -> Result<UserDoc, ConfigFault>
     ensures { Gives (λ x. x) result (user_at path.now (view value.now)) }
 {
     let rows = [("user", true), ("password", true), ("permissions", false)];

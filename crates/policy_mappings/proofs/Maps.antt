@@ -4,7 +4,7 @@ use Rattle.serde_json.specs.Data.{Data, Members, member}
 use Rattle.account_mappings.specs.Drawing.{SourceMap}
 use Rattle.policy_walk.specs.Fault.{Read}
 use Rattle.policy_walk.specs.Path.{Path, at_key}
-use Rattle.policy_permissions.proofs.Lists.{regroup, with_front}
+use Rattle.policy_walk.proofs.Lists.{regroup, with_front}
 use Rattle.policy_mappings.specs.Mappings.{map_at, maps_from}
 
 -- one source more is read

@@ -8,7 +8,7 @@ use Rattle.account_mappings.specs.Drawing.{Share, AreOwn, share_of}
 use Rattle.policy_walk.specs.Fault.{Read, ◌>>=◌}
 use Rattle.policy_walk.specs.Object.{judged}
 use Rattle.policy_walk.specs.Path.{Path, at_key, at_index}
-use Rattle.policy_permissions.specs.Permissions.{each}
+use Rattle.policy_walk.specs.Lists.{each}
 use Rattle.policy_mappings.specs.Mappings.{destination_rows, object_shares, share_at, shares_at, shares_by, template_at, template_from, text_shares, weight_under}
 
 -- what was read in two parts was read in each

@@ -13,7 +13,8 @@ use Rattle.policy_walk.specs.Fault.{Read, ◌>>=◌}
 use Rattle.policy_walk.specs.Path.{Path, at_key}
 use Rattle.policy_walk.specs.Object.{Row, judged, members_at}
 use Rattle.policy_walk.specs.Texts.{required_text_at}
-use Rattle.policy_permissions.specs.Permissions.{each, pattern_from}
+use Rattle.policy_walk.specs.Lists.{each}
+use Rattle.policy_permissions.specs.Permissions.{pattern_from}
 
 -- ---- the table: a key of a destination's object, and whether it must be there
 

@@ -1,10 +1,9 @@
 //! The destinations of a source.
 ghost use Rattle.std.specs.Prelude.{◌≡◌, ◌∷◌, [], IfOk, None};
-ghost use Rattle.serde_json.specs.View.{items_view, view};
+ghost use Rattle.serde_json.specs.View.{view};
 ghost use Rattle.mapping_one_way.specs.Fault.{one_way_fault};
 ghost use Rattle.account_mappings.specs.Drawing.{share_of};
 ghost use Rattle.policy_walk.specs.Fault.{Gives};
-ghost use Rattle.policy_permissions.specs.Permissions.{each};
 ghost use Rattle.policy_mappings.specs.Mappings.{object_shares, share_at, shares_at, template_at, template_from, text_shares};
 
 use crate::weight::weight_under;
@@ -12,10 +11,26 @@ use account_mappings::Destination;
 use base::{Items, NoMemory};
 use mapping_one_way::one_way_fault;
 use mapping_weights::Weight;
-use policy_walk::{ConfigFault, Path, judge, required_text_of};
+use policy_walk::{ConfigFault, Path, Reader, each_of, judge, required_text_of};
 use serde_json::Value;
 use std::alloc::Global;
 use subjects::Pattern;
+
+/// Reads a destination of a source.
+#[derive(Drop)]
+struct Destinations<'s> {
+    source: &'s Pattern,
+}
+
+impl<'s> Reader for Destinations<'s> {
+    type Out = Destination;
+
+    ghost reads = { λ destinations. share_at destinations.source.now };
+
+    fn read(&self, alloc: Global, path: &Path, value: &Value) -> Result<Destination, ConfigFault> {
+        destination_of(alloc, self.source, path, value)
+    }
+}
 
 /// The destinations of a source: a text, an object, or a list of objects.
 pub(crate) fn destinations_of(
@@ -29,7 +44,7 @@ pub(crate) fn destinations_of(
     match value.as_str() {
         Some(text) => Ok(text_destination(alloc, source, path, text)?),
         None => match value.as_array() {
-            Some(values) => Ok(each_destination(alloc, source, path, values.as_slice())?),
+            Some(values) => Ok(each_of(alloc, &Destinations { source }, path, values.as_slice())?),
             None => Ok(object_destination(alloc, source, path, value)?),
         },
     }
@@ -62,24 +77,6 @@ fn object_destination(
 {
     let destination = destination_of(alloc, source, path, value)?;
     Ok(one(alloc, destination)?)
-}
-
-/// The destinations of a list's values in order.
-fn each_destination(
-    alloc: Global,
-    source: &Pattern,
-    path: &Path,
-    values: &[Value],
-) -> Result<Items<Destination>, ConfigFault>
-    ensures { Gives (λ x. x) result (each (share_at source.now) path.now 0 (items_view values.now)) }
-{
-    let mut destinations = Vec::with_capacity(alloc, values.len())?;
-    for (index, value) in values.iter().enumerate() {
-        let below = path.index(alloc, index)?;
-        let destination = destination_of(alloc, source, &below, value)?;
-        destinations.push(destination)?;
-    }
-    Ok(Items::from_vec(destinations))
 }
 
 /// The destination of an object.

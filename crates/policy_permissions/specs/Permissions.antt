@@ -1,14 +1,14 @@
 -- The permissions that a JSON value writes, or its first fault (docs/POLICY.md, "Permissions").
 -- A null counts as a value of another kind, and not as absent.
-use Rattle.std.specs.Prelude.{◌&&◌, ◌∷◌, ℕ, ℤ, negsuc, suc, Bool, true, false, List, [], codes, if◌then◌else◌, Option, Some, None, Ok, Err, is_some, nat_le, option_and_then}
+use Rattle.std.specs.Prelude.{◌&&◌, ◌∷◌, ℕ, ℤ, negsuc, Bool, true, false, List, [], codes, if◌then◌else◌, Option, Some, None, Ok, Err, is_some, nat_le, option_and_then}
 use Rattle.std.specs.Option.{ok_or}
 use Rattle.std.specs.Ordering.{int_eq}
-use Rattle.serde_json.specs.Data.{Data, Items, no_items, item}
+use Rattle.serde_json.specs.Data.{Data}
 use Rattle.serde_json.specs.Find.{get, as_bool, as_str, as_object, as_number, as_i64, as_u64}
 use Rattle.policy_walk.specs.Durations.{duration_of}
 use Rattle.permission_doc.specs.declared.document.Terms.{Terms}
-use Rattle.subjects.specs.Subject.{Token, tokens_of}
-use Rattle.subjects.specs.Fault.{pattern_fault}
+use Rattle.subjects.specs.Subject.{Token}
+use Rattle.subjects.specs.Fault.{pattern_if}
 use Rattle.permission_doc.specs.declared.document.PermDoc.{PermDoc}
 use Rattle.permission_doc.specs.declared.document.Direction.{Direction}
 use Rattle.permission_doc.specs.declared.document.PermEntry.{PermEntry}
@@ -16,10 +16,11 @@ use Rattle.policy_walk.specs.declared.fault.ConfigFault.TheVariants.{WrongType, 
 use Rattle.policy_permissions.specs.declared.entry.Side.{Side}
 use Rattle.policy_permissions.specs.declared.entry.Side.TheVariants.{Publish, Subscribe}
 use Rattle.policy_walk.specs.Fault.{Read, ◌>>=◌}
-use Rattle.policy_walk.specs.Path.{Path, at_key, at_index}
+use Rattle.policy_walk.specs.Path.{Path, at_key}
 use Rattle.policy_permissions.specs.Entry.{entry_parts}
 use Rattle.policy_walk.specs.Object.{Row, judged}
-use Rattle.policy_walk.specs.Texts.{text_at, items_at}
+use Rattle.policy_walk.specs.Texts.{text_at}
+use Rattle.policy_walk.specs.Lists.{list_at}
 
 -- ---- the tables: a key of each object, and whether it must be there
 
@@ -32,20 +33,10 @@ terms_rows = (codes "max", false) ∷ (codes "expires", false) ∷ []
 abbrev pub direction_rows : List Row
 direction_rows = (codes "allow", false) ∷ (codes "deny", false) ∷ []
 
--- ---- lists
-
--- each value of a list from an index on, read in order
-abbrev pub each : {X : Type 0} → (Path → Data → Read X) → Path → ℕ → Items → Read (List X)
-each reader path i no_items = Ok []
-each reader path i (item d ds) = do
-  x ← reader (at_index path i) d
-  xs ← each reader path (suc i) ds
-  Ok (x ∷ xs)
-
 -- ---- permissions
 
 abbrev pub pattern_from : Path → List ℕ → Read (List Token)
-pattern_from path text = if is_some (pattern_fault text) then Err (BadSubject path) else Ok (tokens_of text)
+pattern_from path text = ok_or (pattern_if text) (BadSubject path)
 
 abbrev pub queue_from : Path → Option (List ℕ) → Read (Option (List Token))
 queue_from path None = Ok None
@@ -76,9 +67,7 @@ entries_at side path d =
     if is_some (as_str d) then (do
       entry ← entry_at side path d
       Ok (entry ∷ []))
-    else (do
-      items ← items_at path d
-      each (entry_at side) path 0 items)
+    else list_at (entry_at side) path d
 
 -- the entries under a key, if it is there
 abbrev pub entries_under : Side → Path → Option Data → Read (Option (List PermEntry))

@@ -1,16 +1,32 @@
 //! What a user may publish or subscribe to.
 ghost use Rattle.std.specs.Prelude.{option_map};
-ghost use Rattle.serde_json.specs.View.{view, items_view};
+ghost use Rattle.serde_json.specs.View.{view};
 ghost use Rattle.policy_walk.specs.Fault.{Gives};
-ghost use Rattle.policy_permissions.specs.Permissions.{allow_at, direction_at, each, entries_at, entries_under, entry_at, lists_at, permissions_at, permissions_under, spelled_at, spelled_from};
+ghost use Rattle.policy_permissions.specs.Permissions.{allow_at, direction_at, entries_at, entries_under, entry_at, lists_at, permissions_at, permissions_under, spelled_at, spelled_from};
 
 use crate::entry::{Side, entry_from};
 use crate::responses::allow_responses_of;
 use base::Items;
 use permission_doc::{Direction, PermDoc, PermEntry};
-use policy_walk::{ConfigFault, Path, items_of, judge, text_of};
+use policy_walk::{ConfigFault, Path, Reader, judge, list_of, text_of};
 use serde_json::Value;
 use std::alloc::Global;
+
+/// Reads an entry of a list.
+#[derive(Drop)]
+struct Entries {
+    side: Side,
+}
+
+impl Reader for Entries {
+    type Out = PermEntry;
+
+    ghost reads = { λ entries. entry_at entries.side };
+
+    fn read(&self, alloc: Global, path: &Path, value: &Value) -> Result<PermEntry, ConfigFault> {
+        entry_of(alloc, self.side, path, value)
+    }
+}
 
 /// A user's permissions, if it has any.
 pub fn permissions_under(
@@ -172,27 +188,8 @@ fn entries_of(
         entries.push(entry)?;
         Ok(Items::from_vec(entries))
     } else {
-        let values = items_of(alloc, path, value)?;
-        Ok(each_entry(alloc, side, path, values)?)
+        Ok(list_of(alloc, &Entries { side }, path, value)?)
     }
-}
-
-/// The entries of a list's values in order.
-fn each_entry(
-    alloc: Global,
-    side: Side,
-    path: &Path,
-    values: &[Value],
-) -> Result<Items<PermEntry>, ConfigFault>
-    ensures { Gives (λ x. x) result (each (entry_at side) path.now 0 (items_view values.now)) }
-{
-    let mut entries = Vec::with_capacity(alloc, values.len())?;
-    for (index, value) in values.iter().enumerate() {
-        let below = path.index(alloc, index)?;
-        let entry = entry_of(alloc, side, &below, value)?;
-        entries.push(entry)?;
-    }
-    Ok(Items::from_vec(entries))
 }
 
 /// The entry of a value that has to be a text.

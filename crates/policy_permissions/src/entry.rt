@@ -7,6 +7,7 @@ ghost use Rattle.policy_permissions.specs.Permissions.{entry_from, parts_from, p
 use permission_doc::PermEntry;
 use policy_walk::{ConfigFault, Path};
 use std::alloc::Global;
+use subject_texts::pattern_if;
 use subjects::Pattern;
 
 /// What the entries of a list decide: a subscribe entry may have a queue part.
@@ -69,15 +70,9 @@ fn queue_from(
 pub fn pattern_from(alloc: Global, path: &Path, text: &[u8]) -> Result<Pattern, ConfigFault>
     ensures { Gives (λ x. x) result (pattern_from path.now text.now) }
 {
-    match Pattern::parse(alloc, text) {
-        Ok(pattern) => Ok(pattern),
-        Err(error) => {
-            if error.is_no_memory() {
-                Err(ConfigFault::NoMemory)
-            } else {
-                Err(ConfigFault::BadSubject(path.copy(alloc)?))
-            }
-        }
+    match pattern_if(alloc, text)? {
+        Some(pattern) => Ok(pattern),
+        None => Err(ConfigFault::BadSubject(path.copy(alloc)?)),
     }
 }
 

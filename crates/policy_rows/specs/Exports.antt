@@ -4,8 +4,6 @@ use Rattle.std.specs.Prelude.{◌∷◌, ℕ, Bool, true, false, List, [], codes
 use Rattle.std.specs.Str.{bytes_eq}
 use Rattle.serde_json.specs.Data.{Data}
 use Rattle.serde_json.specs.Find.{get}
-use Rattle.subjects.specs.Subject.{Token}
-use Rattle.exports.specs.declared.document.Kind.{Kind}
 use Rattle.exports.specs.declared.document.Kind.TheVariants.{Stream, Service}
 use Rattle.exports.specs.declared.document.ExportDoc.{ExportDoc}
 use Rattle.exports.specs.declared.document.ResponseTerms.{ResponseTerms}
@@ -13,9 +11,10 @@ use Rattle.policy_walk.specs.declared.fault.ConfigFault.TheVariants.{WrongType}
 use Rattle.policy_walk.specs.Fault.{Read, ◌>>=◌}
 use Rattle.policy_walk.specs.Path.{Path, at_key}
 use Rattle.policy_walk.specs.Object.{Row, judged}
-use Rattle.policy_walk.specs.Texts.{text_at, items_at, required_text_at}
-use Rattle.policy_permissions.specs.Permissions.{each, duration_at, pattern_from}
-use Rattle.policy_rows.specs.Names.{account_name_at, kind_of}
+use Rattle.policy_walk.specs.Texts.{text_at}
+use Rattle.policy_walk.specs.Lists.{list_at, list_under}
+use Rattle.policy_permissions.specs.Permissions.{duration_at}
+use Rattle.policy_rows.specs.Names.{account_name_at, pattern_at, row_at}
 
 -- ---- the tables: a key of each object, and whether it must be there
 
@@ -29,22 +28,11 @@ service_rows = (codes "service", true) ∷ (codes "accounts", false) ∷ (codes 
 abbrev pub either_rows : List Row
 either_rows = (codes "stream", false) ∷ (codes "service", false) ∷ (codes "accounts", false) ∷ (codes "response_type", false) ∷ (codes "response_ttl", false) ∷ []
 
--- the pattern whose subjects are offered
-unfoldable pub offered_at : List ℕ → Path → Data → Read (List Token)
-offered_at key path d = do
-  text ← required_text_at key path d
-  pattern_from (at_key path key) text
-
-unfoldable pub accounts_at : Path → Data → Read (List (List ℕ))
-accounts_at path d = do
-  items ← items_at path d
-  each account_name_at path 0 items
-
 -- without a list it is public
 abbrev pub accounts_under : Path → Option Data → Read (Option (List (List ℕ)))
 accounts_under path None = Ok None
 accounts_under path (Some d) = do
-  names ← accounts_at path d
+  names ← list_at account_name_at path d
   Ok (Some names)
 
 -- one response, or a stream of them
@@ -80,38 +68,21 @@ usual_response = record { ttl = 120000; single = true }
 unfoldable pub stream_at : Path → Data → Read ExportDoc
 stream_at path d = do
   known ← judged stream_rows path d
-  subject ← offered_at (codes "stream") path d
+  subject ← pattern_at (codes "stream") path d
   accounts ← accounts_under (at_key path (codes "accounts")) (get (codes "accounts") d)
   Ok (record { kind = Stream; subject = subject; accounts = accounts; response = usual_response })
 
 unfoldable pub service_at : Path → Data → Read ExportDoc
 service_at path d = do
   known ← judged service_rows path d
-  subject ← offered_at (codes "service") path d
+  subject ← pattern_at (codes "service") path d
   accounts ← accounts_under (at_key path (codes "accounts")) (get (codes "accounts") d)
   response ← response_at path d
   Ok (record { kind = Service; subject = subject; accounts = accounts; response = response })
 
--- a row with neither of the two keys, or with both
-unfoldable pub neither_at : Path → Data → Read ExportDoc
-neither_at path d = do
-  known ← judged either_rows path d
-  Err (WrongType path)
-
-abbrev pub export_by : Path → Data → Option Kind → Read ExportDoc
-export_by path d (Some Stream) = stream_at path d
-export_by path d (Some Service) = service_at path d
-export_by path d None = neither_at path d
-
 abbrev pub export_at : Path → Data → Read ExportDoc
-export_at path d = export_by path d (kind_of d)
-
-unfoldable pub exports_at : Path → Data → Read (List ExportDoc)
-exports_at path d = do
-  items ← items_at path d
-  each export_at path 0 items
+export_at = row_at stream_at service_at either_rows
 
 -- absent exports are none
 abbrev pub exports_under : Path → Option Data → Read (List ExportDoc)
-exports_under path None = Ok []
-exports_under path (Some d) = exports_at path d
+exports_under = list_under export_at

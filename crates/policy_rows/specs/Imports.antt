@@ -1,20 +1,20 @@
 -- The imports that a JSON value writes, or its first fault (docs/POLICY.md, "Exports and imports").
 -- A null counts as a value of another kind, and not as absent.
-use Rattle.std.specs.Prelude.{◌∷◌, ℕ, Bool, true, false, List, [], codes, if◌then◌else◌, Option, Some, None, Ok, Err, is_some}
+use Rattle.std.specs.Prelude.{◌∷◌, ℕ, true, false, List, [], codes, Option, Some, None, Ok}
+use Rattle.std.specs.Option.{ok_or}
 use Rattle.serde_json.specs.Data.{Data}
 use Rattle.serde_json.specs.Find.{get}
-use Rattle.subjects.specs.Subject.{Token, tokens_of}
-use Rattle.subjects.specs.Fault.{subject_fault}
-use Rattle.exports.specs.declared.document.Kind.{Kind}
+use Rattle.subjects.specs.Subject.{Token}
+use Rattle.subjects.specs.Fault.{subject_if}
 use Rattle.exports.specs.declared.document.Kind.TheVariants.{Stream, Service}
 use Rattle.policy_doc.specs.declared.document.ImportDoc.{ImportDoc}
-use Rattle.policy_walk.specs.declared.fault.ConfigFault.TheVariants.{WrongType, BadSubject}
+use Rattle.policy_walk.specs.declared.fault.ConfigFault.TheVariants.{BadSubject}
 use Rattle.policy_walk.specs.Fault.{Read, ◌>>=◌}
 use Rattle.policy_walk.specs.Path.{Path, at_key}
 use Rattle.policy_walk.specs.Object.{Row, judged, required_at}
-use Rattle.policy_walk.specs.Texts.{text_at, items_at, required_text_at}
-use Rattle.policy_permissions.specs.Permissions.{each, pattern_from}
-use Rattle.policy_rows.specs.Names.{account_name_from, kind_of}
+use Rattle.policy_walk.specs.Texts.{text_at, required_text_at}
+use Rattle.policy_walk.specs.Lists.{list_under}
+use Rattle.policy_rows.specs.Names.{account_name_from, pattern_at, row_at}
 use Rattle.policy_rows.specs.declared.import_row.Source.{Source}
 
 -- ---- the tables: a key of each object, and whether it must be there
@@ -39,11 +39,6 @@ account_at path d = do
   name ← required_text_at (codes "account") path d
   account_name_from (at_key path (codes "account")) name
 
-unfoldable pub subject_at : Path → Data → Read (List Token)
-subject_at path d = do
-  text ← required_text_at (codes "subject") path d
-  pattern_from (at_key path (codes "subject")) text
-
 abbrev pub source_of : List ℕ → List Token → Source
 source_of account subject = record { account = account; subject = subject }
 
@@ -51,7 +46,7 @@ unfoldable pub source_at : Path → Data → Read Source
 source_at path d = do
   known ← judged source_rows path d
   account ← account_at path d
-  subject ← subject_at path d
+  subject ← pattern_at (codes "subject") path d
   Ok (source_of account subject)
 
 -- what stands under the key of a row's kind
@@ -68,7 +63,7 @@ to_under path (Some d) = do
   Ok (Some text)
 
 abbrev pub subject_from : Path → List ℕ → Read (List Token)
-subject_from path text = if is_some (subject_fault text) then Err (BadSubject path) else Ok (tokens_of text)
+subject_from path text = ok_or (subject_if text) (BadSubject path)
 
 abbrev pub prefix_under : Path → Option Data → Read (Option (List Token))
 prefix_under path None = Ok None
@@ -92,26 +87,9 @@ service_at path d = do
   to ← to_under (at_key path (codes "to")) (get (codes "to") d)
   Ok (record { kind = Service; account = source.account; subject = source.subject; to = to; prefix = None })
 
--- a row with neither of the two keys, or with both
-unfoldable pub neither_at : Path → Data → Read ImportDoc
-neither_at path d = do
-  known ← judged either_rows path d
-  Err (WrongType path)
-
-abbrev pub import_by : Path → Data → Option Kind → Read ImportDoc
-import_by path d (Some Stream) = stream_at path d
-import_by path d (Some Service) = service_at path d
-import_by path d None = neither_at path d
-
 abbrev pub import_at : Path → Data → Read ImportDoc
-import_at path d = import_by path d (kind_of d)
-
-unfoldable pub imports_at : Path → Data → Read (List ImportDoc)
-imports_at path d = do
-  items ← items_at path d
-  each import_at path 0 items
+import_at = row_at stream_at service_at either_rows
 
 -- absent imports are none
 abbrev pub imports_under : Path → Option Data → Read (List ImportDoc)
-imports_under path None = Ok []
-imports_under path (Some d) = imports_at path d
+imports_under = list_under import_at

@@ -1,22 +1,32 @@
 //! The exports of an account.
 ghost use Rattle.std.specs.Prelude.{◌≡◌, option_map};
-ghost use Rattle.serde_json.specs.View.{view, items_view};
+ghost use Rattle.serde_json.specs.View.{view};
 ghost use Rattle.policy_walk.specs.Fault.{Gives};
-ghost use Rattle.policy_walk.specs.Object.{judged};
-ghost use Rattle.policy_permissions.specs.Permissions.{each};
-ghost use Rattle.policy_rows.specs.Exports.{accounts_at, accounts_under, either_rows, export_at, export_by, exports_at, exports_under, neither_at, offered_at, service_at, stream_at};
-ghost use Rattle.policy_rows.specs.Names.{account_name_at, kind_of};
+ghost use Rattle.policy_rows.specs.Exports.{accounts_under, either_rows, export_at, exports_under, service_at, stream_at};
+ghost use Rattle.policy_rows.specs.Names.{account_name_at, kindless_at};
 
-use crate::names::{account_name_of, kind_of};
+use crate::names::{account_name_of, kind_of, kindless_of, pattern_of};
 use crate::terms::{response_of, usual_response};
 use base::Items;
 use bytes::Bytes;
 use exports::{ExportDoc, Kind};
-use policy_permissions::pattern_from;
-use policy_walk::{ConfigFault, Path, items_of, judge, required_text_of};
+use policy_walk::{ConfigFault, Path, Reader, judge, list_of, list_under};
 use serde_json::Value;
 use std::alloc::Global;
-use subjects::Pattern;
+
+/// Reads an export.
+#[derive(Drop)]
+struct ExportRow;
+
+impl Reader for ExportRow {
+    type Out = ExportDoc;
+
+    ghost reads = { λ _. export_at };
+
+    fn read(&self, alloc: Global, path: &Path, value: &Value) -> Result<ExportDoc, ConfigFault> {
+        export_of(alloc, path, value)
+    }
+}
 
 /// The exports of a list, if it is there. The first fault, as docs/POLICY.md has them in order, where it isn't a list of
 /// exports; `NoMemory` where memory could not be had.
@@ -27,36 +37,7 @@ pub fn exports_under(
 ) -> Result<Items<ExportDoc>, ConfigFault>
     ensures { Gives (λ x. x) result (exports_under path.now (option_map (λ v. view v.now) found.entry)) }
 {
-    match found {
-        None => Ok(Items::new(alloc)),
-        Some(value) => Ok(exports_of(alloc, path, value)?),
-    }
-}
-
-/// The exports of a list.
-#[tactic(auto, unfolding(crate::specs::Exports::exports_at))]
-fn exports_of(alloc: Global, path: &Path, value: &Value) -> Result<Items<ExportDoc>, ConfigFault>
-    ensures { Gives (λ x. x) result (exports_at path.now (view value.now)) }
-{
-    let values = items_of(alloc, path, value)?;
-    Ok(each_export(alloc, path, values)?)
-}
-
-/// The exports of a list's values in order.
-fn each_export(
-    alloc: Global,
-    path: &Path,
-    values: &[Value],
-) -> Result<Items<ExportDoc>, ConfigFault>
-    ensures { Gives (λ x. x) result (each export_at path.now 0 (items_view values.now)) }
-{
-    let mut exports = Vec::with_capacity(alloc, values.len())?;
-    for (index, value) in values.iter().enumerate() {
-        let below = path.index(alloc, index)?;
-        let export = export_of(alloc, &below, value)?;
-        exports.push(export)?;
-    }
-    Ok(Items::from_vec(exports))
+    Ok(list_under(alloc, &ExportRow, path, found)?)
 }
 
 /// An export of either kind.
@@ -76,7 +57,7 @@ fn stream_of(alloc: Global, path: &Path, value: &Value) -> Result<ExportDoc, Con
     ensures { Gives (λ x. x) result (stream_at path.now (view value.now)) }
 {
     judge(alloc, &[("stream", true), ("accounts", false)], path, value)?;
-    let subject = offered_of(alloc, "stream", path, value)?;
+    let subject = pattern_of(alloc, "stream", path, value)?;
     let below = path.key(alloc, "accounts")?;
     let accounts = accounts_under(alloc, &below, value.get("accounts"))?;
     Ok(ExportDoc {
@@ -99,7 +80,7 @@ fn service_of(alloc: Global, path: &Path, value: &Value) -> Result<ExportDoc, Co
         ("response_ttl", false),
     ];
     judge(alloc, &rows, path, value)?;
-    let subject = offered_of(alloc, "service", path, value)?;
+    let subject = pattern_of(alloc, "service", path, value)?;
     let below = path.key(alloc, "accounts")?;
     let accounts = accounts_under(alloc, &below, value.get("accounts"))?;
     let response = response_of(alloc, path, value)?;
@@ -111,18 +92,9 @@ fn service_of(alloc: Global, path: &Path, value: &Value) -> Result<ExportDoc, Co
     })
 }
 
-/// The fault of a row with neither of the two keys, or with both: `WrongType`, after an unknown key.
-#[tactic(auto, unfolding(crate::specs::Exports::neither_at))]
+/// The fault of a row of neither kind.
 fn neither_of(alloc: Global, path: &Path, value: &Value) -> Result<ExportDoc, ConfigFault>
-    ensures { Gives (λ x. x) result (neither_at path.now (view value.now)) }
-{
-    judge_known(alloc, path, value)?;
-    Err(ConfigFault::WrongType(path.copy(alloc)?))
-}
-
-/// Refuses what is no object of the keys of exports of either kind.
-fn judge_known(alloc: Global, path: &Path, value: &Value) -> Result<(), ConfigFault>
-    ensures { Gives (λ x. x) result (judged either_rows path.now (view value.now)) }
+    ensures { Gives (λ x. x) result (kindless_at either_rows path.now (view value.now)) }
 {
     let rows = [
         ("stream", false),
@@ -131,17 +103,21 @@ fn judge_known(alloc: Global, path: &Path, value: &Value) -> Result<(), ConfigFa
         ("response_type", false),
         ("response_ttl", false),
     ];
-    judge(alloc, &rows, path, value)
+    kindless_of(alloc, &rows, path, value)
 }
 
-/// The pattern under a key that has to be there.
-#[tactic(auto, unfolding(crate::specs::Exports::offered_at))]
-fn offered_of(alloc: Global, key: &str, path: &Path, value: &Value) -> Result<Pattern, ConfigFault>
-    ensures { Gives (λ x. x) result (offered_at key.now path.now (view value.now)) }
-{
-    let text = required_text_of(alloc, key, path, value)?;
-    let below = path.key(alloc, key)?;
-    Ok(pattern_from(alloc, &below, text.as_bytes())?)
+/// Reads an account's name.
+#[derive(Drop)]
+struct AccountName;
+
+impl Reader for AccountName {
+    type Out = Bytes;
+
+    ghost reads = { λ _. account_name_at };
+
+    fn read(&self, alloc: Global, path: &Path, value: &Value) -> Result<Bytes, ConfigFault> {
+        account_name_of(alloc, path, value)
+    }
 }
 
 /// The accounts that may import, if there is a list of them.
@@ -154,28 +130,6 @@ fn accounts_under(
 {
     match found {
         None => Ok(None),
-        Some(value) => Ok(Some(accounts_of(alloc, path, value)?)),
+        Some(value) => Ok(Some(list_of(alloc, &AccountName, path, value)?)),
     }
-}
-
-/// The names of a list.
-#[tactic(auto, unfolding(crate::specs::Exports::accounts_at))]
-fn accounts_of(alloc: Global, path: &Path, value: &Value) -> Result<Items<Bytes>, ConfigFault>
-    ensures { Gives (λ x. x) result (accounts_at path.now (view value.now)) }
-{
-    let values = items_of(alloc, path, value)?;
-    Ok(each_name(alloc, path, values)?)
-}
-
-/// The names of a list's values in order.
-fn each_name(alloc: Global, path: &Path, values: &[Value]) -> Result<Items<Bytes>, ConfigFault>
-    ensures { Gives (λ x. x) result (each account_name_at path.now 0 (items_view values.now)) }
-{
-    let mut names = Vec::with_capacity(alloc, values.len())?;
-    for (index, value) in values.iter().enumerate() {
-        let below = path.index(alloc, index)?;
-        let name = account_name_of(alloc, &below, value)?;
-        names.push(name)?;
-    }
-    Ok(Items::from_vec(names))
 }

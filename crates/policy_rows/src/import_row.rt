@@ -1,21 +1,21 @@
 //! The imports of an account.
 ghost use Rattle.std.specs.Prelude.{◌≡◌, option_map};
-ghost use Rattle.serde_json.specs.View.{view, items_view};
+ghost use Rattle.serde_json.specs.View.{view};
 ghost use Rattle.policy_walk.specs.Fault.{Gives};
-ghost use Rattle.policy_walk.specs.Object.{judged};
-ghost use Rattle.policy_permissions.specs.Permissions.{each};
-ghost use Rattle.policy_rows.specs.Imports.{account_at, either_rows, import_at, import_by, imports_at, imports_under, neither_at, prefix_under, service_at, source_at, source_in, stream_at, subject_at, subject_from, to_under};
-ghost use Rattle.policy_rows.specs.Names.{kind_of};
+ghost use Rattle.policy_rows.specs.Imports.{account_at, either_rows, import_at, imports_under, prefix_under, service_at, source_at, source_in, stream_at, subject_from, to_under};
+ghost use Rattle.policy_rows.specs.Names.{kindless_at};
 
-use crate::names::{account_name_from, kind_of};
+use crate::names::{account_name_from, kind_of, kindless_of, pattern_of};
 use base::Items;
 use bytes::Bytes;
 use exports::Kind;
 use policy_doc::ImportDoc;
-use policy_permissions::pattern_from;
-use policy_walk::{ConfigFault, Path, items_of, judge, required_of, required_text_of, text_of};
+use policy_walk::{
+    ConfigFault, Path, Reader, judge, list_under, required_of, required_text_of, text_of,
+};
 use serde_json::Value;
 use std::alloc::Global;
+use subject_texts::subject_if;
 use subjects::{Pattern, Subject};
 
 /// What an import is of: subjects of an account.
@@ -23,6 +23,20 @@ use subjects::{Pattern, Subject};
 struct Source {
     account: Bytes,
     subject: Pattern,
+}
+
+/// Reads an import.
+#[derive(Drop)]
+struct ImportRow;
+
+impl Reader for ImportRow {
+    type Out = ImportDoc;
+
+    ghost reads = { λ _. import_at };
+
+    fn read(&self, alloc: Global, path: &Path, value: &Value) -> Result<ImportDoc, ConfigFault> {
+        import_of(alloc, path, value)
+    }
 }
 
 /// The imports of a list, if it is there. The first fault, as docs/POLICY.md has them in order, where it isn't a list of
@@ -34,36 +48,7 @@ pub fn imports_under(
 ) -> Result<Items<ImportDoc>, ConfigFault>
     ensures { Gives (λ x. x) result (imports_under path.now (option_map (λ v. view v.now) found.entry)) }
 {
-    match found {
-        None => Ok(Items::new(alloc)),
-        Some(value) => Ok(imports_of(alloc, path, value)?),
-    }
-}
-
-/// The imports of a list.
-#[tactic(auto, unfolding(crate::specs::Imports::imports_at))]
-fn imports_of(alloc: Global, path: &Path, value: &Value) -> Result<Items<ImportDoc>, ConfigFault>
-    ensures { Gives (λ x. x) result (imports_at path.now (view value.now)) }
-{
-    let values = items_of(alloc, path, value)?;
-    Ok(each_import(alloc, path, values)?)
-}
-
-/// The imports of a list's values in order.
-fn each_import(
-    alloc: Global,
-    path: &Path,
-    values: &[Value],
-) -> Result<Items<ImportDoc>, ConfigFault>
-    ensures { Gives (λ x. x) result (each import_at path.now 0 (items_view values.now)) }
-{
-    let mut imports = Vec::with_capacity(alloc, values.len())?;
-    for (index, value) in values.iter().enumerate() {
-        let below = path.index(alloc, index)?;
-        let import = import_of(alloc, &below, value)?;
-        imports.push(import)?;
-    }
-    Ok(Items::from_vec(imports))
+    Ok(list_under(alloc, &ImportRow, path, found)?)
 }
 
 /// An import of either kind.
@@ -116,18 +101,9 @@ fn service_of(alloc: Global, path: &Path, value: &Value) -> Result<ImportDoc, Co
     })
 }
 
-/// The fault of a row with neither of the two keys, or with both: `WrongType`, after an unknown key.
-#[tactic(auto, unfolding(crate::specs::Imports::neither_at))]
+/// The fault of a row of neither kind.
 fn neither_of(alloc: Global, path: &Path, value: &Value) -> Result<ImportDoc, ConfigFault>
-    ensures { Gives (λ x. x) result (neither_at path.now (view value.now)) }
-{
-    judge_known(alloc, path, value)?;
-    Err(ConfigFault::WrongType(path.copy(alloc)?))
-}
-
-/// Refuses what is no object of the keys of imports of either kind.
-fn judge_known(alloc: Global, path: &Path, value: &Value) -> Result<(), ConfigFault>
-    ensures { Gives (λ x. x) result (judged either_rows path.now (view value.now)) }
+    ensures { Gives (λ x. x) result (kindless_at either_rows path.now (view value.now)) }
 {
     let rows = [
         ("stream", false),
@@ -135,7 +111,7 @@ fn judge_known(alloc: Global, path: &Path, value: &Value) -> Result<(), ConfigFa
         ("to", false),
         ("prefix", false),
     ];
-    judge(alloc, &rows, path, value)
+    kindless_of(alloc, &rows, path, value)
 }
 
 /// What stands under the key of a row's kind.
@@ -155,7 +131,7 @@ fn source_of(alloc: Global, path: &Path, value: &Value) -> Result<Source, Config
 {
     judge(alloc, &[("account", true), ("subject", true)], path, value)?;
     let account = account_of(alloc, path, value)?;
-    let subject = subject_of(alloc, path, value)?;
+    let subject = pattern_of(alloc, "subject", path, value)?;
     Ok(Source { account, subject })
 }
 
@@ -167,16 +143,6 @@ fn account_of(alloc: Global, path: &Path, value: &Value) -> Result<Bytes, Config
     let name = required_text_of(alloc, "account", path, value)?;
     let below = path.key(alloc, "account")?;
     Ok(account_name_from(alloc, &below, name.as_bytes())?)
-}
-
-/// The pattern under `subject`.
-#[tactic(auto, unfolding(crate::specs::Imports::subject_at))]
-fn subject_of(alloc: Global, path: &Path, value: &Value) -> Result<Pattern, ConfigFault>
-    ensures { Gives (λ x. x) result (subject_at path.now (view value.now)) }
-{
-    let text = required_text_of(alloc, "subject", path, value)?;
-    let below = path.key(alloc, "subject")?;
-    Ok(pattern_from(alloc, &below, text.as_bytes())?)
 }
 
 /// A template's text, if it is there. It isn't judged here.
@@ -213,14 +179,8 @@ fn prefix_under(
 fn subject_from(alloc: Global, path: &Path, text: &[u8]) -> Result<Subject, ConfigFault>
     ensures { Gives (λ x. x) result (subject_from path.now text.now) }
 {
-    match Subject::parse(alloc, text) {
-        Ok(subject) => Ok(subject),
-        Err(error) => {
-            if error.is_no_memory() {
-                Err(ConfigFault::NoMemory)
-            } else {
-                Err(ConfigFault::BadSubject(path.copy(alloc)?))
-            }
-        }
+    match subject_if(alloc, text)? {
+        Some(subject) => Ok(subject),
+        None => Err(ConfigFault::BadSubject(path.copy(alloc)?)),
     }
 }

@@ -1,15 +1,18 @@
-//! Names, and the kind of a row.
-ghost use Rattle.std.specs.Prelude.{◌≡◌, ◌&&◌, is_some};
+//! What exports and imports have alike: names, patterns under a key, and the kind of a row.
+ghost use Rattle.std.specs.Prelude.{◌≡◌, ◌&&◌, is_some, map};
 ghost use Rattle.std.specs.List.{list_all};
 ghost use Rattle.serde_json.specs.View.{view};
 ghost use Rattle.policy_walk.specs.Fault.{Gives};
-ghost use Rattle.policy_rows.specs.Names.{account_name_at, account_name_from, has_name_length, is_account_byte, is_account_name, kind_by, kind_of};
+ghost use Rattle.policy_walk.specs.Object.{row_of};
+ghost use Rattle.policy_rows.specs.Names.{account_name_at, account_name_from, has_name_length, is_account_byte, is_account_name, kind_by, kind_of, kindless_at, pattern_at};
 
 use bytes::Bytes;
 use exports::Kind;
-use policy_walk::{ConfigFault, Path, text_of};
+use policy_permissions::pattern_from;
+use policy_walk::{ConfigFault, Path, judge, required_text_of, text_of};
 use serde_json::Value;
 use std::alloc::Global;
+use subjects::Pattern;
 
 /// An account's name of a value that has to be a text.
 #[tactic(auto, unfolding(crate::specs::Names::account_name_at))]
@@ -55,6 +58,21 @@ fn has_account_bytes(name: &[u8]) -> bool
     name.iter().all(|b| !(*b < 0x21) && !(*b == 0x7f))
 }
 
+/// The pattern under a key that has to be there.
+#[tactic(auto, unfolding(crate::specs::Names::pattern_at))]
+pub(crate) fn pattern_of(
+    alloc: Global,
+    key: &str,
+    path: &Path,
+    value: &Value,
+) -> Result<Pattern, ConfigFault>
+    ensures { Gives (λ x. x) result (pattern_at key.now path.now (view value.now)) }
+{
+    let text = required_text_of(alloc, key, path, value)?;
+    let below = path.key(alloc, key)?;
+    Ok(pattern_from(alloc, &below, text.as_bytes())?)
+}
+
 /// The kind of a row, by the one of two keys that is there.
 pub(crate) fn kind_of(value: &Value) -> Option<Kind>
     ensures { result ≡ kind_of (view value.now) }
@@ -75,4 +93,19 @@ fn kind_by(has_stream: bool, has_service: bool) -> Option<Kind>
         (true, true) => None,
         (false, false) => None,
     }
+}
+
+/// The fault of a row with neither of the keys of the two kinds, or with both: `WrongType`, after an unknown key. The rows
+/// are the keys of both kinds.
+#[tactic(auto, unfolding(crate::specs::Names::kindless_at))]
+pub(crate) fn kindless_of<T>(
+    alloc: Global,
+    rows: &[(&str, bool)],
+    path: &Path,
+    value: &Value,
+) -> Result<T, ConfigFault>
+    ensures { Gives (λ x. x) result (kindless_at (map row_of rows.now) path.now (view value.now)) }
+{
+    judge(alloc, rows, path, value)?;
+    Err(ConfigFault::WrongType(path.copy(alloc)?))
 }

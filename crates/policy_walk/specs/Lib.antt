@@ -3,3 +3,4 @@ pub mod Path
 pub mod Object
 pub mod Texts
 pub mod Durations
+pub mod Lists

@@ -4,12 +4,14 @@
 
 mod duration;
 mod fault;
+mod list;
 mod object;
 mod paths;
 mod text;
 
 pub use duration::read_duration;
 pub use fault::ConfigFault;
+pub use list::{Reader, each_of, list_of, list_under};
 pub use object::{judge, members_of};
 pub use paths::Path;
 pub use text::{items_of, required_of, required_text_of, text_of};

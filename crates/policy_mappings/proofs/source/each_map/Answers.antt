@@ -1,7 +1,7 @@
 use Rattle.std.proofs.Common.{rules, ◌≡◌, ◌∙◌, [], ◌∷◌, ◌++◌, ap, string_bytes, sym}
 use Rattle.serde_json.specs.View.{members_view, view}
 use Rattle.serde_json.proofs.Views.{Entry}
-use Rattle.policy_permissions.proofs.Lists.{with_front}
+use Rattle.policy_walk.proofs.Lists.{with_front}
 use Rattle.policy_mappings.specs.Mappings.{maps_from}
 use Rattle.policy_mappings.proofs.Maps.{goes_on}
 use Rattle.policy_mappings.proofs.source.each_map.Goals as goal

@@ -1,7 +1,7 @@
 -- the sources so far, and what is left to read, make the whole
 use Rattle.std.proofs.Common.{◌≡◌}
 use Rattle.serde_json.specs.View.{members_view}
-use Rattle.policy_permissions.proofs.Lists.{with_front}
+use Rattle.policy_walk.proofs.Lists.{with_front}
 use Rattle.policy_mappings.specs.Mappings.{maps_from}
 use Rattle.policy_mappings.proofs.source.each_map.Given as goal
 

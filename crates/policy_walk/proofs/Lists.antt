@@ -5,7 +5,7 @@ use Rattle.serde_json.specs.View.{view, items_view}
 use Rattle.serde_json.specs.declared.value.Value.{Value}
 use Rattle.policy_walk.specs.Fault.{Read, ◌>>=◌}
 use Rattle.policy_walk.specs.Path.{Path, at_index}
-use Rattle.policy_permissions.specs.Permissions.{each}
+use Rattle.policy_walk.specs.Lists.{each}
 
 -- what was read before, and what is still read
 abbrev pub with_front : {X : Type 0} → List X → Read (List X) → Read (List X)
