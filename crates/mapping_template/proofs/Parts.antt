@@ -1,20 +1,16 @@
 -- The parts of a template, and its local pattern.
-use Rattle.std.proofs.Common.{◌≡◌, ◌<◌, ◌≤◌, ◌+◌, ◌-◌, ◌∙◌, ◌^◌, ◌&&◌, ◌||◌, ◌==◌, ℕ, Bool, true, false, not, ltb, List, [], ◌∷◌, Option, Some, None, length, min, drop, is_some, refl, sym, ap, arith, if◌then◌else◌, true≢false}
+use Rattle.std.proofs.Common.{◌≡◌, ◌+◌, ◌-◌, ◌∙◌, ◌||◌, ◌==◌, ℕ, Bool, true, false, not, List, [], ◌∷◌, Option, Some, None, length, drop, refl, sym, ap, arith, if◌then◌else◌, true≢false}
 use Rattle.std.specs.Prelude.{codes}
 use Rattle.std.specs.List.{list_all, cons_option}
-use Rattle.std.specs.Char.{is_ascii_digit}
-use Rattle.std.specs.Str.{all_ascii_digits}
-use Rattle.std.specs.Str.Parse.{digits_value}
-use Rattle.std.proofs.lemmas.Str.Parse.{numerals_by_value, tells_all_ascii_digits, digits_value_short}
 use Rattle.std.proofs.lemmas.Bool.{and_parts}
-use Rattle.std.proofs.lemmas.Bool.Decides.{nat_tests}
 use Rattle.base.specs.Number.{is_number}
+use Rattle.digits.specs.Short.{short_number}
 use Rattle.subjects.specs.Subject.{Token, is_star, is_tail, is_token, tokens_of, IsPattern}
 use Rattle.subjects.specs.Fault.{pattern_fault}
 use Rattle.subjects.proofs.Grammar.{first_fault, pattern_from_no_fault}
 use Rattle.mapping_template.specs.Wildcards.{count_stars, has_tail, has_repeat, refers_to_each}
 use Rattle.mapping_template.specs.Fault.{is_spelled, differ, template_fault}
-use Rattle.mapping_template.specs.Template.{begins_with, numbered_or_bad, dollar_part, braced_part, is_braced, part_of, is_star_part, is_numbered_part, number_at, number_behind, references_from, references_of, local_token, local_of, has_bad_part}
+use Rattle.mapping_template.specs.Template.{begins_with, numbered_if, numbered_or_bad, dollar_part, braced_part, is_braced, part_of, is_star_part, is_numbered_part, number_at, number_behind, references_from, references_of, local_token, local_of, has_bad_part}
 use Rattle.mapping_template.specs.declared.part.Part.{Part}
 use Rattle.mapping_template.specs.declared.part.Part.TheVariants.{Literal, Star, Tail, Numbered, Bad}
 use Rattle.mapping_template.specs.declared.error.MappingError.{MappingError}
@@ -23,36 +19,12 @@ use Rattle.mapping_template.proofs.Stars.{tail_no_star, count-more}
 use Rattle.std.specs.Prelude.{nat_lt}
 use Rattle.std.specs.List.{slice_range}
 
-same_test : (ds : List ℕ) → list_all is_ascii_digit ds ≡ all_ascii_digits ds
-same_test [] = refl
-same_test (d ∷ ds) = ap (λ b. is_ascii_digit d && b) (same_test ds)
-
-small : (ds : List ℕ) → length ds ≤ 3 → list_all is_ascii_digit ds ≡ true → digits_value 10 ds < 10 ^ 3
-small ds few all = digits_value_short (numerals_by_value (λ ds. all_ascii_digits ds ≡ true) tells_all_ascii_digits) ds 3 (sym (same_test ds) ∙ all) few
-
--- three digits write a number that is its own
-pub few_digits : (ds : List ℕ) (n : ℕ) → length ds ≤ 3 → Some n ≡ (if is_number ds then Some (min (digits_value 10 ds) (2 ^ 64 - 1)) else None) →
-    Numbered n ≡ numbered_or_bad ds
-few_digits ds n few e = by (is_number ds) refl e
-  where
-    short : ltb 3 (length ds) ≡ false
-    short = grind (arith, nat_tests, few)
-
-    by : (b : Bool) → is_number ds ≡ b → Some n ≡ (if b then Some (min (digits_value 10 ds) (2 ^ 64 - 1)) else None) → Numbered n ≡ numbered_or_bad ds
-    by false t h = absurd (true≢false (ap (λ (o : Option ℕ). is_some o) h))
-    by true t h =
-        let cut : n ≡ min (digits_value 10 ds) 18446744073709551615 = cc in
-        let below : digits_value 10 ds < 10 ^ 3 = small ds few (and_parts (not (length ds == 0)) (list_all is_ascii_digit ds) t).1 in
-        let own : n ≡ digits_value 10 ds = omega (arith, below, cut) in
-        rw (short, t) (ap (λ k. Numbered k) own)
-
 numbered-other : (digits : List ℕ) → is_star_part (numbered_or_bad digits) ≡ false
-numbered-other digits = by (ltb 3 (length digits)) (is_number digits)
+numbered-other digits = by (short_number 3 digits)
   where
-    by : (long number : Bool) → is_star_part (if long then Bad else (if number then Numbered (digits_value 10 digits) else Bad)) ≡ false
-    by true number = refl
-    by false true = refl
-    by false false = refl
+    by : (number : Option ℕ) → is_star_part (numbered_if number) ≡ false
+    by None = refl
+    by (Some n) = refl
 
 dollar-other : (digits : List ℕ) → is_star_part (dollar_part digits) ≡ false
 dollar-other digits = by (is_number digits)

@@ -1,8 +1,8 @@
 -- Templates: what a row's local subjects look like (docs/GUARANTEE.md, "Mappings").
 use Rattle.std.specs.Prelude.{◌≡◌, ◌+◌, ◌-◌, ℕ, Bool, true, false, not, ◌&&◌, ◌||◌, List, [], ◌∷◌, Option, Some, None, length, take, drop, map, if◌then◌else◌, nat_lt, slice_range, codes}
 use Rattle.std.specs.List.{list_any, cons_option}
-use Rattle.std.specs.Str.Parse.{digits_value}
 use Rattle.base.specs.Number.{is_number}
+use Rattle.digits.specs.Short.{short_number}
 use Rattle.subjects.specs.Subject.{Token, is_star, is_tail, same_token}
 use Rattle.mapping_template.specs.declared.part.Part.{Part}
 use Rattle.mapping_template.specs.declared.template.Kinds.{Kinds}
@@ -14,10 +14,13 @@ begins_with front text = not (nat_lt (length text) (length front)) && same_token
 abbrev pub ends_with : List ℕ → List ℕ → Bool
 ends_with end text = not (nat_lt (length text) (length end)) && same_token (drop (length text - length end) text) end
 
+abbrev pub numbered_if : Option ℕ → Part
+numbered_if None = Bad
+numbered_if (Some n) = Numbered n
+
 -- one to three digits number a wildcard
 abbrev pub numbered_or_bad : List ℕ → Part
-numbered_or_bad digits =
-    if nat_lt 3 (length digits) then Bad else (if is_number digits then Numbered (digits_value 10 digits) else Bad)
+numbered_or_bad digits = numbered_if (short_number 3 digits)
 
 -- `$` and digits is a reference, and `$` and anything else a literal
 abbrev pub dollar_part : List ℕ → Part

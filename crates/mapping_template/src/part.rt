@@ -3,6 +3,7 @@ ghost use Rattle.std.specs.Prelude.{◌≡◌};
 ghost use Rattle.mapping_template.specs.Template.{part_of, begins_with, ends_with, is_braced, numbered_or_bad, dollar_part, braced_part};
 
 use base::number_of;
+use digits::short_number;
 use subjects::{is_star, is_tail};
 
 /// What a token of a template stands for.
@@ -97,10 +98,7 @@ fn is_braced(token: &[u8]) -> bool
 fn numbered_or_bad(digits: &[u8]) -> Part
     ensures { result ≡ numbered_or_bad digits.now }
 {
-    if digits.len() > 3 {
-        return Part::Bad;
-    }
-    match number_of(digits) {
+    match short_number(digits, 3) {
         None => Part::Bad,
         Some(number) => Part::Numbered(number as usize),
     }

@@ -1,10 +1,9 @@
 -- The weights of mappings (docs/GUARANTEE.md, "Mappings").
-use Rattle.std.specs.Prelude.{ℕ, ◌&&◌, Bool, List, codes, length, take, drop, nat_le, nat_lt, Option, Some, None, if◌then◌else◌}
+use Rattle.std.specs.Prelude.{ℕ, ◌&&◌, Bool, List, codes, take, drop, nat_le, Option, Some, None, option_and_then, if◌then◌else◌}
 use Rattle.std.specs.Char.{is_ascii_digit}
 use Rattle.std.specs.List.{prefix_len}
 use Rattle.std.specs.Str.{bytes_eq}
-use Rattle.std.specs.Str.Parse.{digits_value}
-use Rattle.base.specs.Number.{is_number}
+use Rattle.digits.specs.Short.{short_number}
 
 -- one to a hundred
 abbrev pub is_weight : ℕ → Bool
@@ -15,8 +14,7 @@ weight_of n = if is_weight n then Some n else None
 
 -- the weight that one to three digits write
 abbrev pub digits_weight : List ℕ → Option ℕ
-digits_weight digits =
-    if nat_lt 3 (length digits) then None else (if is_number digits then weight_of (digits_value 10 digits) else None)
+digits_weight digits = option_and_then weight_of (short_number 3 digits)
 
 -- the digits that a text begins with, and `%` behind them
 abbrev pub weight_written : List ℕ → Option ℕ

@@ -1,11 +1,9 @@
 //! The text of a weight.
-ghost use Rattle.std.specs.Prelude.{◌≡◌, ◌≤◌, length};
-ghost use Rattle.std.specs.List.{prefix_len};
-ghost use Rattle.std.specs.Char.{is_ascii_digit};
+ghost use Rattle.std.specs.Prelude.{◌≡◌};
 ghost use Rattle.mapping_weights.specs.Weights.{digits_weight, weight_written};
 
 use crate::Weight;
-use base::number_of;
+use digits::{count_digits, short_number};
 
 /// Returns the weight that a text writes: one to three digits, whose number is 1 to 100, and `%`. `None` where the text is
 /// another. It takes no memory.
@@ -20,23 +18,11 @@ pub fn weight_written(text: &[u8]) -> Option<Weight>
     }
 }
 
-/// Returns how many digits the text begins with.
-#[tactic(auto, using(crate::proofs::Digits::within))]
-fn count_digits(text: &[u8]) -> usize
-    ensures digits { result ≡ prefix_len is_ascii_digit text.now }
-    ensures within { result ≤ length text.now }
-{
-    text.iter().take_while(|b| b.is_ascii_digit()).count()
-}
-
 /// Returns the weight that one to three digits write.
 fn digits_weight(digits: &[u8]) -> Option<Weight>
     ensures { result ≡ digits_weight digits.now }
 {
-    if digits.len() > 3 {
-        return None;
-    }
-    match number_of(digits) {
+    match short_number(digits, 3) {
         None => None,
         Some(number) => Weight::of(number),
     }

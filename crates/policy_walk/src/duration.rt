@@ -1,9 +1,7 @@
-ghost use Rattle.std.specs.Prelude.{◌≡◌, ◌≤◌, ⊤, MatchOption, length, Some};
-ghost use Rattle.std.specs.List.{prefix_len};
-ghost use Rattle.std.specs.Char.{is_ascii_digit};
+ghost use Rattle.std.specs.Prelude.{◌≡◌, ◌≤◌, ⊤, MatchOption, Some};
 ghost use Rattle.policy_walk.specs.Durations.{unit_ms, duration_by, duration_of};
 
-use base::number_of;
+use digits::{count_digits, short_number};
 
 /// How many digits a duration has at most.
 const MOST_DIGITS: usize = 9;
@@ -18,15 +16,6 @@ pub fn read_duration(text: &[u8]) -> Option<u64>
         None => None,
         Some(unit) => times(&text[..count], unit),
     }
-}
-
-/// How many digits the text begins with.
-#[tactic(auto, using(crate::proofs::Digits::within))]
-fn count_digits(text: &[u8]) -> usize
-    ensures digits { result ≡ prefix_len is_ascii_digit text.now }
-    ensures within { result ≤ length text.now }
-{
-    text.iter().take_while(|b| b.is_ascii_digit()).count()
 }
 
 /// How many milliseconds a unit has.
@@ -48,10 +37,7 @@ fn times(digits: &[u8], unit: u64) -> Option<u64>
     requires { unit ≤ 3600000 }
     ensures { result ≡ duration_by digits.now (Some unit) }
 {
-    if digits.len() > MOST_DIGITS {
-        return None;
-    }
-    match number_of(digits) {
+    match short_number(digits, MOST_DIGITS) {
         None => None,
         Some(number) => {
             if number == 0 {
