@@ -16,8 +16,11 @@ use Rattle.mapping.specs.Sides.{row_map, AreOf, AreSides}
 use Rattle.mapping.specs.declared.side.Side.{Side}
 use Rattle.mapping.proofs.Carries.{concrete}
 use Rattle.mapping.proofs.Texts.{with-append, with-tokens_of, tokens-append, tokens_from_literals}
-use Rattle.mapping_template.proofs.Parts.{IsFit, fits, spelled-pattern, tokens-local, tail-local, stars-local}
+use Rattle.mapping_template.proofs.Parts.{fits, spelled-pattern, tokens-local, tail-local, stars-local}
 use Rattle.mapping.specs.Fault.{in_order, templated, template_fault}
+use Rattle.std.specs.Prelude.{nat_lt}
+use Rattle.subjects.specs.Fault.{pattern_fault}
+use Rattle.mapping_template.specs.Fault.{is_spelled}
 use Rattle.std.proofs.lemmas.List.{length-map, length-append}
 
 no_wildcard : (t : Token) → is_literal t ≡ true → (is_star t ≡ false) × (is_tail t ≡ false)
@@ -70,10 +73,10 @@ some [] h = absurd (cc)
 some (t ∷ ts) h = omega arith
 
 -- the text of a template's local pattern has its tokens
-pub local_tokens : (pattern : List Token) (template text : List ℕ) → IsFit pattern template → text ≡ with_tokens [] (local_of (tokens_of template)) →
-    tokens_of text ≡ local_of (tokens_of template)
-local_tokens pattern template text f e =
-    let h = spelled-pattern template f.spelled f.few in
+pub local_tokens : (template text : List ℕ) → is_spelled (pattern_fault template) ≡ true → nat_lt 512 (length (tokens_of template)) ≡ false →
+    text ≡ with_tokens [] (local_of (tokens_of template)) → tokens_of text ≡ local_of (tokens_of template)
+local_tokens template text spelled few e =
+    let h = spelled-pattern template spelled few in
     let more : 0 < length (local_of (tokens_of template)) = omega (arith, some (tokens_of template) h, length-map (tokens_of template) local_token) in
     ap tokens_of e ∙ with-tokens_of (local_of (tokens_of template)) (tokens-local (tokens_of template) (grammar (tokens_of template) h).tokens) more
 
@@ -104,9 +107,9 @@ pairs_back outer local t answer h a k e =
     by_pairs (λ s. IsPair (row_map outer local) s t) (back (row_map outer local) t) answer (λ s. back_pairs (row_map outer local) h s t (concrete t k)) (mapped_back outer local t answer a e)
 
 -- what holds of a template's text and its local pattern
-pub local_is : (pattern : List Token) (template text : List ℕ) (local : List Token) → template_fault pattern template ≡ None →
-    text ≡ with_tokens [] (local_of (tokens_of template)) → local ≡ tokens_of text → local ≡ local_of (tokens_of template)
-local_is pattern template text local f e h = h ∙ local_tokens pattern template text (fits pattern template f) e
+pub templated_spelled : (pattern : List Token) (template : List ℕ) → template_fault pattern template ≡ None →
+    (is_spelled (pattern_fault template) ≡ true) × (nat_lt 512 (length (tokens_of template)) ≡ false)
+templated_spelled pattern template f = let fit = fits pattern template f in (fit.spelled, fit.few)
 
 pub templated_tails : (pattern : List Token) (template : List ℕ) (local : List Token) → template_fault pattern template ≡ None →
     local ≡ local_of (tokens_of template) → has_tail local ≡ has_tail pattern

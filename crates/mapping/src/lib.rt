@@ -7,6 +7,7 @@
 mod error;
 mod given;
 mod laws;
+mod locals;
 mod making;
 mod map;
 mod side;
@@ -15,5 +16,6 @@ mod tests;
 
 pub use error::MapError;
 pub use laws::{back_undoes_forward, one_to_one, pairs_are_subjects};
+pub use locals::{Local, local_of};
 pub use map::Mapping;
 pub use mapping_template::MappingError;

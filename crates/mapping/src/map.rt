@@ -2,12 +2,12 @@ ghost use Rattle.std.specs.Prelude.{◌≡◌, ◌++◌, IfOk};
 ghost use Rattle.subjects.specs.Subject.{tokens_of};
 
 use crate::MapError;
+use crate::locals::{local_of, parsed};
 use crate::making::{first_numbers, inverse};
 use crate::side::{Side, carry};
 use base::{Copying, NoMemory};
 use mapping_template::{
-    MappingError, References, count_stars, count_tokens, is_longer, local_text, push_tokens,
-    template_fault,
+    MappingError, count_stars, count_tokens, is_longer, push_tokens, template_fault,
 };
 use std::alloc::Global;
 use std::marker::Model;
@@ -94,11 +94,8 @@ impl Mapping {
         requires { template_fault pattern.now template.now ≡ None }
         ensures { IfOk result (λ m. m ≡ templated pattern.now (tokens_of template.now)) }
     {
-        let numbers = References::of(template);
-        let references = Vec::from_slice(alloc, numbers.as_slice())?;
-        let text = local_text(alloc, template)?;
-        let local = parsed(alloc, text.as_slice())?;
-        let made = Mapping::of(alloc, pattern, local, references)?;
+        let local = local_of(alloc, template)?;
+        let made = Mapping::of(alloc, pattern, local.pattern, local.references)?;
         Ok(made)
     }
 
@@ -188,16 +185,6 @@ impl Mapping {
         ensures { IsRowMap self.now }
     {
         let _ = &self.outer;
-    }
-}
-
-/// The pattern of a text that has no fault as one.
-fn parsed(alloc: Global, text: &[u8]) -> Result<Pattern, NoMemory>
-    ensures { IfOk result (λ pattern. pattern ≡ tokens_of text.now) }
-{
-    match Pattern::parse(alloc, text) {
-        Ok(pattern) => Ok(pattern),
-        Err(_) => Err(NoMemory),
     }
 }
 

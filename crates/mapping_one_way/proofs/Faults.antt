@@ -1,7 +1,7 @@
 -- The faults of a template in one direction are those of any template, but for how its references are used.
 use Rattle.std.proofs.Common.{◌≡◌, Bool, true, false, not, ◌&&◌, ◌||◌, List, ℕ, Option, Some, None, length, if◌then◌else◌, refl}
 use Rattle.std.specs.Prelude.{nat_lt}
-use Rattle.subjects.specs.Subject.{Token, tokens_of, IsPattern}
+use Rattle.subjects.specs.Subject.{Token, tokens_of}
 use Rattle.subjects.specs.Fault.{pattern_fault}
 use Rattle.mapping_template.specs.Wildcards.{are_within, count_stars, has_each, has_repeat, has_tail}
 use Rattle.mapping_template.specs.Template.{references_of, has_bad_part}

@@ -1,49 +1,33 @@
 -- What a mapping in one direction is made of, and what `forward` answers.
-use Rattle.std.proofs.Common.{◌≡◌, ◌<◌, ◌≤◌, ◌+◌, ◌∙◌, ◌⊎◌, inl, inr, ℕ, Bool, true, false, ltb, leb, List, [], ◌∷◌, Option, Some, None, Result, Ok, Err, length, map, refl, sym, ap, subst, arith, if◌then◌else◌}
-use Rattle.std.proofs.lemmas.Bool.{and_parts}
+use Rattle.std.proofs.Common.{◌≡◌, ◌+◌, ◌∙◌, ℕ, Bool, true, false, ltb, leb, List, [], Option, None, Result, Ok, length, refl, sym, ap, subst, arith}
 use Rattle.std.proofs.lemmas.Bool.Decides.{nat_tests}
-use Rattle.std.proofs.lemmas.List.{length-map}
-use Rattle.subjects.specs.Subject.{Token, in_set, is_concrete, tokens_of, IsConcreteSubject, IsPattern, IsSubject}
-use Rattle.mapping_template.specs.Template.{local_of, local_token, references_of}
+use Rattle.subjects.specs.Subject.{Token, in_set, tokens_of, IsSubject}
+use Rattle.mapping_template.specs.Template.{local_of, references_of}
 use Rattle.mapping_template.specs.Text.{with_tokens}
 use Rattle.mapping_template.specs.Wildcards.{are_within, count_stars, has_tail}
-use Rattle.mapping_template.proofs.Parts.{spelled-pattern, tokens-local, tail-local, stars-local}
-use Rattle.mapping_template.proofs.Patterns.{grammar}
-use Rattle.mapping.specs.Pairs.{RowMap, IsPair, IsMapped, IsSent, IsSide, forward, carried}
+use Rattle.mapping_template.proofs.Parts.{tail-local}
+use Rattle.mapping.specs.Pairs.{RowMap, IsPair, IsMapped, IsSent, IsSide, forward}
 use Rattle.mapping.specs.Fault.{templated}
 use Rattle.mapping.specs.declared.error.MapError.{MapError}
 use Rattle.mapping.proofs.Carries.{concrete}
 use Rattle.mapping.proofs.Pairs.{AreFit, Joins, by_pairs, carried_from, carried_if, concrete_parts, joined_from, joins_pair, lengths, pair_joins, some-joined, to_concrete}
 use Rattle.mapping.proofs.Texts.{with-tokens_of, tokens_from_literals}
+use Rattle.std.specs.Prelude.{nat_lt}
+use Rattle.subjects.specs.Fault.{pattern_fault}
+use Rattle.mapping_template.specs.Fault.{is_spelled}
 use Rattle.mapping_one_way.specs.Fault.{one_way_fault}
 use Rattle.mapping_one_way.specs.OneWay.{IsMost, IsOneWay, mapped, way}
 use Rattle.mapping_one_way.proofs.Faults.{free}
 
 -- ---- the mapping of a template
 
-some : (ts : List Token) → IsPattern ts → 0 < length ts
-some [] h = absurd (cc)
-some (t ∷ ts) h = omega arith
-
--- the text of a template's local pattern has its tokens
-local_tokens : (pattern : List Token) (template text : List ℕ) → one_way_fault pattern template ≡ None → text ≡ with_tokens [] (local_of (tokens_of template)) →
-    tokens_of text ≡ local_of (tokens_of template)
-local_tokens pattern template text f e =
-    let h = spelled-pattern template (free pattern template f).spelled (free pattern template f).few in
-    let more : 0 < length (local_of (tokens_of template)) = omega (arith, some (tokens_of template) h, length-map (tokens_of template) local_token) in
-    ap tokens_of e ∙ with-tokens_of (local_of (tokens_of template)) (tokens-local (tokens_of template) (grammar (tokens_of template) h).tokens) more
-
-pub local_is : (pattern : List Token) (template text : List ℕ) (local : List Token) → one_way_fault pattern template ≡ None → text ≡ with_tokens [] (local_of (tokens_of template)) →
-    local ≡ tokens_of text → local ≡ local_of (tokens_of template)
-local_is pattern template text local f e l = l ∙ local_tokens pattern template text f e
+pub spelled : (pattern : List Token) (template : List ℕ) → one_way_fault pattern template ≡ None →
+    (is_spelled (pattern_fault template) ≡ true) × (nat_lt 512 (length (tokens_of template)) ≡ false)
+spelled pattern template f = let fit = free pattern template f in (fit.spelled, fit.few)
 
 pub local_tails : (pattern : List Token) (template : List ℕ) (local : List Token) → one_way_fault pattern template ≡ None → local ≡ local_of (tokens_of template) →
     has_tail local ≡ has_tail pattern
 local_tails pattern template local f e = ap has_tail e ∙ tail-local (tokens_of template) ∙ (free pattern template f).tails
-
-pub local_stars : (template : List ℕ) (local : List Token) (references : List ℕ) → local ≡ local_of (tokens_of template) → references ≡ references_of (tokens_of template) →
-    count_stars local ≡ length references
-local_stars template local references e r = ap count_stars e ∙ stars-local 1 (tokens_of template) ∙ ap (λ (ns : List ℕ). length ns) (sym r)
 
 pub local_within : (pattern : List Token) (template references : List ℕ) → one_way_fault pattern template ≡ None → references ≡ references_of (tokens_of template) →
     are_within (count_stars pattern) references ≡ true

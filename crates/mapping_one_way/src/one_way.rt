@@ -4,8 +4,8 @@ ghost use Rattle.subjects.specs.Subject.{tokens_of, IsSubject};
 use crate::fault::one_way_fault;
 use crate::filling::filled_text;
 use base::{Copying, NoMemory};
-use mapping::MapError;
-use mapping_template::{MappingError, References, count_tokens, is_longer, local_text};
+use mapping::{MapError, local_of};
+use mapping_template::{MappingError, count_tokens, is_longer};
 use std::alloc::Global;
 use std::marker::Model;
 use subjects::{Pattern, Subject, SubjectRef};
@@ -75,11 +75,8 @@ impl OneWay {
         requires { one_way_fault pattern.now template.now ≡ None }
         ensures { IfOk result (λ m. m ≡ templated pattern.now (tokens_of template.now)) }
     {
-        let numbers = References::of(template);
-        let references = Vec::from_slice(alloc, numbers.as_slice())?;
-        let text = local_text(alloc, template)?;
-        let local = parsed(alloc, text.as_slice())?;
-        let made = OneWay::between(alloc, pattern, local, references)?;
+        let local = local_of(alloc, template)?;
+        let made = OneWay::between(alloc, pattern, local.pattern, local.references)?;
         Ok(made)
     }
 
@@ -173,14 +170,4 @@ fn exceeds(subject: &SubjectRef<'_>, most: usize) -> bool
 {
     let tokens = subject.tokens();
     most < 512 && is_longer(tokens, most)
-}
-
-/// The pattern of a text that has no fault as one.
-fn parsed(alloc: Global, text: &[u8]) -> Result<Pattern, NoMemory>
-    ensures { IfOk result (λ pattern. pattern ≡ tokens_of text.now) }
-{
-    match Pattern::parse(alloc, text) {
-        Ok(pattern) => Ok(pattern),
-        Err(_) => Err(NoMemory),
-    }
 }

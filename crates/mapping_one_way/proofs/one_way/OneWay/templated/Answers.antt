@@ -1,22 +1,24 @@
-use Rattle.std.proofs.Common.{◌∙◌, rules}
-use Rattle.mapping_one_way.proofs.Ways.{local_is, local_stars, local_tails, local_within, templated_is}
+use Rattle.std.proofs.Common.{◌∙◌}
+use Rattle.mapping.proofs.Made.{templated_stars}
+use Rattle.mapping_one_way.proofs.Ways.{local_tails, local_within, spelled, templated_is}
 use Rattle.mapping_one_way.proofs.one_way.OneWay.templated.Goals as goal
 
+pub local_of-requires-clause-spelled : goal.local_of-requires-clause-spelled
+local_of-requires-clause-spelled c = (spelled c.args.pattern.now c.args.template.now c.requires).0
+
+pub local_of-requires-clause-few : goal.local_of-requires-clause-few
+local_of-requires-clause-few c = (spelled c.args.pattern.now c.args.template.now c.requires).1
+
 pub between-requires-clause-tails : goal.between-requires-clause-tails
-between-requires-clause-tails c =
-    local_tails c.args.pattern.now c.args.template.now c.in_ok-local.local c.requires
-    (local_is c.args.pattern.now c.args.template.now c.in_ok-text.text.items c.in_ok-local.local c.requires c.in_ok-text.ensures (search rules))
+between-requires-clause-tails c = local_tails c.args.pattern.now c.args.template.now c.in_ok-local.local.pattern c.requires c.in_ok-local.ensures.pattern
 
 pub between-requires-clause-stars : goal.between-requires-clause-stars
-between-requires-clause-stars c =
-    local_stars c.args.template.now c.in_ok-local.local c.in_ok-references.references.items
-    (local_is c.args.pattern.now c.args.template.now c.in_ok-text.text.items c.in_ok-local.local c.requires c.in_ok-text.ensures (search rules)) (search rules)
+between-requires-clause-stars c = templated_stars c.args.template.now c.in_ok-local.local.pattern c.in_ok-local.local.references.items c.in_ok-local.ensures.pattern c.in_ok-local.ensures.references
 
 pub between-requires-clause-within : goal.between-requires-clause-within
-between-requires-clause-within c = local_within c.args.pattern.now c.args.template.now c.in_ok-references.references.items c.requires (search rules)
+between-requires-clause-within c = local_within c.args.pattern.now c.args.template.now c.in_ok-local.local.references.items c.requires c.in_ok-local.ensures.references
 
 pub returns : goal.returns
 returns c =
     c.in_ok-made.ensures
-    ∙ templated_is c.args.pattern.now c.args.template.now c.in_ok-local.local c.in_ok-references.references.items
-    (local_is c.args.pattern.now c.args.template.now c.in_ok-text.text.items c.in_ok-local.local c.requires c.in_ok-text.ensures (search rules)) (search rules)
+    ∙ templated_is c.args.pattern.now c.args.template.now c.in_ok-local.local.pattern c.in_ok-local.local.references.items c.in_ok-local.ensures.pattern c.in_ok-local.ensures.references

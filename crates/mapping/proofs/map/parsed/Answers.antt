@@ -1,6 +1,0 @@
-use Rattle.subjects.specs.Fault.{pattern_fault}
-use Rattle.mapping_template.proofs.Patterns.{parsed_is}
-use Rattle.mapping.proofs.map.parsed.Goals as goal
-
-pub returns-in-Ok : goal.returns-in-Ok
-returns-in-Ok c = parsed_is c.args.text.now (pattern_fault c.args.text.now) c.in-Ok.pattern c.in-Ok.ensures.tokens
