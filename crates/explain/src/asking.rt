@@ -18,6 +18,7 @@ use subjects::{Pattern, Subject};
 /// entry that it names; of `NoAllow` all allow entries, each with the subject.
 ///
 /// `NoSuchUser` where no user has the name, else `NoMemory` where memory could not be had.
+#[tactic(auto, using(crate::proofs::Lists::stays, crate::proofs::Lists::wants, crate::proofs::Lists::goes))]
 pub fn explain_publish(
     alloc: Global,
     policy: &Policy,
@@ -26,14 +27,9 @@ pub fn explain_publish(
 ) -> Result<Explanation, ExplainFault>
     ensures { Answers fault.NoSuchUser (option_map (λ u. publish_reason (lists_of u policy.now.default_permissions) subject.now) (user_named policy.now user.now)) result }
 {
-    match user_named(policy, user) {
-        None => Err(ExplainFault::NoSuchUser),
-        Some(user) => {
-            let lists = lists_of(alloc, policy, user)?;
-            let reason = publish_reason(alloc, &lists, subject)?;
-            Ok(reason)
-        }
-    }
+    let lists = lists_named(alloc, policy, user)?;
+    let reason = publish_reason(alloc, &lists, subject)?;
+    Ok(reason)
 }
 
 /// Returns whether a user may subscribe to a pattern, with a queue or without one, and why: the verdict of the lists that hold
@@ -41,6 +37,7 @@ pub fn explain_publish(
 /// the pattern that the entry hasn't. With a queue all of them are looked at, else the plain ones.
 ///
 /// `NoSuchUser` where no user has the name, else `NoMemory` where memory could not be had.
+#[tactic(auto, using(crate::proofs::Lists::stays, crate::proofs::Lists::wants, crate::proofs::Lists::goes))]
 pub fn explain_subscribe(
     alloc: Global,
     policy: &Policy,
@@ -51,20 +48,16 @@ pub fn explain_subscribe(
     ensures { Answers fault.NoSuchUser
         (option_map (λ u. subscribe_reason (lists_of u policy.now.default_permissions) pattern.now (option_copied queue.entry)) (user_named policy.now user.now)) result }
 {
-    match user_named(policy, user) {
-        None => Err(ExplainFault::NoSuchUser),
-        Some(user) => {
-            let lists = lists_of(alloc, policy, user)?;
-            let reason = subscribe_reason(alloc, &lists, pattern, queue)?;
-            Ok(reason)
-        }
-    }
+    let lists = lists_named(alloc, policy, user)?;
+    let reason = subscribe_reason(alloc, &lists, pattern, queue)?;
+    Ok(reason)
 }
 
 /// Returns whether a message on a subject may be sent to a subscription of a user that has a queue or none, and why: the
 /// verdict of the deny list that holds for it, with the text of the entry that it names.
 ///
 /// `NoSuchUser` where no user has the name, else `NoMemory` where memory could not be had.
+#[tactic(auto, using(crate::proofs::Lists::stays, crate::proofs::Lists::wants, crate::proofs::Lists::goes))]
 pub fn explain_delivery(
     alloc: Global,
     policy: &Policy,
@@ -75,12 +68,21 @@ pub fn explain_delivery(
     ensures { Answers fault.NoSuchUser
         (option_map (λ u. delivery_reason (lists_of u policy.now.default_permissions) subject.now (option_copied queue.entry)) (user_named policy.now user.now)) result }
 {
-    match user_named(policy, user) {
+    let lists = lists_named(alloc, policy, user)?;
+    let reason = delivery_reason(alloc, &lists, subject, queue)?;
+    Ok(reason)
+}
+
+/// Returns the lists that hold for the user of a name. `NoSuchUser` where no user has it, else `NoMemory` where memory could
+/// not be had.
+fn lists_named(alloc: Global, policy: &Policy, name: &[u8]) -> Result<Compiled, ExplainFault>
+    ensures { Answers fault.NoSuchUser (option_map (λ u. lists_of u policy.now.default_permissions) (user_named policy.now name.now)) result }
+{
+    match user_named(policy, name) {
         None => Err(ExplainFault::NoSuchUser),
         Some(user) => {
             let lists = lists_of(alloc, policy, user)?;
-            let reason = delivery_reason(alloc, &lists, subject, queue)?;
-            Ok(reason)
+            Ok(lists)
         }
     }
 }
