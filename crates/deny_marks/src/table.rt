@@ -9,23 +9,26 @@ use subjects::{Subject, SubjectRef};
 
 /// Which subscriptions stand.
 pub trait Stands {
-    ghost use Rattle.std.specs.Prelude.{◌≡◌, ℕ, Bool};
+    ghost use Rattle.std.specs.Prelude.{◌≡◌, ℕ, List, length};
+    ghost use Rattle.deny_marks.specs.Table.{is_among};
 
-    /// Whether the subscription of an id stands, for clauses.
-    ghost stands: { Self → ℕ → Bool };
+    /// The ids of those that stand, for clauses.
+    ghost ids: { Self → List ℕ };
 
     /// Returns whether the subscription of an id stands.
     fn stands(&self, id: u64) -> bool
-        ensures { result ≡ stands self.now id };
+        ensures { result ≡ is_among (ids self.now) id };
 
     /// Returns how many stand.
-    fn count(&self) -> usize;
+    fn count(&self) -> usize
+        ensures { result ≡ length (ids self.now) };
 }
 
 /// The marks of subscriptions, by their ids. A subscription without marks has no entry, so where nobody is denied anything
 /// there are none. A clause sees the entries.
 ///
-/// Those of a subscription that has gone may stand here: no id comes again, so nobody asks for them. `trim` bounds them.
+/// Those of a subscription that has gone may stand here: no id comes again, so nobody asks for them. `trim` bounds how many
+/// there are.
 #[derive(Drop)]
 pub struct DenyMarks {
     by_id: IndexMap<u64, Marks>,
@@ -40,18 +43,19 @@ impl Model for DenyMarks {
     ghost view = { λ d. d.by_id.entries };
 }
 
-/// Keeps the marks of subscriptions that stand.
+/// Keeps the marks of subscriptions that stand. These are no more than stand, since each has another id.
 fn keep_standing<S: Stands>(by_id: &mut IndexMap<u64, Marks>, standing: &S)
-    ensures { by_id.new.entries ≡ filter (λ (e : ℕ × Marks). S.stands standing.now e.0) by_id.old.entries }
+    ensures kept { by_id.new.entries ≡ filter (λ (e : ℕ × Marks). is_among (S.ids standing.now) e.0) by_id.old.entries }
+    ensures bounded { length by_id.new.entries ≤ length (S.ids standing.now) }
 {
     by_id.retain(|id, _| standing.stands(*id));
 }
 
 impl DenyMarks {
-    ghost use Rattle.std.specs.Prelude.{◌≡◌, ◌==◌, ℕ, [], true, OnOk, OnErr, if◌then◌else◌};
+    ghost use Rattle.std.specs.Prelude.{◌≡◌, ◌≤◌, ◌==◌, ◌+◌, ◌*◌, ℕ, [], true, OnOk, OnErr, length, if◌then◌else◌};
     ghost use Rattle.permissions.specs.Verdicts.{delivery_verdict, is_allowed};
     ghost use Rattle.deny_marks.specs.Marks.{admits_by, AreFor};
-    ghost use Rattle.deny_marks.specs.Table.{marks_at};
+    ghost use Rattle.deny_marks.specs.Table.{marks_at, is_among};
 
     /// Returns a table without marks. It takes no memory.
     pub fn new(alloc: Global) -> DenyMarks
@@ -112,11 +116,12 @@ impl DenyMarks {
         self.at(id).let_through(rules, subject, queue)
     }
 
-    /// Puts the marks of a subscription in the place of what stands under its id. Where memory could not be had, nothing has
-    /// changed.
+    /// Puts the marks of a subscription in the place of what stands under its id: one entry more at most. Where memory could not
+    /// be had, nothing has changed.
     pub fn put(&mut self, id: u64, marks: Marks) -> Result<(), NoMemory>
         ensures ok { OnOk result ((other : ℕ) → marks_at self.new other ≡ (if id == other then marks else marks_at self.old other)) }
         ensures err { OnErr result (self.new ≡ self.old) }
+        ensures bounded { length self.new ≤ length self.old + 1 }
     {
         if matches!(marks, Marks::Unmarked) {
             self.by_id.swap_remove(&id);
@@ -127,15 +132,18 @@ impl DenyMarks {
     }
 
     /// Drops the marks of subscriptions that have gone, where there are more than twice as many marks as subscriptions that
-    /// stand: so a walk over them comes once in many.
+    /// stand: so a walk over them comes once in many. Behind it there are at most twice as many marks as stand, and one.
     pub fn trim<S: Stands>(&mut self, standing: &S)
-        ensures { (id : ℕ) → S.stands standing.now id ≡ true → marks_at self.new id ≡ marks_at self.old id }
+        ensures kept { (id : ℕ) → is_among (S.ids standing.now) id ≡ true → marks_at self.new id ≡ marks_at self.old id }
+        ensures bounded { length self.new ≤ 2 * length (S.ids standing.now) + 1 }
     {
-        if standing.count() < self.by_id.len() / 2 {
+        let enough = self.by_id.len() / 2;
+        if standing.count() < enough {
             keep_standing(&mut self.by_id, standing);
         }
     }
 }
 
-ghost use Rattle.std.specs.Prelude.{◌≡◌, ℕ, filter};
+ghost use Rattle.std.specs.Prelude.{◌≡◌, ◌≤◌, ℕ, filter, length};
+ghost use Rattle.deny_marks.specs.Table.{is_among};
 ghost use Rattle.deny_marks.specs.declared.marks.Marks.{Marks};

@@ -1,19 +1,20 @@
 -- The marks of what stands while others are dropped, and of what stands under another policy.
-use Rattle.std.proofs.Common.{◌≡◌, ◌∙◌, ◌==◌, ◌++◌, ◌<◌, ℕ, zero, suc, Bool, true, false, cond, List, [], ◌∷◌, length, get_or, Option, Some, None, ap, sym, refl, subst, arith, All, Decides, nat_le}
+use Rattle.std.proofs.Common.{◌≡◌, ◌∙◌, ◌==◌, ◌++◌, ◌<◌, ℕ, zero, suc, Bool, true, false, cond, List, [], ◌∷◌, length, get_or, Option, Some, None, ap, sym, refl, subst, arith, All, Decides, nat_eq, nat_le, ◌||◌}
 use Rattle.std.specs.Prelude.{AllPairs, IsSomeAnd, find, is_some}
 use Rattle.std.specs.Option.{option_map}
 use Rattle.std.proofs.lemmas.Bool.{eq-eqb}
+use Rattle.std.proofs.lemmas.Bool.Decides.{nat_tests}
 use Rattle.std.proofs.lemmas.List.Elements.{All-push, All-weaker}
 use Rattle.policy_doc.specs.declared.document.PolicyDoc.{PolicyDoc}
 use Rattle.policy_ready.specs.declared.ready.User.{User}
-use Rattle.deny_marks.specs.Table.{marks_at, IsMarked}
+use Rattle.deny_marks.specs.Table.{marks_at, IsMarked, is_among}
 use Rattle.deny_marks.specs.declared.marks.Marks.{Marks}
 use Rattle.world_deliveries.specs.Sessions.{session_of, IsApart}
 use Rattle.world_deliveries.specs.declared.session.Session.{Session}
 use Rattle.world_sessions.specs.Renewal.{user_again_of, stays, with_user, renewed, remaining, HasSameLists}
 use Rattle.world_rows.specs.declared.subscription.Subscription.{Subscription}
 use Rattle.receiver_cache.specs.Marked.{AreMarked, IsMarkedBy}
-use Rattle.world_marks.specs.Standing.{has_id}
+use Rattle.world_marks.specs.Standing.{ids_of}
 use Rattle.deny_marks.specs.Marks.{kept, is_marked, marks_in}
 use Rattle.deny_marks.specs.declared.marks.Marks.TheVariants.{Unmarked}
 use Rattle.world_marks.specs.Again.{user_after, AreMarksAgain, IsMarkedFor, IsMarkedAgain}
@@ -25,20 +26,32 @@ kept_by : (before after : List (ℕ × Marks)) (sub : Subscription) (o : Option 
 kept_by before after sub None same is = tt
 kept_by before after sub (Some z) same is = same ∙ is
 
--- one that stands has its id
-has_own : (subs : List Subscription) (k : ℕ) (d : Subscription) → k < length subs → has_id (get_or subs k d).id subs ≡ true
-has_own [] k d h = absurd (omega (arith, h))
-has_own (s ∷ subs) zero d h = ap (λ b. is_some (let o : Option Subscription = cond b (Some s) (find (λ (x : Subscription). x.id == s.id) subs) in o)) (eq-eqb s.id s.id refl)
-has_own (s ∷ subs) (suc k) d h = here (s.id == (get_or subs k d).id) (has_own subs k d (omega (arith, h)))
+-- one of an id is found just where the id is among theirs
+pub found_among : (id : ℕ) (subs : List Subscription) → is_some (find (λ (s : Subscription). s.id == id) subs) ≡ is_among (ids_of subs) id
+found_among id [] = refl
+found_among id (s ∷ subs) =
+    let flipped : (s.id == id) ≡ nat_eq id s.id = grind (arith, nat_tests) in
+    ap (λ b. is_some (let o : Option Subscription = cond b (Some s) (find (λ (x : Subscription). x.id == id) subs) in o)) flipped ∙ by (nat_eq id s.id) (found_among id subs)
   where
-    here : (b : Bool) → has_id (get_or subs k d).id subs ≡ true → is_some (let o : Option Subscription = cond b (Some s) (find (λ (x : Subscription). x.id == (get_or subs k d).id) subs) in o) ≡ true
-    here true later = refl
-    here false later = later
+    by : (b : Bool) → is_some (find (λ (x : Subscription). x.id == id) subs) ≡ is_among (ids_of subs) id
+        → is_some (let o : Option Subscription = cond b (Some s) (find (λ (x : Subscription). x.id == id) subs) in o) ≡ (b || is_among (ids_of subs) id)
+    by true later = refl
+    by false later = later
 
-pub marked_trimmed : (zs : List Session) (subs : List Subscription) (before after : List (ℕ × Marks)) → ((id : ℕ) → has_id id subs ≡ true → marks_at after id ≡ marks_at before id) →
+-- and that of one that stands is
+own_among : (subs : List Subscription) (k : ℕ) (d : Subscription) → k < length subs → is_among (ids_of subs) (get_or subs k d).id ≡ true
+own_among [] k d h = absurd (omega (arith, h))
+own_among (s ∷ subs) zero d h = ap (λ b. b || is_among (ids_of subs) s.id) (eq-eqb s.id s.id refl)
+own_among (s ∷ subs) (suc k) d h = by (nat_eq (get_or subs k d).id s.id) (own_among subs k d (omega (arith, h)))
+  where
+    by : (b : Bool) → is_among (ids_of subs) (get_or subs k d).id ≡ true → (b || is_among (ids_of subs) (get_or subs k d).id) ≡ true
+    by true later = refl
+    by false later = later
+
+pub marked_trimmed : (zs : List Session) (subs : List Subscription) (before after : List (ℕ × Marks)) → ((id : ℕ) → is_among (ids_of subs) id ≡ true → marks_at after id ≡ marks_at before id) →
     AreMarked zs subs before → AreMarked zs subs after
 marked_trimmed zs subs before after same are k d h =
-    let sub : Subscription = get_or subs k d in kept_by before after sub (session_of zs sub.conn) (same sub.id (has_own subs k d h)) (are k d h)
+    let sub : Subscription = get_or subs k d in kept_by before after sub (session_of zs sub.conn) (same sub.id (own_among subs k d h)) (are k d h)
 
 -- ---- another policy
 

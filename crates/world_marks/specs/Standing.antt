@@ -1,14 +1,14 @@
--- The marks of what is to stand, and whether a subscription stands (docs/POLICY.md, "Delivery").
-use Rattle.std.specs.Prelude.{◌≡◌, ◌==◌, ℕ, List, Bool, Option, Some, None, find, is_some}
+-- The marks of what is to stand, and the ids of what stands (docs/POLICY.md, "Delivery").
+use Rattle.std.specs.Prelude.{◌≡◌, ℕ, List, Option, Some, None, map}
 use Rattle.deny_marks.specs.Marks.{marks_for}
 use Rattle.deny_marks.specs.declared.marks.Marks.{Marks}
 use Rattle.world_deliveries.specs.declared.session.Session.{Session}
 use Rattle.world_rows.specs.declared.subscription.Subscription.{Subscription}
 use Rattle.world_subscriptions.specs.declared.new_subscription.NewSubscription.{NewSubscription}
 
--- one of an id stands
-abbrev pub has_id : ℕ → List Subscription → Bool
-has_id id subs = is_some (find (λ (s : Subscription). s.id == id) subs)
+-- the ids of subscriptions
+abbrev pub ids_of : List Subscription → List ℕ
+ids_of subs = map (λ (s : Subscription). s.id) subs
 
 -- these are the marks of what a session's connection is to have, by the lists of its user
 abbrev pub AreMarksFor : Marks → NewSubscription → Option Session → Type 0

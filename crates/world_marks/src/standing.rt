@@ -1,4 +1,4 @@
-ghost use Rattle.std.specs.Prelude.{◌≡◌, ◌<◌, ◌++◌, ◌∷◌, List, [], OnOk, All};
+ghost use Rattle.std.specs.Prelude.{◌≡◌, ◌<◌, ◌≤◌, ◌+◌, ◌*◌, ◌++◌, ◌∷◌, List, [], OnOk, All, length};
 ghost use Rattle.receiver_cache.specs.Marked.{AreMarked};
 ghost use Rattle.world_deliveries.specs.declared.session.Session.{Session};
 ghost use Rattle.world_rows.specs.declared.subscription.Subscription.{Subscription};
@@ -16,25 +16,30 @@ struct StandingIds<'s> {
 }
 
 impl Stands for StandingIds<'_> {
-    ghost use Rattle.std.specs.Prelude.{◌≡◌};
-    ghost use Rattle.world_marks.specs.Standing.{has_id};
+    ghost use Rattle.std.specs.Prelude.{◌≡◌, length};
+    ghost use Rattle.deny_marks.specs.Table.{is_among};
+    ghost use Rattle.world_marks.specs.Standing.{ids_of};
 
-    ghost stands = { λ s id. has_id id s.subscriptions.now };
+    ghost ids = { λ s. ids_of s.subscriptions.now };
 
     fn stands(&self, id: u64) -> bool
-        ensures { result ≡ has_id id self.now.subscriptions.now }
+        ensures { result ≡ is_among (ids_of self.now.subscriptions.now) id }
     {
         self.subscriptions.get(id).is_some()
     }
 
-    fn count(&self) -> usize {
+    fn count(&self) -> usize
+        ensures { result ≡ length (ids_of self.now.subscriptions.now) }
+    {
         self.subscriptions.len()
     }
 }
 
-/// Drops marks of subscriptions that have gone, where most are of such. Those that stand keep theirs.
+/// Drops marks of subscriptions that have gone, where most are of such. Those that stand keep theirs. Behind it there are at
+/// most twice as many marks as subscriptions, and one.
 pub fn trim_marks(marks: &mut DenyMarks, subscriptions: &Subscriptions)
-    ensures { (zs : List Session) → AreMarked zs subscriptions.now marks.old → AreMarked zs subscriptions.now marks.new }
+    ensures bounded { length marks.new ≤ 2 * length subscriptions.now + 1 }
+    ensures kept { (zs : List Session) → AreMarked zs subscriptions.now marks.old → AreMarked zs subscriptions.now marks.new }
 {
     marks.trim(&StandingIds { subscriptions });
 }
@@ -50,7 +55,7 @@ fn marks_for(sessions: &Sessions, wanted: &NewSubscription) -> Marks
 }
 
 /// Puts the marks of a subscription that is to stand next under this id. Those that stand keep theirs, also where memory could
-/// not be had.
+/// not be had. Marks of subscriptions that have gone are dropped first, where most are of such.
 #[inline(never)]
 pub fn mark_next(
     marks: &mut DenyMarks,
@@ -61,6 +66,7 @@ pub fn mark_next(
 ) -> Result<(), NoMemory>
     requires above { All (λ (s : Subscription). s.id < id) subscriptions.now }
     requires marked { AreMarked sessions.now subscriptions.now marks.old }
+    ensures bounded { length marks.new ≤ 2 * length subscriptions.now + 2 }
     ensures kept { AreMarked sessions.now subscriptions.now marks.new }
     ensures ok { OnOk result (AreMarked sessions.now (subscriptions.now
         ++ subscription_of id wanted.now.conn wanted.now.account wanted.now.subject wanted.now.queue wanted.now.sid ∷ []) marks.new) }

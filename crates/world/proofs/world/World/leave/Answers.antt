@@ -15,7 +15,7 @@ invariant_of-self c =
       c.self.invariant.1,
       empty_current c.clear_cache.new.self.cache (rows_of h.ready) c.remove.new.self c.remove-2.new.self c.clear_cache.ensures,
       c.self.invariant.3,
-      c.trim_marks.ensures c.remove.new.self
+      c.trim_marks.ensures.kept c.remove.new.self
           (subst (λ (zs : List Session). AreMarked zs c.remove-2.new.self h.caches.marks) (sym c.remove.ensures)
           (subst (λ (subs : List Subscription). AreMarked (filter (λ (z : Session). not (z.conn == c.args.conn)) h.sessions) subs h.caches.marks) (sym c.remove-2.ensures)
           (marked_left h.caches.marks h.sessions c.args.conn h.subscriptions c.known.ensures c.self.invariant.4))),
