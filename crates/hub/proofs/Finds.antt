@@ -1,10 +1,9 @@
 -- The first element that passes a test, in a filtered list.
-use Rattle.std.proofs.Common.{◌≡◌, ◌∙◌, suc, ◌<◌, ◌||◌, Bool, true, false, cond, List, [], ◌∷◌, map, filter, length, Some, None, ap, refl, subst, arith}
+use Rattle.std.proofs.Common.{◌≡◌, ◌∙◌, ◌<◌, ◌||◌, Bool, true, false, cond, List, [], ◌∷◌, map, filter, length, Some, None, ap, refl, arith}
 use Rattle.std.specs.Prelude.{find, All, AllPairs}
 use Rattle.std.specs.List.{list_any}
-use Rattle.std.specs.Option.{option_map}
 use Rattle.std.proofs.lemmas.List.{get_or-map, length-map}
-use Rattle.std.proofs.lemmas.List.Elements.{All-head, All-tail, All-cons, All-nil}
+use Rattle.std.proofs.lemmas.List.Elements.{All-cons, All-nil}
 pub use Rattle.receiver_cache.proofs.Tests.{find-passes}
 pub use Rattle.world_routing.proofs.Remembered.{find-All}
 pub use Rattle.world_marks.proofs.Finds.{find-map, find-nothing, AllPairs-head, AllPairs-tail}

@@ -5,7 +5,6 @@ use Rattle.std.specs.List.{filter_map, cons_option, list_any, AllByRecursion, Is
 use Rattle.std.specs.Str.{bytes_eq}
 use Rattle.std.specs.Option.{option_map}
 use Rattle.std.specs.Cmp.Lexicographic.{pointwise}
-use Rattle.std.proofs.lemmas.Bool.{eqb-true, ne_eqb}
 use Rattle.std.proofs.lemmas.List.{length-map}
 use Rattle.std.proofs.lemmas.List.Filters.{length-filter_both}
 use Rattle.std.proofs.lemmas.List.Elements.{All-map, All-filter, All-weaker, All-head, All-tail, filter_agree, filter_passes}
@@ -30,7 +29,7 @@ use Rattle.world.specs.Reload.{user_after, verdict_for, may_stand, stands_on, re
 use Rattle.hub.specs.Sound.{IsSound, has_same_sid, user_behind, account_of, may_subscribe, HasAllowance}
 use Rattle.hub.specs.Routes.{IsOfRow}
 use Rattle.hub.specs.InForce.{goes_on_for, goes_on, under, removal_for, IsInForce}
-use Rattle.hub.proofs.Finds.{find-map, find-passes, find-All, find-nothing, AllPairs-head, AllPairs-tail, AllPairs-map}
+use Rattle.hub.proofs.Finds.{find-passes, find-All, find-nothing, AllPairs-head, AllPairs-tail, AllPairs-map}
 use Rattle.policy_ready.proofs.Names.{name_of, are_named_once, unlike}
 use Rattle.hub.proofs.Naming.{named_again}
 use Rattle.world_sessions.proofs.Remaining.{with_user-conn}

@@ -1,5 +1,5 @@
 -- Each response route is for a service row of the policy in force, and is so after all that changes routes.
-use Rattle.std.proofs.Common.{◌≡◌, ◌∙◌, ◌&&◌, ◌+◌, ◌<◌, ℕ, zero, suc, Bool, true, false, cond, not, List, [], ◌∷◌, ◌++◌, length, filter, get_or, Option, Some, None, ap, sym, refl, subst, arith}
+use Rattle.std.proofs.Common.{◌≡◌, ◌∙◌, ◌&&◌, ◌+◌, ℕ, suc, Bool, true, false, cond, not, List, [], ◌∷◌, ◌++◌, filter, get_or, Option, Some, None, ap, sym, refl, subst, arith}
 use Rattle.std.specs.Prelude.{All, IsSomeAnd, find, position, slice_get, unwrap_or, ⊤}
 use Rattle.std.specs.List.{cons_option, filter_map, flat_map}
 use Rattle.std.specs.Map.{lookup}
@@ -27,7 +27,6 @@ use Rattle.imports.specs.Views.{first_of_each, is_route, is_same, row_at, rows_f
 use Rattle.imports.specs.declared.rows.ImportRow.{ImportRow}
 use Rattle.imports.specs.declared.view.ViewItem.{ViewItem}
 use Rattle.imports.specs.declared.view.ViewItem.TheVariants.{At, TooLong}
-use Rattle.imports.specs.declared.view.Way.{Way}
 use Rattle.imports.specs.declared.view.Way.TheVariants.{Own, Stream, Service, Response}
 use Rattle.imports.proofs.Crossed.{seen_by}
 use Rattle.service_exporter.specs.Routes.{Exporter, Numbered, no_routes, lives, pruned_of, with_route, ends_by, spent_of, on_row, kept_route, kept_of, route_on}

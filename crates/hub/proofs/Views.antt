@@ -14,7 +14,6 @@ use Rattle.std.proofs.lemmas.List.Folds.{map_fixed}
 use Rattle.std.proofs.lemmas.List.Kept.{AllPairs-filter}
 use Rattle.subjects.specs.Subject.{Token, text_of}
 use Rattle.permissions.specs.declared.verdict.By.{By}
-use Rattle.permissions.specs.declared.verdict.Verdict.TheVariants.{Allowed}
 use Rattle.events.specs.Messages.{Message}
 use Rattle.events.specs.declared.answer.Addressed.{Addressed}
 use Rattle.events.specs.declared.answer.Item.{Item}

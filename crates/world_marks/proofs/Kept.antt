@@ -2,7 +2,7 @@
 use Rattle.std.proofs.Common.{◌≡◌, ◌==◌, ◌++◌, ℕ, Bool, true, false, cond, not, List, [], ◌∷◌, Option, Some, None, map, filter, get_or, sym, refl, subst, All}
 use Rattle.std.specs.Prelude.{AllPairs, is_some}
 use Rattle.std.specs.Option.{option_map}
-use Rattle.std.proofs.lemmas.List.Elements.{All-map, All-filter, All-weaker, filter_passes}
+use Rattle.std.proofs.lemmas.List.Elements.{All-map, All-filter, All-weaker}
 use Rattle.deny_marks.specs.Table.{IsMarked}
 use Rattle.deny_marks.specs.declared.marks.Marks.{Marks}
 use Rattle.world_deliveries.specs.Sessions.{session_of, IsApart}
@@ -68,15 +68,15 @@ module _ (table : List (ℕ × Marks)) where
         let left : List Subscription = filter (λ (s : Subscription). not (s.conn == conn)) subs in
         let sub : Subscription = get_or left k d in
         subst (IsMarkedBy table sub) (sym (session_of-filter (λ (z : Session). not (z.conn == conn)) sub.conn zs apart))
-        (by_session sub (filter_passes (λ (s : Subscription). not (s.conn == conn)) subs k d h) (session_of zs sub.conn) (marked_filter (λ (s : Subscription). not (s.conn == conn)) subs are k d h))
+        (by_session sub (session_of zs sub.conn) (marked_filter (λ (s : Subscription). not (s.conn == conn)) subs are k d h))
       where
         by_test : (sub : Subscription) (z : Session) (b : Bool) → IsMarkedBy table sub (Some z) → IsMarkedBy table sub (cond b (Some z) None)
         by_test sub z true is = is
         by_test sub z false is = tt
 
-        by_session : (sub : Subscription) → not (sub.conn == conn) ≡ true → (o : Option Session) → IsMarkedBy table sub o → IsMarkedBy table sub (passing (λ (z : Session). not (z.conn == conn)) o)
-        by_session sub other None is = tt
-        by_session sub other (Some z) is = by_test sub z (not (z.conn == conn)) is
+        by_session : (sub : Subscription) → (o : Option Session) → IsMarkedBy table sub o → IsMarkedBy table sub (passing (λ (z : Session). not (z.conn == conn)) o)
+        by_session sub None is = tt
+        by_session sub (Some z) is = by_test sub z (not (z.conn == conn)) is
 
     session_pushed : (z : Session) (ys : List Session) (conn : ℕ) → is_some (session_of ys conn) ≡ true → session_of (ys ++ z ∷ []) conn ≡ session_of ys conn
     session_pushed z [] conn is = absurd (cc)

@@ -1,5 +1,5 @@
 -- what is planned is what the transition makes of the message
-use Rattle.std.proofs.Common.{◌≡◌, ◌∙◌, [], List, Result, Ok, ap, sym, subst, refl}
+use Rattle.std.proofs.Common.{◌≡◌, ◌∙◌, [], List, Result, Ok, ap, sym, subst}
 use Rattle.events.specs.declared.answer.Outcome.TheVariants.{Denied, Published}
 use Rattle.events.specs.declared.event.Command.TheVariants.{Pub}
 use Rattle.events.specs.declared.refusal.HubRefusal.{HubRefusal}
