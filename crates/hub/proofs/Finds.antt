@@ -6,7 +6,7 @@ use Rattle.std.proofs.lemmas.List.{get_or-map, length-map}
 use Rattle.std.proofs.lemmas.List.Elements.{All-cons, All-nil}
 pub use Rattle.receiver_cache.proofs.Tests.{find-passes}
 pub use Rattle.world_routing.proofs.Remembered.{find-All}
-pub use Rattle.world_marks.proofs.Finds.{find-map, find-nothing, AllPairs-head, AllPairs-tail}
+pub use Rattle.list_laws.proofs.Finds.{find-map, find-filter, find-nothing, AllPairs-head, AllPairs-tail}
 
 pub find-none : {X : Type 0} (t : X → Bool) (xs : List X) → find t xs ≡ None → All (λ x. t x ≡ false) xs
 find-none t [] e = All-nil (λ x. t x ≡ false)
@@ -24,17 +24,6 @@ any-none t (x ∷ xs) e = here (t x) refl e (any-none t xs)
     here : (b : Bool) → t x ≡ b → (b || list_any t xs) ≡ false → (list_any t xs ≡ false → All (λ x. t x ≡ false) xs) → All (λ x. t x ≡ false) (x ∷ xs)
     here true h e' later = absurd (cc)
     here false h e' later = All-cons (λ x. t x ≡ false) x xs h (later e')
-
--- a filter that lets through all that the test finds
-pub find-filter : {X : Type 0} (t p : X → Bool) (xs : List X) → ((x : X) → t x ≡ true → p x ≡ true) → find t (filter p xs) ≡ find t xs
-find-filter t p [] kept = refl
-find-filter t p (x ∷ xs) kept = here (p x) (t x) refl refl (find-filter t p xs kept)
-  where
-    here : (b c : Bool) → p x ≡ b → t x ≡ c → find t (filter p xs) ≡ find t xs → find t (cond b (x ∷ filter p xs) (filter p xs)) ≡ cond c (Some x) (find t xs)
-    here true true h k later = ap (λ d. cond d (Some x) (find t (filter p xs))) k
-    here true false h k later = ap (λ d. cond d (Some x) (find t (filter p xs))) k ∙ later
-    here false true h k later = let q : p x ≡ true = kept x k in absurd (cc)
-    here false false h k later = later
 
 -- a map that the relation doesn't see
 pub AllPairs-map : {X : Type 0} (R : X → X → Type 0) (f : X → X) (xs : List X) → ((x y : X) → R x y → R (f x) (f y)) → AllPairs R xs → AllPairs R (map f xs)

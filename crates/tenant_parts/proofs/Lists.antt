@@ -2,21 +2,9 @@
 use Rattle.std.proofs.Common.{◌≡◌, ◌∙◌, Bool, true, false, cond, List, [], ◌∷◌, ◌++◌, filter, map, Option, Some, None, ap, sym, refl}
 use Rattle.std.specs.Prelude.{All, IfSome, find}
 use Rattle.std.specs.List.{filter_map, flat_map, cons_option}
-use Rattle.std.specs.Option.{option_map}
 use Rattle.std.proofs.lemmas.List.Elements.{All-head, All-tail, filter-append}
 
--- what a test finds is the same, where all that it passes is kept
-pub find_kept : {X : Type 0} (p k : X → Bool) (xs : List X) → ((x : X) → p x ≡ true → k x ≡ true) → find p (filter k xs) ≡ find p xs
-find_kept p k [] leads = refl
-find_kept {X} p k (x ∷ xs) leads = by (k x) refl (p x) refl (find_kept p k xs leads)
-  where
-    by : (b : Bool) → k x ≡ b → (a : Bool) → p x ≡ a → find p (filter k xs) ≡ find p xs → find p (cond b (x ∷ filter k xs) (filter k xs)) ≡ cond a (Some x) (find p xs)
-    by true e true f later = rw f refl
-    by true e false f later = rw f later
-    by false e false f later = later
-    by false e true f later = let no : false ≡ true = sym e ∙ leads x f in absurd (cc)
-
--- and where what it finds is kept, if it finds anything
+-- what a test finds is the same, where what it finds is kept, if it finds anything
 pub find_if_kept : {X : Type 0} (p k : X → Bool) (xs : List X) → IfSome (find p xs) (λ x. k x ≡ true) → find p (filter k xs) ≡ find p xs
 find_if_kept p k [] is = refl
 find_if_kept {X} p k (x ∷ xs) is = by (p x) refl (k x) refl is (find_if_kept p k xs)
@@ -56,15 +44,6 @@ all_or_none f j true (x ∷ xs) is = rw (is x) (ap (λ l. f x ∷ l) (all_or_non
 all_or_none f j false (x ∷ xs) is = rw (is x) (all_or_none f j false xs is)
 
 -- ---- lists of which each element is changed
-
--- what a test finds, where it doesn't see the change
-pub find_changed : {X : Type 0} (p : X → Bool) (f : X → X) (xs : List X) → ((x : X) → p (f x) ≡ p x) → find p (map f xs) ≡ option_map f (find p xs)
-find_changed p f [] blind = refl
-find_changed {X} p f (x ∷ xs) blind = ap (λ b. cond b (Some (f x)) (find p (map f xs))) (blind x) ∙ by (p x) (find_changed p f xs blind)
-  where
-    by : (b : Bool) → find p (map f xs) ≡ option_map f (find p xs) → cond b (Some (f x)) (find p (map f xs)) ≡ option_map f (cond b (Some x) (find p xs))
-    by true later = refl
-    by false later = later
 
 -- what the changed ones have is what others have of the unchanged
 pub flat_changed : {X Y : Type 0} (g h : X → List Y) (f : X → X) (xs : List X) → ((x : X) → g (f x) ≡ h x) → flat_map g (map f xs) ≡ flat_map h xs

@@ -33,7 +33,8 @@ use Rattle.imports.specs.declared.view.Way.TheVariants.{Own}
 use Rattle.service_rows.specs.Rows.{again_for, again_in, import_at, is_same_service, new_row, no_terms, terms_at, terms_by, terms_for}
 use Rattle.tenant_parts.specs.Laws.{AgainInPart, LoginsInPart, TermsInPart, UsersArePart, UsersInPart, ViewsInPart, ViewsStay, IsViewWithin, IsWayWithin}
 use Rattle.tenant_parts.specs.Part.{account_held, part_of, user_held}
-use Rattle.tenant_parts.proofs.Lists.{all_or_none, find_changed, find_if_kept, find_kept, flat_changed, flat_kept, given_kept, map_changed}
+use Rattle.list_laws.proofs.Finds.{find-map, find-filter}
+use Rattle.tenant_parts.proofs.Lists.{all_or_none, find_if_kept, flat_changed, flat_kept, given_kept, map_changed}
 
 -- ---- users
 
@@ -58,7 +59,7 @@ users_kept K doc =
 pub users_in_part : UsersInPart
 users_in_part K doc v is =
     ap (find (λ u. is_same_user u v)) (users_kept K doc)
-    ∙ find_kept (λ u. is_same_user u v) (λ (u : User). K u.account) (users_of doc)
+    ∙ find-filter (λ u. is_same_user u v) (λ (u : User). K u.account) (users_of doc)
     (λ u same. ap K ((bytes_decides u.account v.account).0 (and_parts (pointwise nat_eq u.user v.user && pointwise nat_eq u.password v.password) (pointwise nat_eq u.account v.account) same).1) ∙ is)
 
 pub logins_in_part : LoginsInPart
@@ -214,8 +215,8 @@ named name a has = same_from a.name name (sym (is_eq-slice_cmp a.name name) ∙ 
 -- an account of the set is in the part, with the permissions that hold for its users
 pub account_kept : (K : Name → Bool) (name : Name) (doc : PolicyDoc) → K name ≡ true → find (has_name name) (part_of K doc).accounts ≡ option_map (account_held doc.default_permissions) (find (has_name name) doc.accounts)
 account_kept K name doc is =
-    find_changed (has_name name) (account_held doc.default_permissions) (filter (λ (a : NamedAccount). K a.name) doc.accounts) (λ a. refl)
-    ∙ ap (option_map (account_held doc.default_permissions)) (find_kept (has_name name) (λ (a : NamedAccount). K a.name) doc.accounts (λ a has. ap K (named name a has) ∙ is))
+    find-map (has_name name) (account_held doc.default_permissions) (filter (λ (a : NamedAccount). K a.name) doc.accounts) (λ a. refl)
+    ∙ ap (option_map (account_held doc.default_permissions)) (find-filter (has_name name) (λ (a : NamedAccount). K a.name) doc.accounts (λ a has. ap K (named name a has) ∙ is))
 
 pub import_kept : (K : Name → Bool) (doc : PolicyDoc) (importer : Name) (index : ℕ) → K importer ≡ true → import_at (part_of K doc) importer index ≡ import_at doc importer index
 import_kept K doc importer index is = ap (option_and_then (λ (a : NamedAccount). slice_get a.account.imports index)) (account_kept K importer doc is) ∙ by (find (has_name importer) doc.accounts)

@@ -14,7 +14,7 @@ use Rattle.world_deliveries.specs.Delivered.{after_offer, delivered, has_room, i
 use Rattle.world_deliveries.specs.declared.session.Session.{Session}
 use Rattle.world_subscriptions.specs.Limit.{counted, has_entered, is_entry_for}
 use Rattle.world_rows.specs.declared.subscription.Subscription.{Subscription}
-use Rattle.tenant_parts.proofs.Lists.{find_kept}
+use Rattle.list_laws.proofs.Finds.{find-filter}
 use Rattle.tenant_worlds.specs.Tenants.{Tenants, has_session, sessions_of}
 
 -- a delivery is for a connection of theirs, or for none of theirs
@@ -39,7 +39,7 @@ offered_conn d what now z = by (nat_lt (length z.outbox.waiting) z.outbox.capaci
 
 module _ (t : Tenants) where
   pub session_kept : (conn : ℕ) (zs : List Session) → t.connections conn ≡ true → session_of (sessions_of t zs) conn ≡ session_of zs conn
-  session_kept conn zs is = find_kept (λ (z : Session). z.conn == conn) (has_session t) zs (λ z at. ap t.connections (eqb-true z.conn conn at) ∙ is)
+  session_kept conn zs is = find-filter (λ (z : Session). z.conn == conn) (has_session t) zs (λ z at. ap t.connections (eqb-true z.conn conn at) ∙ is)
 
   pub changed_kept : (f : Session → Session) → ((z : Session) → (f z).conn ≡ z.conn) → (conn : ℕ) (zs : List Session) → t.connections conn ≡ true →
       sessions_of t (with_session f conn zs) ≡ with_session f conn (sessions_of t zs)

@@ -18,7 +18,7 @@ use Rattle.world_marks.specs.Standing.{ids_of}
 use Rattle.deny_marks.specs.Marks.{kept, is_marked, marks_in}
 use Rattle.deny_marks.specs.declared.marks.Marks.TheVariants.{Unmarked}
 use Rattle.world_marks.specs.Again.{user_after, AreMarksAgain, IsMarkedFor, IsMarkedAgain}
-use Rattle.world_marks.proofs.Finds.{AllPairs-next}
+use Rattle.list_laws.proofs.Finds.{AllPairs-next}
 use Rattle.world_marks.proofs.Staying.{passing, session_of-remaining}
 
 -- where the marks of a subscription are what they were

@@ -8,7 +8,7 @@ use Rattle.world_deliveries.specs.Sessions.{session_of, IsApart}
 use Rattle.world_deliveries.specs.declared.session.Session.{Session}
 use Rattle.world_sessions.specs.Renewal.{user_again_of, stays, renewed, remaining}
 use Rattle.world_sessions.proofs.Remaining.{with_user-conn}
-use Rattle.world_marks.proofs.Finds.{find-map, find-nothing, AllPairs-head, AllPairs-tail}
+use Rattle.list_laws.proofs.Finds.{find-map, find-nothing, AllPairs-head, AllPairs-tail}
 
 -- the session, if it passes
 abbrev pub passing : (Session → Bool) → Option Session → Option Session

@@ -1,5 +1,5 @@
--- The first element that passes a test, in a mapped list; and what holds of pairs.
-use Rattle.std.proofs.Common.{◌≡◌, ◌∙◌, suc, Bool, true, false, cond, List, [], ◌∷◌, ◌++◌, map, Some, None, ap, refl, arith}
+-- The first element that passes a test, in a list of which each element is changed or some are kept; and what holds of pairs.
+use Rattle.std.proofs.Common.{◌≡◌, ◌∙◌, suc, Bool, true, false, cond, List, [], ◌∷◌, ◌++◌, map, filter, Some, None, ap, refl, arith}
 use Rattle.std.specs.Prelude.{find, All, AllPairs}
 use Rattle.std.specs.Option.{option_map}
 use Rattle.std.proofs.lemmas.List.Elements.{All-head, All-tail, All-cons, All-nil}
@@ -12,6 +12,17 @@ find-map t f (x ∷ xs) same = ap (λ b. cond b (Some (f x)) (find t (map f xs))
     here : (b : Bool) → find t (map f xs) ≡ option_map f (find t xs) → cond b (Some (f x)) (find t (map f xs)) ≡ option_map f (cond b (Some x) (find t xs))
     here true later = refl
     here false later = later
+
+-- a filter that lets through all that the test finds
+pub find-filter : {X : Type 0} (t p : X → Bool) (xs : List X) → ((x : X) → t x ≡ true → p x ≡ true) → find t (filter p xs) ≡ find t xs
+find-filter t p [] kept = refl
+find-filter t p (x ∷ xs) kept = here (p x) (t x) refl refl (find-filter t p xs kept)
+  where
+    here : (b c : Bool) → p x ≡ b → t x ≡ c → find t (filter p xs) ≡ find t xs → find t (cond b (x ∷ filter p xs) (filter p xs)) ≡ cond c (Some x) (find t xs)
+    here true true h k later = ap (λ d. cond d (Some x) (find t (filter p xs))) k
+    here true false h k later = ap (λ d. cond d (Some x) (find t (filter p xs))) k ∙ later
+    here false true h k later = let q : p x ≡ true = kept x k in absurd (cc)
+    here false false h k later = later
 
 -- where each element fails the test, it finds nothing
 pub find-nothing : {X : Type 0} (t : X → Bool) (xs : List X) → All (λ x. t x ≡ false) xs → find t xs ≡ None
