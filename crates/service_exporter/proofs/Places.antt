@@ -1,12 +1,7 @@
 -- Slots by rising number, and the routes that stand in them.
-use Rattle.std.proofs.Common.{◌≡◌, ◌≢◌, ◌∙◌, ◌<◌, ◌≤◌, ◌+◌, ◌&&◌, ℕ, zero, suc, Bool, true, false, cond, not, List, [], ◌∷◌, ◌++◌, length, filter, map, take, drop, get_or, set, append_assoc, Option, Some, None, nat_lt, inl, inr, ap, sym, refl, subst, arith, true≢false, slice_index_or, slice_set}
+use Rattle.std.proofs.Common.{◌≡◌, ◌≢◌, ◌∙◌, ◌<◌, ◌≤◌, ◌+◌, ◌&&◌, ℕ, zero, suc, Bool, true, false, cond, not, List, [], ◌∷◌, ◌++◌, length, filter, map, take, drop, get_or, set, append_assoc, Option, Some, None, ap, sym, refl, subst, arith, true≢false, slice_index_or, slice_set}
 use Rattle.std.specs.List.{filter_map}
-use Rattle.std.specs.List.Sorted.{IsNonDecreasingBy, IsPartitionPoint}
 use Rattle.std.specs.Option.{option_map}
-use Rattle.std.specs.Ordering.{nat_cmp, ordering_index}
-use Rattle.std.specs.declared.cmp.Ordering.TheVariants.{Less, Equal, Greater}
-use Rattle.std.proofs.lemmas.Bool.{cases_Bool}
-use Rattle.std.proofs.lemmas.Bool.Decides.{nat_tests}
 use Rattle.std.proofs.lemmas.List.{append-nil, get_or_default, take_all, take_more, take_more_set, drop_more, drop-set-lt, length-append}
 use Rattle.subjects.specs.Subject.{Token}
 use Rattle.std.specs.Prelude.{codes}
@@ -14,76 +9,15 @@ use Rattle.std.specs.Fmt.{decimal}
 use Rattle.service_subjects.specs.Names.{hex_of, is_on, number_of}
 use Rattle.service_subjects.proofs.Tokens.{from_on, number_of_decimal}
 use Rattle.service_exporter.specs.Routes.{Numbered, ends_by, if_lives, kept_route, living, lives, on_row, route_on}
-use Rattle.service_exporter.specs.Slots.{entry_of, standing_in, passes, is_single, kept_in, is_in, kept_slot, LivesUntil, AreAbove, AreBelow, AreRising, IsAbsent, IsNowhere, IsPlaceOf, IsPlaceOn}
+use Rattle.numbered_slots.specs.Slots.{entry_of, passes}
+use Rattle.numbered_slots.proofs.Places.{below_at, one_place, entries-append}
+use Rattle.service_exporter.specs.Slots.{slot_number, held, standing_in, is_single, kept_in, is_in, kept_slot, LivesUntil, AreBelow, AreRising, IsAbsent, IsNowhere, IsPlaceOf, IsPlaceOn}
 use Rattle.service_exporter.specs.declared.route.NewRow.{NewRow}
 use Rattle.service_exporter.specs.declared.route.Route.{Route}
 use Rattle.exports.specs.declared.document.Row.{Row}
 use Rattle.service_exporter.specs.declared.slots.Slot.{Slot}
 
--- ---- by place
-
-above_at : (n : ℕ) (slots : List Slot) (k : ℕ) (d : Slot) → AreAbove n slots → k < length slots → n < (slice_index_or slots k d).number
-unfolding AreAbove
-above_at n [] k d above within = absurd (omega arith)
-above_at n (s ∷ slots) zero d above within = above.0
-above_at n (s ∷ slots) (suc k) d above within = above_at n slots k d above.1 (omega arith)
-
-pub below_at : (n : ℕ) (slots : List Slot) (k : ℕ) (d : Slot) → AreBelow n slots → k < length slots → (slice_index_or slots k d).number < n
-unfolding AreBelow
-below_at n [] k d below within = absurd (omega arith)
-below_at n (s ∷ slots) zero d below within = below.0
-below_at n (s ∷ slots) (suc k) d below within = below_at n slots k d below.1 (omega arith)
-
-pub below_more : (m n : ℕ) (slots : List Slot) → m ≤ n → AreBelow m slots → AreBelow n slots
-unfolding AreBelow
-below_more m n [] le below = tt
-below_more m n (s ∷ slots) le below = (let b : s.number < m = below.0 in omega (arith, le, b), below_more m n slots le below.1)
-
-strict_at : (slots : List Slot) (i j : ℕ) (d : Slot) → AreRising slots → i < j → j < length slots → (slice_index_or slots i d).number < (slice_index_or slots j d).number
-unfolding AreRising
-strict_at [] i j d rising lt within = absurd (omega arith)
-strict_at (s ∷ slots) i zero d rising lt within = absurd (omega arith)
-strict_at (s ∷ slots) zero (suc j) d rising lt within = above_at s.number slots j d rising.0 (omega arith)
-strict_at (s ∷ slots) (suc i) (suc j) d rising lt within = strict_at slots i j d rising.1 (omega arith) (omega arith)
-
-rise_at : (slots : List Slot) (i j : ℕ) (d : Slot) → AreRising slots → i ≤ j → j < length slots → (slice_index_or slots i d).number ≤ (slice_index_or slots j d).number
-rise_at slots i j d rising le within = elim (cases_Bool (nat_lt i j)) [
-  | inl y ↦ let lt : i < j = grind (arith, nat_tests, y) in omega (arith, strict_at slots i j d rising lt within)
-  | inr n ↦ let same : i ≡ j = grind (arith, nat_tests, n, le) in subst (λ k. (slice_index_or slots i d).number ≤ (slice_index_or slots k d).number) same (omega arith)
-]
-
-order_rises : (a b id : ℕ) → a ≤ b → ordering_index (nat_cmp a id) ≤ ordering_index (nat_cmp b id)
-order_rises a b id h = grind (arith, nat_tests)
-
-pub cmp_equal : (a id : ℕ) → nat_cmp a id ≡ Equal → a ≡ id
-cmp_equal a id h = grind (arith, nat_tests, h)
-
-cmp_less : (a id : ℕ) → nat_cmp a id ≡ Less → a ≢ id
-cmp_less a id h = λ same. grind (arith, nat_tests, h, same)
-
-cmp_greater : (a id : ℕ) → nat_cmp a id ≡ Greater → a ≢ id
-cmp_greater a id h = λ same. grind (arith, nat_tests, h, same)
-
-pub searchable : (id : ℕ) (slots : List Slot) → AreRising slots → IsNonDecreasingBy (λ (s : Slot). ordering_index (nat_cmp s.number id)) slots
-searchable id slots rising = λ i j d le within. order_rises (slice_index_or slots i d).number (slice_index_or slots j d).number id (rise_at slots i j d rising le within)
-
-pub not_there : (id : ℕ) (slots : List Slot) (i : ℕ) → IsPartitionPoint (λ (s : Slot). nat_cmp s.number id ≡ Less) (λ (s : Slot). nat_cmp s.number id ≡ Greater) slots i → IsAbsent id slots
-not_there id slots i parted = λ k d within. elim (cases_Bool (nat_lt k i)) [
-  | inl y ↦ cmp_less (slice_index_or slots k d).number id (parted.0 k d (omega arith) (grind (arith, nat_tests, y)))
-  | inr n ↦ cmp_greater (slice_index_or slots k d).number id (parted.1 k d (grind (arith, nat_tests, n)) within)
-]
-
 -- ---- the slot of a subject
-
--- one place has that number
-pub one_place : (slots : List Slot) (i j : ℕ) (d : Slot) → AreRising slots → i < length slots → j < length slots → (slice_index_or slots i d).number ≡ (slice_index_or slots j d).number → i ≡ j
-one_place slots i j d rising before after same = elim (cases_Bool (nat_lt i j)) [
-  | inl y ↦ absurd (let lt : i < j = grind (arith, nat_tests, y) in omega (arith, same, strict_at slots i j d rising lt after))
-  | inr n ↦ elim (cases_Bool (nat_lt j i)) [
-    | inl y ↦ absurd (let lt : j < i = grind (arith, nat_tests, y) in omega (arith, same, strict_at slots j i d rising lt before))
-    | inr m ↦ grind (arith, nat_tests, n, m)
-  ]
-]
 
 pub no_true : (b : Bool) → b ≢ true → b ≡ false
 no_true true h = absurd (h refl)
@@ -106,7 +40,7 @@ nowhere_absent s slots n tells absent =
 pub nowhere_other : (s : List Token) (slots : List Slot) (n at : ℕ) (e : Slot) → AreRising slots → Tells s slots (Some n) → IsPlaceOf n slots at → is_in s (slice_index_or slots at e) ≡ false → IsNowhere s slots
 nowhere_other s slots n at e rising tells place other = λ k d within. no_true (is_in s (slice_index_or slots k d)) (λ h.
     let same : (slice_index_or slots k d).number ≡ n = sym (some_same n (slice_index_or slots k d).number (tells k d within h)) in
-    let here : k ≡ at = one_place slots k at d rising within place.0 (same ∙ sym (place.1 d)) in
+    let here : k ≡ at = one_place slot_number slots k at d rising within place.0 (same ∙ sym (place.1 d)) in
     let no : is_in s (slice_index_or slots k d) ≡ false = subst (λ j. is_in s (slice_index_or slots j d) ≡ false) (sym here) (ap (is_in s) (get_or_default slots at d e place.0) ∙ other) in
     true≢false (sym h ∙ no))
 
@@ -116,14 +50,14 @@ placed_on s slots n at e rising tells place it = record {
   here = λ d. ap (is_in s) (get_or_default slots at d e place.0) ∙ it;
   elsewhere = λ k d within other. no_true (is_in s (slice_index_or slots k d)) (λ h.
       let same : (slice_index_or slots k d).number ≡ n = sym (some_same n (slice_index_or slots k d).number (tells k d within h)) in
-      other (one_place slots k at d rising within place.0 (same ∙ sym (place.1 d))));
+      other (one_place slot_number slots k at d rising within place.0 (same ∙ sym (place.1 d))));
 }
 
 -- the number that a subject's third token writes tells its slot
 pub tells_number : (s : List Token) (slots : List Slot) (read : Option ℕ) → AreBelow 18446744073709551616 slots
     → ((mark hex digits : Token) → s ≡ mark ∷ hex ∷ digits ∷ [] → read ≡ number_of digits) → Tells s slots read
 tells_number s slots read small written =
-    λ k d within h. by (slice_index_or slots k d).number (below_at 18446744073709551616 slots k d small within) (slice_index_or slots k d).route h
+    λ k d within h. by (slice_index_or slots k d).number (below_at slot_number 18446744073709551616 slots k d small within) (slice_index_or slots k d).route h
   where
     by : (n : ℕ) → n < 18446744073709551616 → (o : Option Route) → passes (λ (r : Route). is_on s n r.word) o ≡ true → read ≡ Some n
     by n fits None h = absurd (cc)
@@ -221,24 +155,6 @@ written_back len new items same is =
     none (suc n) (x ∷ xs) le = none n xs (omega (arith, le))
 
 -- ---- a slot in the place of another
-
-above_set : (n : ℕ) (slots : List Slot) (i : ℕ) (new d : Slot) → AreAbove n slots → new.number ≡ (slice_index_or slots i d).number → AreAbove n (slice_set slots i new)
-unfolding AreAbove
-above_set n [] i new d above same = above
-above_set n (s ∷ slots) zero new d above same = (subst (λ k. n < k) (sym same) above.0, above.1)
-above_set n (s ∷ slots) (suc i) new d above same = (above.0, above_set n slots i new d above.1 same)
-
-pub below_set : (n : ℕ) (slots : List Slot) (i : ℕ) (new d : Slot) → AreBelow n slots → new.number ≡ (slice_index_or slots i d).number → AreBelow n (slice_set slots i new)
-unfolding AreBelow
-below_set n [] i new d below same = below
-below_set n (s ∷ slots) zero new d below same = (subst (λ k. k < n) (sym same) below.0, below.1)
-below_set n (s ∷ slots) (suc i) new d below same = (below.0, below_set n slots i new d below.1 same)
-
-pub rising_set : (slots : List Slot) (i : ℕ) (new d : Slot) → AreRising slots → new.number ≡ (slice_index_or slots i d).number → AreRising (slice_set slots i new)
-unfolding AreRising
-rising_set [] i new d rising same = rising
-rising_set (s ∷ slots) zero new d rising same = (subst (λ k. AreAbove k slots) (sym same) rising.0, rising.1)
-rising_set (s ∷ slots) (suc i) new d rising same = (above_set s.number slots i new d rising.0 same, rising_set slots i new d rising.1 same)
 
 -- one that doesn't live is taken out of its slot
 pub dropped_at : (now : ℕ) (slots : List Slot) (i : ℕ) (new d : Slot) → i < length slots → new.number ≡ (slice_index_or slots i d).number
@@ -352,93 +268,7 @@ left_at t (s ∷ slots) (suc i) new d taken within is took = by s.route (left_at
         more true = omega (arith, later)
         more false = later
 
--- ---- the slots of the routes that pass a test
-
-abbrev pub kept_slots : (Route → Bool) → List Slot → List Slot
-kept_slots p slots = filter (λ (s : Slot). passes p s.route) slots
-
-pub standing-kept : (p : Route → Bool) (slots : List Slot) → standing_in (kept_slots p slots) ≡ filter (λ (r : Numbered). p r.1) (standing_in slots)
-standing-kept p [] = refl
-standing-kept p (slot ∷ slots) = by slot.route refl (standing-kept p slots)
-  where
-    here : (r : Route) → slot.route ≡ Some r → (b : Bool) → standing_in (kept_slots p slots) ≡ filter (λ (e : Numbered). p e.1) (standing_in slots)
-        → standing_in (cond b (slot ∷ kept_slots p slots) (kept_slots p slots)) ≡ cond b ((slot.number, r) ∷ filter (λ (e : Numbered). p e.1) (standing_in slots)) (filter (λ (e : Numbered). p e.1) (standing_in slots))
-    here r is true later =
-        ap (λ (o : Option Route). entry_of slot.number o ++ standing_in (kept_slots p slots)) is
-        ∙ ap (λ (more : List Numbered). (slot.number, r) ∷ more) later
-    here r is false later = later
-
-    by : (o : Option Route) → slot.route ≡ o → standing_in (kept_slots p slots) ≡ filter (λ (e : Numbered). p e.1) (standing_in slots)
-        → standing_in (cond (passes p o) (slot ∷ kept_slots p slots) (kept_slots p slots)) ≡ filter (λ (e : Numbered). p e.1) (entry_of slot.number o ++ standing_in slots)
-    by None is later = later
-    by (Some r) is later = here r is (p r) later
-
-pub all_kept : (rs : List Numbered) → filter (λ (r : Numbered). true) rs ≡ rs
-all_kept [] = refl
-all_kept (r ∷ rs) = ap (λ more. r ∷ more) (all_kept rs)
-
-above-kept : (p : Route → Bool) (n : ℕ) (slots : List Slot) → AreAbove n slots → AreAbove n (kept_slots p slots)
-unfolding AreAbove
-above-kept p n [] above = above
-above-kept p n (s ∷ slots) above = here (passes p s.route) (above-kept p n slots above.1)
-  where
-    here : (b : Bool) → AreAbove n (kept_slots p slots) → AreAbove n (cond b (s ∷ kept_slots p slots) (kept_slots p slots))
-    here true later = (above.0, later)
-    here false later = later
-
-pub below-kept : (p : Route → Bool) (n : ℕ) (slots : List Slot) → AreBelow n slots → AreBelow n (kept_slots p slots)
-unfolding AreBelow
-below-kept p n [] below = below
-below-kept p n (s ∷ slots) below = here (passes p s.route) (below-kept p n slots below.1)
-  where
-    here : (b : Bool) → AreBelow n (kept_slots p slots) → AreBelow n (cond b (s ∷ kept_slots p slots) (kept_slots p slots))
-    here true later = (below.0, later)
-    here false later = later
-
-pub rising-kept : (p : Route → Bool) (slots : List Slot) → AreRising slots → AreRising (kept_slots p slots)
-unfolding AreRising
-rising-kept p [] rising = rising
-rising-kept p (s ∷ slots) rising = here (passes p s.route) (rising-kept p slots rising.1)
-  where
-    here : (b : Bool) → AreRising (kept_slots p slots) → AreRising (cond b (s ∷ kept_slots p slots) (kept_slots p slots))
-    here true later = (above-kept p s.number slots rising.0, later)
-    here false later = later
-
--- ---- one slot more
-
-above_added : (n : ℕ) (slots : List Slot) (new : Slot) → AreAbove n slots → n < new.number → AreAbove n (slots ++ new ∷ [])
-unfolding AreAbove
-above_added n [] new above h = (h, tt)
-above_added n (s ∷ slots) new above h = (above.0, above_added n slots new above.1 h)
-
-pub rising_added : (slots : List Slot) (new : Slot) → AreRising slots → AreBelow new.number slots → AreRising (slots ++ new ∷ [])
-unfolding AreRising AreBelow AreAbove
-rising_added [] new rising below = (tt, tt)
-rising_added (s ∷ slots) new rising below = (above_added s.number slots new rising.0 below.0, rising_added slots new rising.1 below.1)
-
-pub below_added : (n : ℕ) (slots : List Slot) (new : Slot) → AreBelow n slots → new.number < n → AreBelow n (slots ++ new ∷ [])
-unfolding AreBelow
-below_added n [] new below h = (h, tt)
-below_added n (s ∷ slots) new below h = (below.0, below_added n slots new below.1 h)
-
-pub standing_added : (slots : List Slot) (number : ℕ) (r : Route) → standing_in (slots ++ record { number = number; route = Some r } ∷ []) ≡ standing_in slots ++ (number, r) ∷ []
-standing_added [] number r = refl
-standing_added (s ∷ slots) number r = by s.route (standing_added slots number r)
-  where
-    by : (o : Option Route) → standing_in (slots ++ record { number = number; route = Some r } ∷ []) ≡ standing_in slots ++ (number, r) ∷ []
-        → entry_of s.number o ++ standing_in (slots ++ record { number = number; route = Some r } ∷ []) ≡ (entry_of s.number o ++ standing_in slots) ++ (number, r) ∷ []
-    by None later = later
-    by (Some q) later = ap (λ more. (s.number, q) ∷ more) later
-
 -- ---- how many live
-
-standing-append : (xs ys : List Slot) → standing_in (xs ++ ys) ≡ standing_in xs ++ standing_in ys
-standing-append [] ys = refl
-standing-append (s ∷ xs) ys = by s.route (standing-append xs ys)
-  where
-    by : (o : Option Route) → standing_in (xs ++ ys) ≡ standing_in xs ++ standing_in ys → entry_of s.number o ++ standing_in (xs ++ ys) ≡ (entry_of s.number o ++ standing_in xs) ++ standing_in ys
-    by None later = later
-    by (Some r) later = ap (λ more. (s.number, r) ∷ more) later
 
 living-append : (now : ℕ) (xs ys : List Numbered) → living now (xs ++ ys) ≡ living now xs ++ living now ys
 living-append now [] ys = refl
@@ -463,7 +293,7 @@ pub living_more : (now : ℕ) (slots : List Slot) (i : ℕ) (s : Slot) → i < l
     → length (living now (standing_in (take (i + 1) slots))) ≡ length (living now (standing_in (take i slots))) + cond (passes (lives now) s.route) 1 0
 living_more now slots i s within is =
     ap (λ (l : List Slot). length (living now (standing_in l))) (take_more slots i s within ∙ ap (λ x. take i slots ++ x ∷ []) (sym is))
-    ∙ ap (λ (l : List Numbered). length (living now l)) (standing-append (take i slots) (s ∷ []))
+    ∙ ap (λ (l : List Numbered). length (living now l)) (entries-append slot_number held (take i slots) (s ∷ []))
     ∙ ap length (living-append now (standing_in (take i slots)) (standing_in (s ∷ [])))
     ∙ length-append (living now (standing_in (take i slots))) (living now (standing_in (s ∷ [])))
     ∙ ap (λ n. length (living now (standing_in (take i slots))) + n) (one_living now s)
@@ -510,21 +340,6 @@ standing-on_rows again (s ∷ slots) = by s.route (standing-on_rows again slots)
         here : (o : Option NewRow) → again r.row ≡ o → entry_of s.number (option_map (on_row r) (again r.row)) ++ standing_in (map (kept_slot again) slots) ≡ filter_map (kept_route again) ((s.number, r) ∷ standing_in slots)
         here None e = rw e later
         here (Some new) e = rw e (ap (λ more. (s.number, on_row r new) ∷ more) later)
-
-above-on_rows : (again : Row → Option NewRow) (n : ℕ) (slots : List Slot) → AreAbove n slots → AreAbove n (map (kept_slot again) slots)
-unfolding AreAbove
-above-on_rows again n [] above = above
-above-on_rows again n (s ∷ slots) above = (above.0, above-on_rows again n slots above.1)
-
-pub below-on_rows : (again : Row → Option NewRow) (n : ℕ) (slots : List Slot) → AreBelow n slots → AreBelow n (map (kept_slot again) slots)
-unfolding AreBelow
-below-on_rows again n [] below = below
-below-on_rows again n (s ∷ slots) below = (below.0, below-on_rows again n slots below.1)
-
-pub rising-on_rows : (again : Row → Option NewRow) (slots : List Slot) → AreRising slots → AreRising (map (kept_slot again) slots)
-unfolding AreRising
-rising-on_rows again [] rising = rising
-rising-on_rows again (s ∷ slots) rising = (above-on_rows again s.number slots rising.0, rising-on_rows again slots rising.1)
 
 -- ---- the routes of a plain list
 

@@ -1,7 +1,8 @@
 -- Routes in slots by rising number, of which some are empty.
-use Rattle.std.specs.Prelude.{◌≡◌, ◌≢◌, ◌<◌, ◌≤◌, ℕ, Bool, true, false, List, [], ◌∷◌, ◌++◌, Option, Some, None, length, slice_index_or}
-use Rattle.std.specs.List.{HoldsAt}
+use Rattle.std.specs.Prelude.{◌≡◌, ◌≢◌, ◌<◌, ◌≤◌, ℕ, Bool, true, false, List, Option, Some, None, length, slice_index_or}
 use Rattle.std.specs.Option.{option_map}
+use Rattle.numbered_slots.specs.Slots as slots
+use Rattle.numbered_slots.specs.Slots.{passes}
 use Rattle.subjects.specs.Subject.{Token}
 use Rattle.service_subjects.specs.Names.{is_on}
 use Rattle.service_exporter.specs.Routes.{Numbered, lives, on_row}
@@ -10,20 +11,15 @@ use Rattle.exports.specs.declared.document.Row.{Row}
 use Rattle.service_exporter.specs.declared.route.Route.{Route}
 use Rattle.service_exporter.specs.declared.slots.Slot.{Slot}
 
--- what a slot of that number has
-abbrev pub entry_of : ℕ → Option Route → List Numbered
-entry_of number None = []
-entry_of number (Some r) = (number, r) ∷ []
+abbrev pub slot_number : Slot → ℕ
+slot_number s = s.number
+
+abbrev pub held : Slot → Option Route
+held s = s.route
 
 -- the routes that stand, in order
 abbrev pub standing_in : List Slot → List Numbered
-standing_in [] = []
-standing_in (s ∷ slots) = entry_of s.number s.route ++ standing_in slots
-
--- whether a route stands there that passes a test
-abbrev pub passes : (Route → Bool) → Option Route → Bool
-passes p None = false
-passes p (Some r) = p r
+standing_in all = slots.entries_in slot_number held all
 
 -- whether a route is for a single response
 abbrev pub is_single : Route → Bool
@@ -39,28 +35,21 @@ abbrev pub kept_in : (Row → Option NewRow) → Option Route → Option Route
 kept_in again None = None
 kept_in again (Some r) = option_map (on_row r) (again r.row)
 
--- the number of every slot is above a number
-unfoldable pub AreAbove : ℕ → List Slot → Type 0
-AreAbove n [] = Unit {0}
-AreAbove n (s ∷ slots) = (n < s.number) × AreAbove n slots
-
 -- the number of every slot is below a number
-unfoldable pub AreBelow : ℕ → List Slot → Type 0
-AreBelow n [] = Unit {0}
-AreBelow n (s ∷ slots) = (s.number < n) × AreBelow n slots
+abbrev pub AreBelow : ℕ → List Slot → Type 0
+AreBelow n all = slots.AreBelow slot_number n all
 
 -- the numbers rise, those of empty slots too
-unfoldable pub AreRising : List Slot → Type 0
-AreRising [] = Unit {0}
-AreRising (s ∷ slots) = AreAbove s.number slots × AreRising slots
+abbrev pub AreRising : List Slot → Type 0
+AreRising all = slots.AreRising slot_number all
 
 -- the slot of that number
 abbrev pub IsPlaceOf : ℕ → List Slot → ℕ → Type 0
-IsPlaceOf number slots at = (at < length slots) × HoldsAt (λ (s : Slot). s.number ≡ number) slots at
+IsPlaceOf number all at = slots.IsPlaceOf slot_number number all at
 
 -- no slot has that number
 abbrev pub IsAbsent : ℕ → List Slot → Type 0
-IsAbsent number slots = (k : ℕ) (d : Slot) → k < length slots → (slice_index_or slots k d).number ≢ number
+IsAbsent number all = slots.IsAbsent slot_number number all
 
 -- whether the route of a subject stands in a slot
 abbrev pub is_in : List Token → Slot → Bool

@@ -1,9 +1,9 @@
 -- What is known of how many routes live.
 use Rattle.std.specs.Prelude.{◌≡◌, ◌≤◌, ◌+◌, ℕ, List, Option, length, if◌then◌else◌}
+use Rattle.numbered_slots.specs.Slots.{passes}
 use Rattle.service_exporter.specs.Routes.{Numbered, living, lives}
 use Rattle.service_exporter.specs.declared.tally.Tally.{Tally}
 use Rattle.service_exporter.specs.declared.route.Route.{Route}
-use Rattle.service_exporter.specs.Slots.{passes}
 
 -- no more than `most` live at one moment, unless that is above 65,536, and no fewer than `least` at another
 pub record IsTallied (t : Tally) (rs : List Numbered) : Type 0 where

@@ -49,7 +49,8 @@ impl Slot {
     ghost use Rattle.std.specs.Prelude.{if◌then◌else◌};
     ghost use Rattle.service_exporter.specs.declared.route.Route.{Route};
     ghost use Rattle.service_subjects.specs.Names.{is_on};
-    ghost use Rattle.service_exporter.specs.Slots.{passes, is_single, kept_in, LivesUntil};
+    ghost use Rattle.numbered_slots.specs.Slots.{passes};
+    ghost use Rattle.service_exporter.specs.Slots.{is_single, kept_in, LivesUntil};
 
     /// The route that stands in it.
     fn get(&self) -> Option<&Route>

@@ -2,12 +2,13 @@
 use Rattle.std.proofs.Common.{rules, slice_index_or}
 use Rattle.std.proofs.lemmas.List.Sorted.{answers_always}
 use Rattle.service_exporter.specs.declared.slots.Slot.{Slot}
-use Rattle.service_exporter.proofs.Places.{cmp_equal, searchable, not_there}
+use Rattle.numbered_slots.proofs.Places.{cmp_equal, searchable, not_there}
+use Rattle.service_exporter.specs.Slots.{slot_number}
 use Rattle.service_exporter.proofs.slots.place_of.Goals as goal
 
 pub returns-in-Err : goal.returns-in-Err
-returns-in-Err c = not_there c.args.number c.args.slots.now _
-    (c.in-Err.ensures.position (λ (s : Slot). s.number) (answers_always _ _ _ (λ f a r f' called. search rules)) (searchable c.args.number c.args.slots.now c.requires))
+returns-in-Err c = not_there slot_number c.args.number c.args.slots.now _
+    (c.in-Err.ensures.position (λ (s : Slot). s.number) (answers_always _ _ _ (λ f a r f' called. search rules)) (searchable slot_number c.args.number c.args.slots.now c.requires))
 
 pub returns-in-Ok : goal.returns-in-Ok
 returns-in-Ok c = (

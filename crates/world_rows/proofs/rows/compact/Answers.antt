@@ -1,31 +1,23 @@
 -- what is retained are the rows that are full
-use Rattle.std.proofs.Common.{◌≡◌, ◌∙◌, ap, sym, subst, rules, true, List}
+use Rattle.std.proofs.Common.{rules, true}
 use Rattle.std.proofs.lemmas.Fn.{filter_same}
-use Rattle.world_rows.specs.Rows.{entries_in, AreRising, AreBelow, AreEmpty}
-use Rattle.world_rows.specs.declared.rows.Row.{Row}
-use Rattle.world_rows.proofs.Places.{kept_rows, entries-kept, all_kept, rising-kept, full-kept, below-kept}
+use Rattle.numbered_slots.proofs.Places.{entries_compacted, rising_left}
+use Rattle.world_rows.specs.Rows.{id_of, held}
+use Rattle.world_rows.proofs.Places.{full_left, below_full}
 use Rattle.world_rows.proofs.rows.compact.Goals as goal
 
 pub returns-clause-same : goal.returns-clause-same
-returns-clause-same c =
-    let rows = c.args.rows.now.items in
-    let kept : c.retain.new.self.items ≡ kept_rows (λ s. true) rows = filter_same _ _ _ (λ x b f' called. search rules) _ _ c.retain.ensures.filtered in
-    ap entries_in kept ∙ entries-kept (λ s. true) rows ∙ all_kept (entries_in rows)
+returns-clause-same c = entries_compacted id_of held c.args.rows.now.items c.retain.new.self.items
+    (filter_same _ _ _ (λ x b f' called. search rules) _ _ c.retain.ensures.filtered)
 
 pub returns-clause-rising : goal.returns-clause-rising
-returns-clause-rising c =
-    let rows = c.args.rows.now.items in
-    let kept : c.retain.new.self.items ≡ kept_rows (λ s. true) rows = filter_same _ _ _ (λ x b f' called. search rules) _ _ c.retain.ensures.filtered in
-    subst AreRising (sym kept) (rising-kept (λ s. true) rows c.requires.rising)
+returns-clause-rising c = rising_left id_of held (λ s. true) c.args.rows.now.items c.retain.new.self.items
+    (filter_same _ _ _ (λ x b f' called. search rules) _ _ c.retain.ensures.filtered) c.requires.rising
 
 pub returns-clause-empty : goal.returns-clause-empty
-returns-clause-empty c =
-    let rows = c.args.rows.now.items in
-    let kept : c.retain.new.self.items ≡ kept_rows (λ s. true) rows = filter_same _ _ _ (λ x b f' called. search rules) _ _ c.retain.ensures.filtered in
-    subst (λ (rs : List Row). AreEmpty rs 0) (sym kept) (full-kept (λ s. true) rows)
+returns-clause-empty c = full_left (λ s. true) c.args.rows.now.items c.retain.new.self.items
+    (filter_same _ _ _ (λ x b f' called. search rules) _ _ c.retain.ensures.filtered)
 
 pub returns-clause-below : goal.returns-clause-below
-returns-clause-below c =
-    let rows = c.args.rows.now.items in
-    let kept : c.retain.new.self.items ≡ kept_rows (λ s. true) rows = filter_same _ _ _ (λ x b f' called. search rules) _ _ c.retain.ensures.filtered in
-    λ n all. subst (AreBelow n) (sym kept) (below-kept rows n all)
+returns-clause-below c = below_full c.args.rows.now.items c.retain.new.self.items
+    (filter_same _ _ _ (λ x b f' called. search rules) _ _ c.retain.ensures.filtered)

@@ -1,6 +1,7 @@
 -- the row of the id is empty afterwards
 use Rattle.std.proofs.Common.{◌≡◌, ◌∙◌, ap, sym, Some, None, slice_index_or}
-use Rattle.world_rows.specs.Rows.{entries_in}
+use Rattle.numbered_slots.proofs.Places.{rising_set}
+use Rattle.world_rows.specs.Rows.{id_of, entries_in}
 use Rattle.world_rows.specs.declared.rows.Row.{Row}
 use Rattle.world_rows.proofs.Places as places
 use Rattle.world_rows.proofs.rows.empty_at.Goals as goal
@@ -40,7 +41,7 @@ pub returns-in-Some-clause-rising : goal.returns-in-Some-clause-rising
 returns-in-Some-clause-rising c =
     let old = c.index_mut.result.now in
     let new : Row = record { id = old.id; subscription = c.take.new.self } in
-    places.rising_set c.args.rows.now.items c.args.place new old c.requires.rising (ap (λ (r : Row). r.id) c.index_mut.ensures.value)
+    rising_set id_of c.args.rows.now.items c.args.place new old c.requires.rising (ap (λ (r : Row). r.id) c.index_mut.ensures.value)
 
 pub returns-in-Some-clause-empty : goal.returns-in-Some-clause-empty
 returns-in-Some-clause-empty c =

@@ -2,12 +2,14 @@
 use Rattle.std.proofs.Common.{rules, slice_index_or}
 use Rattle.std.proofs.lemmas.List.Sorted.{answers_always}
 use Rattle.world_rows.specs.declared.rows.Row.{Row}
-use Rattle.world_rows.proofs.Places.{cmp_equal, searchable, not_there}
+use Rattle.numbered_slots.proofs.Places.{cmp_equal, searchable, not_there}
+use Rattle.world_rows.specs.Rows.{id_of}
+use Rattle.world_rows.proofs.Places.{absent_of}
 use Rattle.world_rows.proofs.rows.search.Goals as goal
 
 pub returns-in-Err : goal.returns-in-Err
-returns-in-Err c = not_there c.args.id c.args.rows.now _
-    (c.in-Err.ensures.position (λ (r : Row). r.id) (answers_always _ _ _ (λ f a r f' called. search rules)) (searchable c.args.id c.args.rows.now c.requires))
+returns-in-Err c = absent_of c.args.id c.args.rows.now (not_there id_of c.args.id c.args.rows.now _
+    (c.in-Err.ensures.position (λ (r : Row). r.id) (answers_always _ _ _ (λ f a r f' called. search rules)) (searchable id_of c.args.id c.args.rows.now c.requires)))
 
 pub returns-in-Ok : goal.returns-in-Ok
 returns-in-Ok c = (
