@@ -23,6 +23,7 @@ import threading
 import time
 
 from clients import LIMIT, TEXTS, Client, Failed, Server, is_alive, run, shown, wait_for, want
+from storming import Working
 
 WRITERS, READERS, GUESTS = 66, 4, 30
 ROUNDS = 1_000
@@ -43,29 +44,17 @@ def policy(number):
     return {"accounts": {"A": {"users": users}}}
 
 
-class Traffic:
+class Traffic(Working):
     """What is known so far, by all threads."""
 
     def __init__(self, server):
+        super().__init__()
         self.server, self.number = server, 2
-        self.stop = threading.Event()
-        self.faults, self.gone, self.closed = [], set(), set()
+        self.gone, self.closed = set(), set()
         # by a message's text: whether every reader has to get it, or none may
         self.due, self.forbidden = set(), set()
         self.decided = [0, 0]
         self.lock = threading.Lock()
-
-    def guarded(self, work, *words):
-        """Runs `work` in a thread, and keeps what it fails with."""
-        def begin():
-            try:
-                work(*words)
-            except Exception as error:
-                self.faults.append(error)
-                self.stop.set()
-        thread = threading.Thread(target=begin, daemon=True)
-        thread.start()
-        return thread
 
 
 def write(traffic, name):
@@ -154,11 +143,11 @@ def reloads(program, divide):
         want(server.line() == "epoch 2", f"printed {server.lines}")
         ready = threading.Semaphore(0)
         heard = [[] for _ in range(READERS)]
-        readers = [traffic.guarded(read, traffic, it, ready) for it in heard]
+        readers = [traffic.begin(read, traffic, it, ready) for it in heard]
         for _ in readers:
             want(ready.acquire(timeout=LIMIT), f"a reader doesn't come to its subscription: {traffic.faults}")
-        others = [traffic.guarded(write, traffic, it) for it in range(WRITERS)]
-        others += [traffic.guarded(visit, traffic) for _ in range(GUESTS)]
+        others = [traffic.begin(write, traffic, it) for it in range(WRITERS)]
+        others += [traffic.begin(visit, traffic) for _ in range(GUESTS)]
         for number in range(3, rounds + 3):
             begin = time.monotonic()
             server.frame(policy(number))
@@ -174,20 +163,14 @@ def reloads(program, divide):
                 wait_for(lambda: traffic.decided[number % 2] >= enough or traffic.stop.is_set(),
                          f"too little is decided under policy {number}: {traffic.decided}")
         traffic.stop.set()
-        for it in others:
-            it.join(LIMIT)
-            want(not it.is_alive(), "a client hangs")
-        want(not traffic.faults, f"{traffic.faults[:1]}")
+        traffic.end(others, "a client")
         # (the last policy is even: nobody is closed, and all the lines of earlier ones have come before this)
         server.frame("{}")
         while (line := server.line()) != "config WrongType /accounts":
             gone(traffic, line)
         with Client(server) as last:
             last.send(b"PUB last 0\r\n\r\n")
-            for it in readers:
-                it.join(LIMIT)
-                want(not it.is_alive(), f"a reader hangs: {traffic.faults[:1]}")
-        want(not traffic.faults, f"{traffic.faults[:1]}")
+            traffic.end(readers, "a reader")
         judge(traffic, heard)
         is_alive(server)
     return (f"{rounds} reloads, {traffic.decided[1]} pairs of messages decided under policies that deny, "

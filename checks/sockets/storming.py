@@ -54,6 +54,32 @@ def take_order(client, count, sids=(b"1",), size=16):
         next_of[sid] += 1
 
 
+class Working:
+    """Threads, what they fail with, and whether they are to stop."""
+
+    def __init__(self):
+        self.stop, self.faults = threading.Event(), []
+
+    def begin(self, work, *words):
+        """Runs `work` in a thread, keeps what it fails with, and then has all stop."""
+        def guarded():
+            try:
+                work(*words)
+            except Exception as error:
+                self.faults.append(error)
+                self.stop.set()
+        thread = threading.Thread(target=guarded, daemon=True)
+        thread.start()
+        return thread
+
+    def end(self, threads, who):
+        """Waits until threads have ended, and shows that nothing has failed."""
+        for it in threads:
+            it.join(LIMIT)
+            want(not it.is_alive(), f"{who} hangs: {self.faults[:1]}")
+        want(not self.faults, f"{self.faults[:1]}")
+
+
 class Sending:
     """Writes from a thread what a server may not read at once, and keeps what it fails with."""
 

@@ -17,6 +17,7 @@ import threading
 import time
 
 from clients import LIMIT, Client, Server, is_alive, run, shown, wait_for, want
+from storming import Working
 
 WRITERS, READERS = 90, 8
 ROUNDS = 1_000
@@ -41,27 +42,15 @@ def policy(number):
     }}
 
 
-class Traffic:
+class Traffic(Working):
     """What is known so far, by all threads."""
 
     def __init__(self, server):
+        super().__init__()
         self.server, self.number = server, 2
-        self.stop, self.lock = threading.Event(), threading.Lock()
-        self.faults, self.accepted, self.decided = [], set(), [0, 0]
+        self.lock, self.accepted, self.decided = threading.Lock(), set(), [0, 0]
         # by a message's text: the subject under which a reader of IN has to get it, or that it may not
         self.due, self.forbidden = {}, set()
-
-    def guarded(self, work, *words):
-        """Runs `work` in a thread, and keeps what it fails with."""
-        def begin():
-            try:
-                work(*words)
-            except Exception as error:
-                self.faults.append(error)
-                self.stop.set()
-        thread = threading.Thread(target=begin, daemon=True)
-        thread.start()
-        return thread
 
 
 def write(traffic, name):
@@ -116,10 +105,10 @@ def reloads(program, divide):
         want(server.line() == "epoch 2", f"printed {server.lines}")
         users = ["demo", "stranger"] + ["reader"] * READERS
         heard, ready = [{} for _ in users], threading.Semaphore(0)
-        readers = [traffic.guarded(read, traffic, user, it, ready) for user, it in zip(users, heard)]
+        readers = [traffic.begin(read, traffic, user, it, ready) for user, it in zip(users, heard)]
         for _ in readers:
             want(ready.acquire(timeout=LIMIT), f"a reader doesn't come to its subscription: {traffic.faults}")
-        writers = [traffic.guarded(write, traffic, it) for it in range(WRITERS)]
+        writers = [traffic.begin(write, traffic, it) for it in range(WRITERS)]
         for number in range(3, rounds + 3):
             begin = time.monotonic()
             server.frame(policy(number))
@@ -134,18 +123,13 @@ def reloads(program, divide):
                 wait_for(lambda: traffic.decided[number % 2] >= enough or traffic.stop.is_set(),
                          f"too little is decided under policy {number}: {traffic.decided}")
         traffic.stop.set()
-        for it in writers:
-            it.join(LIMIT)
-            want(not it.is_alive(), "a writer hangs")
+        traffic.end(writers, "a writer")
         # (the last policy is even: what demo publishes on `out` crosses to the readers, and the stranger has one of its own)
         for user, subject in (("demo", b"out"), ("stranger", b"x")):
             with Client(server, user=user) as last:
                 last.send(b"PUB %b 4\r\nlast\r\n" % subject)
                 last.ping()
-        for it in readers:
-            it.join(LIMIT)
-            want(not it.is_alive(), f"a reader hangs: {traffic.faults[:1]}")
-        want(not traffic.faults, f"{traffic.faults[:1]}")
+        traffic.end(readers, "a reader")
         judge(traffic, *heard)
         is_alive(server)
     return (f"{rounds} reloads, {traffic.decided[1]} messages decided under policies without the export, "
