@@ -1,10 +1,16 @@
 -- What cached ids say.
-use Rattle.std.specs.Prelude.{◌≡◌, ℕ, List}
+use Rattle.std.specs.Prelude.{◌≡◌, ℕ, List, Some}
+use Rattle.std.specs.Global.{Vec}
+use Rattle.subjects.specs.Subject.{tokens_of}
+use Rattle.world_ids.specs.Entries.{Entries, IsTold}
 use Rattle.world_ids.specs.declared.cached_ids.CachedIds.{CachedIds}
 
--- in this generation these ids were found for the account and the text of a subject
-pub record Says (generation : ℕ) (account text ids : List ℕ) (cached : CachedIds) : Type 0 where
-  pub generation_is : cached.generation ≡ generation
+-- these ids were found for the account and the text of a subject
+pub record Says (account text : List ℕ) (ids : Vec ℕ) (cached : CachedIds) : Type 0 where
   pub account_is : cached.account.items ≡ account
   pub text_is : cached.subject.items ≡ text
-  pub ids_are : cached.ids.items ≡ ids
+  pub ids_are : cached.ids ≡ Some ids
+
+-- they are the ids that the entries have for its account and subject, unless they are too many
+abbrev pub IsSaid : CachedIds → Entries → Type 0
+IsSaid cached entries = (ids : Vec ℕ) → cached.ids ≡ Some ids → IsTold cached.account.items (tokens_of cached.subject.items) ids.items entries

@@ -1,10 +1,12 @@
-use Rattle.std.proofs.Common.{◌≡◌}
-use Rattle.std.proofs.lemmas.List.Elements.{All-set}
-use Rattle.world_ids.specs.Told.{IsSaid}
+-- each slot has what it had, or what is put there
+use Rattle.std.proofs.Common.{◌∙◌, Option, ap, sym, subst, inl, inr}
+use Rattle.std.specs.Option.{unwrap_or}
+use Rattle.world_ids.specs.CachedIds.{IsSaid}
 use Rattle.world_ids.specs.declared.cached_ids.CachedIds.{CachedIds}
 use Rattle.world_ids.proofs.id_cache.IdCache.set.Goals as goal
 
-pub returns-in-Some : goal.returns-in-Some
-returns-in-Some c = λ entries told said.
-    let before = c.args.self.now in
-    All-set (λ (m : CachedIds). m.generation ≡ before.generation → IsSaid m entries) before.slots.items before.at c.args.cached said told
+pub returns : goal.returns
+returns c = λ entries told said place cached there. elim (c.put.ensures.put place) [
+  | inl same ↦ told place cached (sym same ∙ there)
+  | inr at ↦ subst (λ (m : CachedIds). IsSaid m entries) (ap (λ (o : Option CachedIds). unwrap_or o cached) (sym at.1 ∙ there)) said
+]
