@@ -4,7 +4,7 @@ use Rattle.std.specs.Prelude.{find, All, AllPairs}
 use Rattle.std.specs.List.{list_any}
 use Rattle.std.proofs.lemmas.List.{get_or-map, length-map}
 use Rattle.std.proofs.lemmas.List.Elements.{All-cons, All-nil}
-pub use Rattle.receiver_cache.proofs.Tests.{find-passes}
+pub use Rattle.receiver_views.proofs.Tests.{find-passes}
 pub use Rattle.world_routing.proofs.Remembered.{find-All}
 pub use Rattle.list_laws.proofs.Finds.{find-map, find-filter, find-nothing, AllPairs-head, AllPairs-tail}
 

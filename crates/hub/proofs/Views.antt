@@ -37,7 +37,7 @@ use Rattle.world_subscriptions.specs.Addressing.{addressed_to}
 use Rattle.world_subscriptions.specs.Subscriptions.{has_same_sid}
 use Rattle.world_subscriptions.specs.Limit.{unended, counted}
 use Rattle.world_rows.specs.declared.subscription.Subscription.{Subscription}
-use Rattle.receiver_cache.proofs.Tests.{both}
+use Rattle.receiver_views.proofs.Tests.{both}
 use Rattle.queue_choice.specs.Choices.{chosen, chosen_number}
 use Rattle.world_groups.specs.Served.{is_member, members, is_the, is_served_by, is_served, served}
 use Rattle.world_groups.proofs.Chosen.{filter-map}

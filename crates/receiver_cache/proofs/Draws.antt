@@ -9,10 +9,10 @@ use Rattle.imports.specs.declared.rows.ImportRow.{ImportRow}
 use Rattle.events.specs.Messages.{Message}
 use Rattle.world_deliveries.specs.declared.session.Session.{Session}
 use Rattle.world_rows.specs.declared.subscription.Subscription.{Subscription}
-use Rattle.receiver_cache.specs.Known.{IsSeen, AreSeen, others_in}
+use Rattle.receiver_views.specs.Known.{IsSeen, AreSeen, others_in}
 use Rattle.receiver_cache.specs.Drawn.{IsCached, IsSent}
 use Rattle.receiver_cache.specs.declared.drawn.Drawn.{Drawn}
-use Rattle.receiver_cache.specs.declared.known.KnownView.{KnownView}
+use Rattle.receiver_views.specs.declared.known.KnownView.{KnownView}
 
 -- where a message is sent on goes by the draw of its word alone
 pub same_draw : (maps : List SourceMap) (subject : List Token) (word other : ℕ) → draw_of word ≡ draw_of other → mapped_by maps subject word ≡ mapped_by maps subject other

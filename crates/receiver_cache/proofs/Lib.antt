@@ -1,6 +1,3 @@
 pub mod Draws
-pub mod Marked
-pub mod Seen
 pub mod Stays
-pub mod Tests
 pub mod Told

@@ -29,15 +29,16 @@ use Rattle.world_subscriptions.specs.Changes.{only, bumped}
 use Rattle.world_subscriptions.specs.Counting.{in_turn}
 use Rattle.world_subscriptions.specs.Limit.{unended, has_ended}
 use Rattle.world_rows.specs.declared.subscription.Subscription.{Subscription}
-use Rattle.receiver_cache.specs.Open.{lets_through, may_hear, is_open, open_among}
-use Rattle.receiver_cache.specs.Receivers.{receiver_of}
-use Rattle.receiver_cache.specs.Known.{IsWhom, IsSeen, AreSeen, has_limit, others_in}
+use Rattle.receiver_views.specs.Open.{lets_through, may_hear, is_open, open_among}
+use Rattle.receiver_views.specs.Receivers.{receiver_of}
+use Rattle.receiver_views.specs.Known.{IsWhom, IsSeen, AreSeen, has_limit, others_in}
 use Rattle.receiver_cache.specs.Drawn.{subject_of, IsDrawn, KnowsDrawn}
-use Rattle.receiver_cache.specs.Cached.{IsAlone, IsAloneFor, IsWhomFor, KnowsOthersFor, IsCurrent}
+use Rattle.receiver_cache.specs.Cached.{IsAlone, IsAloneFor, IsWhomFor, KnowsOthersFor, IsSo, IsCurrent}
 use Rattle.receiver_cache.specs.declared.cache.ReceiverCache.{ReceiverCache}
+use Rattle.receiver_cache.specs.declared.cached.CachedReceivers.{CachedReceivers}
 use Rattle.receiver_cache.specs.declared.drawn.Drawn.{Drawn}
-use Rattle.receiver_cache.specs.declared.known.KnownView.{KnownView}
-use Rattle.receiver_cache.specs.declared.whom.Whom.{Whom}
+use Rattle.receiver_views.specs.declared.known.KnownView.{KnownView}
+use Rattle.receiver_views.specs.declared.whom.Whom.{Whom}
 
 -- ---- sessions
 
@@ -155,9 +156,8 @@ module _ (f : Subscription → Subscription) (same : (s : Subscription) → made
         was None e own = absurd (none-some (seat y) (sym (ap (option_map seat) e) ∙ own))
         was (Some z) e own = shown z y e (ap (λ (q : Option Seat). or_else q (seat z)) (sym own ∙ ap (option_map seat) e))
 
-    whom-stays : (o : Option Whom) (conn : ℕ) (text : List ℕ) → IsWhomFor o conn text zs subs → IsWhomFor o conn text after (map f subs)
-    whom-stays None conn text is = tt
-    whom-stays (Some whom) conn text is = before_it conn (λ y. IsWhom whom (open_among after (map f subs) y y.user.account (tokens_of text)))
+    whom-stays : (whom : Whom) (conn : ℕ) (text : List ℕ) → IsWhomFor whom conn text zs subs → IsWhomFor whom conn text after (map f subs)
+    whom-stays whom conn text is = before_it conn (λ y. IsWhom whom (open_among after (map f subs) y y.user.account (tokens_of text)))
         (λ z y there own. subst (IsWhom whom)
         (sym (open-map z y own y.user.account (tokens_of text)
         ∙ ap (λ (account : List ℕ). map f (open_among zs subs z account (tokens_of text))) (ap (λ (q : Seat). q.1.0.account) own)))
@@ -228,15 +228,24 @@ alone-stays zs after seated (Some by) rows conn text is = here (session_of after
 
 -- ---- what is cached
 
+module _ (f : Subscription → Subscription) (same : (s : Subscription) → made (f s) ≡ made s) (most_same : (s : Subscription) → (f s).most ≡ s.most)
+    (zs after : List Session) (seated : AreSeated zs after) (subs : List Subscription) (rows : List ImportRow) where
+  so-stays : (cached : CachedReceivers) → IsSo rows zs subs cached → IsSo rows after (map f subs) cached
+  so-stays cached so = (
+    whom-stays f same zs after seated subs cached.whom cached.published.conn cached.published.subject.items so.0,
+    others-stay f same zs after seated subs most_same cached.others rows cached.published.conn cached.published.subject.items so.1,
+    alone-stays zs after seated cached.alone rows cached.published.conn cached.published.subject.items so.2,
+  )
+
+  current-stays : (cache : ReceiverCache) → IsCurrent rows zs subs cache → IsCurrent rows after (map f subs) cache
+  current-stays cache current = record {
+    each = λ cached has. so-stays cached (current.each cached has);
+    drawn = drawn-stay f same zs after seated subs most_same cache.drawn.by_draw.items rows cache.drawn.published.conn cache.drawn.published.subject.items current.drawn;
+  }
+
 pub current_taken : (cache : ReceiverCache) (rows : List ImportRow) (zs after : List Session) (subs : List Subscription) → AreSeated zs after → IsCurrent rows zs subs cache → IsCurrent rows after subs cache
-current_taken cache rows zs after subs seated current = (
-  subst (λ (ss : List Subscription). IsWhomFor cache.whom cache.conn cache.subject.items after ss) (map-same subs) (whom-stays (λ s. s) (λ s. refl) zs after seated subs cache.whom cache.conn cache.subject.items current.0),
-  subst (λ (ss : List Subscription). KnowsOthersFor cache.others rows cache.conn cache.subject.items after ss) (map-same subs)
-      (others-stay (λ s. s) (λ s. refl) zs after seated subs (λ s. refl) cache.others rows cache.conn cache.subject.items current.1),
-  subst (λ (ss : List Subscription). KnowsDrawn cache.drawn.by_draw.items rows cache.conn cache.subject.items after ss) (map-same subs)
-      (drawn-stay (λ s. s) (λ s. refl) zs after seated subs (λ s. refl) cache.drawn.by_draw.items rows cache.conn cache.subject.items current.2),
-  alone-stays zs after seated cache.alone rows cache.conn cache.subject.items current.3,
-)
+current_taken cache rows zs after subs seated current =
+    subst (λ (ss : List Subscription). IsCurrent rows after ss cache) (map-same subs) (current-stays (λ s. s) (λ s. refl) (λ s. refl) zs after seated subs rows cache current)
   where
     map-same : (xs : List Subscription) → map (λ s. s) xs ≡ xs
     map-same [] = refl
@@ -298,9 +307,5 @@ current_in_turn cache rows zs after (id ∷ ids) subs seated as_many current =
     let fewer = fewer_once id subs in
     let all : once id subs ≡ map (only bumped id) subs = all_stay (λ (s : Subscription). not (has_ended s)) (map (only bumped id) subs) (omega (arith, as_many, more, length-map subs (only bumped id))) in
     current_in_turn cache rows zs after ids (once id subs) seated (omega (arith, as_many, fewer))
-    (subst (λ (ss : List Subscription). IsCurrent rows zs ss cache) (sym all) (
-      whom-stays (only bumped id) (bumped-made id) zs zs (λ conn. refl) subs cache.whom cache.conn cache.subject.items current.0,
-      others-stay (only bumped id) (bumped-made id) zs zs (λ conn. refl) subs (only-most id) cache.others rows cache.conn cache.subject.items current.1,
-      drawn-stay (only bumped id) (bumped-made id) zs zs (λ conn. refl) subs (only-most id) cache.drawn.by_draw.items rows cache.conn cache.subject.items current.2,
-      current.3,
-    ))
+    (subst (λ (ss : List Subscription). IsCurrent rows zs ss cache) (sym all)
+    (current-stays (only bumped id) (bumped-made id) (only-most id) zs zs (λ conn. refl) subs rows cache current))

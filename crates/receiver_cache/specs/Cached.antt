@@ -1,10 +1,9 @@
--- The cache of whom the messages of a publisher on a subject are for.
-use Rattle.std.specs.Prelude.{◌≡◌, ℕ, false, List, [], Option, Some, None, map}
+-- The cache of whom the messages of publishers on subjects are for.
+use Rattle.std.specs.Prelude.{◌≡◌, ◌⊎◌, ℕ, Bool, true, false, List, [], Option, Some, None, IfSome, map}
 use Rattle.std.specs.Global.{Vec}
 use Rattle.subjects.specs.Subject.{Token, tokens_of}
 use Rattle.imports.specs.Views.{is_route}
 use Rattle.imports.specs.declared.rows.ImportRow.{ImportRow}
-use Rattle.account_mappings.specs.Drawing.{draw_of}
 use Rattle.permissions.specs.Verdicts.{publish_verdict, IsJustifiedPublish}
 use Rattle.permissions.specs.declared.verdict.By.{By}
 use Rattle.permissions.specs.declared.verdict.By.TheVariants.{All as AllowsAll, Index, Grant}
@@ -12,27 +11,24 @@ use Rattle.permissions.specs.declared.verdict.Verdict.TheVariants.{Allowed}
 use Rattle.policy_ready.specs.declared.ready.User.{User}
 use Rattle.events.specs.Messages.{Message}
 use Rattle.events.specs.declared.answer.Addressed.{Addressed}
+use Rattle.slot_cache.specs.Slots.{value_at}
 use Rattle.world_deliveries.specs.Sessions.{session_of}
 use Rattle.world_deliveries.specs.declared.session.Session.{Session}
 use Rattle.world_rows.specs.declared.subscription.Subscription.{Subscription}
-use Rattle.receiver_cache.specs.Open.{open_among}
-use Rattle.receiver_cache.specs.Receivers.{addressed_among, addressed_at}
-use Rattle.receiver_cache.specs.Known.{picked, Says, IsWhom, others_in, AreSeen, addressed_in_each}
-use Rattle.receiver_cache.specs.Drawn.{IsCached, KnowsDrawn, sent_as}
+use Rattle.receiver_views.specs.Open.{open_among}
+use Rattle.receiver_views.specs.Receivers.{addressed_among, addressed_at}
+use Rattle.receiver_views.specs.Known.{KnowsOthers, picked, Says, IsWhom, others_in, AreSeen, addressed_in_each}
+use Rattle.receiver_cache.specs.Drawn.{KnowsDrawn}
 use Rattle.receiver_cache.specs.declared.cache.ReceiverCache.{ReceiverCache}
-use Rattle.receiver_cache.specs.declared.drawn.Drawn.{Drawn}
-use Rattle.receiver_cache.specs.declared.known.KnownView.{KnownView}
-use Rattle.receiver_cache.specs.declared.whom.Whom.{Whom}
+use Rattle.receiver_cache.specs.declared.cached.CachedReceivers.{CachedReceivers}
+use Rattle.receiver_views.specs.declared.known.KnownView.{KnownView}
+use Rattle.receiver_cache.specs.declared.published.Published.{Published}
+use Rattle.receiver_views.specs.declared.whom.Whom.{Whom}
+use Rattle.receiver_views.specs.declared.whom.Whom.TheVariants.{Various}
 
--- it does so of those that the messages of a connection on a subject may be sent to
-abbrev pub IsWhomFor : Option Whom → ℕ → List ℕ → List Session → List Subscription → Type 0
-IsWhomFor None conn text zs subs = Unit {0}
-IsWhomFor (Some whom) conn text zs subs = (z : Session) → session_of zs conn ≡ Some z → IsWhom whom (open_among zs subs z z.user.account (tokens_of text))
-
--- the views of a publisher's message behind its own are known, where they are said to be
-abbrev pub KnowsOthers : Option (Vec KnownView) → List ImportRow → List Session → List Subscription → Session → List Token → Type 0
-KnowsOthers None rows zs subs z s = Unit {0}
-KnowsOthers (Some known) rows zs subs z s = AreSeen zs subs z known.items (others_in rows z.user.account s)
+-- it says of those that the messages of a connection on a subject may be sent to whom they are for
+abbrev pub IsWhomFor : Whom → ℕ → List ℕ → List Session → List Subscription → Type 0
+IsWhomFor whom conn text zs subs = (z : Session) → session_of zs conn ≡ Some z → IsWhom whom (open_among zs subs z z.user.account (tokens_of text))
 
 -- where they are said to be known of the messages of a connection on a subject, they are
 abbrev pub KnowsOthersFor : Option (Vec KnownView) → List ImportRow → ℕ → List ℕ → List Session → List Subscription → Type 0
@@ -69,46 +65,61 @@ abbrev pub IsAloneFor : Option By → List ImportRow → ℕ → List ℕ → Li
 IsAloneFor None rows conn text zs = Unit {0}
 IsAloneFor (Some by) rows conn text zs = IsAloneOf rows zs conn (tokens_of text) by
 
--- what the cache says of its connection and subject is so
-abbrev pub IsCurrent : List ImportRow → List Session → List Subscription → ReceiverCache → Type 0
-IsCurrent rows zs subs cache =
-    IsWhomFor cache.whom cache.conn cache.subject.items zs subs
-    × KnowsOthersFor cache.others rows cache.conn cache.subject.items zs subs
-    × KnowsDrawn cache.drawn.by_draw.items rows cache.conn cache.subject.items zs subs
-    × IsAloneFor cache.alone rows cache.conn cache.subject.items zs
+-- what is cached of the messages of a publisher on a subject is so
+abbrev pub IsSo : List ImportRow → List Session → List Subscription → CachedReceivers → Type 0
+IsSo rows zs subs cached =
+    IsWhomFor cached.whom cached.published.conn cached.published.subject.items zs subs
+    × KnowsOthersFor cached.others rows cached.published.conn cached.published.subject.items zs subs
+    × IsAloneFor cached.alone rows cached.published.conn cached.published.subject.items zs
+
+-- it says nothing
+abbrev pub IsBlank : CachedReceivers → Type 0
+IsBlank cached = (cached.whom ≡ Various) × (cached.others ≡ None) × (cached.alone ≡ None)
+
+-- it is known that there is no view behind the publisher's own
+abbrev pub AreNone : Option (Vec KnownView) → Type 0
+AreNone None = ⊥
+AreNone (Some known) = known.items ≡ []
+
+-- it is what was found of these messages: those that may be sent them, the views behind the publisher's own, and by what lists allow
+-- them, if there are no such views
+pub record IsFound (cached : CachedReceivers) (published : Published) (found : List Subscription) (others : Option (Vec KnownView)) (allowed : Option By) : Type 0 where
+  pub published_is : cached.published ≡ published
+  pub whom : IsWhom cached.whom found
+  pub others_are : cached.others ≡ others
+  pub alone : IfSome cached.alone (λ by. (allowed ≡ Some by) × AreNone others)
+
+-- the cache has it
+abbrev pub Has : ReceiverCache → CachedReceivers → Type 0
+Has cache cached = (cached ≡ cache.last) ⊎ ((place : ℕ) × (value_at cache.slots place ≡ Some cached))
+
+-- what the cache has is so
+pub record IsCurrent (rows : List ImportRow) (zs : List Session) (subs : List Subscription) (cache : ReceiverCache) : Type 0 where
+  pub each : (cached : CachedReceivers) → Has cache cached → IsSo rows zs subs cached
+  pub drawn : KnowsDrawn cache.drawn.by_draw.items rows cache.drawn.published.conn cache.drawn.published.subject.items zs subs
 
 -- it says nothing
 abbrev pub IsEmpty : ReceiverCache → Type 0
-IsEmpty cache = (cache.whom ≡ None) × (cache.others ≡ None) × (cache.drawn.by_draw.items ≡ []) × (cache.alone ≡ None)
+IsEmpty cache = IsBlank cache.last × ((place : ℕ) → value_at cache.slots place ≡ None) × (cache.drawn.by_draw.items ≡ [])
 
--- whom a message of the connection on the subject is for is cached, and these are its deliveries
-pub record Tells (cache : ReceiverCache) (conn : ℕ) (text : List ℕ) (m : Message) (word : ℕ) (all : List Addressed) : Type 0 where
-  pub conn_is : cache.conn ≡ conn
-  pub text_is : cache.subject.items ≡ text
-  pub whom : Whom
-  pub whom_is : cache.whom ≡ Some whom
-  pub says : Says whom
-  pub deliveries : all ≡ map (addressed_at m) (picked word whom)
+-- the views of the message that was addressed last behind its publisher's own, if they are known
+abbrev pub if_last : Bool → Option (Vec KnownView) → Option (Vec KnownView)
+if_last true others = others
+if_last false others = None
+
+unfoldable pub known_others : ReceiverCache → Option (Vec KnownView)
+known_others cache = if_last cache.is_last cache.last.others
+
+-- whom a message is for is cached, and these are its deliveries
+abbrev pub Tells : CachedReceivers → Message → ℕ → List Addressed → Type 0
+Tells cached m word all = Says cached.whom × (all ≡ map (addressed_at m) (picked word cached.whom))
 
 -- the views behind the publisher's own are known, and these are the deliveries in them behind others
 abbrev pub TellsOthers : Option (Vec KnownView) → Message → ℕ → List Addressed → List Addressed → Type 0
 TellsOthers None m word before all = ⊥
 TellsOthers (Some known) m word before all = all ≡ addressed_in_each m word before known.items
 
--- what a message of the connection on the subject is sent as is cached, and these are its deliveries
-pub record TellsDrawn (cache : ReceiverCache) (conn : ℕ) (text : List ℕ) (m : Message) (word : ℕ) (all : List Addressed) : Type 0 where
-  pub conn_is : cache.conn ≡ conn
-  pub text_is : cache.subject.items ≡ text
-  pub drawn : Drawn
-  pub cached : IsCached cache.drawn.by_draw.items (draw_of word) drawn
-  pub deliveries : all ≡ sent_as m word drawn
-
 -- a connection's message is so, and these are its deliveries
 pub record IsAloneAt (rows : List ImportRow) (zs : List Session) (subs : List Subscription) (conn : ℕ) (m : Message) (word : ℕ) (by : By) (all : List Addressed) : Type 0 where
   pub of : IsAloneOf rows zs conn m.subject by
   pub deliveries : all ≡ addressed_among zs subs of.publisher m word
-
--- it is known that there is no view behind the publisher's own
-abbrev pub AreNone : Option (Vec KnownView) → Type 0
-AreNone None = ⊥
-AreNone (Some known) = known.items ≡ []

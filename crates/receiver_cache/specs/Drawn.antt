@@ -10,8 +10,10 @@ use Rattle.events.specs.declared.answer.Addressed.{Addressed}
 use Rattle.world_deliveries.specs.Sessions.{session_of}
 use Rattle.world_deliveries.specs.declared.session.Session.{Session}
 use Rattle.world_rows.specs.declared.subscription.Subscription.{Subscription}
-use Rattle.receiver_cache.specs.Known.{IsSeen, AreSeen, others_in, addressed_in, addressed_in_each}
+use Rattle.receiver_views.specs.Known.{IsSeen, AreSeen, others_in, addressed_in, addressed_in_each}
+use Rattle.receiver_cache.specs.Published.{IsOf}
 use Rattle.receiver_cache.specs.declared.drawn.Drawn.{Drawn}
+use Rattle.receiver_cache.specs.declared.drawn.DrawnCache.{DrawnCache}
 
 -- the subject under which messages are sent
 abbrev pub subject_of : Drawn → List Token
@@ -40,6 +42,13 @@ IsCached by_draw draw drawn = slice_get by_draw draw ≡ Some (Some drawn)
 -- what is cached of the messages of a connection with a text is so
 pub record KnowsDrawn (by_draw : List (Option Drawn)) (rows : List ImportRow) (conn : ℕ) (text : List ℕ) (zs : List Session) (subs : List Subscription) : Type 0 where
   pub each : (draw : ℕ) (drawn : Drawn) → IsCached by_draw draw drawn → (z : Session) → session_of zs conn ≡ Some z → IsDrawn rows zs subs z text draw drawn
+
+-- what a message of the connection on the subject is sent as is cached, and these are its deliveries
+pub record TellsDrawn (cache : DrawnCache) (conn : ℕ) (text : List ℕ) (m : Message) (word : ℕ) (all : List Addressed) : Type 0 where
+  pub of : IsOf cache.published conn text
+  pub drawn : Drawn
+  pub cached : IsCached cache.by_draw.items (draw_of word) drawn
+  pub deliveries : all ≡ sent_as m word drawn
 
 -- a publisher's message is sent on, and these are its deliveries
 pub record IsSentOn (rows : List ImportRow) (zs : List Session) (subs : List Subscription) (publisher : Session) (m : Message) (word : ℕ) (all : List Addressed) : Type 0 where

@@ -1,6 +1,3 @@
-pub mod Open
-pub mod Marked
-pub mod Receivers
-pub mod Known
+pub mod Published
 pub mod Drawn
 pub mod Cached

@@ -1,32 +1,36 @@
-//! A cache of whom the messages of a publisher on a subject are for.
-ghost use Rattle.std.specs.Prelude.{◌≡◌, [], map, true};
-ghost use Rattle.receiver_cache.specs.Cached.{AreNone};
-ghost use Rattle.world_groups.specs.Chosen.{Rising};
-ghost use Rattle.receiver_cache.specs.Known.{IsWhom};
+//! A cache of whom the messages of publishers on subjects are for.
 
-use crate::drawn::{DrawnCache, draw_of};
-use crate::known::{KnownView, address_known};
-use crate::receiver::address_each;
-use crate::whom::{Whom, address_chosen, whom_of};
+use crate::cached::CachedReceivers;
+use crate::drawn::DrawnCache;
+use crate::published::Published;
 use base::NoMemory;
 use events::{Addressed, Message};
 use permissions::By;
+use receiver_views::KnownView;
+use slot_cache::{SlotCache, sum_of_number};
 use std::alloc::Global;
+use std::mem;
+use subjects::SubjectRef;
 use world_subscriptions::SharedSubscription;
 
-/// Caches whom the messages of one publisher on one subject are for. It is current as long as the sessions, the
-/// subscriptions and what permits them stay as they are.
+/// How many slots the cache has: half a megabyte of them.
+const SLOTS: usize = 4096;
+
+/// Caches whom the messages of publishers on subjects are for: the last ones at hand, and those before in slots, as far as they are
+/// for few. It is current as long as the sessions, the subscriptions and what permits them stay as they are.
 pub struct ReceiverCache {
     alloc: Global,
-    conn: u64,
-    subject: Vec<u8>,
-    whom: Option<Whom>,
-    // The views of these messages behind the publisher's own, where they are known.
-    others: Option<Vec<KnownView>>,
-    // What they are sent as, where the account's mappings send them on.
+    // Whom the messages are for that were found or looked up last.
+    last: CachedReceivers,
+    // Whether the message that was addressed last is one of them.
+    is_last: bool,
+    // The slot from which they were taken, or into which they come.
+    place: usize,
+    // The sum of the publisher and the subject of the message that was addressed last, where it isn't one of them.
+    sum: u64,
+    slots: SlotCache<CachedReceivers>,
+    /// What messages are sent as, where an account's mappings send them on.
     pub drawn: DrawnCache,
-    // By what lists allow them, where it is known that they are seen in the publisher's account alone.
-    alone: Option<By>,
 }
 
 impl Drop for ReceiverCache {
@@ -34,42 +38,31 @@ impl Drop for ReceiverCache {
     fn drop(self) {
         let Self {
             alloc: _,
-            conn: _,
-            subject: _,
-            whom: _,
-            others: _,
+            last: _,
+            is_last: _,
+            place: _,
+            sum: _,
+            slots: _,
             drawn: _,
-            alone: _,
         } = self;
     }
 }
 
-/// Empties a list. Mostly it is empty already, and then nothing is called.
-#[inline(always)]
-fn clear(all: &mut Vec<Addressed>)
-    ensures { all.new.items ≡ [] }
-{
-    if !all.is_empty() {
-        all.clear();
-    }
-}
-
-/// Returns whether it is known that there is no view behind the publisher's own.
-fn are_none(others: &Option<Vec<KnownView>>) -> bool
-    ensures { result ≡ true → AreNone others.now }
-{
-    match others {
-        None => false,
-        Some(views) => views.is_empty(),
-    }
-}
-
 impl ReceiverCache {
+    ghost use Rattle.std.specs.Prelude.{◌≡◌, ◌⊎◌, ℕ, List, None, Some, IfErr, IfOk, IfSome, map, true, false};
+    ghost use Rattle.std.specs.Option.{option_copied};
     ghost use Rattle.permissions.specs.declared.verdict.By.{By as ByModel};
-    ghost use Rattle.std.specs.Prelude.{◌==◌, ◌&&◌, ◌⊎◌, IfErr, IfOk, IfSome, true, false, None, Some, nat_eq};
-    ghost use Rattle.std.specs.Cmp.Lexicographic.{pointwise};
-    ghost use Rattle.subjects.specs.Subject.{text_of};
-    ghost use Rattle.receiver_cache.specs.Cached.{AreNone, Tells, TellsDrawn, TellsOthers, IsEmpty};
+    ghost use Rattle.imports.specs.declared.rows.ImportRow.{ImportRow};
+    ghost use Rattle.slot_cache.specs.Slots.{value_at};
+    ghost use Rattle.world_groups.specs.Chosen.{Rising};
+    ghost use Rattle.world_deliveries.specs.Sessions.{session_of};
+    ghost use Rattle.world_deliveries.specs.declared.session.Session.{Session};
+    ghost use Rattle.world_rows.specs.declared.subscription.Subscription.{Subscription};
+    ghost use Rattle.receiver_views.specs.Open.{open_among};
+    ghost use Rattle.receiver_cache.specs.Published.{IsOf};
+    ghost use Rattle.receiver_views.specs.Receivers.{addressed_among};
+    ghost use Rattle.receiver_cache.specs.Cached.{IsAllowed, IsAloneAt, IsAloneOf, IsBlank, IsCurrent, IsEmpty, TellsOthers, known_others};
+    ghost use Rattle.receiver_views.specs.Known.{KnowsOthers};
 
     /// Returns an empty cache. It takes no memory.
     pub fn new(alloc: Global) -> ReceiverCache
@@ -77,12 +70,12 @@ impl ReceiverCache {
     {
         ReceiverCache {
             alloc,
-            conn: 0,
-            subject: Vec::new(alloc),
-            whom: None,
-            others: None,
+            last: CachedReceivers::blank(alloc),
+            is_last: false,
+            place: 0,
+            sum: 0,
+            slots: SlotCache::new(alloc, SLOTS),
             drawn: DrawnCache::new(alloc),
-            alone: None,
         }
     }
 
@@ -90,52 +83,109 @@ impl ReceiverCache {
     pub fn clear(&mut self)
         ensures { IsEmpty self.new }
     {
-        self.whom = None;
-        self.others = None;
+        self.last = CachedReceivers::blank(self.alloc);
+        self.is_last = false;
+        self.slots.clear();
         self.drawn.clear();
-        self.alone = None;
-        self.subject.clear();
     }
 
-    /// Returns whether it is of this publisher and the text of this subject.
-    fn is_of(&self, conn: u64, text: &[u8]) -> bool
-        ensures tests { result ≡ ((self.now.conn == conn) && pointwise nat_eq self.now.subject.items text.now) }
-        ensures same { result ≡ true → (self.now.conn ≡ conn) × (self.now.subject.items ≡ text.now) }
+    /// Returns the slot that has whom a publisher's messages on the subject with this text are for, and that.
+    fn find(&self, sum: u64, conn: u64, text: &[u8]) -> Option<(usize, &CachedReceivers)>
+        ensures { IfSome result (λ found. (value_at self.now.slots found.0 ≡ Some found.1.now) × IsOf found.1.now.published conn text.now) }
     {
-        self.conn == conn && self.subject.as_slice() == text
+        let (first, second) = self.slots.places_of(sum);
+        match self.slots.get(first) {
+            Some(cached) if cached.is_of(conn, text) => Some((first, cached)),
+            _ => match self.slots.get(second) {
+                Some(cached) if cached.is_of(conn, text) => Some((second, cached)),
+                _ => None,
+            },
+        }
+    }
+
+    /// Returns the place of a sum into which something is put: mostly one that has nothing.
+    fn place_for(&self, sum: u64) -> usize {
+        let (first, second) = self.slots.places_of(sum);
+        if self.slots.get(first).is_some() && self.slots.get(second).is_none() {
+            second
+        } else {
+            first
+        }
+    }
+
+    /// Puts the last ones into their slot, if they are few.
+    fn put_back(&mut self)
+        ensures last { IsBlank self.new.last }
+        ensures slots { (place : ℕ) → (value_at self.new.slots place ≡ value_at self.old.slots place) ⊎ (value_at self.new.slots place ≡ Some self.old.last) }
+        ensures drawn { self.new.drawn ≡ self.old.drawn }
+    {
+        let last = mem::replace(&mut self.last, CachedReceivers::blank(self.alloc));
+        if last.are_few() {
+            let _ = self.slots.put(self.place, last);
+        }
+    }
+
+    /// Looks for whom a publisher's messages on the subject with this text are for, and has it at hand then.
+    #[inline(always)]
+    fn select(&mut self, conn: u64, text: &[u8])
+        ensures of { self.new.is_last ≡ true → IsOf self.new.last.published conn text.now }
+        ensures cached { (rows : List ImportRow) (zs : List Session) (subs : List Subscription) → IsCurrent rows zs subs self.old → IsCurrent rows zs subs self.new }
+    {
+        if self.last.is_of(conn, text) {
+            self.is_last = true;
+        } else {
+            self.look_for(conn, text);
+        }
+    }
+
+    /// Looks for it in the slots.
+    #[inline(never)]
+    fn look_for(&mut self, conn: u64, text: &[u8])
+        ensures of { self.new.is_last ≡ true → IsOf self.new.last.published conn text.now }
+        ensures cached { (rows : List ImportRow) (zs : List Session) (subs : List Subscription) → IsCurrent rows zs subs self.old → IsCurrent rows zs subs self.new }
+    {
+        let sum = sum_of_number(conn, text);
+        let place = match self.find(sum, conn, text) {
+            None => None,
+            Some((place, _)) => Some(place),
+        };
+        self.sum = sum;
+        self.is_last = false;
+        if let Some(place) = place {
+            if let Some(found) = self.slots.take(place) {
+                self.put_back();
+                self.last = found;
+                self.place = place;
+                self.is_last = true;
+            }
+        }
     }
 
     /// Puts the deliveries of a publisher's message in the place of what was in `all`, if its receivers are cached.
     /// Returns whether they are. `NoMemory` where memory could not be had.
+    #[tactic(auto, unfolding(crate::specs::Cached::known_others))]
     #[inline(always)]
     pub fn address(
-        &self,
+        &mut self,
         conn: u64,
-        text: &[u8],
         message: &Message,
         word: u64,
         all: &mut Vec<Addressed>,
     ) -> Result<bool, NoMemory>
-        ensures tells { IfOk result (λ done. done ≡ true → Tells self.now conn text.now message.now word all.new.items) }
-        ensures of { IfErr result (λ none. (self.now.conn ≡ conn) × (self.now.subject.items ≡ text.now)) }
+        ensures tells { IfOk result (λ done. done ≡ true → (rows : List ImportRow) (zs : List Session) (subs : List Subscription) (z : Session) →
+            IsCurrent rows zs subs self.old → session_of zs conn ≡ Some z → all.new.items ≡ addressed_among zs subs z message.now word) }
+        ensures others { (rows : List ImportRow) (zs : List Session) (subs : List Subscription) (z : Session) →
+            IsCurrent rows zs subs self.old → session_of zs conn ≡ Some z → KnowsOthers (known_others self.new) rows zs subs z message.now.subject }
+        ensures cached { (rows : List ImportRow) (zs : List Session) (subs : List Subscription) → IsCurrent rows zs subs self.old → IsCurrent rows zs subs self.new }
     {
-        if !self.is_of(conn, text) {
+        let subject = message.subject();
+        let _ = subject.tokens();
+        self.select(conn, subject.bytes());
+        if !self.is_last {
             return Ok(false);
         }
-        match &self.whom {
-            None => Ok(false),
-            Some(Whom::Various) => Ok(false),
-            Some(Whom::Each(receivers)) => {
-                clear(all);
-                address_each(message, receivers.as_slice(), all)?;
-                Ok(true)
-            }
-            Some(Whom::One(receivers)) => {
-                clear(all);
-                address_chosen(message, receivers.as_slice(), word, all)?;
-                Ok(true)
-            }
-        }
+        let done = self.last.address(message, word, all)?;
+        Ok(done)
     }
 
     /// Puts the deliveries of a publisher's message in the place of what was in `all`, if it is known that it is seen in the
@@ -144,28 +194,33 @@ impl ReceiverCache {
     pub fn address_alone(
         &self,
         conn: u64,
-        text: &[u8],
         message: &Message,
         word: u64,
         all: &mut Vec<Addressed>,
     ) -> Result<Option<By>, NoMemory>
-        ensures tells { IfOk result (λ by. IfSome by (λ allowed. (self.now.alone ≡ Some allowed) × Tells self.now conn text.now message.now word all.new.items)) }
-        ensures of { IfErr result (λ none. (by : ByModel) × (self.now.alone ≡ Some by) × (self.now.conn ≡ conn) × (self.now.subject.items ≡ text.now)) }
+        ensures tells { IfOk result (λ by. IfSome by (λ allowed. (rows : List ImportRow) (zs : List Session) (subs : List Subscription) →
+            IsCurrent rows zs subs self.now → IsAloneAt rows zs subs conn message.now word allowed all.new.items)) }
+        ensures refused { IfErr result (λ none. (rows : List ImportRow) (zs : List Session) (subs : List Subscription) →
+            IsCurrent rows zs subs self.now → (by : ByModel) × IsAloneOf rows zs conn message.now.subject by) }
     {
-        match self.alone {
+        if !self.last.are_alone() {
+            return Ok(None);
+        }
+        let subject = message.subject();
+        let _ = subject.tokens();
+        let text = subject.bytes();
+        if self.last.is_of(conn, text) {
+            return self.last.address_alone(message, word, all);
+        }
+        match self.find(sum_of_number(conn, text), conn, text) {
             None => Ok(None),
-            Some(by) => {
-                if self.address(conn, text, message, word, all)? {
-                    Ok(Some(by))
-                } else {
-                    Ok(None)
-                }
-            }
+            Some((_, cached)) => cached.address_alone(message, word, all),
         }
     }
 
-    /// Appends the deliveries of a message of its publisher on its subject in the views behind the publisher's own, if these are
+    /// Appends the deliveries of the message that was addressed last in the views behind the publisher's own, if these are
     /// known. Returns whether they are. `NoMemory` where memory could not be had: then some may be appended.
+    #[tactic(auto, unfolding(crate::specs::Cached::known_others))]
     #[inline(always)]
     pub fn address_others(
         &self,
@@ -173,94 +228,54 @@ impl ReceiverCache {
         word: u64,
         all: &mut Vec<Addressed>,
     ) -> Result<bool, NoMemory>
-        ensures tells { IfOk result (λ done. done ≡ true → TellsOthers self.now.others message.now word all.old.items all.new.items) }
+        ensures tells { IfOk result (λ done. done ≡ true → TellsOthers (known_others self.now) message.now word all.old.items all.new.items) }
         ensures same { IfOk result (λ done. done ≡ false → all.new.items ≡ all.old.items) }
     {
-        match &self.others {
-            None => Ok(false),
-            Some(views) => {
-                address_known(message, word, views.as_slice(), all)?;
-                Ok(true)
-            }
-        }
-    }
-
-    /// Selects the publisher and the subject whose receivers are cached next. Returns whether they were selected already,
-    /// and their receivers are still to be found.
-    #[inline(always)]
-    pub fn select(&mut self, conn: u64, text: &[u8]) -> bool
-        ensures selected { result ≡ true → (self.new.conn ≡ conn) × (self.new.subject.items ≡ text.now) }
-        ensures cached { (self.new ≡ self.old) ⊎ IsEmpty self.new }
-        ensures others { IfSome self.new.others (λ views. (self.new.conn ≡ conn) × (self.new.subject.items ≡ text.now)) }
-    {
-        if self.is_of(conn, text) {
-            return self.whom.is_none();
-        }
-        self.whom = None;
-        self.others = None;
-        self.drawn.clear();
-        self.alone = None;
-        self.conn = conn;
-        self.subject.clear();
-        let _ = self.subject.extend_from_slice(text);
-        false
-    }
-
-    /// Puts the deliveries of a publisher's message that mappings send on in the place of what was in `all`, if what it is sent as is
-    /// cached. Returns whether it is. `NoMemory` where memory could not be had.
-    pub fn address_drawn(
-        &self,
-        conn: u64,
-        text: &[u8],
-        message: &Message,
-        word: u64,
-        all: &mut Vec<Addressed>,
-    ) -> Result<bool, NoMemory>
-        ensures tells { IfOk result (λ done. done ≡ true → TellsDrawn self.now conn text.now message.now word all.new.items) }
-    {
-        if !self.is_of(conn, text) {
+        if !self.is_last {
             return Ok(false);
         }
-        match self.drawn.find(draw_of(word)) {
-            None => Ok(false),
-            Some(drawn) => {
-                clear(all);
-                drawn.address(message, word, all)?;
-                Ok(true)
-            }
-        }
+        let done = self.last.address_others(message, word, all)?;
+        Ok(done)
     }
 
-    /// Selects the publisher and the subject, as `select` does. Returns whether they were selected already.
-    pub fn select_drawn(&mut self, conn: u64, text: &[u8]) -> bool
-        ensures selected { result ≡ true → (self.new.conn ≡ conn) × (self.new.subject.items ≡ text.now) }
-        ensures cached { (self.new ≡ self.old) ⊎ IsEmpty self.new }
+    /// Returns whether it is worth finding whom the message that was addressed last is for, to put it here: that isn't cached, and it
+    /// is the second of its publisher and subject in a row, as far as the others of their slot go.
+    #[tactic(auto, unfolding(crate::specs::Cached::known_others))]
+    pub fn is_asked_again(&mut self) -> bool
+        ensures others { known_others self.new ≡ known_others self.old }
+        ensures cached { (rows : List ImportRow) (zs : List Session) (subs : List Subscription) → IsCurrent rows zs subs self.old → IsCurrent rows zs subs self.new }
     {
-        if self.is_of(conn, text) {
-            return true;
+        if self.is_last {
+            return false;
         }
-        let _ = self.select(conn, text);
-        false
+        self.slots.is_asked_again(self.sum)
     }
 
-    /// Caches that messages of the selected publisher on the selected subject may be sent to these, what is known of their views
-    /// behind the publisher's own, and by what lists allow them, if there are no such views.
-    pub fn fill(
+    /// Caches that the publisher's messages on the subject of the message that was addressed last may be sent to these, what is known
+    /// of their views behind the publisher's own, and by what lists allow them, if there are no such views. Without memory it
+    /// caches nothing.
+    #[tactic(auto, unfolding(crate::specs::Cached::known_others))]
+    pub fn put(
         &mut self,
+        conn: u64,
+        subject: &SubjectRef<'_>,
         found: &[&SharedSubscription],
         others: Option<Vec<KnownView>>,
         allowed: Option<By>,
     )
         requires { Rising (map (λ s. s.now) found.now) }
-        ensures conn { self.new.conn ≡ self.old.conn }
-        ensures subject { self.new.subject ≡ self.old.subject }
-        ensures whom { (whom : Whom) → self.new.whom ≡ Some whom → IsWhom whom (map (λ s. s.now) found.now) }
-        ensures others { self.new.others ≡ others }
-        ensures drawn { self.new.drawn ≡ self.old.drawn }
-        ensures alone { IfSome self.new.alone (λ by. (allowed ≡ Some by) × AreNone others) }
+        ensures { (rows : List ImportRow) (zs : List Session) (subs : List Subscription) (z : Session) →
+            IsCurrent rows zs subs self.old → session_of zs conn ≡ Some z → map (λ s. s.now) found.now ≡ open_among zs subs z z.user.account subject.now →
+            KnowsOthers others rows zs subs z subject.now → IfSome allowed (IsAllowed z.user subject.now) →
+            IsCurrent rows zs subs self.new × KnowsOthers (known_others self.new) rows zs subs z subject.now }
     {
-        self.whom = Some(whom_of(self.alloc, found));
-        self.alone = if are_none(&others) { allowed } else { None };
-        self.others = others;
+        self.is_last = false;
+        let _ = subject.tokens();
+        if let Ok(published) = Published::of(self.alloc, conn, subject.bytes()) {
+            self.put_back();
+            self.place = self.place_for(self.sum);
+            self.last = CachedReceivers::of(self.alloc, published, found, others, allowed);
+            self.is_last = true;
+        }
     }
 }

@@ -2,12 +2,14 @@
 ghost use Rattle.std.specs.Prelude.{◌≡◌, ◌++◌, ◌⊎◌, ℕ, [], OnOk};
 ghost use Rattle.account_mappings.specs.Drawing.{draw_of};
 ghost use Rattle.receiver_cache.specs.Drawn.{IsCached};
-ghost use Rattle.receiver_cache.specs.Known.{addressed_in, addressed_in_each};
+ghost use Rattle.receiver_views.specs.Known.{addressed_in, addressed_in_each};
 ghost use Rattle.receiver_cache.specs.declared.drawn.Drawn.{Drawn as DrawnModel};
 
-use crate::known::{KnownView, address_known};
+use crate::cached::clear;
+use crate::published::Published;
 use base::{NoMemory, Shared};
 use events::{Addressed, Message};
+use receiver_views::{KnownView, address_known};
 use std::alloc::Global;
 use subjects::Subject;
 
@@ -44,9 +46,10 @@ impl Drawn {
     }
 }
 
-/// What messages are sent as, by their draws, where it is known.
+/// What the messages of one publisher on one subject are sent as, by their draws, where it is known.
 #[derive(Drop)]
 pub struct DrawnCache {
+    published: Published,
     // One for each draw; none before the first is known.
     by_draw: Vec<Option<Shared<Drawn>>>,
 }
@@ -80,14 +83,16 @@ fn put(by_draw: &mut Vec<Option<Shared<Drawn>>>, draw: usize, drawn: Shared<Draw
 }
 
 impl DrawnCache {
-    ghost use Rattle.std.specs.Prelude.{IfSome};
-    ghost use Rattle.receiver_cache.specs.Drawn.{subject_of};
+    ghost use Rattle.std.specs.Prelude.{IfOk, IfSome, true};
+    ghost use Rattle.receiver_cache.specs.Drawn.{TellsDrawn, subject_of};
+    ghost use Rattle.receiver_cache.specs.Published.{IsOf};
 
     /// Knows nothing yet. It takes no memory.
     pub fn new(alloc: Global) -> DrawnCache
         ensures { result.by_draw.items ≡ [] }
     {
         DrawnCache {
+            published: Published::nothing(alloc),
             by_draw: Vec::new(alloc),
         }
     }
@@ -102,8 +107,47 @@ impl DrawnCache {
         }
     }
 
+    /// Selects the publisher and the subject with this text, of whose messages it is cached next. Returns whether they were selected
+    /// already.
+    pub fn select(&mut self, conn: u64, text: &[u8]) -> bool
+        ensures selected { result ≡ true → IsOf self.new.published conn text.now }
+        ensures cached { (self.new ≡ self.old) ⊎ (self.new.by_draw.items ≡ []) }
+    {
+        if self.published.is_of(conn, text) {
+            return true;
+        }
+        self.clear();
+        self.published.set(conn, text);
+        false
+    }
+
+    /// Puts the deliveries of a publisher's message that mappings send on in the place of what was in `all`, if what it is sent as is
+    /// cached. Returns whether it is. `NoMemory` where memory could not be had.
+    pub fn address(
+        &self,
+        conn: u64,
+        text: &[u8],
+        message: &Message,
+        word: u64,
+        all: &mut Vec<Addressed>,
+    ) -> Result<bool, NoMemory>
+        ensures tells { IfOk result (λ done. done ≡ true → TellsDrawn self.now conn text.now message.now word all.new.items) }
+    {
+        if !self.published.is_of(conn, text) {
+            return Ok(false);
+        }
+        match self.find(draw_of(word)) {
+            None => Ok(false),
+            Some(drawn) => {
+                clear(all);
+                drawn.address(message, word, all)?;
+                Ok(true)
+            }
+        }
+    }
+
     /// Returns what a message with this draw is sent as, if it is known.
-    pub fn find(&self, draw: u64) -> Option<&Drawn>
+    fn find(&self, draw: u64) -> Option<&Drawn>
         ensures { IfSome result (λ drawn. IsCached self.now.by_draw.items draw drawn.now) }
     {
         match self.by_draw.as_slice().get(draw as usize) {
@@ -129,7 +173,8 @@ impl DrawnCache {
 
     /// Caches what a message with this draw is sent as. Without memory it isn't cached.
     pub fn keep(&mut self, draw: u64, drawn: Shared<Drawn>)
-        ensures { (other : ℕ) (known : DrawnModel) → IsCached self.new.by_draw.items other known → IsCached self.old.by_draw.items other known ⊎ ((other ≡ draw) × (known ≡ drawn)) }
+        ensures kept { (other : ℕ) (known : DrawnModel) → IsCached self.new.by_draw.items other known → IsCached self.old.by_draw.items other known ⊎ ((other ≡ draw) × (known ≡ drawn)) }
+        ensures published { self.new.published ≡ self.old.published }
     {
         let _ = make_places(&mut self.by_draw);
         put(&mut self.by_draw, draw as usize, drawn);

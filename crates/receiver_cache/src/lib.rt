@@ -1,18 +1,12 @@
-//! Whom the messages of a publisher on a subject are for, cached for its next ones.
+//! Whom the messages of publishers on subjects are for, cached for their next ones.
 #![tactic(auto)]
 
 mod cache;
+mod cached;
 mod drawn;
-mod known;
-mod names;
-mod open;
-mod receiver;
-mod whom;
+mod finding;
+mod published;
 
 pub use cache::ReceiverCache;
 pub use drawn::{Drawn, DrawnCache, draw_of};
-pub use known::{Among, KnownView, known_at, known_views};
-pub use names::names_of;
-pub use open::Open;
-pub use receiver::Receiver;
-pub use whom::Whom;
+pub use finding::{drawn_of, others_of};

@@ -25,7 +25,7 @@ use Rattle.world_subscriptions.specs.Subscriptions.{has_subject}
 use Rattle.world_subscriptions.specs.Limit.{counted, has_ended, has_entered, unended}
 use Rattle.world_rows.specs.declared.subscription.Subscription.{Subscription}
 use Rattle.world_groups.specs.Served.{is_served, served}
-use Rattle.receiver_cache.specs.Open.{is_open_to, lets_through, may_hear}
+use Rattle.receiver_views.specs.Open.{is_open_to, lets_through, may_hear}
 use Rattle.world_routing.specs.World.{World}
 use Rattle.world_routing.specs.Routing.{View, admitted, deliveries, in_view, in_views, is_admitted, is_nil, requested, requested_by, routed, view_of, view_with}
 use Rattle.world_views.specs.Requests.{next_subject, route_for}

@@ -9,7 +9,7 @@ use Rattle.world_deliveries.specs.declared.session.Session.{Session}
 use Rattle.world_subscriptions.specs.Subscriptions.{stands, subscription_of}
 use Rattle.world_subscriptions.specs.Limit.{unended, limited}
 use Rattle.world_rows.specs.declared.subscription.Subscription.{Subscription}
-use Rattle.receiver_cache.specs.Marked.{AreMarked}
+use Rattle.receiver_views.specs.Marked.{AreMarked}
 use Rattle.world_routing.specs.World.{World}
 pub use Rattle.world_leniency.specs.Items.{items_in}
 use Rattle.world_routing.specs.Handing.{met, carried, of_deliveries}

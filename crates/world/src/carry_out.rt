@@ -27,7 +27,7 @@ impl World {
     ghost use Rattle.std.specs.List.{filter_map};
     ghost use Rattle.events.specs.declared.answer.Outcome.{Outcome};
     ghost use Rattle.world_sessions.specs.Renewal.{remaining, user_again_of};
-    ghost use Rattle.receiver_cache.specs.Marked.{AreMarked};
+    ghost use Rattle.receiver_views.specs.Marked.{AreMarked};
     ghost use Rattle.world.specs.Reload.{AllMayStand};
     ghost use Rattle.world.specs.Changes.{done, lost_id, pruned_world, IsFit};
     ghost use Rattle.world.specs.declared.change.Change.TheVariants as change;

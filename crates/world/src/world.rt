@@ -41,7 +41,7 @@ impl Model for World {
     ghost use Rattle.imports.specs.Views.{rows_of};
     ghost use Rattle.service_routes.specs.Routes.{pruned};
     ghost use Rattle.receiver_cache.specs.Cached.{IsCurrent};
-    ghost use Rattle.receiver_cache.specs.Marked.{AreMarked};
+    ghost use Rattle.receiver_views.specs.Marked.{AreMarked};
     ghost use Rattle.world_routing.specs.Remembered.{AreRemembered};
     ghost use Rattle.world_routing.specs.World as worlds;
 

@@ -12,7 +12,7 @@ use Rattle.world_subscriptions.specs.Subscriptions.{is_under}
 use Rattle.world_subscriptions.specs.Changes.{only, bumped}
 use Rattle.world_subscriptions.specs.Counting.{in_turn}
 use Rattle.world_subscriptions.specs.Limit.{unended, limited, limit_of, has_ended}
-use Rattle.receiver_cache.specs.Marked.{AreMarked, IsMarkedBy}
+use Rattle.receiver_views.specs.Marked.{AreMarked, IsMarkedBy}
 use Rattle.receiver_cache.proofs.Stays.{Seat, seat, AreSeated, made, bumped-made}
 use Rattle.world_marks.proofs.Staying.{passing, session_of-filter}
 

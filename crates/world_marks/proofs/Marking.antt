@@ -13,7 +13,7 @@ use Rattle.world_deliveries.specs.Sessions.{session_of, IsApart}
 use Rattle.world_deliveries.specs.declared.session.Session.{Session}
 use Rattle.world_sessions.specs.Renewal.{user_again_of, stays, with_user, renewed, remaining, HasSameLists}
 use Rattle.world_rows.specs.declared.subscription.Subscription.{Subscription}
-use Rattle.receiver_cache.specs.Marked.{AreMarked, IsMarkedBy}
+use Rattle.receiver_views.specs.Marked.{AreMarked, IsMarkedBy}
 use Rattle.world_marks.specs.Standing.{ids_of}
 use Rattle.deny_marks.specs.Marks.{kept, is_marked, marks_in}
 use Rattle.deny_marks.specs.declared.marks.Marks.TheVariants.{Unmarked}

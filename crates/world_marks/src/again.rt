@@ -1,6 +1,6 @@
 ghost use Rattle.std.specs.Prelude.{◌≡◌, ℕ, IfOk, OnOk};
 ghost use Rattle.deny_marks.specs.Table.{marks_at};
-ghost use Rattle.receiver_cache.specs.Marked.{AreMarked, IsMarkedBy};
+ghost use Rattle.receiver_views.specs.Marked.{AreMarked, IsMarkedBy};
 ghost use Rattle.world_deliveries.specs.Sessions.{session_of};
 ghost use Rattle.world_sessions.specs.Renewal.{remaining, AreSameLists};
 ghost use Rattle.world_marks.specs.Again.{user_after, AreMarksAgain, IsMarkedAgain};

@@ -1,5 +1,5 @@
 ghost use Rattle.std.specs.Prelude.{◌≡◌, ◌<◌, ◌≤◌, ◌+◌, ◌*◌, ◌++◌, ◌∷◌, List, [], OnOk, All, length};
-ghost use Rattle.receiver_cache.specs.Marked.{AreMarked};
+ghost use Rattle.receiver_views.specs.Marked.{AreMarked};
 ghost use Rattle.world_deliveries.specs.declared.session.Session.{Session};
 ghost use Rattle.world_rows.specs.declared.subscription.Subscription.{Subscription};
 ghost use Rattle.world_subscriptions.specs.Subscriptions.{subscription_of};

@@ -12,12 +12,11 @@ use Rattle.world_groups.specs.Served.{served}
 use Rattle.world_subscriptions.specs.Addressing.{addressed_to}
 use Rattle.world_subscriptions.specs.Subscriptions.{has_subject}
 use Rattle.world_rows.specs.declared.subscription.Subscription.{Subscription}
-use Rattle.receiver_cache.specs.Open.{is_open, open_among}
-use Rattle.receiver_cache.specs.Receivers.{addressed_at}
+use Rattle.receiver_views.specs.Open.{is_open, open_among}
+use Rattle.receiver_views.specs.Receivers.{addressed_at}
 use Rattle.world_receivers.specs.Standing.{times_entering, stands_behind, standing_among, addressed_behind_in}
-use Rattle.receiver_cache.specs.Known.{under_subject}
-use Rattle.receiver_cache.specs.Known.{picked, has_limit, IsSeen, addressed_in}
-use Rattle.receiver_cache.specs.declared.known.KnownView.{KnownView}
+use Rattle.receiver_views.specs.Known.{under_subject, picked, has_limit, IsSeen, addressed_in}
+use Rattle.receiver_views.specs.declared.known.KnownView.{KnownView}
 use Rattle.world_receivers.proofs.Left.{never_ends}
 use Rattle.receiver_cache.proofs.Told.{addressed_each}
 

@@ -23,8 +23,8 @@ use Rattle.world_subscriptions.proofs.Counting.{NamesOnly, AllNameOnly, bumped-e
 use Rattle.world_subscriptions.proofs.Ends.{bumped-id}
 use Rattle.world_rows.specs.declared.subscription.Subscription.{Subscription}
 use Rattle.world_groups.specs.Served.{served}
-use Rattle.receiver_cache.specs.Open.{is_open}
-use Rattle.receiver_cache.specs.Receivers.{addressed_among}
+use Rattle.receiver_views.specs.Open.{is_open}
+use Rattle.receiver_views.specs.Receivers.{addressed_among}
 use Rattle.world_receivers.specs.Standing.{is_nil, times_entering, counted_more, stands_behind, standing_among, addressed_behind_in}
 use Rattle.receiver_cache.proofs.Stays.{made, bumped-made, bumped-most, served-map}
 

@@ -13,7 +13,7 @@ use Rattle.world_subscriptions.specs.Limit.{has_ended}
 use Rattle.world_subscriptions.specs.Subscriptions.{has_subject}
 use Rattle.world_rows.specs.declared.subscription.Subscription.{Subscription}
 use Rattle.world_groups.specs.Served.{served}
-use Rattle.receiver_cache.specs.Open.{is_open}
+use Rattle.receiver_views.specs.Open.{is_open}
 
 -- how often a message enters for an id of a connection with so much room: of the deliveries for the connection the first ones
 -- enter, as many as there is room for

@@ -6,7 +6,7 @@ ghost use Rattle.world_subscriptions.specs.Addressing.{addressed_to};
 use crate::Seen;
 use base::{NoMemory, Shared};
 use events::{Addressed, Message, Names};
-use receiver_cache::{Receiver, names_of};
+use receiver_views::{Receiver, names_of};
 use std::alloc::Global;
 use world_subscriptions::SharedSubscription;
 

@@ -8,23 +8,23 @@ ghost use Rattle.permissions.specs.declared.verdict.By.{By as ByModel};
 ghost use Rattle.world_deliveries.specs.Sessions.{session_of};
 ghost use Rattle.world_deliveries.specs.declared.session.Session.{Session as SessionModel};
 ghost use Rattle.world_rows.specs.declared.subscription.Subscription.{Subscription};
-ghost use Rattle.receiver_cache.specs.Cached.{IsAllowed, IsAloneAt, IsAloneOf, IsCurrent, KnowsOthers, TellsOthers, IsEmpty};
-ghost use Rattle.receiver_cache.specs.Marked.{AreMarked};
+ghost use Rattle.receiver_cache.specs.Cached.{IsAllowed, IsAloneAt, IsAloneOf, IsCurrent, TellsOthers, IsEmpty, known_others};
+ghost use Rattle.receiver_views.specs.Known.{KnowsOthers};
+ghost use Rattle.receiver_views.specs.Marked.{AreMarked};
 ghost use Rattle.receiver_cache.specs.Drawn.{IsSent, IsSentOn, KnowsDrawn, subject_of};
-ghost use Rattle.receiver_cache.specs.Receivers.{addressed_among};
+ghost use Rattle.receiver_views.specs.Receivers.{addressed_among};
 ghost use Rattle.world_receivers.specs.Standing.{addressed_behind_in, is_for_nobody, is_nil};
 
 use crate::naming::address_under;
 use crate::standing::Standing;
-use base::{NoMemory, Shared};
+use base::NoMemory;
 use bytes::Bytes;
 use deny_marks::DenyMarks;
 use events::{Addressed, Message, Said};
 use imports::Rows;
 use permissions::By;
-use receiver_cache::{
-    Among, Drawn, DrawnCache, KnownView, Open, ReceiverCache, draw_of, known_at, known_views,
-};
+use receiver_cache::{ReceiverCache, draw_of, drawn_of, others_of};
+use receiver_views::{Among, Open};
 use std::alloc::Global;
 use std::hash::RandomState;
 use std::mem;
@@ -55,104 +55,6 @@ pub struct Seen<'a> {
     pub subject: &'a Subject,
     /// The reply that it has there.
     pub reply: Said,
-}
-
-/// Returns what is known of the views of a publisher's messages on a subject behind its own. `NoMemory` where memory could not be
-/// had.
-fn find_others(
-    alloc: Global,
-    among: Among<'_>,
-    rows: &Rows,
-    subject: &SubjectRef<'_>,
-    ids: &mut Vec<u64>,
-) -> Result<Option<Vec<KnownView>>, NoMemory>
-    requires marked { AreMarked among.sessions.now among.subscriptions.now among.marks.now }
-    ensures { IfOk result (λ others. KnowsOthers others rows.now among.entry.sessions.now among.entry.subscriptions.now among.entry.publisher.now subject.now) }
-{
-    let account = among.publisher.user.account.as_slice();
-    let others = rows.crossings(alloc, account, subject)?;
-    let known = known_views(alloc, among, others.as_slice(), ids)?;
-    Ok(known)
-}
-
-/// Returns what is known of these views. Without memory they aren't known.
-fn others_of(
-    alloc: Global,
-    among: Among<'_>,
-    rows: &Rows,
-    subject: &SubjectRef<'_>,
-    ids: &mut Vec<u64>,
-) -> Option<Vec<KnownView>>
-    requires marked { AreMarked among.sessions.now among.subscriptions.now among.marks.now }
-    ensures { KnowsOthers result rows.now among.entry.sessions.now among.entry.subscriptions.now among.entry.publisher.now subject.now }
-{
-    match find_others(alloc, among, rows, subject, ids) {
-        Ok(known) => known,
-        Err(_) => None,
-    }
-}
-
-/// Returns what a publisher's messages are sent as under a subject, if each is for the same. `NoMemory` where memory could not be
-/// had.
-fn find_drawn(
-    alloc: Global,
-    among: Among<'_>,
-    rows: &Rows,
-    subject: &Subject,
-    ids: &mut Vec<u64>,
-) -> Result<Option<Shared<Drawn>>, NoMemory>
-    requires marked { AreMarked among.sessions.now among.subscriptions.now among.marks.now }
-    requires unrouted { is_route subject.now ≡ false }
-    ensures { IfOk result (λ found. IfSome found (λ drawn. IsSent rows.now among.entry.sessions.now among.entry.subscriptions.now among.entry.publisher.now drawn × (subject_of drawn ≡ subject.now))) }
-{
-    let account = among.publisher.user.account.as_slice();
-    match known_at(alloc, among, account, subject, ids)? {
-        None => Ok(None),
-        Some(own) => match find_others(alloc, among, rows, &subject.lend(), ids)? {
-            None => Ok(None),
-            Some(others) => Ok(Some(Shared::new(alloc, Drawn { own, others })?)),
-        },
-    }
-}
-
-/// Returns what a publisher's messages are sent as under a subject, as it is known of some draw or is found.
-fn drawn_under(
-    alloc: Global,
-    known: &DrawnCache,
-    among: Among<'_>,
-    rows: &Rows,
-    subject: &Subject,
-    ids: &mut Vec<u64>,
-) -> Result<Option<Shared<Drawn>>, NoMemory>
-    requires marked { AreMarked among.sessions.now among.subscriptions.now among.marks.now }
-    requires unrouted { is_route subject.now ≡ false }
-    ensures { IfOk result (λ found. IfSome found (λ drawn. (conn : ℕ) (text : List ℕ) → KnowsDrawn known.now.by_draw.items rows.now conn text among.entry.sessions.now among.entry.subscriptions.now
-        → session_of among.entry.sessions.now conn ≡ Some among.entry.publisher.now → IsSent rows.now among.entry.sessions.now among.entry.subscriptions.now among.entry.publisher.now drawn × (subject_of drawn ≡ subject.now))) }
-{
-    match known.find_under(subject) {
-        Some(drawn) => Ok(Some(drawn.again()?)),
-        None => find_drawn(alloc, among, rows, subject, ids),
-    }
-}
-
-/// Returns what a publisher's messages are sent as under a subject. Without memory it isn't known.
-fn drawn_of(
-    alloc: Global,
-    known: &DrawnCache,
-    among: Among<'_>,
-    rows: &Rows,
-    subject: &Subject,
-    ids: &mut Vec<u64>,
-) -> Option<Shared<Drawn>>
-    requires marked { AreMarked among.sessions.now among.subscriptions.now among.marks.now }
-    requires unrouted { is_route subject.now ≡ false }
-    ensures { IfSome result (λ drawn. (conn : ℕ) (text : List ℕ) → KnowsDrawn known.now.by_draw.items rows.now conn text among.entry.sessions.now among.entry.subscriptions.now
-        → session_of among.entry.sessions.now conn ≡ Some among.entry.publisher.now → IsSent rows.now among.entry.sessions.now among.entry.subscriptions.now among.entry.publisher.now drawn × (subject_of drawn ≡ subject.now)) }
-{
-    match drawn_under(alloc, known, among, rows, subject, ids) {
-        Ok(drawn) => drawn,
-        Err(_) => None,
-    }
 }
 
 /// Returns whether there is none.
@@ -269,7 +171,7 @@ impl Receivers {
         requires allowed { IfSome sending.allowed (IsAllowed sending.publisher.now.user sending.message.now.subject) }
         requires marked { AreMarked sessions.now subscriptions.old marks.now }
         ensures all { OnOk result (self.new.deliveries.items ≡ addressed_among sessions.now subscriptions.old sending.entry.publisher.now sending.entry.message.now sending.entry.word) }
-        ensures others { OnOk result (KnowsOthers self.new.cache.others rows.now sessions.now subscriptions.old sending.entry.publisher.now sending.entry.message.now.subject) }
+        ensures others { OnOk result (KnowsOthers (known_others self.new.cache) rows.now sessions.now subscriptions.old sending.entry.publisher.now sending.entry.message.now.subject) }
         ensures same { subscriptions.new ≡ subscriptions.old }
         ensures cached { IsCurrent rows.now sessions.now subscriptions.old self.new.cache }
     {
@@ -279,18 +181,15 @@ impl Receivers {
             word,
             allowed,
         } = sending;
-        let subject = message.subject();
-        let _ = subject.tokens();
-        let text = subject.bytes();
-        let all = &mut self.deliveries;
+        let conn = publisher.conn;
         if self
             .cache
-            .address(publisher.conn, text, message, word, all)?
+            .address(conn, message, word, &mut self.deliveries)?
         {
             return Ok(());
         }
-        let account = publisher.user.account.as_slice();
-        subscriptions.remember(account, &subject);
+        let subject = message.subject();
+        subscriptions.remember(publisher.user.account.as_slice(), &subject);
         let among = Among {
             sessions,
             subscriptions,
@@ -298,20 +197,37 @@ impl Receivers {
             publisher,
         };
         self.fill_cache(among, rows, &subject, allowed);
+        self.address_found(among, message, word)?;
+        Ok(())
+    }
+
+    /// Finds whom a message is for in its publisher's account, and addresses it to them, in the place of the last one's deliveries.
+    /// `NoMemory` where memory could not be had.
+    fn address_found(
+        &mut self,
+        among: Among<'_>,
+        message: &Message,
+        word: u64,
+    ) -> Result<(), NoMemory>
+        requires marked { AreMarked among.sessions.now among.subscriptions.now among.marks.now }
+        ensures all { OnOk result (self.new.deliveries.items ≡ addressed_among among.entry.sessions.now among.entry.subscriptions.now among.entry.publisher.now message.now word) }
+        ensures cached { self.new.cache ≡ self.old.cache }
+    {
+        let subject = message.subject();
         let open = Open {
-            sessions,
-            marks,
-            publisher,
+            sessions: among.sessions,
+            marks: among.marks,
+            publisher: among.publisher,
             subject: &subject,
         };
         let routed = Routed {
-            account,
+            account: among.publisher.user.account.as_slice(),
             message,
             word,
         };
         address_served(
             self.keys,
-            subscriptions,
+            among.subscriptions,
             routed,
             &open,
             &mut self.ids,
@@ -335,11 +251,8 @@ impl Receivers {
             IsCurrent rows zs subs self.old.cache → (by : ByModel) × IsAloneOf rows zs conn message.now.subject by) }
         ensures cached { self.new.cache ≡ self.old.cache }
     {
-        let subject = message.subject();
-        let _ = subject.tokens();
-        let all = &mut self.deliveries;
         self.cache
-            .address_alone(conn, subject.bytes(), message, word, all)
+            .address_alone(conn, message, word, &mut self.deliveries)
     }
 
     /// Appends the deliveries of the message that was addressed last in its views behind the publisher's own, if these are known.
@@ -347,7 +260,7 @@ impl Receivers {
     /// without rows doesn't need its locals.
     #[inline(never)]
     pub fn address_others(&mut self, message: &Message, word: u64) -> Result<bool, NoMemory>
-        ensures tells { IfOk result (λ done. done ≡ true → TellsOthers self.old.cache.others message.now word self.old.deliveries.items self.new.deliveries.items) }
+        ensures tells { IfOk result (λ done. done ≡ true → TellsOthers (known_others self.old.cache) message.now word self.old.deliveries.items self.new.deliveries.items) }
         ensures same { IfOk result (λ done. done ≡ false → self.new.deliveries.items ≡ self.old.deliveries.items) }
         ensures cached { self.new.cache ≡ self.old.cache }
     {
@@ -421,7 +334,8 @@ impl Receivers {
         let _ = subject.tokens();
         let done = self
             .cache
-            .address_drawn(conn, subject.bytes(), message, word, &mut self.deliveries)?;
+            .drawn
+            .address(conn, subject.bytes(), message, word, &mut self.deliveries)?;
         Ok(done)
     }
 
@@ -445,7 +359,7 @@ impl Receivers {
         let published = message.subject();
         let _ = published.tokens();
         let conn = among.publisher.conn;
-        if !self.cache.select_drawn(conn, published.bytes()) {
+        if !self.cache.drawn.select(conn, published.bytes()) {
             return;
         }
         let known = &self.cache.drawn;
@@ -475,8 +389,9 @@ impl Receivers {
         requires cached { IsCurrent rows.now among.sessions.now among.subscriptions.now self.old.cache }
         requires allowed { IfSome allowed (IsAllowed among.publisher.now.user subject.now) }
         requires marked { AreMarked among.sessions.now among.subscriptions.now among.marks.now }
+        requires others { KnowsOthers (known_others self.old.cache) rows.now among.sessions.now among.subscriptions.now among.publisher.now subject.now }
         ensures cached { IsCurrent rows.now among.entry.sessions.now among.entry.subscriptions.now self.new.cache }
-        ensures others { KnowsOthers self.new.cache.others rows.now among.entry.sessions.now among.entry.subscriptions.now among.entry.publisher.now subject.now }
+        ensures others { KnowsOthers (known_others self.new.cache) rows.now among.entry.sessions.now among.entry.subscriptions.now among.entry.publisher.now subject.now }
     {
         let Among {
             sessions,
@@ -484,8 +399,7 @@ impl Receivers {
             marks,
             publisher,
         } = among;
-        let _ = subject.tokens();
-        if !self.cache.select(publisher.conn, subject.bytes()) {
+        if !self.cache.is_asked_again() {
             return;
         }
         let open = Open {
@@ -504,7 +418,8 @@ impl Receivers {
             &mut self.ids,
         ) {
             let others = others_of(self.alloc, among, rows, subject, &mut self.ids);
-            self.cache.fill(found.as_slice(), others, allowed);
+            self.cache
+                .put(publisher.conn, subject, found.as_slice(), others, allowed);
         }
     }
 }

@@ -6,7 +6,7 @@ ghost use Rattle.world_subscriptions.specs.Limit.{has_ended};
 ghost use Rattle.world_receivers.specs.Standing.{times_entering, counted_more, stands_behind};
 
 use events::Addressed;
-use receiver_cache::Open;
+use receiver_views::Open;
 use world_sessions::{Session, Sessions};
 use world_subscriptions::{Keeps, SharedSubscription};
 
@@ -83,7 +83,7 @@ pub(crate) struct Standing<'a> {
 
 impl Keeps for Standing<'_> {
     ghost use Rattle.std.specs.Prelude.{◌&&◌};
-    ghost use Rattle.receiver_cache.specs.Marked.{is_marked_open};
+    ghost use Rattle.receiver_views.specs.Marked.{is_marked_open};
     ghost use Rattle.world_receivers.specs.Standing.{stands_behind};
 
     ghost keeps = { λ test sub. is_marked_open test.open.marks.now test.open.sessions.now test.open.publisher.now test.open.subject.now sub && stands_behind test.open.sessions.now test.before.now sub };

@@ -24,10 +24,10 @@ use Rattle.world_subscriptions.specs.Limit.{unended}
 use Rattle.world_subscriptions.specs.Subscriptions.{has_subject}
 use Rattle.world_rows.specs.declared.subscription.Subscription.{Subscription}
 use Rattle.world_groups.specs.Served.{served, is_served}
-use Rattle.receiver_cache.specs.Open.{is_open}
+use Rattle.receiver_views.specs.Open.{is_open}
 use Rattle.world_receivers.specs.Standing.{stands_behind, standing_among, addressed_behind_in, is_for_nobody, is_nil}
 use Rattle.world_receivers.proofs.Left.{AllAgree, admitted_made, all_agree_append, addressed_agree, addressed_left, passing_left, standing_same}
-use Rattle.receiver_cache.proofs.Tests.{both}
+use Rattle.receiver_views.proofs.Tests.{both}
 use Rattle.world_receivers.proofs.Left.{nil_map}
 use Rattle.world_routing.specs.World.{World}
 use Rattle.service_exporter.specs.Limit.{is_full}

@@ -10,7 +10,7 @@ use Rattle.world_subscriptions.specs.Limit.{unended, counted}
 use Rattle.world_subscriptions.specs.Counting.{TellEach, entered_ids, in_turn}
 use Rattle.world_subscriptions.specs.Kept.{Apart}
 use Rattle.world_rows.specs.declared.subscription.Subscription.{Subscription}
-use Rattle.receiver_cache.proofs.Tests.{both}
+use Rattle.receiver_views.proofs.Tests.{both}
 use Rattle.world_groups.specs.Served.{is_served}
 use Rattle.world_routing.specs.World.{World}
 use Rattle.world_routing.specs.Routing.{View, is_admitted, admitted, deliveries, routed}

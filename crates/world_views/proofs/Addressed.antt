@@ -14,9 +14,9 @@ use Rattle.imports.specs.declared.view.Way.TheVariants.{Own, Stream, Service, Re
 use Rattle.world_subscriptions.specs.Addressing.{addressed_to}
 use Rattle.world_rows.specs.declared.subscription.Subscription.{Subscription}
 use Rattle.world_groups.specs.Served.{served}
-use Rattle.receiver_cache.specs.Known.{IsSeen, AreSeen, addressed_in, addressed_in_each, others_in, under_subject}
-use Rattle.receiver_cache.specs.Cached.{KnowsOthers, TellsOthers}
-use Rattle.receiver_cache.specs.declared.known.KnownView.{KnownView}
+use Rattle.receiver_views.specs.Known.{IsSeen, AreSeen, addressed_in, addressed_in_each, others_in, under_subject, KnowsOthers}
+use Rattle.receiver_cache.specs.Cached.{TellsOthers}
+use Rattle.receiver_views.specs.declared.known.KnownView.{KnownView}
 use Rattle.world_receivers.specs.Standing.{standing_among, addressed_behind_in}
 use Rattle.world_receivers.proofs.Behind.{view_told}
 use Rattle.world_views.specs.Viewing.{Tables, Publication, Addressing, addressing, seen, seen_with, request_in, effect_of, with_effect, addressed_after, reports_after}

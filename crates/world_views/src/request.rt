@@ -1,7 +1,7 @@
 //! A request that is seen across an import row of a service, and wants a response.
 ghost use Rattle.std.specs.Prelude.{◌≡◌, ◌++◌, ◌∷◌, [], All, IfOk, OnOk, Some, length, if◌then◌else◌};
 ghost use Rattle.service_subjects.specs.Names.{route_subject};
-ghost use Rattle.receiver_cache.specs.Marked.{AreMarked};
+ghost use Rattle.receiver_views.specs.Marked.{AreMarked};
 ghost use Rattle.world_receivers.specs.Standing.{addressed_behind_in, is_for_nobody};
 ghost use Rattle.world_views.specs.Changing.{IsNotedAt};
 ghost use Rattle.world_views.specs.Viewing.{addressing, opening_for, publication, report, reports_by, request_in, seen_with, tables_at, with_effect};

@@ -1,7 +1,7 @@
 //! A message addressed in its views one after the other, and the import rows that are reported between its deliveries.
 ghost use Rattle.std.specs.Prelude.{◌≡◌, ◌++◌, ◌-◌, None, All, IfOk, OnOk, take, drop};
 ghost use Rattle.events.specs.Sendings.{named};
-ghost use Rattle.receiver_cache.specs.Marked.{AreMarked};
+ghost use Rattle.receiver_views.specs.Marked.{AreMarked};
 ghost use Rattle.world_receivers.specs.Standing.{addressed_behind_in};
 ghost use Rattle.world_views.specs.Changing.{IsNotedAt};
 ghost use Rattle.world_views.specs.Viewing.{addressed_after, addressing, effect_of, item_of, publication, reports_after, reports_by, seen_with, tables_at, with_effect, with_reports};

@@ -4,7 +4,7 @@ use Rattle.std.proofs.lemmas.List.{append_assoc, append-nil}
 use Rattle.std.proofs.lemmas.List.Elements.{All-head, All-tail, All-same}
 use Rattle.world_deliveries.specs.Sessions.{session_of}
 use Rattle.world_rows.specs.declared.subscription.Subscription.{Subscription}
-use Rattle.receiver_cache.specs.Marked.{AreMarked, IsMarkedBy}
+use Rattle.receiver_views.specs.Marked.{AreMarked, IsMarkedBy}
 use Rattle.world_marks.specs.Again.{IsMarkedAgain}
 use Rattle.world_marks.proofs.Marking.{all_remaining, marked_more}
 use Rattle.world_marks.proofs.again.marks_again.Goals as goal

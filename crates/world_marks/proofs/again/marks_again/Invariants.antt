@@ -1,7 +1,7 @@
 -- those before what is left are marked again, and what is left is marked as it is
 use Rattle.std.proofs.Common.{◌≡◌, ◌++◌, List, All}
 use Rattle.world_rows.specs.declared.subscription.Subscription.{Subscription}
-use Rattle.receiver_cache.specs.Marked.{AreMarked}
+use Rattle.receiver_views.specs.Marked.{AreMarked}
 use Rattle.world_marks.specs.Again.{IsMarkedAgain}
 use Rattle.world_marks.proofs.again.marks_again.Given as goal
 

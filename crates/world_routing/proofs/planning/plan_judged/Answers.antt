@@ -10,7 +10,7 @@ use Rattle.imports.specs.Across.{views}
 use Rattle.imports.specs.declared.view.ViewItem.{ViewItem}
 use Rattle.world_deliveries.specs.Sessions.{session_of}
 use Rattle.world_deliveries.specs.declared.session.Session.{Session}
-use Rattle.receiver_cache.proofs.Tests.{find-passes}
+use Rattle.receiver_views.proofs.Tests.{find-passes}
 use Rattle.world_views.specs.Requests.{responses_on}
 use Rattle.world_views.specs.Viewing.{Tables, addressing, publication, tables_at}
 use Rattle.world_routing.proofs.Alone.{lists_allow}

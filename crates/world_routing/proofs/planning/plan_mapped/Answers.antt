@@ -9,7 +9,7 @@ use Rattle.imports.specs.Views.{rows_of}
 use Rattle.imports.specs.declared.view.ViewItem.{ViewItem}
 use Rattle.world_deliveries.specs.Sessions.{session_of}
 use Rattle.receiver_cache.specs.Drawn.{IsSentOn, subject_of}
-use Rattle.receiver_cache.specs.Known.{under_subject}
+use Rattle.receiver_views.specs.Known.{under_subject}
 use Rattle.world_routing.specs.Publishing.{IsElsewhere}
 use Rattle.world_views.specs.Requests.{responses_on}
 use Rattle.world_views.specs.Viewing.{Tables, addressing, publication, tables_at}

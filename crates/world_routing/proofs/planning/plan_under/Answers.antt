@@ -4,7 +4,7 @@ use Rattle.std.proofs.lemmas.List.Elements.{All-nil}
 use Rattle.events.specs.declared.answer.Addressed.{Addressed}
 use Rattle.imports.specs.Across.{views}
 use Rattle.imports.specs.declared.view.ViewItem.{ViewItem}
-use Rattle.receiver_cache.specs.Known.{under_subject}
+use Rattle.receiver_views.specs.Known.{under_subject}
 use Rattle.world_views.specs.Requests.{responses_on}
 use Rattle.world_views.specs.Viewing.{Tables, addressing, publication, tables_at}
 use Rattle.world_views.proofs.Addressed.{unsaid_after}

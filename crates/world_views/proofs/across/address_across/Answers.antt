@@ -5,7 +5,7 @@ use Rattle.imports.specs.Views.{rows_of}
 use Rattle.imports.specs.declared.rows.ImportRow.{ImportRow}
 use Rattle.imports.specs.declared.view.ViewItem.{ViewItem}
 use Rattle.service_routes.specs.Routes.{pruned}
-use Rattle.receiver_cache.proofs.Seen.{tail_of}
+use Rattle.receiver_views.proofs.Seen.{tail_of}
 use Rattle.world_views.specs.Changing.{opened_each, IsNotedAt}
 use Rattle.world_views.specs.Viewing.{Tables, Publication, Addressing, addressing, addressed_after, others_in, publication, reports_after, tables_at}
 use Rattle.world_views.specs.declared.changing.Opening.{Opening}

@@ -6,8 +6,8 @@ use Rattle.imports.specs.Views.{is_route, rows_of}
 use Rattle.imports.specs.declared.rows.ImportRow.{ImportRow}
 use Rattle.service_routes.specs.Routes.{pruned}
 use Rattle.world_rows.specs.declared.subscription.Subscription.{Subscription}
-use Rattle.receiver_cache.specs.Cached.{KnowsOthers}
-use Rattle.receiver_cache.specs.Known.{others_in}
+use Rattle.receiver_cache.specs.Cached.{known_others}
+use Rattle.receiver_views.specs.Known.{KnowsOthers, others_in}
 use Rattle.world_receivers.proofs.Left.{own_first}
 use Rattle.world_views.specs.Changing.{opened_each}
 use Rattle.world_views.specs.Viewing.{Tables, Publication, Addressing, addressing, addressed_after, publication, reports_after, tables_at}
@@ -49,10 +49,10 @@ returns-then-branch-clause-all c =
     let p : Publication = publication c.args.publishing.sending.publisher.now c.args.publishing.sending.message.now c.args.publishing.sending.word in
     let is : c.address.new.self.deliveries.items ≡ own t p = c.in_ok-address.ensures.all ∙ own_first t.sessions t.subscriptions p.publisher p.message p.word c.known.ensures.going in
     let elsewhere : is_route p.message.subject ≡ false = sym (c.is_route.ensures ∙ ap is_route c.subject-subject.ensures) ∙ c.if-is_route.false in
-    let knows = subst (λ (rows : List ImportRow). KnowsOthers c.address.new.self.cache.others rows t.sessions t.subscriptions p.publisher p.message.subject) c.rows.ensures c.in_ok-address.ensures.others in
+    let knows = subst (λ (rows : List ImportRow). KnowsOthers (known_others c.address.new.self.cache) rows t.sessions t.subscriptions p.publisher p.message.subject) c.rows.ensures c.in_ok-address.ensures.others in
     let tells = c.in_ok-address_others.ensures.tells c.if-branch.true in
     let before : Addressing = addressing c.address.new.self.deliveries.items [] in
-    let told = others_told (rows_of t.policy) t p before c.address.new.self.cache.others c.address_others.new.self.deliveries.items knows tells in
+    let told = others_told (rows_of t.policy) t p before (known_others c.address.new.self.cache) c.address_others.new.self.deliveries.items knows tells in
     let by_before : List Addressed → Addressing = λ ds. addressed_after t p (addressing ds []) (importers t p elsewhere) in
     across_all t p elsewhere c.address_others.new.self.deliveries.items (ap (λ (a : Addressing). a.deliveries) (told ∙ ap by_before is))
 
@@ -62,11 +62,11 @@ returns-then-branch-clause-reports c =
     let p : Publication = publication c.args.publishing.sending.publisher.now c.args.publishing.sending.message.now c.args.publishing.sending.word in
     let is : c.address.new.self.deliveries.items ≡ own t p = c.in_ok-address.ensures.all ∙ own_first t.sessions t.subscriptions p.publisher p.message p.word c.known.ensures.going in
     let elsewhere : is_route p.message.subject ≡ false = sym (c.is_route.ensures ∙ ap is_route c.subject-subject.ensures) ∙ c.if-is_route.false in
-    let knows = subst (λ (rows : List ImportRow). KnowsOthers c.address.new.self.cache.others rows t.sessions t.subscriptions p.publisher p.message.subject) c.rows.ensures c.in_ok-address.ensures.others in
+    let knows = subst (λ (rows : List ImportRow). KnowsOthers (known_others c.address.new.self.cache) rows t.sessions t.subscriptions p.publisher p.message.subject) c.rows.ensures c.in_ok-address.ensures.others in
     let tells = c.in_ok-address_others.ensures.tells c.if-branch.true in
     let before : Addressing = addressing c.address.new.self.deliveries.items [] in
     across_reports t p elsewhere []
-    (sym (others_unreported (rows_of t.policy) t p before c.address.new.self.cache.others c.address_others.new.self.deliveries.items knows tells)
+    (sym (others_unreported (rows_of t.policy) t p before (known_others c.address.new.self.cache) c.address_others.new.self.deliveries.items knows tells)
     ∙ ap (λ (ds : List Addressed). reports_after t p (addressing ds []) (importers t p elsewhere)) is)
 
 pub returns-then-branch-clause-changed : goal.returns-then-branch-clause-changed
@@ -75,10 +75,10 @@ returns-then-branch-clause-changed c =
     let p : Publication = publication c.args.publishing.sending.publisher.now c.args.publishing.sending.message.now c.args.publishing.sending.word in
     let is : c.address.new.self.deliveries.items ≡ own t p = c.in_ok-address.ensures.all ∙ own_first t.sessions t.subscriptions p.publisher p.message p.word c.known.ensures.going in
     let elsewhere : is_route p.message.subject ≡ false = sym (c.is_route.ensures ∙ ap is_route c.subject-subject.ensures) ∙ c.if-is_route.false in
-    let knows = subst (λ (rows : List ImportRow). KnowsOthers c.address.new.self.cache.others rows t.sessions t.subscriptions p.publisher p.message.subject) c.rows.ensures c.in_ok-address.ensures.others in
+    let knows = subst (λ (rows : List ImportRow). KnowsOthers (known_others c.address.new.self.cache) rows t.sessions t.subscriptions p.publisher p.message.subject) c.rows.ensures c.in_ok-address.ensures.others in
     let tells = c.in_ok-address_others.ensures.tells c.if-branch.true in
     let before : Addressing = addressing c.address.new.self.deliveries.items [] in
-    let told = others_told (rows_of t.policy) t p before c.address.new.self.cache.others c.address_others.new.self.deliveries.items knows tells in
+    let told = others_told (rows_of t.policy) t p before (known_others c.address.new.self.cache) c.address_others.new.self.deliveries.items knows tells in
     let by_before : List Addressed → Addressing = λ ds. addressed_after t p (addressing ds []) (importers t p elsewhere) in
     across_changed t p elsewhere t.routes (ap (λ (a : Addressing). opened_each a.openings t.routes) (told ∙ ap by_before is))
 

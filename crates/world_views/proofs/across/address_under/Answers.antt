@@ -5,7 +5,7 @@ use Rattle.events.specs.declared.answer.Addressed.{Addressed}
 use Rattle.imports.specs.Views.{is_route, rows_of}
 use Rattle.imports.specs.declared.rows.ImportRow.{ImportRow}
 use Rattle.service_routes.specs.Routes.{pruned}
-use Rattle.receiver_cache.specs.Known.{others_in, under_subject}
+use Rattle.receiver_views.specs.Known.{others_in, under_subject}
 use Rattle.world_receivers.specs.Standing.{addressed_behind_in}
 use Rattle.world_views.specs.Changing.{opened_each}
 use Rattle.world_views.specs.Viewing.{Tables, Publication, Addressing, addressing, addressed_after, publication, reports_after, tables_at}

@@ -3,7 +3,7 @@ use Rattle.std.proofs.Common.{List, sym, subst}
 use Rattle.imports.specs.Views.{rows_of}
 use Rattle.world_rows.specs.declared.subscription.Subscription.{Subscription}
 use Rattle.world_subscriptions.specs.Counting.{entered_ids}
-use Rattle.receiver_cache.specs.Marked.{AreMarked}
+use Rattle.receiver_views.specs.Marked.{AreMarked}
 use Rattle.receiver_cache.proofs.Stays.{AreSeated}
 use Rattle.world_routing.proofs.Delivering.{seated_handed}
 use Rattle.world_marks.proofs.Kept.{marked_seated, marked_in_turn}

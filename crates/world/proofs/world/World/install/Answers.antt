@@ -8,7 +8,7 @@ use Rattle.service_rows.specs.Rows.{again}
 use Rattle.world_deliveries.specs.declared.session.Session.{Session}
 use Rattle.world_sessions.specs.Renewal.{remaining}
 use Rattle.world_rows.specs.declared.subscription.Subscription.{Subscription}
-use Rattle.receiver_cache.specs.Marked.{AreMarked}
+use Rattle.receiver_views.specs.Marked.{AreMarked}
 use Rattle.world_marks.proofs.Kept.{marked_filter}
 use Rattle.world.specs.Reload.{stands_on}
 use Rattle.world.specs.Changes.{done, lost_id, pruned_world}

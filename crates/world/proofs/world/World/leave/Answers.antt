@@ -2,7 +2,7 @@
 use Rattle.std.proofs.Common.{◌==◌, List, filter, not, sym, subst}
 use Rattle.world_deliveries.specs.declared.session.Session.{Session}
 use Rattle.world_rows.specs.declared.subscription.Subscription.{Subscription}
-use Rattle.receiver_cache.specs.Marked.{AreMarked}
+use Rattle.receiver_views.specs.Marked.{AreMarked}
 use Rattle.receiver_cache.proofs.Told.{empty_current}
 use Rattle.imports.specs.Views.{rows_of}
 use Rattle.world_marks.proofs.Kept.{marked_left}

@@ -2,7 +2,7 @@
 use Rattle.std.proofs.Common.{List, sym, subst}
 use Rattle.imports.specs.Views.{rows_of}
 use Rattle.world_rows.specs.declared.subscription.Subscription.{Subscription}
-use Rattle.receiver_cache.specs.Marked.{AreMarked}
+use Rattle.receiver_views.specs.Marked.{AreMarked}
 use Rattle.receiver_cache.proofs.Told.{empty_current}
 use Rattle.world_marks.proofs.Kept.{marked_limited}
 use Rattle.world.proofs.world.World.limit.Goals as goal

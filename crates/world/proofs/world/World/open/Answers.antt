@@ -3,7 +3,7 @@ use Rattle.std.proofs.Common.{List, sym, subst}
 use Rattle.imports.specs.Views.{rows_of}
 use Rattle.world_deliveries.specs.declared.session.Session.{Session}
 use Rattle.world_routing.specs.World.{World}
-use Rattle.receiver_cache.specs.Marked.{AreMarked}
+use Rattle.receiver_views.specs.Marked.{AreMarked}
 use Rattle.receiver_cache.proofs.Told.{empty_current}
 use Rattle.world_marks.proofs.Kept.{marked_opened}
 use Rattle.world.specs.Reload.{AllMayStand}

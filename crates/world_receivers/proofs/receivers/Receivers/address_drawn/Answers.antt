@@ -7,5 +7,5 @@ use Rattle.world_receivers.proofs.receivers.Receivers.address_drawn.Goals as goa
 
 pub returns-clause-tells : goal.returns-clause-tells
 returns-clause-tells c = λ done rows zs subs z current there.
-    sent_on c.args.self.now.cache c.args.conn _ c.args.message.now c.args.word _ rows zs subs z (c.in_ok-done.ensures.tells done) current there
+    sent_on c.args.self.now.cache.drawn c.args.conn _ c.args.message.now c.args.word _ rows zs subs z (c.in_ok-done.ensures.tells done) current.drawn there
     (ap tokens_of c.bytes.ensures ∙ again c.subject-subject.result c.tokens.ensures.grammar ∙ c.subject-subject.ensures)

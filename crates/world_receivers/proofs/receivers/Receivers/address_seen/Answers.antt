@@ -10,11 +10,11 @@ use Rattle.world_subscriptions.specs.Subscriptions.{has_subject, having}
 use Rattle.world_rows.specs.declared.subscription.Subscription.{Subscription}
 use Rattle.world_groups.specs.Served.{served}
 use Rattle.deny_marks.specs.declared.marks.Marks.{Marks}
-use Rattle.receiver_cache.specs.Open.{is_open}
-use Rattle.receiver_cache.specs.Marked.{AreMarked, is_marked_open}
+use Rattle.receiver_views.specs.Open.{is_open}
+use Rattle.receiver_views.specs.Marked.{AreMarked, is_marked_open}
 use Rattle.world_receivers.specs.Standing.{is_nil, stands_behind, standing_among}
-use Rattle.receiver_cache.proofs.Marked.{open_marked}
-use Rattle.receiver_cache.proofs.Tests.{both}
+use Rattle.receiver_views.proofs.Marked.{open_marked}
+use Rattle.receiver_views.proofs.Tests.{both}
 use Rattle.world_receivers.proofs.receivers.Receivers.address_seen.Goals as goal
 
 module _ (table : List (ℕ × Marks)) (zs : List Session) (subs : List Subscription) (marked : AreMarked zs subs table) (z : Session) (account : List ℕ) (s : List Token) (before : List Addressed) where

@@ -1,0 +1,13 @@
+-- what the slots have stays
+use Rattle.std.proofs.Common.{◌∙◌, refl, sym, inl, inr}
+use Rattle.receiver_cache.specs.declared.cache.ReceiverCache.{ReceiverCache}
+use Rattle.receiver_cache.proofs.Told.{still_current}
+use Rattle.receiver_cache.proofs.cache.ReceiverCache.is_asked_again.Goals as goal
+
+pub returns-clause-cached : goal.returns-clause-cached
+returns-clause-cached c = λ rows zs subs current.
+    let old : ReceiverCache = c.args.self.now in
+    still_current old (record old { slots = c.is_asked_again.new.self }) rows zs subs (λ cached has. elim has [
+      | inl last ↦ inl (inl last)
+      | inr at ↦ inl (inr (at.0, sym (c.is_asked_again.ensures at.0) ∙ at.1))
+    ]) refl current

@@ -1,0 +1,38 @@
+-- what was found is at hand now, and what was at hand comes into a slot
+use Rattle.std.proofs.Common.{true, ◌≡◌, ◌∙◌, ℕ, Option, Some, ap, sym, subst, inl, inr}
+use Rattle.std.specs.Global.{Vec}
+use Rattle.std.specs.Option.{unwrap_or}
+use Rattle.subjects.specs.Subject.{tokens_of}
+use Rattle.subjects.proofs.Text.{again}
+use Rattle.slot_cache.specs.Slots.{value_at}
+use Rattle.receiver_cache.specs.Cached.{Has, IsSo, known_others}
+use Rattle.receiver_views.specs.Known.{KnowsOthers}
+use Rattle.receiver_cache.specs.declared.cache.ReceiverCache.{ReceiverCache}
+use Rattle.receiver_cache.specs.declared.cached.CachedReceivers.{CachedReceivers}
+use Rattle.receiver_views.specs.declared.known.KnownView.{KnownView}
+use Rattle.receiver_cache.proofs.Told.{found_so, still_current}
+use Rattle.receiver_cache.proofs.cache.ReceiverCache.put.Goals as goal
+
+pub returns-in-Ok : goal.returns-in-Ok
+unfolding known_others
+returns-in-Ok c = λ rows zs subs z current there are known lists.
+    let old : ReceiverCache = c.args.self.now in
+    let new : ReceiverCache = record c.put_back.new.self { last = c.of-in-Ok.result; place = c.place_for-self.result; is_last = true } in
+    let so : IsSo rows zs subs c.of-in-Ok.result =
+    found_so c.of-in-Ok.result c.in-Ok.published c.args.others c.args.allowed c.args.conn _ rows zs subs _ z c.args.subject.now c.of-in-Ok.ensures c.in-Ok.ensures
+    (ap tokens_of c.bytes.ensures ∙ again c.args.subject.now c.tokens.ensures.grammar) there are known lists in (
+      still_current old new rows zs subs (λ cached has. elim has [
+        | inl last ↦ inr (inr (subst (IsSo rows zs subs) (sym last) so))
+        | inr at ↦ inl (had cached at.0 at.1)
+      ]) c.put_back.ensures.drawn current,
+      subst (λ (o : Option (Vec KnownView)). KnowsOthers o rows zs subs z c.args.subject.now) (sym c.of-in-Ok.ensures.others_are) known,
+    )
+  where
+    same : (x y : CachedReceivers) → Some x ≡ Some y → y ≡ x
+    same x y e = sym (ap (λ (o : Option CachedReceivers). unwrap_or o x) e)
+
+    had : (cached : CachedReceivers) (place : ℕ) → value_at c.put_back.new.self.slots place ≡ Some cached → Has c.args.self.now cached
+    had cached place at = elim (c.put_back.ensures.slots place) [
+      | inl stays ↦ inr (place, sym stays ∙ at)
+      | inr put ↦ inl (same c.args.self.now.last cached (sym put ∙ at))
+    ]

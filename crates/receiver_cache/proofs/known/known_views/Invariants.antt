@@ -1,7 +1,0 @@
--- the views so far are known
-use Rattle.std.proofs.Common.{take}
-use Rattle.receiver_cache.specs.Known.{AreSeen}
-use Rattle.receiver_cache.proofs.known.known_views.Given as goal
-
-abbrev pub invariant-loop-view : goal.invariant-loop-view
-invariant-loop-view l = AreSeen l.among.sessions.now l.among.subscriptions.now l.among.publisher.now l.all.items (take l.view-index l.views)

@@ -1,0 +1,196 @@
+//! Whom the messages of one publisher on one subject are for.
+ghost use Rattle.std.specs.Prelude.{◌≡◌, [], IfErr, IfOk, IfSome, Some, false, map, true};
+ghost use Rattle.permissions.specs.declared.verdict.By.{By as ByModel};
+ghost use Rattle.world_groups.specs.Chosen.{Rising};
+ghost use Rattle.receiver_cache.specs.Cached.{AreNone, IsBlank, IsFound, Tells, TellsOthers};
+ghost use Rattle.receiver_cache.specs.Published.{IsOf};
+
+use crate::published::Published;
+use base::NoMemory;
+use events::{Addressed, Message};
+use permissions::By;
+use receiver_views::{KnownView, Whom, address_chosen, address_each, address_known, whom_of};
+use std::alloc::Global;
+use world_subscriptions::SharedSubscription;
+
+/// How many receivers are few, and how many bytes of a subject: so that all slots of a cache have a bound.
+const MOST_RECEIVERS: usize = 32;
+
+const MOST_BYTES: usize = 128;
+
+/// Whom the messages of one publisher on one subject are for, as long as the sessions, the subscriptions and what permits them
+/// stay as they are.
+#[derive(Drop)]
+pub(crate) struct CachedReceivers {
+    published: Published,
+    whom: Whom,
+    // The views of these messages behind the publisher's own, where they are known.
+    others: Option<Vec<KnownView>>,
+    // By what lists allow them, where it is known that they are seen in the publisher's account alone.
+    alone: Option<By>,
+}
+
+/// Empties a list. Mostly it is empty already, and then nothing is called.
+#[inline(always)]
+pub(crate) fn clear(all: &mut Vec<Addressed>)
+    ensures { all.new.items ≡ [] }
+{
+    if !all.is_empty() {
+        all.clear();
+    }
+}
+
+/// Returns whether it is known that there is no view behind the publisher's own.
+fn are_none(others: &Option<Vec<KnownView>>) -> bool
+    ensures { result ≡ true → AreNone others.now }
+{
+    match others {
+        None => false,
+        Some(views) => views.is_empty(),
+    }
+}
+
+impl CachedReceivers {
+    /// Returns what is cached of nobody's messages: it says nothing. It takes no memory.
+    pub fn blank(alloc: Global) -> CachedReceivers
+        ensures { IsBlank result }
+    {
+        CachedReceivers {
+            published: Published::nothing(alloc),
+            whom: Whom::Various,
+            others: None,
+            alone: None,
+        }
+    }
+
+    /// Returns that a publisher's messages on a subject may be sent to these, what is known of their views behind the publisher's
+    /// own, and by what lists allow them, if there are no such views.
+    pub fn of(
+        alloc: Global,
+        published: Published,
+        found: &[&SharedSubscription],
+        others: Option<Vec<KnownView>>,
+        allowed: Option<By>,
+    ) -> CachedReceivers
+        requires { Rising (map (λ s. s.now) found.now) }
+        ensures { IsFound result published (map (λ s. s.now) found.now) others allowed }
+    {
+        let alone = if are_none(&others) { allowed } else { None };
+        CachedReceivers {
+            published,
+            whom: whom_of(alloc, found),
+            others,
+            alone,
+        }
+    }
+
+    /// Returns whether they are of this publisher and the subject with this text.
+    #[inline(always)]
+    pub fn is_of(&self, conn: u64, text: &[u8]) -> bool
+        ensures { result ≡ true → IsOf self.now.published conn text.now }
+    {
+        self.published.is_of(conn, text)
+    }
+
+    /// Returns whether it is known that these messages are seen in the publisher's account alone.
+    #[inline(always)]
+    pub fn are_alone(&self) -> bool {
+        self.alone.is_some()
+    }
+
+    /// Returns whether they are of some messages, on a subject that isn't long, and not many.
+    pub fn are_few(&self) -> bool {
+        let bytes = self.published.subject_len();
+        0 < bytes && bytes <= MOST_BYTES && self.len() <= MOST_RECEIVERS
+    }
+
+    /// Returns how many receivers there are, in all views, and one for each view behind the publisher's own.
+    fn len(&self) -> usize {
+        let own = self.whom.len();
+        match &self.others {
+            None => own,
+            Some(views) => own.saturating_add(len_of(views.as_slice())),
+        }
+    }
+
+    /// Puts the deliveries of a message of its publisher on its subject in the place of what was in `all`, if each such message is for
+    /// the same. Returns whether it is. `NoMemory` where memory could not be had.
+    #[inline(always)]
+    pub fn address(
+        &self,
+        message: &Message,
+        word: u64,
+        all: &mut Vec<Addressed>,
+    ) -> Result<bool, NoMemory>
+        ensures { IfOk result (λ done. done ≡ true → Tells self.now message.now word all.new.items) }
+    {
+        match &self.whom {
+            Whom::Various => Ok(false),
+            Whom::Each(receivers) => {
+                clear(all);
+                address_each(message, receivers.as_slice(), all)?;
+                Ok(true)
+            }
+            Whom::One(receivers) => {
+                clear(all);
+                address_chosen(message, receivers.as_slice(), word, all)?;
+                Ok(true)
+            }
+        }
+    }
+
+    /// Puts the deliveries of a message of its publisher on its subject in the place of what was in `all`, if it is known that it is
+    /// seen in the publisher's account alone and by what lists allow it. Returns the latter. `NoMemory` where memory could not be
+    /// had.
+    #[inline(always)]
+    pub fn address_alone(
+        &self,
+        message: &Message,
+        word: u64,
+        all: &mut Vec<Addressed>,
+    ) -> Result<Option<By>, NoMemory>
+        ensures tells { IfOk result (λ by. IfSome by (λ allowed. (self.now.alone ≡ Some allowed) × Tells self.now message.now word all.new.items)) }
+        ensures of { IfErr result (λ none. (by : ByModel) × (self.now.alone ≡ Some by)) }
+    {
+        match self.alone {
+            None => Ok(None),
+            Some(by) => {
+                if self.address(message, word, all)? {
+                    Ok(Some(by))
+                } else {
+                    Ok(None)
+                }
+            }
+        }
+    }
+
+    /// Appends the deliveries of a message of its publisher on its subject in the views behind the publisher's own, if these are
+    /// known. Returns whether they are. `NoMemory` where memory could not be had: then some may be appended.
+    #[inline(always)]
+    pub fn address_others(
+        &self,
+        message: &Message,
+        word: u64,
+        all: &mut Vec<Addressed>,
+    ) -> Result<bool, NoMemory>
+        ensures tells { IfOk result (λ done. done ≡ true → TellsOthers self.now.others message.now word all.old.items all.new.items) }
+        ensures same { IfOk result (λ done. done ≡ false → all.new.items ≡ all.old.items) }
+    {
+        match &self.others {
+            None => Ok(false),
+            Some(views) => {
+                address_known(message, word, views.as_slice(), all)?;
+                Ok(true)
+            }
+        }
+    }
+}
+
+/// Returns how many receivers there are in these views, and one for each view.
+fn len_of(views: &[KnownView]) -> usize {
+    let mut count = views.len();
+    for view in views {
+        count = count.saturating_add(view.len());
+    }
+    count
+}

@@ -1,0 +1,112 @@
+//! What is known of a publisher's messages on a subject, as it is found in the tables.
+ghost use Rattle.std.specs.Prelude.{◌≡◌, ℕ, false, List, Some, IfOk, IfSome};
+ghost use Rattle.imports.specs.Views.{is_route};
+ghost use Rattle.world_deliveries.specs.Sessions.{session_of};
+ghost use Rattle.receiver_views.specs.Marked.{AreMarked};
+ghost use Rattle.receiver_views.specs.Known.{KnowsOthers};
+ghost use Rattle.receiver_cache.specs.Drawn.{IsSent, KnowsDrawn, subject_of};
+
+use crate::drawn::{Drawn, DrawnCache};
+use base::{NoMemory, Shared};
+use imports::Rows;
+use receiver_views::{Among, KnownView, known_at, known_views};
+use std::alloc::Global;
+use subjects::{Subject, SubjectRef};
+
+/// Returns what is known of the views of a publisher's messages on a subject behind its own. `NoMemory` where memory could not be
+/// had.
+fn find_others(
+    alloc: Global,
+    among: Among<'_>,
+    rows: &Rows,
+    subject: &SubjectRef<'_>,
+    ids: &mut Vec<u64>,
+) -> Result<Option<Vec<KnownView>>, NoMemory>
+    requires marked { AreMarked among.sessions.now among.subscriptions.now among.marks.now }
+    ensures { IfOk result (λ others. KnowsOthers others rows.now among.entry.sessions.now among.entry.subscriptions.now among.entry.publisher.now subject.now) }
+{
+    let account = among.publisher.user.account.as_slice();
+    let others = rows.crossings(alloc, account, subject)?;
+    let known = known_views(alloc, among, others.as_slice(), ids)?;
+    Ok(known)
+}
+
+/// Returns what is known of these views. Without memory they aren't known.
+pub fn others_of(
+    alloc: Global,
+    among: Among<'_>,
+    rows: &Rows,
+    subject: &SubjectRef<'_>,
+    ids: &mut Vec<u64>,
+) -> Option<Vec<KnownView>>
+    requires marked { AreMarked among.sessions.now among.subscriptions.now among.marks.now }
+    ensures { KnowsOthers result rows.now among.entry.sessions.now among.entry.subscriptions.now among.entry.publisher.now subject.now }
+{
+    match find_others(alloc, among, rows, subject, ids) {
+        Ok(known) => known,
+        Err(_) => None,
+    }
+}
+
+/// Returns what a publisher's messages are sent as under a subject, if each is for the same. `NoMemory` where memory could not be
+/// had.
+fn find_drawn(
+    alloc: Global,
+    among: Among<'_>,
+    rows: &Rows,
+    subject: &Subject,
+    ids: &mut Vec<u64>,
+) -> Result<Option<Shared<Drawn>>, NoMemory>
+    requires marked { AreMarked among.sessions.now among.subscriptions.now among.marks.now }
+    requires unrouted { is_route subject.now ≡ false }
+    ensures { IfOk result (λ found. IfSome found (λ drawn. IsSent rows.now among.entry.sessions.now among.entry.subscriptions.now among.entry.publisher.now drawn × (subject_of drawn ≡ subject.now))) }
+{
+    let account = among.publisher.user.account.as_slice();
+    match known_at(alloc, among, account, subject, ids)? {
+        None => Ok(None),
+        Some(own) => match find_others(alloc, among, rows, &subject.lend(), ids)? {
+            None => Ok(None),
+            Some(others) => Ok(Some(Shared::new(alloc, Drawn { own, others })?)),
+        },
+    }
+}
+
+/// Returns what a publisher's messages are sent as under a subject, as it is known of some draw or is found.
+fn drawn_under(
+    alloc: Global,
+    known: &DrawnCache,
+    among: Among<'_>,
+    rows: &Rows,
+    subject: &Subject,
+    ids: &mut Vec<u64>,
+) -> Result<Option<Shared<Drawn>>, NoMemory>
+    requires marked { AreMarked among.sessions.now among.subscriptions.now among.marks.now }
+    requires unrouted { is_route subject.now ≡ false }
+    ensures { IfOk result (λ found. IfSome found (λ drawn. (conn : ℕ) (text : List ℕ) → KnowsDrawn known.now.by_draw.items rows.now conn text among.entry.sessions.now among.entry.subscriptions.now
+        → session_of among.entry.sessions.now conn ≡ Some among.entry.publisher.now → IsSent rows.now among.entry.sessions.now among.entry.subscriptions.now among.entry.publisher.now drawn × (subject_of drawn ≡ subject.now))) }
+{
+    match known.find_under(subject) {
+        Some(drawn) => Ok(Some(drawn.again()?)),
+        None => find_drawn(alloc, among, rows, subject, ids),
+    }
+}
+
+/// Returns what a publisher's messages are sent as under a subject. Without memory it isn't known.
+pub fn drawn_of(
+    alloc: Global,
+    known: &DrawnCache,
+    among: Among<'_>,
+    rows: &Rows,
+    subject: &Subject,
+    ids: &mut Vec<u64>,
+) -> Option<Shared<Drawn>>
+    requires marked { AreMarked among.sessions.now among.subscriptions.now among.marks.now }
+    requires unrouted { is_route subject.now ≡ false }
+    ensures { IfSome result (λ drawn. (conn : ℕ) (text : List ℕ) → KnowsDrawn known.now.by_draw.items rows.now conn text among.entry.sessions.now among.entry.subscriptions.now
+        → session_of among.entry.sessions.now conn ≡ Some among.entry.publisher.now → IsSent rows.now among.entry.sessions.now among.entry.subscriptions.now among.entry.publisher.now drawn × (subject_of drawn ≡ subject.now)) }
+{
+    match drawn_under(alloc, known, among, rows, subject, ids) {
+        Ok(drawn) => drawn,
+        Err(_) => None,
+    }
+}

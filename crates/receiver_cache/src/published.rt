@@ -1,0 +1,53 @@
+//! A publisher and a subject, of whose messages something is cached.
+ghost use Rattle.std.specs.Prelude.{◌≡◌, ◌==◌, ◌&&◌, IfOk, nat_eq, true};
+ghost use Rattle.std.specs.Cmp.Lexicographic.{pointwise};
+ghost use Rattle.receiver_cache.specs.Published.{IsOf};
+
+use base::NoMemory;
+use std::alloc::Global;
+
+/// The messages of one publisher on one subject: its connection, and the subject's text.
+#[derive(Drop)]
+pub(crate) struct Published {
+    conn: u64,
+    subject: Vec<u8>,
+}
+
+impl Published {
+    /// Returns the messages of nobody on no subject. It takes no memory.
+    pub fn nothing(alloc: Global) -> Published {
+        Published {
+            conn: 0,
+            subject: Vec::new(alloc),
+        }
+    }
+
+    /// Returns the messages of a connection on a subject with this text. `NoMemory` where memory could not be had.
+    pub fn of(alloc: Global, conn: u64, text: &[u8]) -> Result<Published, NoMemory>
+        ensures { IfOk result (λ published. IsOf published conn text.now) }
+    {
+        let subject = Vec::from_slice(alloc, text)?;
+        Ok(Published { conn, subject })
+    }
+
+    /// Takes the messages of another connection or subject in their place. Without memory they are some that no subject has.
+    pub fn set(&mut self, conn: u64, text: &[u8]) {
+        self.conn = conn;
+        self.subject.clear();
+        let _ = self.subject.extend_from_slice(text);
+    }
+
+    /// Returns how many bytes the subject has: none where they are on no subject.
+    pub fn subject_len(&self) -> usize {
+        self.subject.len()
+    }
+
+    /// Returns whether they are those of this publisher on the subject with this text.
+    #[inline(always)]
+    pub fn is_of(&self, conn: u64, text: &[u8]) -> bool
+        ensures tests { result ≡ ((self.now.conn == conn) && pointwise nat_eq self.now.subject.items text.now) }
+        ensures same { result ≡ true → IsOf self.now conn text.now }
+    {
+        self.conn == conn && self.subject.as_slice() == text
+    }
+}

@@ -1,0 +1,95 @@
+-- Whom messages are for, said once for all of a publisher's messages on a subject: in its own account, and in other views.
+use Rattle.std.specs.Prelude.{◌≡◌, ◌++◌, ◌∷◌, ℕ, Bool, false, List, [], Option, Some, None, is_some, filter, map, not}
+use Rattle.std.specs.Global.{Vec}
+use Rattle.std.specs.List.{list_any}
+use Rattle.subjects.specs.Subject.{Token}
+use Rattle.imports.specs.Views.{is_same, first_of_each}
+use Rattle.imports.specs.Across.{crossings_in}
+use Rattle.imports.specs.declared.rows.ImportRow.{ImportRow}
+use Rattle.imports.specs.declared.view.ViewItem.{ViewItem}
+use Rattle.imports.specs.declared.view.ViewItem.TheVariants.{At, TooLong}
+use Rattle.imports.specs.declared.view.Way.TheVariants.{Own, Stream, Service, Response}
+use Rattle.events.specs.Messages.{Message}
+use Rattle.events.specs.Sendings.{named}
+use Rattle.events.specs.declared.answer.Addressed.{Addressed}
+use Rattle.queue_choice.specs.Choices.{chosen}
+use Rattle.world_groups.specs.Grouped.{if_any}
+use Rattle.world_groups.specs.Served.{served}
+use Rattle.world_deliveries.specs.declared.session.Session.{Session}
+use Rattle.world_rows.specs.declared.subscription.Subscription.{Subscription}
+use Rattle.receiver_views.specs.Open.{open_among}
+use Rattle.receiver_views.specs.Receivers.{receiver_of, addressed_at}
+use Rattle.receiver_views.specs.declared.receiver.Receiver.{Receiver}
+use Rattle.receiver_views.specs.declared.known.KnownView.{KnownView}
+use Rattle.receiver_views.specs.declared.whom.Whom.{Whom}
+use Rattle.receiver_views.specs.declared.whom.Whom.TheVariants.{Each, One, Various}
+
+-- whom a message with a word is for: each receiver, or the one that the word chooses
+abbrev pub picked : ℕ → Whom → List Receiver
+picked word (Each rs) = rs.items
+picked word (One rs) = if_any (chosen word rs.items)
+picked word Various = []
+
+-- whether it says whom
+abbrev pub Says : Whom → Type 0
+Says (Each rs) = Unit {0}
+Says (One rs) = Unit {0}
+Says Various = ⊥
+
+-- it says, whatever the message's word, which of these subscriptions are served
+abbrev pub IsWhom : Whom → List Subscription → Type 0
+IsWhom whom subs = Says whom → (word : ℕ) → map receiver_of (served word subs) ≡ picked word whom
+
+-- ---- views behind the publisher's own
+
+-- the views of an account's message behind that of the account itself: those across these rows, and then responses
+abbrev pub others_with : List ImportRow → List ViewItem → List ℕ → List Token → List ViewItem
+others_with rows responses account s = filter (λ (v : ViewItem). not (is_same (At account s Own) v)) (first_of_each (crossings_in rows account s ++ responses))
+
+-- those of one that is no response
+abbrev pub others_in : List ImportRow → List ℕ → List Token → List ViewItem
+others_in rows account s = others_with rows [] account s
+
+abbrev pub has_limit : Subscription → Bool
+has_limit sub = is_some sub.most
+
+-- the message under another subject; its reply, header block and payload stay
+abbrev pub under_subject : List Token → Message → Message
+under_subject s m = record m { subject = s }
+
+-- A known view says whom a publisher's messages are for in an account under a subject: none of these subscriptions has a limit, so
+-- they stand behind all deliveries of the same message.
+pub record IsSeen (zs : List Session) (subs : List Subscription) (publisher : Session) (known : KnownView) (account : List ℕ) (s : List Token) : Type 0 where
+  pub names : (m : Message) → named known.names m ≡ under_subject s m
+  pub unlimited : list_any has_limit (open_among zs subs publisher account s) ≡ false
+  pub says : Says known.whom
+  pub whom : IsWhom known.whom (open_among zs subs publisher account s)
+
+-- so it does, if it is known
+abbrev pub IsKnown : Option KnownView → List Session → List Subscription → Session → List ℕ → List Token → Type 0
+IsKnown None zs subs publisher account s = Unit {0}
+IsKnown (Some known) zs subs publisher account s = IsSeen zs subs publisher known account s
+
+-- So it is with views in turn, each of a stream: a request has another reply each time, and a row that isn't crossed is told.
+abbrev pub AreSeen : List Session → List Subscription → Session → List KnownView → List ViewItem → Type 0
+AreSeen zs subs publisher [] [] = Unit {0}
+AreSeen zs subs publisher [] (v ∷ vs) = ⊥
+AreSeen zs subs publisher (k ∷ known) [] = ⊥
+AreSeen zs subs publisher (k ∷ known) (TooLong row ∷ vs) = ⊥
+AreSeen zs subs publisher (k ∷ known) (At account s Own ∷ vs) = ⊥
+AreSeen zs subs publisher (k ∷ known) (At account s (Service row) ∷ vs) = ⊥
+AreSeen zs subs publisher (k ∷ known) (At account s (Response row) ∷ vs) = ⊥
+AreSeen zs subs publisher (k ∷ known) (At account s (Stream row) ∷ vs) = IsSeen zs subs publisher k account s × AreSeen zs subs publisher known vs
+
+-- the views of a publisher's message behind its own are known, where they are said to be
+abbrev pub KnowsOthers : Option (Vec KnownView) → List ImportRow → List Session → List Subscription → Session → List Token → Type 0
+KnowsOthers None rows zs subs z s = Unit {0}
+KnowsOthers (Some known) rows zs subs z s = AreSeen zs subs z known.items (others_in rows z.user.account s)
+
+-- the deliveries of a message in a known view, and in several, behind others
+abbrev pub addressed_in : Message → ℕ → List Addressed → KnownView → List Addressed
+addressed_in m word before known = before ++ map (addressed_at (named known.names m)) (picked word known.whom)
+
+abbrev pub addressed_in_each : Message → ℕ → List Addressed → List KnownView → List Addressed
+addressed_in_each m word before [] = before
+addressed_in_each m word before (k ∷ known) = addressed_in_each m word (addressed_in m word before k) known

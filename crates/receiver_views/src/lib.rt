@@ -1,0 +1,14 @@
+//! Who may be sent a message, and whom it is for in a view.
+#![tactic(auto)]
+
+mod known;
+mod names;
+mod open;
+mod receiver;
+mod whom;
+
+pub use known::{Among, KnownView, address_known, known_at, known_views};
+pub use names::names_of;
+pub use open::Open;
+pub use receiver::{Receiver, address_each};
+pub use whom::{Whom, address_chosen, whom_of};
