@@ -159,6 +159,12 @@ def reader_of(server, user):
     return client
 
 
+def install(server, text, number):
+    """Reloads, and wants the line of this epoch."""
+    server.frame(text)
+    want((line := server.line()) == f"epoch {number}", f"a reload printed {line!r}")
+
+
 def reload_all(server, probe, rounds, is_enough):
     """Reloads and probes at least so often, and until it is enough. Returns the last epoch, and how many KiB more the server
     had at most."""
@@ -167,8 +173,7 @@ def reload_all(server, probe, rounds, is_enough):
     while number <= rounds or not is_enough():
         begin, number = time.monotonic(), number + 1
         want(begin < end, f"not within {LIMIT} s: the writers publish enough")
-        server.frame(texts[number % 2])
-        want((line := server.line()) == f"epoch {number}", f"a reload printed {line!r}")
+        install(server, texts[number % 2], number)
         probe.publish(probed(number), {number % 2})
         most = max(most, server.kilobytes() - before)
         time.sleep(max(0.0, EACH - (time.monotonic() - begin)))
@@ -213,5 +218,18 @@ def alone(program, divide, workers):
     return beside(program, divide, workers, 0)
 
 
+@storm(2)
+def kept(program, divide, workers):
+    """400 reloads while nobody publishes, and a history that may keep 1 MiB: the policies that it keeps count"""
+    with Server(program, "--workers", workers, "--history-bytes", 1 << 20, policy=policy(1)) as server:
+        texts, before = [policy(0), policy(1)], server.kilobytes()
+        for number in range(2, 402):
+            install(server, texts[number % 2], number)
+        more = server.kilobytes() - before
+        want(more < MORE * 1024, f"the server has {more // 1024} MiB more than before the first reload")
+        is_alive(server)
+    return f"{more // 1024} MiB more"
+
+
 if __name__ == "__main__":
-    run(__doc__.split("\n")[0], under_traffic, alone)
+    run(__doc__.split("\n")[0], under_traffic, alone, kept)

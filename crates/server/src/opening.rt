@@ -37,7 +37,7 @@ pub(crate) fn first_policy<R: Wait + Clock + AllocGlobal, P: Policies>(
     // (nobody else opens anything yet)
     let descriptors = Mutex::new(());
     match next_policy(rt.alloc(), policies, &descriptors) {
-        NextPolicy::Ready(ready, notes) => {
+        NextPolicy::Ready(ready, notes, _) => {
             tell_warnings(rt, log, &notes);
             Ok(Some(ready))
         }

@@ -11,8 +11,8 @@ use std::time::Clock;
 /// What the next policy is, if there is one.
 #[derive(Drop)]
 pub enum NextPolicy {
-    /// A policy that may come into force, and what is to be known of its text.
-    Ready(Ready, Notes),
+    /// A policy that may come into force, what is to be known of its text, and how many bytes that has.
+    Ready(Ready, Notes, usize),
     /// A policy that is refused, as this line says, and what is to be known of its text. The line ends in LF.
     Refused(Vec<u8>, Notes),
     /// None yet.
@@ -44,7 +44,7 @@ pub fn next_policy<P: Policies>(
 fn ready_policy(alloc: Global, text: &[u8]) -> NextPolicy {
     match prepare(alloc, text) {
         Ok(ready) => match notes_of(alloc, text, None) {
-            Ok(notes) => NextPolicy::Ready(ready, notes),
+            Ok(notes) => NextPolicy::Ready(ready, notes, text.len()),
             Err(_) => NextPolicy::NoMemory,
         },
         Err(fault) => match refusal(alloc, text, &fault) {

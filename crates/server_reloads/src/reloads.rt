@@ -14,6 +14,10 @@ use std::alloc::Global;
 use std::sync::Wait;
 use std::time::{Clock, Duration};
 
+/// How many bytes of memory the entry of a reload keeps for each byte of the policy's text, at most: its users, lists and rows, and
+/// what finds them.
+const MADE_OF_TEXT: usize = 16;
+
 /// After how long a line that found no room is offered again, in milliseconds.
 const RETRY: u64 = 10;
 
@@ -73,9 +77,9 @@ impl<'a, L: Run, R: Wait + Clock, G: Gate + Drop> Reloads<'a, L, R, G> {
                     tell_refused(self.rt, self.state.log, line.as_slice(), &notes);
                     self.say(line.as_slice());
                 }
-                NextPolicy::Ready(ready, notes) => {
+                NextPolicy::Ready(ready, notes, bytes) => {
                     tell_warnings(self.rt, self.state.log, &notes);
-                    self.install(ready);
+                    self.install(ready, bytes);
                     if self.port.is_spent() {
                         return Some(ServeFault::GateClosed);
                     }
@@ -85,10 +89,11 @@ impl<'a, L: Run, R: Wait + Clock, G: Gate + Drop> Reloads<'a, L, R, G> {
         None
     }
 
-    /// Installs a policy, and drops the old entries of the history.
-    fn install(&mut self, ready: Ready) {
+    /// Installs a policy, whose text has so many bytes, counts what its entry keeps, and drops the old entries of the history.
+    fn install(&mut self, ready: Ready, bytes: usize) {
         self.port.pass(Point::Prepared);
         self.submit(ready);
+        self.port.keep(bytes.saturating_mul(MADE_OF_TEXT));
         let _ = self.port.shed(usize::MAX);
     }
 
