@@ -12,7 +12,7 @@ pub(crate) const SHORT: usize = 8;
 /// Which deny entries of its user's may refuse a subscription a message.
 #[derive(Clone, Copy, Debug)]
 pub enum Marks {
-    /// None.
+    /// No entry is marked: none may refuse it a message if its user has at most 8; of more the lists are asked.
     Unmarked,
     /// The one of this index.
     One(usize),
@@ -91,7 +91,7 @@ impl Marks {
         }
     }
 
-    /// Returns whether these marks let a message through to a subscription.
+    /// Returns whether these marks let a message through to a subscription whose user has at most 8 deny entries.
     #[inline(always)]
     pub(crate) fn let_through(
         self,

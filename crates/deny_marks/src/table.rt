@@ -95,7 +95,7 @@ impl DenyMarks {
         lets
     }
 
-    /// The same, by the marks alone. Nobody is looked up for a user who is denied nothing.
+    /// The same. Nobody is looked up for a user who is denied nothing; of more than 8 entries the lists are asked.
     #[inline(always)]
     fn let_through(
         &self,
@@ -132,7 +132,7 @@ impl DenyMarks {
     }
 
     /// Drops the marks of subscriptions that have gone, where there are more than twice as many marks as subscriptions that
-    /// stand: so a walk over them comes once in many. Behind it there are at most twice as many marks as stand, and one.
+    /// stand: so a walk over them comes once in many. After it there are at most twice as many marks as stand, and one.
     pub fn trim<S: Stands>(&mut self, standing: &S)
         ensures kept { (id : ℕ) → is_among (S.ids standing.now) id ≡ true → marks_at self.new id ≡ marks_at self.old id }
         ensures bounded { length self.new ≤ 2 * length (S.ids standing.now) + 1 }

@@ -14,7 +14,7 @@ pub fn count_digits(text: &[u8]) -> usize
     text.iter().take_while(|b| b.is_ascii_digit()).count()
 }
 
-/// The number that digits write, of which there are at most so many. `None` where there are more or none, or another byte.
+/// The number that 1 to `most` digits write, which 64 bits hold. `None` where the text is empty or longer, or has another byte.
 pub fn short_number(digits: &[u8], most: usize) -> Option<u64>
     requires { most ≤ 19 }
     ensures number { result ≡ short_number most digits.now }

@@ -28,7 +28,8 @@ pub trait Reader {
         ensures { Gives (λ x. x) result (reads self.now path.now (view value.now)) };
 }
 
-/// What a list's values are read as, if the list is there; else nothing. The fault is that of `list_of`.
+/// What a list's values are read as, if the list is there; else an empty list. `path` is the list's own; the faults are those of
+/// `list_of`.
 pub fn list_under<R: Reader>(
     alloc: Global,
     reader: &R,

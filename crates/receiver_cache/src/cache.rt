@@ -89,7 +89,8 @@ impl ReceiverCache {
         self.drawn.clear();
     }
 
-    /// Returns the slot that has whom a publisher's messages on the subject with this text are for, and that.
+    /// Looks in both slots of a sum, that of a connection and the text of a subject. Returns the place that has what is cached of
+    /// their messages, with it.
     fn find(&self, sum: u64, conn: u64, text: &[u8]) -> Option<(usize, &CachedReceivers)>
         ensures { IfSome result (λ found. (value_at self.now.slots found.0 ≡ Some found.1.now) × IsOf found.1.now.published conn text.now) }
     {
@@ -103,7 +104,7 @@ impl ReceiverCache {
         }
     }
 
-    /// Returns the place of a sum into which something is put: mostly one that has nothing.
+    /// Returns the place of a sum into which something is put: the second one where only the first is taken, else the first.
     fn place_for(&self, sum: u64) -> usize {
         let (first, second) = self.slots.places_of(sum);
         if self.slots.get(first).is_some() && self.slots.get(second).is_none() {
@@ -113,7 +114,7 @@ impl ReceiverCache {
         }
     }
 
-    /// Puts the last ones into their slot, if they are few.
+    /// Puts what is at hand into its slot, if it is for few, else drops it. Then nothing is at hand.
     fn put_back(&mut self)
         ensures last { IsBlank self.new.last }
         ensures slots { (place : ℕ) → (value_at self.new.slots place ≡ value_at self.old.slots place) ⊎ (value_at self.new.slots place ≡ Some self.old.last) }
@@ -138,7 +139,7 @@ impl ReceiverCache {
         }
     }
 
-    /// Looks for it in the slots.
+    /// Looks in the slots for whom these messages are for, and has it at hand then.
     #[inline(never)]
     fn look_for(&mut self, conn: u64, text: &[u8])
         ensures of { self.new.is_last ≡ true → IsOf self.new.last.published conn text.now }
@@ -161,8 +162,9 @@ impl ReceiverCache {
         }
     }
 
-    /// Puts the deliveries of a publisher's message in the place of what was in `all`, if its receivers are cached.
-    /// Returns whether they are. `NoMemory` where memory could not be had.
+    /// Puts the deliveries of a publisher's message in the place of what was in `all`, if its receivers are cached. Returns whether
+    /// it did: not where they are found for each message. `NoMemory` where memory could not be had: then `all` no longer has what it
+    /// had.
     #[tactic(auto, unfolding(crate::specs::Cached::known_others))]
     #[inline(always)]
     pub fn address(
@@ -238,8 +240,8 @@ impl ReceiverCache {
         Ok(done)
     }
 
-    /// Returns whether it is worth finding whom the message that was addressed last is for, to put it here: that isn't cached, and it
-    /// is the second of its publisher and subject in a row, as far as the others of their slot go.
+    /// Notes that the message that was addressed last was asked for. Returns whether it is worth finding whom it is for, to put it
+    /// here: that isn't cached, and the last one that was noted at its place was of its publisher and subject.
     #[tactic(auto, unfolding(crate::specs::Cached::known_others))]
     pub fn is_asked_again(&mut self) -> bool
         ensures others { known_others self.new ≡ known_others self.old }

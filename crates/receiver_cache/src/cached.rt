@@ -13,9 +13,10 @@ use receiver_views::{KnownView, Whom, address_chosen, address_each, address_know
 use std::alloc::Global;
 use world_subscriptions::SharedSubscription;
 
-/// How many receivers are few, and how many bytes of a subject: so that all slots of a cache have a bound.
+/// How many receivers may stand in a slot, so that all slots of a cache have a bound.
 const MOST_RECEIVERS: usize = 32;
 
+/// How many bytes a subject may have to stand in one.
 const MOST_BYTES: usize = 128;
 
 /// Whom the messages of one publisher on one subject are for, as long as the sessions, the subscriptions and what permits them
@@ -98,7 +99,8 @@ impl CachedReceivers {
         self.alone.is_some()
     }
 
-    /// Returns whether they are of some messages, on a subject that isn't long, and not many.
+    /// Returns whether they may stand in a slot: the subject isn't long, and they are few, each view behind the publisher's own
+    /// counted as one more.
     pub fn are_few(&self) -> bool {
         let bytes = self.published.subject_len();
         0 < bytes && bytes <= MOST_BYTES && self.len() <= MOST_RECEIVERS

@@ -30,7 +30,7 @@ impl Published {
         Ok(Published { conn, subject })
     }
 
-    /// Takes the messages of another connection or subject in their place. Without memory they are some that no subject has.
+    /// Sets the publisher and the text of the subject. Without memory the text is shorter, or empty.
     pub fn set(&mut self, conn: u64, text: &[u8]) {
         self.conn = conn;
         self.subject.clear();

@@ -65,7 +65,9 @@ fn says(whom: &Whom) -> bool
     }
 }
 
-/// Returns whom a publisher's messages are for in an account under a subject, if each of them is for the same.
+/// Returns whom a publisher's messages are for in an account under a subject, if each of them is for the same: `None` where one of
+/// the subscriptions has a limit, or they are found for each message. `ids` is a list to work in. `NoMemory` where memory could not
+/// be had.
 pub fn known_at(
     alloc: Global,
     among: Among<'_>,
@@ -152,7 +154,7 @@ impl KnownView {
         self.names.get().subject.is_like(subject)
     }
 
-    /// Returns how many receivers there are in the view.
+    /// Returns how many may receive in the view: all members of a queue group, though one is chosen.
     pub fn len(&self) -> usize {
         self.whom.len()
     }

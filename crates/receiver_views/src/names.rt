@@ -6,7 +6,7 @@ use events::{Names, Said};
 use std::alloc::Global;
 use subjects::Subject;
 
-/// Returns the names of a view: its subject, and what is said there as the reply.
+/// Returns the names of a view: its subject, and what is said there as the reply. `NoMemory` where memory could not be had.
 pub fn names_of(alloc: Global, subject: &Subject, reply: Said) -> Result<Shared<Names>, NoMemory>
     ensures { IfOk result (λ names. names ≡ record { subject = subject.now; reply = reply }) }
 {

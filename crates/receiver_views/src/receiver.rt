@@ -29,7 +29,8 @@ impl Receiver {
         })
     }
 
-    /// Returns a message on its way to it. It is not copied: the delivery is one more owner.
+    /// Returns a message on its way to it. It is not copied: the delivery is one more owner. `NoMemory` where there are too many
+    /// owners to count.
     #[inline(always)]
     pub fn address(&self, message: &Message) -> Result<Addressed, NoMemory>
         ensures { IfOk result (λ addressed. addressed ≡ addressed_at message.now self.now) }
@@ -45,7 +46,8 @@ impl Receiver {
         })
     }
 
-    /// Returns a message on its way to it under names. Neither is copied: the delivery is one more owner of both.
+    /// Returns a message on its way to it under names. Neither is copied: the delivery is one more owner of both. `NoMemory` where
+    /// there are too many owners to count.
     pub fn address_under(
         &self,
         message: &Message,
@@ -65,7 +67,7 @@ impl Receiver {
     }
 }
 
-/// Returns the receivers of these subscriptions, in turn.
+/// Returns the receivers of these subscriptions, in turn. `NoMemory` where memory could not be had.
 pub fn receivers_of(
     alloc: Global,
     subscriptions: &[&SharedSubscription],
@@ -80,7 +82,8 @@ pub fn receivers_of(
 }
 
 /// Addresses a message to receivers, in turn, and adds these deliveries. The list is a local meanwhile, so that its fields stay in
-/// registers. What stands in its place takes no memory.
+/// registers. What stands in its place takes no memory. `NoMemory` where memory could not be had: then `all` may have lost what stood in
+/// it.
 pub fn address_each(
     message: &Message,
     receivers: &[Receiver],
@@ -98,7 +101,8 @@ pub fn address_each(
     Ok(())
 }
 
-/// Addresses a message to receivers, in turn, under names, and adds these deliveries.
+/// Addresses a message to receivers, in turn, under names, and adds these deliveries. `NoMemory` where memory could not be had: then
+/// some may be added.
 #[inline(always)]
 pub fn address_each_under(
     message: &Message,

@@ -124,7 +124,7 @@ impl Rotation {
         }
     }
 
-    /// Drops all but so many of the entries that were handed out, or none. Returns whether some are left.
+    /// Drops the last `most` of the entries that were handed out, or all if there are fewer. Returns whether some are left.
     pub fn shed(&mut self, most: usize) -> bool
         ensures left { self.new ≡ record self.old { spent = but_last most self.old.spent } }
         ensures some { result ≡ nat_lt 0 (length self.new.spent) }
@@ -159,7 +159,7 @@ impl Rotation {
     }
 
     /// Looks where the history is due at a number, a multiple of half of what it holds at most; and notes at which number it
-    /// is next.
+    /// is next. `kept` notes the look.
     pub fn look(&mut self, number: u64, kept: &Kept) -> Option<Look>
         ensures due { is_some result ≡ is_due self.old.half number }
         ensures looked { self.new ≡ looked number self.old }

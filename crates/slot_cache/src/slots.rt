@@ -25,15 +25,14 @@ impl<T: Drop> Drop for Slot<T> {
 /// Values in slots. Whoever asks for one finds its slot by a sum, and tests whether the value there is the one that is
 /// asked for.
 ///
-/// A value is worth its slot once it is asked for twice in a row, as far as the others of its slot go: what is asked for once, as
-/// an inbox, takes no slot from others.
+/// A value comes into a slot once it is asked for twice, and nothing with its place in between: what is asked for once, as an
+/// inbox, takes no slot from others.
 pub struct SlotCache<T> {
     alloc: Global,
     // How many slots there are, once there are some.
     count: usize,
     slots: Vec<Slot<T>>,
-    // The lower half of the sum that was last asked for, for each fourth of a slot: where two share one, none is known to be asked
-    // for again.
+    // The lower half of the sum that was asked for last, with the generation in it; four places for each slot.
     asked: Vec<u32>,
     generation: u64,
     ghost past: { All (λ slot. slot.generation ≤ generation) slots.items },
@@ -82,12 +81,13 @@ impl<T> SlotCache<T> {
         }
     }
 
-    /// Returns whether the sum is the one that was last asked for at its place, as it is from now on.
+    /// Notes that a sum is asked for. Returns whether the last one that was noted at its place, in this generation, had the same
+    /// lower half. Without memory it hasn't.
     pub fn is_asked_again(&mut self, sum: u64) -> bool
         ensures { (other : ℕ) → value_at self.new other ≡ value_at self.old other }
     {
         let count = self.count.saturating_mul(4);
-        let lower = (sum % 0x1_0000_0000) as u32;
+        let lower = ((sum ^ self.generation) % 0x1_0000_0000) as u32;
         if self.asked.is_empty() {
             let _ = self.asked.resize(count, 0);
         }
@@ -118,7 +118,8 @@ impl<T: Drop> SlotCache<T> {
         }
     }
 
-    /// Puts a value into the slot at a place. Returns whether it stands there: without memory it doesn't.
+    /// Puts a value into the slot at a place. Returns whether it stands there: it doesn't without memory, nor where there is no such
+    /// place.
     pub fn put(&mut self, place: usize, value: T) -> bool
         ensures put { (other : ℕ) → (value_at self.new other ≡ value_at self.old other) ⊎ ((other ≡ place) × (value_at self.new other ≡ Some value)) }
         ensures there { IsTrue result → value_at self.new place ≡ Some value }

@@ -1,7 +1,7 @@
 //! A plain sum of texts, by which a slot is found.
 //!
-//! Whoever finds texts of one sum has them share a slot: what is cached of one is found anew for the other, and nothing else. So no
-//! key has to be hidden.
+//! A client that finds two texts of one sum has them share a slot: one throws the other out, and no more. So the sum needs no
+//! secret key.
 
 /// What each word of a text multiplies its sum by: an odd number whose bits spread.
 const SPREAD: u64 = 11400714819323198485;
@@ -60,7 +60,7 @@ fn with_word(sum: u64, word: u64) -> u64 {
     product ^ (product >> 32)
 }
 
-/// Returns another sum that goes by a sum, so that those who share a place by one don't by the other.
+/// Returns a second sum, made of the first. Two that share a place by one mostly don't by the other.
 pub(crate) fn spread(sum: u64) -> u64 {
     sum.wrapping_mul(SPREAD)
 }

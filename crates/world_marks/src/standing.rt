@@ -35,7 +35,7 @@ impl Stands for StandingIds<'_> {
     }
 }
 
-/// Drops marks of subscriptions that have gone, where most are of such. Those that stand keep theirs. Behind it there are at
+/// Drops marks of subscriptions that have gone, where most are of such. Those that stand keep theirs. After it there are at
 /// most twice as many marks as subscriptions, and one.
 pub fn trim_marks(marks: &mut DenyMarks, subscriptions: &Subscriptions)
     ensures bounded { length marks.new ≤ 2 * length subscriptions.now + 1 }
