@@ -85,6 +85,8 @@ def read(traffic, user, heard, ready):
     """A reader: notes the subject of each message by its text, until `last` comes or it is told to end."""
     client = Client(traffic.server, user=user)
     client.subscribe(b">")
+    # (the stranger hears nothing before the end)
+    client.socket.settimeout(10 * LIMIT)
     ready.release()
     while True:
         subject, _, _, text = client.message()
