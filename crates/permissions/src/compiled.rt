@@ -55,7 +55,8 @@ impl Compiled {
     ghost use Rattle.permissions.specs.Verdicts.{publish_verdict, subscribe_verdict, delivery_verdict, IsJustifiedPublish, IsJustifiedSubscribe, IsJustifiedDelivery};
 
     /// The lists of a user's permissions, or of the default ones, which hold for whoever has none of its own. Without both the user
-    /// may do everything. `NoMemory` where memory could not be had.
+    /// may do everything. Terms to answer on bring the empty publish allow list where none is given. `NoMemory` where memory could not
+    /// be had.
     pub fn of(
         alloc: Global,
         user: &UserDoc,

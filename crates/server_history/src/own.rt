@@ -4,19 +4,23 @@ ghost use Rattle.server_history.specs.Bytes.{own};
 
 use events::{Answer, Outcome};
 
-/// How many bytes an entry keeps of its own: one of a command, for each item of a message, for each delivery that a Take
-/// gave, and for each session that a reload ended and each subscription that it removed.
+/// How many bytes the entry of a command keeps of its own, about, beside what the next ones count.
 const ENTRY: u64 = 250;
 
+/// How many for each item of a message.
 const ITEM: u64 = 24;
 
+/// How many for each delivery that a Take gave.
 const DELIVERY: u64 = 48;
 
+/// How many for each session that a reload ended.
 const GONE: u64 = 8;
 
+/// How many for each subscription that a reload removed.
 const REMOVED: u64 = 128;
 
-/// Returns how many bytes the entry of an answer keeps of its own, beside the texts that were read.
+/// Returns how many bytes the entry of an answer keeps of its own, about. Whoever enters it counts the texts that were read, and the
+/// policy of a reload.
 #[inline(always)]
 pub(crate) fn own_of(answer: &Answer) -> u64
     ensures { result ≡ u64_saturate (own answer.now) }

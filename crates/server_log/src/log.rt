@@ -341,7 +341,8 @@ impl<'a> ServerLog<'a> {
         self.put(rt, &notice);
     }
 
-    /// Tells what a connection's turn has noted. Returns whether its client was told of an authorization that failed.
+    /// Tells what a connection's turn has noted, and notes in `party` who the connection is since then. Returns whether its client was
+    /// told of an authorization that failed.
     pub fn tell_noted<R: Wait + Clock>(&self, rt: &R, party: &mut Party, noted: Noted) -> bool {
         let mut has_failed = noted.is_gone;
         if noted.is_gone {

@@ -112,7 +112,7 @@ fn give_users(list: &mut [Session], mut users: VecDeque<User>, now: u64)
     }
 }
 
-/// Removes the sessions that go, and gives the others these users, in order.
+/// Removes the sessions that go, and gives the others these users, in order. Grants are judged anew as of `now`, in milliseconds.
 pub(crate) fn renew_list(ready: &Ready, list: &mut Vec<Session>, users: VecDeque<User>, now: u64)
     ensures { list.new.items ≡ with_users now (filter (stays ready.now) list.old.items) users.items }
 {
