@@ -7,7 +7,7 @@ ghost use Rattle.session_pending.specs.Texts.{delivery_text, payload_text, whole
 use base::NoMemory;
 use events::{Delivery, Message, Sid};
 use subjects::SubjectRef;
-use wire_write::{write_hmsg, write_msg};
+use wire_write::{write_hmsg, write_msg, write_msg_apart};
 
 /// The text of the subject to answer on, if there is one.
 #[inline(always)]
@@ -71,7 +71,7 @@ fn write_named(out: &mut Vec<u8>, delivery: &Delivery) -> Result<(), NoMemory>
     let sid = delivery.sid.as_slice();
     let payload = message.payload();
     let reply_subject = reply_subject_text(message.reply());
-    write_msg(out, subject.bytes(), sid, reply_subject, payload)
+    write_msg_apart(out, subject.bytes(), sid, reply_subject, payload)
 }
 
 /// The text of a delivery with its header block. It is apart from the others, which are most, so that these don't
