@@ -10,7 +10,7 @@ pub stays : {U L X : Type 0} (unknown : ExplainFault) (user : Option U) (lists :
 stays unknown None lists about fault is = is
 stays unknown (Some u) lists about fault is = is
 
--- nor is it for want of memory
+-- where memory could not be had, that is the fault
 pub wants : {U L X : Type 0} (unknown : ExplainFault) (user : Option U) (lists : U → L) (about : U → X) (found : L) (fault : ExplainFault) →
     Answers unknown (option_map lists user) (Ok found) → fault ≡ NoMemory → Answers unknown (option_map about user) (Err fault)
 wants unknown None lists about found fault is memory = absurd is

@@ -240,8 +240,8 @@ impl ReceiverCache {
         Ok(done)
     }
 
-    /// Notes that the message that was addressed last was asked for. Returns whether it is worth finding whom it is for, to put it
-    /// here: that isn't cached, and the last one that was noted at its place was of its publisher and subject.
+    /// Notes the message that was addressed last. Returns whether its receivers are to be found and put here: they aren't cached, and
+    /// the message noted before at its place had the same publisher and subject.
     #[tactic(auto, unfolding(crate::specs::Cached::known_others))]
     pub fn is_asked_again(&mut self) -> bool
         ensures others { known_others self.new ≡ known_others self.old }

@@ -1,4 +1,4 @@
-//! Who may be sent a message, and whom it is for in a view.
+//! The subscriptions that may be sent a message, and the receivers that a view has for it.
 #![tactic(auto)]
 
 mod known;

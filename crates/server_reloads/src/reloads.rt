@@ -14,8 +14,8 @@ use std::alloc::Global;
 use std::sync::Wait;
 use std::time::{Clock, Duration};
 
-/// How many bytes of memory the entry of a reload keeps for each byte of the policy's text, at most: its users, lists and rows, and
-/// what finds them.
+/// How many bytes of memory the entry of a reload is counted for each byte of the policy's text: it keeps users, lists and rows, and
+/// what finds them. Of two policies 9 and 10 were measured; nothing bounds it for others.
 const MADE_OF_TEXT: usize = 16;
 
 /// After how long a line that found no room is offered again, in milliseconds.
