@@ -6,11 +6,14 @@
  * on `orders.1000.new`, `orders.1001.new` and so on in turn), `hot` (the same as `all`, on `hot.1000`, `hot.1001` and so on in
  * turn, where every receiver has a subscription to each), `queue` (the receivers are one queue group), `pairs` (each receiver
  * has a publisher and a subject of its own, and gets COUNT messages), `several` (RECEIVERS publishers send COUNT messages each
- * to one receiver) or `ask` (one asks COUNT times in turn, one answers). `listed` and `hot` take SUBJECTS subjects in turn,
- * one if it is left out. A message has SIZE bytes. A publisher writes up to 64 KiB at once, and is no more than WINDOW messages
- * before the slowest of its receivers, or before the group. It prints for `ask` the median and the 99th percentile of the
- * microseconds from a request to its answer, and else the deliveries a second; where RECEIVERS is 0, the messages a second
- * until the PING behind them is answered. It fails if a receiver misses a message.
+ * to one receiver), `ask` (RECEIVERS requesters, each with an inbox of its own, ask COUNT times in turn each, and one answers)
+ * or `service` (the same, with requesters in another account, that of the user `importer`, which imports `ask` as a service).
+ * `listed` and `hot` take SUBJECTS subjects in turn, one if it is left out. A message has SIZE bytes. A publisher writes up to
+ * 64 KiB at once, and is no more than WINDOW messages before the slowest of its receivers, or before the group. A requester
+ * has one request under way. It prints for `ask` and `service` of one requester the median and the 99th percentile of the
+ * microseconds from a request to its answer, of several the answers a second; and else the deliveries a second; where
+ * RECEIVERS is 0, the messages a second until the PING behind them is answered. It fails if a receiver misses a message, if an
+ * answer is missing, or if a requester gets one that it doesn't wait for: another's, or its own once more.
  * Each connection has a thread of its own, with blocking reads and writes. */
 #include <arpa/inet.h>
 #include <limits.h>
@@ -21,11 +24,16 @@
 #include <stdlib.h>
 #include <string.h>
 #include <sys/socket.h>
+#include <sys/time.h>
 #include <time.h>
 #include <unistd.h>
 
 /* Subjects are numbered from FIRST, so that up to MOST_SUBJECTS have names of one length. */
 enum { PIECE = 65536, MOST = 1024, FIRST = 1000, MOST_SUBJECTS = 9000, LONGEST = 8192 };
+
+/* A requester's inbox, by its number, and an answer's subject, by the request's too: as long as clients make them. */
+#define INBOX "_INBOX.requester%013d"
+#define REPLY INBOX ".%08ld"
 
 /* At the first of the receivers that publishers share, `sent` counts what these have sent or send next. */
 typedef struct {
@@ -34,7 +42,8 @@ typedef struct {
     char padding[64];
 } Receiver;
 
-/* A task in which one publishes to all receivers. A subject's number stands for %d; a wish that has it is sent for each. */
+/* A task in which one publishes to all receivers, or in which requesters publish to one. A subject's number stands for %d; a
+ * wish that has it is sent for each. */
 typedef struct {
     const char *name, *publisher, *subject, *receiver, *wish;
 } Task;
@@ -46,6 +55,8 @@ static const Task tasks[] = {
     {"listed", "listed", "orders.%d.new", "demo", "SUB orders.> 1\r\n"},
     {"hot", "demo", "hot.%d", "demo", "SUB hot.%1$d %1$d\r\n"},
     {"queue", "demo", "load", "demo", "SUB load group 1\r\n"},
+    {"ask", "demo", "ask", "demo", "SUB ask 1\r\n"},
+    {"service", "importer", "ask", "demo", "SUB ask 1\r\n"},
 };
 
 static Receiver receivers[MOST];
@@ -131,12 +142,36 @@ static void subscribe(int socket, const char *wish, int first, int wishes)
     ping(socket);
 }
 
-/* Counts the messages of a stream: the state between its pieces. */
+/* Counts the messages of a stream: the state between its pieces. Where `whole` is given, it is called with the line of each
+ * message whose last byte has come. */
 typedef struct {
     char line[4200];
     size_t held;
     long skip;
+    void (*whole)(void *, const char *);
+    void *closure;
 } Parser;
+
+/* Returns the number at the end of a line. */
+static long last_number(const char *line, size_t length)
+{
+    size_t at = length - 2;
+    long digits = 0, place = 1;
+    while (at > 0 && line[at - 1] != ' ') {
+        digits += (line[--at] - '0') * place;
+        place *= 10;
+    }
+    return digits;
+}
+
+/* Keeps the line of a message until the message is whole. */
+static void keep_line(Parser *it, const char *line, size_t length)
+{
+    if (length >= sizeof it->line)
+        die("a line is too long");
+    memmove(it->line, line, length);
+    it->line[length] = 0;
+}
 
 /* Returns how many messages have ended in this piece. */
 static long messages(Parser *it, const char *data, size_t left)
@@ -148,8 +183,11 @@ static long messages(Parser *it, const char *data, size_t left)
             it->skip -= part;
             data += part;
             left -= part;
-            if (it->skip == 0)
-                ended++;
+            if (it->skip > 0)
+                break;
+            ended++;
+            if (it->whole)
+                it->whole(it->closure, it->line);
             continue;
         }
         const char *end = memchr(data, '\n', left);
@@ -169,13 +207,9 @@ static long messages(Parser *it, const char *data, size_t left)
             break;
         it->held = 0;
         if (line[0] == 'M') {
-            size_t at = length - 2;
-            long digits = 0, place = 1;
-            while (at > 0 && line[at - 1] != ' ') {
-                digits += (line[--at] - '0') * place;
-                place *= 10;
-            }
-            it->skip = digits + 2;
+            it->skip = last_number(line, length) + 2;
+            if (it->whole)
+                keep_line(it, line, length);
         } else if (line[0] == '-') {
             fprintf(stderr, "loader: %.*s", (int)length, line);
             exit(1);
@@ -226,15 +260,20 @@ static void wait_for(long wanted, const Receiver *by, int how_many)
     }
 }
 
-/* Writes a PUB, of at most LONGEST bytes, and returns its length. */
-static int write_publish(char *to, const char *subject, int number)
+/* Writes a PUB on a subject, which a reply may follow, of at most LONGEST bytes, and returns its length. */
+static int write_publish(char *to, const char *subject)
 {
-    char name[64];
-    snprintf(name, sizeof name, subject, number);
-    int head = sprintf(to, "PUB %s %d\r\n", name, size);
+    int head = sprintf(to, "PUB %s %d\r\n", subject, size);
     memset(to + head, 'x', size);
     memcpy(to + head + size, "\r\n", 2);
     return head + size + 2;
+}
+
+static int write_numbered(char *to, const char *subject, int number)
+{
+    char name[64];
+    snprintf(name, sizeof name, subject, number);
+    return write_publish(to, name);
 }
 
 /* The PUBs that are written at once, each of `length` bytes: whole rounds of the subjects. */
@@ -246,14 +285,14 @@ typedef struct {
 static Piece publishes(const char *subject, int first, int in_turn)
 {
     char one[LONGEST];
-    Piece it = {.length = write_publish(one, subject, first)};
+    Piece it = {.length = write_numbered(one, subject, first)};
     int most = PIECE / it.length < window ? PIECE / it.length : window;
     it.each = most - most % in_turn;
     if (it.each == 0)
         die("the subjects are too many for a piece or the window");
     it.text = malloc((size_t)it.each * it.length);
     for (int i = 0; i < it.each; i++)
-        write_publish(it.text + (size_t)i * it.length, subject, first + i % in_turn);
+        write_numbered(it.text + (size_t)i * it.length, subject, first + i % in_turn);
     return it;
 }
 
@@ -349,19 +388,77 @@ static double several(void)
     return count * (double)publishers / passed;
 }
 
+/* One that answers, with the answers to the requests of a piece, which are no longer than these. */
+typedef struct {
+    int socket;
+    size_t length;
+    char answers[PIECE + LONGEST];
+} Answerer;
+
+static void add_answer(void *closure, const char *line)
+{
+    Answerer *it = closure;
+    char reply[256];
+    int bytes;
+    if (sscanf(line, "MSG %*s %*s %255s %d", reply, &bytes) != 2)
+        die("a request came without a reply");
+    it->length += write_publish(it->answers + it->length, reply);
+}
+
 static void *answer(void *closure)
 {
-    int socket = *(int *)closure;
-    Parser parser = {.held = 0, .skip = 0};
-    char *piece = malloc(PIECE), back[LONGEST];
-    int length = write_publish(back, "reply", FIRST);
+    Answerer *it = closure;
+    Parser parser = {.whole = add_answer, .closure = it};
+    char *piece = malloc(PIECE);
     for (;;) {
-        ssize_t got = recv(socket, piece, PIECE, 0);
+        ssize_t got = recv(it->socket, piece, PIECE, 0);
         if (got <= 0)
             return NULL;
-        for (long it = messages(&parser, piece, got); it > 0; it--)
-            send_all(socket, back, length);
+        it->length = 0;
+        messages(&parser, piece, got);
+        send_all(it->socket, it->answers, it->length);
     }
+}
+
+/* One that asks, with the line of the answer that it waits for, and the microseconds that each of its answers took. */
+typedef struct {
+    int socket, number;
+    const char *subject;
+    char awaited[128];
+    double *took;
+} Requester;
+
+static void check_answer(void *closure, const char *line)
+{
+    Requester *it = closure;
+    if (strcmp(line, it->awaited))
+        die("a requester got an answer that it doesn't wait for");
+    it->awaited[0] = 0;
+}
+
+/* Asks COUNT times, each time once the last answer has come; dies if none comes for a minute. */
+static void *ask_in_turn(void *closure)
+{
+    Requester *it = closure;
+    Parser parser = {.whole = check_answer, .closure = it};
+    struct timeval minute = {.tv_sec = 60};
+    char piece[PIECE], out[LONGEST], name[128];
+    setsockopt(it->socket, SOL_SOCKET, SO_RCVTIMEO, &minute, sizeof minute);
+    for (long i = 0; i < count; i++) {
+        snprintf(name, sizeof name, "%s " REPLY, it->subject, it->number, i);
+        snprintf(it->awaited, sizeof it->awaited, "MSG " REPLY " 1 %d\r\n", it->number, i, size);
+        int length = write_publish(out, name);
+        double begin = now();
+        send_all(it->socket, out, length);
+        while (it->awaited[0]) {
+            ssize_t got = recv(it->socket, piece, sizeof piece, 0);
+            if (got <= 0)
+                die(got == 0 ? "the server has closed one that asks" : "an answer is missing");
+            messages(&parser, piece, got);
+        }
+        it->took[i] = (now() - begin) * 1e6;
+    }
+    return NULL;
 }
 
 static int by_value(const void *one, const void *two)
@@ -370,31 +467,31 @@ static int by_value(const void *one, const void *two)
     return a < b ? -1 : a > b;
 }
 
-static void ask(void)
+static void ask(const Task *task)
 {
-    pthread_t thread;
-    Parser parser = {.held = 0, .skip = 0};
-    int asks = connected("demo"), answers = connected("demo");
-    char piece[PIECE], out[LONGEST];
-    double *took = malloc(count * sizeof *took);
-    int length = write_publish(out, "ask reply", FIRST);
-    subscribe(answers, "SUB ask 1\r\n", FIRST, 1);
-    subscribe(asks, "SUB reply 1\r\n", FIRST, 1);
-    pthread_create(&thread, NULL, answer, &answers);
-    for (long i = 0; i < count; i++) {
-        double begin = now();
-        send_all(asks, out, length);
-        long came = 0;
-        while (came == 0) {
-            ssize_t got = recv(asks, piece, sizeof piece, 0);
-            if (got <= 0)
-                die("the server has closed the one that asks");
-            came = messages(&parser, piece, got);
-        }
-        took[i] = (now() - begin) * 1e6;
+    static Answerer answerer;
+    static Requester requesters[MOST];
+    pthread_t answers, asks[MOST];
+    double *took = malloc(count * count_of_receivers * sizeof *took);
+    answerer.socket = connected(task->receiver);
+    subscribe(answerer.socket, task->wish, FIRST, 1);
+    pthread_create(&answers, NULL, answer, &answerer);
+    for (int i = 0; i < count_of_receivers; i++) {
+        requesters[i] = (Requester){connected(task->publisher), FIRST + i, task->subject, "", took + i * count};
+        subscribe(requesters[i].socket, "SUB " INBOX ".* 1\r\n", FIRST + i, 1);
     }
-    shutdown(answers, SHUT_RDWR);
-    pthread_join(thread, NULL);
+    double begin = now();
+    for (int i = 0; i < count_of_receivers; i++)
+        pthread_create(&asks[i], NULL, ask_in_turn, &requesters[i]);
+    for (int i = 0; i < count_of_receivers; i++)
+        pthread_join(asks[i], NULL);
+    double passed = now() - begin;
+    shutdown(answerer.socket, SHUT_RDWR);
+    pthread_join(answers, NULL);
+    if (count_of_receivers > 1) {
+        printf("%.0f\n", count * (double)count_of_receivers / passed);
+        return;
+    }
     qsort(took, count, sizeof *took, by_value);
     printf("%.1f %.1f\n", took[count / 2], took[count * 99 / 100]);
 }
@@ -420,11 +517,12 @@ int main(int argc, char **argv)
     if (argc == 8)
         subjects = atoi(argv[7]);
     is_queue = !strcmp(argv[2], "queue");
-    if (size < 0 || size > 4096 || count_of_receivers < 0 || count_of_receivers > MOST || count < 1 || window < 1 ||
+    int asks = !strcmp(argv[2], "ask") || !strcmp(argv[2], "service");
+    if (size < 0 || size > 4096 || count_of_receivers < asks || count_of_receivers > MOST || count < 1 || window < 1 ||
         subjects < 1 || subjects > MOST_SUBJECTS)
         die("a number is out of range");
-    if (!strcmp(argv[2], "ask"))
-        ask();
+    if (asks)
+        ask(task_named(argv[2]));
     else if (!strcmp(argv[2], "several"))
         printf("%.0f\n", several());
     else if (!strcmp(argv[2], "pairs"))
