@@ -1,4 +1,7 @@
 //! A cache of whom the messages of publishers on subjects are for.
+ghost use Rattle.std.specs.Prelude.{ℕ, IfSome};
+ghost use Rattle.slot_cache.specs.Slots.{value_at};
+ghost use Rattle.receiver_cache.specs.Cached.{IsSmall};
 
 use crate::cached::CachedReceivers;
 use crate::drawn::DrawnCache;
@@ -29,6 +32,7 @@ pub struct ReceiverCache {
     // The sum of the publisher and the subject of the message that was addressed last, where it isn't one of them.
     sum: u64,
     slots: SlotCache<CachedReceivers>,
+    ghost small: { (place : ℕ) → IfSome (value_at slots place) IsSmall },
     /// What messages are sent as, where an account's mappings send them on.
     pub drawn: DrawnCache,
 }
@@ -49,11 +53,10 @@ impl Drop for ReceiverCache {
 }
 
 impl ReceiverCache {
-    ghost use Rattle.std.specs.Prelude.{◌≡◌, ◌⊎◌, ℕ, List, None, Some, IfErr, IfOk, IfSome, map, true, false};
+    ghost use Rattle.std.specs.Prelude.{◌≡◌, ◌⊎◌, List, None, Some, IfErr, IfOk, map, true, false};
     ghost use Rattle.std.specs.Option.{option_copied};
     ghost use Rattle.permissions.specs.declared.verdict.By.{By as ByModel};
     ghost use Rattle.imports.specs.declared.rows.ImportRow.{ImportRow};
-    ghost use Rattle.slot_cache.specs.Slots.{value_at};
     ghost use Rattle.world_groups.specs.Chosen.{Rising};
     ghost use Rattle.world_deliveries.specs.Sessions.{session_of};
     ghost use Rattle.world_deliveries.specs.declared.session.Session.{Session};

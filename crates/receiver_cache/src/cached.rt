@@ -1,8 +1,9 @@
 //! Whom the messages of one publisher on one subject are for.
-ghost use Rattle.std.specs.Prelude.{◌≡◌, [], IfErr, IfOk, IfSome, Some, false, map, true};
+ghost use Rattle.std.specs.Prelude.{◌≡◌, ◌≤◌, ◌+◌, [], IfErr, IfOk, IfSome, Some, false, map, true};
 ghost use Rattle.permissions.specs.declared.verdict.By.{By as ByModel};
 ghost use Rattle.world_groups.specs.Chosen.{Rising};
-ghost use Rattle.receiver_cache.specs.Cached.{AreNone, IsBlank, IsFound, Tells, TellsOthers};
+ghost use Rattle.receiver_cache.specs.Cached.{AreNone, IsBlank, IsFound, IsSmall, Tells, TellsOthers, count_of_others};
+ghost use Rattle.receiver_views.specs.Known.{count_in_each, count_of};
 ghost use Rattle.receiver_cache.specs.Published.{IsOf};
 
 use crate::published::Published;
@@ -101,17 +102,23 @@ impl CachedReceivers {
 
     /// Returns whether they may stand in a slot: the subject isn't long, and they are few, each view behind the publisher's own
     /// counted as one more.
-    pub fn are_few(&self) -> bool {
+    pub fn are_few(&self) -> bool
+        ensures { result ≡ true → IsSmall self.now }
+    {
         let bytes = self.published.subject_len();
-        0 < bytes && bytes <= MOST_BYTES && self.len() <= MOST_RECEIVERS
+        0 < bytes && bytes <= MOST_BYTES && self.are_at_most(MOST_RECEIVERS)
     }
 
-    /// Returns how many receivers there are, in all views, and one for each view behind the publisher's own.
-    fn len(&self) -> usize {
-        let own = self.whom.len();
-        match &self.others {
-            None => own,
-            Some(views) => own.saturating_add(len_of(views.as_slice())),
+    /// Returns whether there are no more receivers than so many, in all views, with one for each view behind the publisher's own.
+    fn are_at_most(&self, most: usize) -> bool
+        ensures { result ≡ true → count_of self.now.whom + count_of_others self.now.others ≤ most }
+    {
+        match most.checked_sub(self.whom.len()) {
+            None => false,
+            Some(left) => match &self.others {
+                None => true,
+                Some(views) => left_behind(left, views.as_slice()).is_some(),
+            },
         }
     }
 
@@ -188,11 +195,13 @@ impl CachedReceivers {
     }
 }
 
-/// Returns how many receivers there are in these views, and one for each view.
-fn len_of(views: &[KnownView]) -> usize {
-    let mut count = views.len();
+/// Returns how much of a number is left behind the receivers in these views, with one for each view: `None` where they are more.
+fn left_behind(most: usize, views: &[KnownView]) -> Option<usize>
+    ensures { IfSome result (λ left. left + count_in_each views.now ≡ most) }
+{
+    let mut left = most;
     for view in views {
-        count = count.saturating_add(view.len());
+        left = left.checked_sub(view.len())?.checked_sub(1)?;
     }
-    count
+    Some(left)
 }

@@ -1,5 +1,5 @@
 //! A publisher and a subject, of whose messages something is cached.
-ghost use Rattle.std.specs.Prelude.{◌≡◌, ◌==◌, ◌&&◌, IfOk, nat_eq, true};
+ghost use Rattle.std.specs.Prelude.{◌≡◌, ◌==◌, ◌&&◌, IfOk, length, nat_eq, true};
 ghost use Rattle.std.specs.Cmp.Lexicographic.{pointwise};
 ghost use Rattle.receiver_cache.specs.Published.{IsOf};
 
@@ -38,7 +38,9 @@ impl Published {
     }
 
     /// Returns how many bytes the subject has: none where they are on no subject.
-    pub fn subject_len(&self) -> usize {
+    pub fn subject_len(&self) -> usize
+        ensures { result ≡ length self.now.subject.items }
+    {
         self.subject.len()
     }
 

@@ -1,5 +1,5 @@
 -- Whom messages are for, said once for all of a publisher's messages on a subject: in its own account, and in other views.
-use Rattle.std.specs.Prelude.{◌≡◌, ◌++◌, ◌∷◌, ℕ, Bool, false, List, [], Option, Some, None, is_some, filter, map, not}
+use Rattle.std.specs.Prelude.{◌≡◌, ◌++◌, ◌∷◌, ◌+◌, ℕ, Bool, false, List, [], Option, Some, None, is_some, filter, length, map, not}
 use Rattle.std.specs.Global.{Vec}
 use Rattle.std.specs.List.{list_any}
 use Rattle.subjects.specs.Subject.{Token}
@@ -29,6 +29,17 @@ abbrev pub picked : ℕ → Whom → List Receiver
 picked word (Each rs) = rs.items
 picked word (One rs) = if_any (chosen word rs.items)
 picked word Various = []
+
+-- how many receivers it keeps
+abbrev pub count_of : Whom → ℕ
+count_of (Each rs) = length rs.items
+count_of (One rs) = length rs.items
+count_of Various = 0
+
+-- how many known views keep, each view counted as one more
+pub count_in_each : List KnownView → ℕ
+count_in_each [] = 0
+count_in_each (known ∷ views) = count_of known.whom + 1 + count_in_each views
 
 -- whether it says whom
 abbrev pub Says : Whom → Type 0

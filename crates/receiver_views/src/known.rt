@@ -2,7 +2,7 @@
 ghost use Rattle.std.specs.Prelude.{◌≡◌, ◌∷◌, [], IfOk, IfSome, OnOk, true, map};
 ghost use Rattle.std.specs.List.{list_any};
 ghost use Rattle.receiver_views.specs.Marked.{AreMarked};
-ghost use Rattle.receiver_views.specs.Known.{AreSeen, IsKnown, Says, addressed_in, addressed_in_each, has_limit};
+ghost use Rattle.receiver_views.specs.Known.{AreSeen, IsKnown, Says, addressed_in, addressed_in_each, count_of, has_limit};
 
 use crate::names::names_of;
 use crate::open::Open;
@@ -155,7 +155,9 @@ impl KnownView {
     }
 
     /// Returns how many may receive in the view: all members of a queue group, though one is chosen.
-    pub fn len(&self) -> usize {
+    pub fn len(&self) -> usize
+        ensures { result ≡ count_of self.now.whom }
+    {
         self.whom.len()
     }
 

@@ -5,7 +5,7 @@ ghost use Rattle.events.specs.Sendings.{named};
 ghost use Rattle.queue_choice.specs.Choices.{chosen};
 ghost use Rattle.world_groups.specs.Chosen.{Rising};
 ghost use Rattle.world_groups.specs.Grouped.{if_any};
-ghost use Rattle.receiver_views.specs.Known.{IsWhom};
+ghost use Rattle.receiver_views.specs.Known.{IsWhom, count_of};
 ghost use Rattle.receiver_views.specs.Receivers.{addressed_at};
 
 use crate::receiver::{Receiver, receivers_of};
@@ -29,7 +29,9 @@ pub enum Whom {
 
 impl Whom {
     /// Returns how many receivers are known.
-    pub fn len(&self) -> usize {
+    pub fn len(&self) -> usize
+        ensures { result ≡ count_of self.now }
+    {
         match self {
             Whom::Each(receivers) => receivers.len(),
             Whom::One(receivers) => receivers.len(),
