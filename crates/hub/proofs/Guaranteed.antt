@@ -48,7 +48,7 @@ use Rattle.hub.specs.InForce.{policy_after, epoch_after}
 use Rattle.hub.specs.History.{State, is_history_full, remembered, stepped, IsStep}
 use Rattle.hub.specs.Routes.{EachRoute, IsOfRow}
 use Rattle.hub.specs.Replies.{terms_in, grants_at, has_grant, may_respond}
-use Rattle.hub.specs.Guarantee.{items_of, received_more, Sending, sendings, routes_behind, IsPart, IsMapped, IsSeenNowhere, IsSent, IsAllowance, accepts, allows, may_publish, IsDenial, HasReason, IsUntouched, IsEffect, is_connect, is_nobodys, has_session, is_fit, is_in_order, is_due, is_at_limit, IsRouted, KeepsGuarantee, IsGuarded}
+use Rattle.hub.specs.Guarantee.{items_of, received_more, Sending, sendings, routes_behind, IsViewPart, IsMapped, IsSeenNowhere, IsSent, IsAllowance, accepts, allows, may_publish, IsDenial, HasReason, IsUntouched, IsEffect, is_connect, is_nobodys, has_session, is_fit, is_in_order, is_due, is_at_limit, IsRouted, KeepsGuarantee, IsGuarded}
 use Rattle.std.proofs.Math.Bool.{or-true}
 use Rattle.std.proofs.lemmas.Bool.{eqb-true}
 use Rattle.hub.proofs.Finds.{find-passes}
@@ -293,7 +293,7 @@ pub-keeps w now conn m word sound = by_session (session_of w.sessions conn) refl
         record {
           parts = parts_of (setting z sent) by;
           in_views = parts-views (setting z sent) first vs;
-          each = each-part (IsPart w later conn sent word) [] (parts_of (setting z sent) by) (each-in (IsPart w later conn sent word) (setting z sent) (λ done at v is. is_part w now conn z m.subject sent word sound done at is v) [] first vs record { told = refl; routes = refl });
+          each = each-part (IsViewPart w later conn sent word) [] (parts_of (setting z sent) by) (each-in (IsViewPart w later conn sent word) (setting z sent) (λ done at v is. is_part w now conn z m.subject sent word sound done at is v) [] first vs record { told = refl; routes = refl });
           items_are = refl;
           delivered = record {
             with_room = λ c.

@@ -33,7 +33,7 @@ use Rattle.service_exporter.specs.Routes.{Exporter, Numbered, no_routes, lives, 
 use Rattle.service_exporter.specs.declared.route.NewRow.{NewRow}
 use Rattle.service_exporter.specs.declared.route.Route.{Route}
 use Rattle.service_routes.specs.Routes.{Name, same_name, exporter_of, changed, opened, spent, pruned, kept}
-use Rattle.service_rows.specs.Rows.{again, again_for, again_in, import_at, is_same_service, is_service, new_row, same_template}
+use Rattle.service_rows.specs.Rows.{renewed, renewed_for, renewed_in, import_at, is_same_service, is_service, new_row, same_template}
 use Rattle.world.specs.Routing.{response_by, responses_on, route_for}
 use Rattle.hub.specs.Routes.{EachRoute, IsOfRow, IsServiceRow}
 use Rattle.hub.proofs.Routes.{given-All}
@@ -100,13 +100,13 @@ each-pruned P now all is =
     (λ k d h. let e : Name × Exporter = get_or all k d in All-filter (λ (r : Numbered). lives now r.1) (P e.0) e.1.routes (is k d h))
 
 -- another policy comes into force
-pub each-kept : (P Q : Name → Numbered → Type 0) (again : Row → Option NewRow) (all : List (Name × Exporter)) → ((name : Name) (r : Numbered) (new : NewRow) → again r.1.row ≡ Some new → P name r → Q name (r.0, on_row r.1 new)) → EachRoute P all → EachRoute Q (kept again all)
-each-kept P Q again all stays is =
-    All-map (OfExporter Q) (λ (e : Name × Exporter). let x : Name × Exporter = (e.0, kept_of again e.1) in x) all
+pub each-kept : (P Q : Name → Numbered → Type 0) (renewed : Row → Option NewRow) (all : List (Name × Exporter)) → ((name : Name) (r : Numbered) (new : NewRow) → renewed r.1.row ≡ Some new → P name r → Q name (r.0, on_row r.1 new)) → EachRoute P all → EachRoute Q (kept renewed all)
+each-kept P Q renewed all stays is =
+    All-map (OfExporter Q) (λ (e : Name × Exporter). let x : Name × Exporter = (e.0, kept_of renewed e.1) in x) all
     (λ k d h. let e : Name × Exporter = get_or all k d in
-    given-All (kept_route again) (P e.0) (Q e.0) (λ r n g p. here e.0 r n (again r.1.row) refl g p) e.1.routes (is k d h))
+    given-All (kept_route renewed) (P e.0) (Q e.0) (λ r n g p. here e.0 r n (renewed r.1.row) refl g p) e.1.routes (is k d h))
   where
-    here : (name : Name) (r n : Numbered) (o : Option NewRow) → again r.1.row ≡ o → option_map (λ new. let x : Numbered = (r.0, on_row r.1 new) in x) o ≡ Some n → P name r → Q name n
+    here : (name : Name) (r n : Numbered) (o : Option NewRow) → renewed r.1.row ≡ o → option_map (λ new. let x : Numbered = (r.0, on_row r.1 new) in x) o ≡ Some n → P name r → Q name n
     here name r n None at g p = absurd (cc)
     here name r n (Some new) at g p =
         let x : Numbered = (r.0, on_row r.1 new) in
@@ -133,7 +133,7 @@ same_service i j same =
     record { service = kind-is j.kind four.1; account = (bytes_eq-Decides i.account j.account).0 three.1 }
 
 -- a row is again one that imports the service from the same exporter, and has its terms there
-again-of : (old new : PolicyDoc) (exporter : Name) (r : Numbered) (to : NewRow) → again old new r.1.row ≡ Some to → IsOfRow old exporter r → IsOfRow new exporter (r.0, on_row r.1 to)
+again-of : (old new : PolicyDoc) (exporter : Name) (r : Numbered) (to : NewRow) → renewed old new r.1.row ≡ Some to → IsOfRow old exporter r → IsOfRow new exporter (r.0, on_row r.1 to)
 again-of old new exporter r to is of = by_import (import_at old importer r.1.row.index) is of.row
   where
     importer : Name
@@ -153,16 +153,16 @@ again-of old new exporter r to is of = by_import (import_at old importer r.1.row
         subst (λ (x : NewRow). IsOfRow new exporter (r.0, on_row r.1 x)) row
         record { row = subst (λ o. IsSomeAnd o IsIt) (sym there) (same.service, sym same.account ∙ it.1); terms = refl }
 
-    by_account : (i : ImportDoc) (o : Option NamedAccount) → find (has_name importer) new.accounts ≡ o → option_and_then (again_in new importer i) o ≡ Some to → IsIt i → IsOfRow new exporter (r.0, on_row r.1 to)
+    by_account : (i : ImportDoc) (o : Option NamedAccount) → find (has_name importer) new.accounts ≡ o → option_and_then (renewed_in new importer i) o ≡ Some to → IsIt i → IsOfRow new exporter (r.0, on_row r.1 to)
     by_account i None at e it = absurd (cc)
     by_account i (Some a) at e it = by_place i a (position (is_same_service i) a.account.imports) at refl e it
 
-    by_import : (o : Option ImportDoc) → option_and_then (again_for new importer) o ≡ Some to → IsSomeAnd o IsIt → IsOfRow new exporter (r.0, on_row r.1 to)
+    by_import : (o : Option ImportDoc) → option_and_then (renewed_for new importer) o ≡ Some to → IsSomeAnd o IsIt → IsOfRow new exporter (r.0, on_row r.1 to)
     by_import None e it = absurd it
     by_import (Some i) e it = by_account i (find (has_name importer) new.accounts) refl e it
 
-pub rows-kept : (old new : PolicyDoc) (all : List (Name × Exporter)) → EachRoute (IsOfRow old) all → EachRoute (IsOfRow new) (kept (again old new) all)
-rows-kept old new all is = each-kept (IsOfRow old) (IsOfRow new) (again old new) all (λ name r to at of. again-of old new name r to at of) is
+pub rows-kept : (old new : PolicyDoc) (all : List (Name × Exporter)) → EachRoute (IsOfRow old) all → EachRoute (IsOfRow new) (kept (renewed old new) all)
+rows-kept old new all is = each-kept (IsOfRow old) (IsOfRow new) (renewed old new) all (λ name r to at of. again-of old new name r to at of) is
 
 -- ---- the rows of a policy
 

@@ -28,7 +28,7 @@ use Rattle.world_routing.specs.Routing.{is_nil}
 use Rattle.hub.specs.Sound.{IsSound, user_behind, user_at, account_of, is_to_receive}
 use Rattle.hub.specs.Replies.{is_response}
 use Rattle.hub.specs.Routes.{EachRoute, IsOfRow}
-use Rattle.hub.specs.Guarantee.{room_in, sent_to, delivery_of, received_more, Sending, Opening, Part, AreServed, IsGivenTo, IsRequestTo, IsRequest, IsPart, has_some, may_receive, has_echo, is_for, IsReasonedFor, routes_behind}
+use Rattle.hub.specs.Guarantee.{room_in, sent_to, delivery_of, received_more, Sending, Opening, ViewPart, AreServed, IsGivenTo, IsRequestTo, IsRequest, IsViewPart, has_some, may_receive, has_echo, is_for, IsReasonedFor, routes_behind}
 use Rattle.std.proofs.lemmas.Bool.{eqb-true}
 use Rattle.hub.proofs.Finds.{find-passes}
 use Rattle.hub.proofs.Grants.{kept_after}
@@ -121,7 +121,7 @@ some-is : (subs : List Subscription) → has_some subs ≡ not (is_nil subs)
 some-is [] = refl
 some-is (sub ∷ subs) = refl
 
-module _ (w : World) (at conn : ℕ) (z : Session) (asked : List Token) (m : Message) (word : ℕ) (sound : IsSound w) (done : List Part) (now : Stage) (is : IsBehind (setting_of w at conn z asked m word) done now) where
+module _ (w : World) (at conn : ℕ) (z : Session) (asked : List Token) (m : Message) (word : ℕ) (sound : IsSound w) (done : List ViewPart) (now : Stage) (is : IsBehind (setting_of w at conn z asked m word) done now) where
   abbrev c : Setting
   c = setting_of w at conn z asked m word
 
@@ -151,7 +151,7 @@ module _ (w : World) (at conn : ℕ) (z : Session) (asked : List Token) (m : Mes
       before : List (Name × Exporter)
       before = routes_behind (pruned later w.routes) done
 
-      part : Part
+      part : ViewPart
       part = part_by c now v (of_request c now account s row (Some reply))
 
       here : (nobody full : Bool) → IsRequestTo (not nobody) full w later conn m word done (part_by c now v (of_reply nobody full c now.routes account s row reply)) account s row reply
@@ -164,7 +164,7 @@ module _ (w : World) (at conn : ℕ) (z : Session) (asked : List Token) (m : Mes
       )
 
   -- a view gives the message to those that it is for, and a row that is reported to nobody
-  pub is_part : (v : ViewItem) → IsPart w later conn m word done (part_in c now v)
+  pub is_part : (v : ViewItem) → IsViewPart w later conn m word done (part_in c now v)
   is_part (At account s Own) = (refl, refl, given (At account s Own) (view_of account s m) None)
   is_part (At account s (Stream row)) = (refl, refl, given (At account s (Stream row)) (view_of account s m) None)
   is_part (At account s (Service row)) = requested (At account s (Service row)) account s row m.reply

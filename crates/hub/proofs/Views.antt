@@ -48,7 +48,7 @@ use Rattle.world.specs.Routing.{View, view_of, view_with, is_admitted, routed, r
 use Rattle.world_routing.specs.Routing.{is_nil, requested, requested_by}
 use Rattle.world.specs.Transition.{seen_as}
 use Rattle.hub.specs.Sound.{is_to_receive}
-use Rattle.hub.specs.Guarantee.{Opening, Part, Sending, told_by, sendings, item_names, names_of, items_of, received_more, times_entered, with_opening, routes_behind}
+use Rattle.hub.specs.Guarantee.{Opening, ViewPart, Sending, told_by, sendings, item_names, names_of, items_of, received_more, times_entered, with_opening, routes_behind}
 use Rattle.hub.proofs.Lists.{filter_same_on}
 use Rattle.hub.proofs.Grants.{all_pass}
 use Rattle.hub.proofs.Soundness.{HasCount, IsStillToReceive, unended-same}
@@ -211,20 +211,20 @@ abbrev pub sessions_after : Setting → Stage → Fate → List Session
 sessions_after c now f = (delivered c.world.moment (map (sent c.world.sessions) (sent_in c now.told f)) now.sessions).0
 
 -- what a view gives, and what is left after it
-abbrev pub part_by : Setting → Stage → ViewItem → Fate → Part
+abbrev pub part_by : Setting → Stage → ViewItem → Fate → ViewPart
 part_by c now v f = record { view = v; seen = seen_by c.message f; subs = whom c now.told f; items = told_in c now f; opens = opens_in f }
 
-abbrev pub part_in : Setting → Stage → ViewItem → Part
+abbrev pub part_in : Setting → Stage → ViewItem → ViewPart
 part_in c now v = part_by c now v (fate c now v)
 
 abbrev pub behind : Setting → Stage → Fate → Stage
 behind c now f = record { told = now.told ++ told_in c now f; sessions = sessions_after c now f; routes = with_opening (opens_in f) now.routes }
 
-abbrev pub items_in : Part → List Item
+abbrev pub items_in : ViewPart → List Item
 items_in p = p.items
 
 -- what each of some views gives, and what is left after all
-abbrev pub parts_in : Setting → Stage → List ViewItem → List Part
+abbrev pub parts_in : Setting → Stage → List ViewItem → List ViewPart
 parts_in c now [] = []
 parts_in c now (v ∷ vs) = part_in c now v ∷ parts_in c (behind c now (fate c now v)) vs
 
@@ -387,7 +387,7 @@ first_stage c by = record { told = []; sessions = counted_on by c.publisher.conn
 abbrev pub last_stage : Setting → By → Stage
 last_stage c by = stage_in c (first_stage c by) (views_of c)
 
-abbrev pub parts_of : Setting → By → List Part
+abbrev pub parts_of : Setting → By → List ViewPart
 parts_of c by = parts_in c (first_stage c by) (views_of c)
 
 abbrev pub told_of : Setting → By → List Item
@@ -424,7 +424,7 @@ sessions-are c now (v ∷ vs) =
     first : List Sending
     first = sent_in c now.told (fate c now v)
 
-    rest : List Part
+    rest : List ViewPart
     rest = parts_in c (behind c now (fate c now v)) vs
 
 -- and what they meet is told, beside the rows that are reported
@@ -459,7 +459,7 @@ items-are c now (v ∷ vs) =
     first : List Sending
     first = sent_in c now.told (fate c now v)
 
-    rest : List Part
+    rest : List ViewPart
     rest = parts_in c (behind c now (fate c now v)) vs
 
 -- a connection's items are of deliveries
@@ -473,52 +473,52 @@ items-of conn (Unmapped ∷ items) = items-of conn items
 items-of conn (MappedTooLong index ∷ items) = items-of conn items
 
 -- there is a part for each view
-pub parts-views : (c : Setting) (now : Stage) (vs : List ViewItem) → map (λ (p : Part). p.view) (parts_in c now vs) ≡ vs
+pub parts-views : (c : Setting) (now : Stage) (vs : List ViewItem) → map (λ (p : ViewPart). p.view) (parts_in c now vs) ≡ vs
 parts-views c now [] = refl
 parts-views c now (v ∷ vs) = ap (λ rest. v ∷ rest) (parts-views c (behind c now (fate c now v)) vs)
 
 -- ---- each of them
 
 -- what holds of each part, behind those before it
-abbrev pub EachPart : (List Part → Part → Type 0) → List Part → List Part → Type 0
+abbrev pub EachPart : (List ViewPart → ViewPart → Type 0) → List ViewPart → List ViewPart → Type 0
 EachPart P done [] = Unit {0}
 EachPart P done (p ∷ ps) = P done p × EachPart P (done ++ p ∷ []) ps
 
-pub each-part : (P : List Part → Part → Type 0) (done ps : List Part) → EachPart P done ps →
-    (before : List Part) (p : Part) (later : List Part) → ps ≡ before ++ p ∷ later → P (done ++ before) p
+pub each-part : (P : List ViewPart → ViewPart → Type 0) (done ps : List ViewPart) → EachPart P done ps →
+    (before : List ViewPart) (p : ViewPart) (later : List ViewPart) → ps ≡ before ++ p ∷ later → P (done ++ before) p
 each-part P done [] each [] p later split = absurd (cc)
 each-part P done [] each (b ∷ before) p later split = absurd (cc)
 each-part P done (q ∷ ps) each [] p later split =
     let same : q ≡ p = cc in
-    subst (P (done ++ [])) same (subst (λ (l : List Part). P l q) (sym (append-nil done)) each.0)
+    subst (P (done ++ [])) same (subst (λ (l : List ViewPart). P l q) (sym (append-nil done)) each.0)
 each-part P done (q ∷ ps) each (b ∷ before) p later split =
     let same : q ≡ b = cc in
     let rest : ps ≡ before ++ p ∷ later = cc in
-    subst (λ (l : List Part). P l p) (append_assoc done (b ∷ []) before)
-    (subst (λ (r : Part). P ((done ++ r ∷ []) ++ before) p) same (each-part P (done ++ q ∷ []) ps each.1 before p later rest))
+    subst (λ (l : List ViewPart). P l p) (append_assoc done (b ∷ []) before)
+    (subst (λ (r : ViewPart). P ((done ++ r ∷ []) ++ before) p) same (each-part P (done ++ q ∷ []) ps each.1 before p later rest))
 
 -- what one part more tells, and opens
-told-more : (done : List Part) (p : Part) (told : List Item) → told ≡ told_by done → told ++ p.items ≡ told_by (done ++ p ∷ [])
+told-more : (done : List ViewPart) (p : ViewPart) (told : List Item) → told ≡ told_by done → told ++ p.items ≡ told_by (done ++ p ∷ [])
 told-more done p told is =
     ap (λ l. l ++ p.items) is ∙ ap (λ l. told_by done ++ l) (sym (append-nil p.items)) ∙ sym (flat_map-append items_in done (p ∷ []))
 
-routes-more : (first : List (Name × Exporter)) (done : List Part) (p : Part) → with_opening p.opens (routes_behind first done) ≡ routes_behind first (done ++ p ∷ [])
+routes-more : (first : List (Name × Exporter)) (done : List ViewPart) (p : ViewPart) → with_opening p.opens (routes_behind first done) ≡ routes_behind first (done ++ p ∷ [])
 routes-more first [] p = refl
 routes-more first (q ∷ done) p = routes-more (with_opening q.opens first) done p
 
 -- what was told, and the routes that stand, are those that these parts leave
-pub record IsBehind (c : Setting) (done : List Part) (now : Stage) : Type 0 where
+pub record IsBehind (c : Setting) (done : List ViewPart) (now : Stage) : Type 0 where
   pub told : now.told ≡ told_by done
   pub routes : now.routes ≡ routes_behind c.world.routes done
 
-behind-more : (c : Setting) (done : List Part) (now : Stage) (v : ViewItem) → IsBehind c done now → IsBehind c (done ++ part_in c now v ∷ []) (behind c now (fate c now v))
+behind-more : (c : Setting) (done : List ViewPart) (now : Stage) (v : ViewItem) → IsBehind c done now → IsBehind c (done ++ part_in c now v ∷ []) (behind c now (fate c now v))
 behind-more c done now v is = record {
   told = told-more done (part_in c now v) now.told is.told;
   routes = ap (with_opening (opens_in (fate c now v))) is.routes ∙ routes-more c.world.routes done (part_in c now v);
 }
 
-pub each-in : (P : List Part → Part → Type 0) (c : Setting) → ((done : List Part) (now : Stage) (v : ViewItem) → IsBehind c done now → P done (part_in c now v)) →
-    (done : List Part) (now : Stage) (vs : List ViewItem) → IsBehind c done now → EachPart P done (parts_in c now vs)
+pub each-in : (P : List ViewPart → ViewPart → Type 0) (c : Setting) → ((done : List ViewPart) (now : Stage) (v : ViewItem) → IsBehind c done now → P done (part_in c now v)) →
+    (done : List ViewPart) (now : Stage) (vs : List ViewItem) → IsBehind c done now → EachPart P done (parts_in c now vs)
 each-in P c of done now [] is = tt
 each-in P c of done now (v ∷ vs) is = (
   of done now v is,

@@ -160,7 +160,7 @@ pub record Opening : Type 0 where
 
 -- What one view of a message gives: the message as it is seen there, to whom it goes, what is told of it, and the route that
 -- it opens, if it is a request that opens one.
-pub record Part : Type 0 where
+pub record ViewPart : Type 0 where
   pub view : ViewItem
   pub seen : View
   pub subs : List Subscription
@@ -168,21 +168,21 @@ pub record Part : Type 0 where
   pub opens : Option Opening
 
 -- what parts tell, the first first
-abbrev pub told_by : List Part → List Item
-told_by parts = flat_map (λ (p : Part). p.items) parts
+abbrev pub told_by : List ViewPart → List Item
+told_by parts = flat_map (λ (p : ViewPart). p.items) parts
 
 -- the routes once one is opened, and once parts have opened theirs, the first first
 abbrev pub with_opening : Option Opening → List (Name × Exporter) → List (Name × Exporter)
 with_opening None routes = routes
 with_opening (Some o) routes = opened o.exporter o.route routes
 
-abbrev pub routes_behind : List (Name × Exporter) → List Part → List (Name × Exporter)
+abbrev pub routes_behind : List (Name × Exporter) → List ViewPart → List (Name × Exporter)
 routes_behind routes [] = routes
 routes_behind routes (p ∷ parts) = routes_behind (with_opening p.opens routes) parts
 
 -- the subscriptions that a message may be sent to as it is seen, oldest first: those that are still to receive, once what the
 -- parts before have told is counted
-abbrev pub eligible : World → ℕ → List Part → View → List Subscription
+abbrev pub eligible : World → ℕ → List ViewPart → View → List Subscription
 eligible w conn before v =
     filter (λ (sub : Subscription). is_for w conn v.account v.message.subject sub && is_to_receive (received_more (told_by before) sub)) w.subscriptions
 
@@ -249,7 +249,7 @@ abbrev pub items_of : ℕ → List Item → List Item
 items_of conn items = filter (tells_of (λ (d : DeliveryItem). d.conn == conn)) items
 
 -- In a view the message goes to those that it is for as it is seen there, and to nobody else.
-pub record IsGivenTo (w : World) (conn word : ℕ) (before : List Part) (p : Part) : Type 0 where
+pub record IsGivenTo (w : World) (conn word : ℕ) (before : List ViewPart) (p : ViewPart) : Type 0 where
   -- those that it is for, of those that it may be sent to: the plain ones and one of each queue group
   pub served : AreServed word (eligible w conn before p.seen) p.subs
   -- which of the standing subscriptions may be sent it, is decided with reason
@@ -261,7 +261,7 @@ pub record IsGivenTo (w : World) (conn word : ℕ) (before : List Part) (p : Par
 -- may have (`true`), or hasn't. For nobody, nothing comes of it. Without room for a route its row is reported, and it is given to
 -- nobody. Else it is seen with the subject of the exporter's next route in place of its reply, and that route is opened for its
 -- response: for this row, on the terms of the row's export, at this moment.
-abbrev pub IsRequestTo : Bool → Bool → World → ℕ → ℕ → Message → ℕ → List Part → Part → List ℕ → List Token → Row → List Token → Type 0
+abbrev pub IsRequestTo : Bool → Bool → World → ℕ → ℕ → Message → ℕ → List ViewPart → ViewPart → List ℕ → List Token → Row → List Token → Type 0
 IsRequestTo false full w now conn m word before p account s row reply = (p.subs ≡ []) × (p.items ≡ []) × (p.opens ≡ None)
 IsRequestTo true true w now conn m word before p account s row reply = (p.subs ≡ []) × (p.items ≡ RouteFull row ∷ []) × (p.opens ≡ None)
 IsRequestTo true false w now conn m word before p account s row reply =
@@ -270,7 +270,7 @@ IsRequestTo true false w now conn m word before p account s row reply =
     × IsGivenTo w conn word before p
 
 -- One that wants no response is seen as it was published.
-abbrev pub IsRequest : World → ℕ → ℕ → Message → ℕ → List Part → Part → List ℕ → List Token → Row → Option (List Token) → Type 0
+abbrev pub IsRequest : World → ℕ → ℕ → Message → ℕ → List ViewPart → ViewPart → List ℕ → List Token → Row → Option (List Token) → Type 0
 IsRequest w now conn m word before p account s row None = (p.seen ≡ view_of account s m) × (p.opens ≡ None) × IsGivenTo w conn word before p
 IsRequest w now conn m word before p account s row (Some reply) =
     IsRequestTo (has_some (eligible w conn before (view_of account s m))) (is_full 1 now (exporter_of account (routes_behind (pruned now w.routes) before)))
@@ -278,7 +278,7 @@ IsRequest w now conn m word before p account s row (Some reply) =
 
 -- What a message gives in an account, by the way on which it comes there. It goes to those that it is for there, under the view's
 -- subject; a response has no reply.
-abbrev pub IsGivenBy : World → ℕ → ℕ → Message → ℕ → List Part → Part → List ℕ → List Token → Way → Type 0
+abbrev pub IsGivenBy : World → ℕ → ℕ → Message → ℕ → List ViewPart → ViewPart → List ℕ → List Token → Way → Type 0
 IsGivenBy w now conn m word before p account s Own = (p.seen ≡ view_of account s m) × (p.opens ≡ None) × IsGivenTo w conn word before p
 IsGivenBy w now conn m word before p account s (Stream row) = (p.seen ≡ view_of account s m) × (p.opens ≡ None) × IsGivenTo w conn word before p
 IsGivenBy w now conn m word before p account s (Service row) = IsRequest w now conn m word before p account s row m.reply
@@ -286,23 +286,23 @@ IsGivenBy w now conn m word before p account s (Response row) = (p.seen ≡ view
 
 -- What a view gives, behind the parts before it. An import row that the message doesn't cross is reported once, and gives it to
 -- nobody.
-abbrev pub IsGiven : World → ℕ → ℕ → Message → ℕ → List Part → Part → ViewItem → Type 0
+abbrev pub IsGiven : World → ℕ → ℕ → Message → ℕ → List ViewPart → ViewPart → ViewItem → Type 0
 IsGiven w now conn m word before p (At account s way) = IsGivenBy w now conn m word before p account s way
 IsGiven w now conn m word before p (NotCrossed row) = (p.subs ≡ []) × (p.items ≡ MapTooLong row ∷ []) × (p.opens ≡ None)
 
-abbrev pub IsPart : World → ℕ → ℕ → Message → ℕ → List Part → Part → Type 0
-IsPart w now conn m word before p = IsGiven w now conn m word before p p.view
+abbrev pub IsViewPart : World → ℕ → ℕ → Message → ℕ → List ViewPart → ViewPart → Type 0
+IsViewPart w now conn m word before p = IsGiven w now conn m word before p p.view
 
 -- A message, as it is seen in a view, for a subscription.
 pub record Sending : Type 0 where
   pub message : Message
   pub to : Subscription
 
-abbrev pub sendings_in : Part → List Sending
+abbrev pub sendings_in : ViewPart → List Sending
 sendings_in p = map (λ (sub : Subscription). record { message = p.seen.message; to = sub }) p.subs
 
 -- what is sent in these parts, the first first, and in each to the oldest subscription first
-abbrev pub sendings : List Part → List Sending
+abbrev pub sendings : List ViewPart → List Sending
 sendings parts = flat_map sendings_in parts
 
 -- what is sent to a connection
@@ -325,12 +325,12 @@ pub record IsDelivered (w : World) (now : ℕ) (by : By) (publisher : ℕ) (subj
 -- A message that a user of the account has published on a subject, as it is sent on: what each of its views gives, by the policy in
 -- force and the routes that live, and what comes of all.
 pub record IsSent (w : World) (now : ℕ) (by : By) (conn : ℕ) (asked : List Token) (m : Message) (word : ℕ) (account : List ℕ) (items : List Item) (after : World) : Type 0 where
-  pub parts : List Part
+  pub parts : List ViewPart
   -- each view of the message, in order, and no other: across the rows of the policy, and where the account has a live route on
   -- the subject, the response
-  pub in_views : map (λ (p : Part). p.view) parts ≡ views w.policy account m.subject (responses_on (pruned now w.routes) account m.subject)
+  pub in_views : map (λ (p : ViewPart). p.view) parts ≡ views w.policy account m.subject (responses_on (pruned now w.routes) account m.subject)
   -- each gives what it gives behind those before it
-  pub each : (before : List Part) (p : Part) (later : List Part) → parts ≡ before ++ p ∷ later → IsPart w now conn m word before p
+  pub each : (before : List ViewPart) (p : ViewPart) (later : List ViewPart) → parts ≡ before ++ p ∷ later → IsViewPart w now conn m word before p
   -- what is told is what they tell
   pub items_are : items ≡ told_by parts
   pub delivered : IsDelivered w now by conn asked (sendings parts) items after.sessions

@@ -14,7 +14,7 @@ use Rattle.world_sessions.specs.Renewal.{with_user}
 use Rattle.world_deliveries.specs.declared.session.Session.{Session}
 use Rattle.world_rows.specs.declared.subscription.Subscription.{Subscription}
 use Rattle.service_routes.specs.Routes.{kept, pruned}
-use Rattle.service_rows.specs.Rows.{again}
+use Rattle.service_rows.specs.Rows.{renewed}
 use Rattle.world.specs.World.{World}
 use Rattle.world.specs.Reload.{removed_by}
 use Rattle.hub.specs.Sound.{user_at, may_subscribe}
@@ -75,6 +75,6 @@ pub record IsInForce (w : World) (now : ℕ) (doc : PolicyDoc) (closed : List �
   pub removed : lost ≡ filter_map (λ (sub : Subscription). removal_for sub (user_at after sub.conn)) w.subscriptions
   -- of the response routes that live those stand whose row the policy has again, on the terms that it has there, as long as
   -- they live on these
-  pub routes : after.routes ≡ pruned now (kept (again w.policy doc) (pruned now w.routes))
+  pub routes : after.routes ≡ pruned now (kept (renewed w.policy doc) (pruned now w.routes))
   -- and each verdict has its reason, as a denial has
   pub reasons : All (λ (sub : Subscription). IfSome (user_at after sub.conn) (λ (u : User). IsJustifiedSubscribe sub.subject sub.queue u.rules.subscribe (subscribe_verdict u.rules sub.subject sub.queue))) w.subscriptions

@@ -23,19 +23,19 @@ impl Drop for Segment {
 }
 
 impl Model for Segment {
-    ghost use Rattle.hub.specs.Segments.{Part, IsPart};
+    ghost use Rattle.hub.specs.Segments.{HistoryPart, IsHistoryPart};
 
-    ghost Value = { Part };
+    ghost Value = { HistoryPart };
 
     ghost view = { λ s. record { opening = s.opening; entries = s.entries.items; closing = s.closing } };
 
-    ghost invariant = { λ s. IsPart (record { opening = s.opening; entries = s.entries.items; closing = s.closing }) };
+    ghost invariant = { λ s. IsHistoryPart (record { opening = s.opening; entries = s.entries.items; closing = s.closing }) };
 }
 
 impl Segment {
     ghost use Rattle.std.specs.Prelude.{◌≡◌};
     ghost use Rattle.hub.specs.History.{IsOpening, IsLegalRun};
-    ghost use Rattle.hub.specs.Segments.{IsPart, IsReached, first_number};
+    ghost use Rattle.hub.specs.Segments.{IsHistoryPart, IsReached, first_number};
 
     /// The part between two worlds.
     pub(crate) fn of(
@@ -43,7 +43,7 @@ impl Segment {
         entries: Vec<Answer>,
         closing: Shared<PlainWorld>,
     ) -> Segment
-        requires { IsPart (record { opening = opening; entries = entries.items; closing = closing }) }
+        requires { IsHistoryPart (record { opening = opening; entries = entries.items; closing = closing }) }
         ensures { result ≡ record { opening = opening; entries = entries.items; closing = closing } }
     {
         Segment {

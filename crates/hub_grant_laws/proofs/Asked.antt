@@ -42,7 +42,7 @@ use Rattle.service_exporter.specs.declared.route.NewRow.{NewRow}
 use Rattle.service_exporter.specs.declared.route.Route.{Route}
 use Rattle.service_routes.specs.Routes.{Name, changed, exporter_of, kept, opened, pruned, same_name, spent}
 use Rattle.service_routes.proofs.Seen.{entered, others, seen}
-use Rattle.service_rows.specs.Rows.{again}
+use Rattle.service_rows.specs.Rows.{renewed}
 use Rattle.world.specs.World.{World, advanced, opening_world}
 use Rattle.world.specs.Granting.{counted_on, verdict_on}
 use Rattle.world.specs.Routing.{admitted, in_view, in_views, response_by, responses_on, route_for, view_of, under_subject}
@@ -283,7 +283,7 @@ module _ (P : Name → Numbered → Type 0) (w : World) (final : Routes)
   moved-each (Pub conn m word) opens = in_session-each (session_of w.sessions conn) _ (λ z at. publish conn m word (opens conn m word refl) z at (verdict_on w.moment z m.subject))
   moved-each (Take conn most) opens = in_session-each (session_of w.sessions conn) _ (λ z at _. are)
   moved-each (Close conn) opens = in_session-each (session_of w.sessions conn) _ (λ z at _. are)
-  moved-each (Reload doc) opens = λ _. each-pruned P w.moment (kept (again w.policy doc) w.routes) (each-kept P P (again w.policy doc) w.routes (λ name r new _ of. stays name r new of) are)
+  moved-each (Reload doc) opens = λ _. each-pruned P w.moment (kept (renewed w.policy doc) w.routes) (each-kept P P (renewed w.policy doc) w.routes (λ name r new _ of. stays name r new of) are)
 
 -- ---- a run
 

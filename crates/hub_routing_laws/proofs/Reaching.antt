@@ -40,7 +40,7 @@ use Rattle.world.specs.Routing.{View, view_of, view_with, under_subject}
 use Rattle.world.specs.Transition.{sent_on}
 use Rattle.hub.specs.Sound.{IsSound, user_at, is_below, is_to_receive}
 use Rattle.hub.specs.History.{State}
-use Rattle.hub.specs.Guarantee.{IsRouted, IsEffect, IsMapped, IsSent, IsPart, IsGiven, IsGivenBy, IsGivenTo, IsRequest, IsRequestTo, Part, told_by, routes_behind, Sending, eligible, has_some, is_plain, is_for, may_receive, item_names, names_of, received_more, receives, room_in, sendings_in, sendings, sent_to, delivery_of}
+use Rattle.hub.specs.Guarantee.{IsRouted, IsEffect, IsMapped, IsSent, IsViewPart, IsGiven, IsGivenBy, IsGivenTo, IsRequest, IsRequestTo, ViewPart, told_by, routes_behind, Sending, eligible, has_some, is_plain, is_for, may_receive, item_names, names_of, received_more, receives, room_in, sendings_in, sendings, sent_to, delivery_of}
 use Rattle.hub.proofs.Finds.{find-map, find-passes}
 use Rattle.hub.proofs.Rows.{All-flat_map}
 use Rattle.hub_routing_laws.specs.Seen.{Routes, views_by, IsReported, IsRequested, HasRouteReply, IsSeenAs, ComesBy}
@@ -93,18 +93,18 @@ abbrev pub IsAdmittedAs : World → Routes → ℕ → List ℕ → Message → 
 IsAdmittedAs w routes conn account m into local seen sub = (admitted : IsAdmitted w routes conn account m into local sub) × IsSeenAs admitted.seen.way local m seen
 
 -- what a view gives is for such subscriptions, an item each; or it reports a row
-abbrev IsGivenToAdmitted : World → Routes → ℕ → List ℕ → Message → List ℕ → List Token → Part → Type 0
+abbrev IsGivenToAdmitted : World → Routes → ℕ → List ℕ → Message → List ℕ → List Token → ViewPart → Type 0
 IsGivenToAdmitted w routes conn account m into local p =
     All (IsAdmittedAs w routes conn account m into local p.seen.message) p.subs × (map item_names p.items ≡ map named p.subs)
 
-abbrev IsWithoutRoute : World → Routes → List ℕ → Message → Part → Type 0
+abbrev IsWithoutRoute : World → Routes → List ℕ → Message → ViewPart → Type 0
 IsWithoutRoute w routes account m p = (row : Row) × IsRequested w.policy routes account m.subject row × (p.subs ≡ []) × (p.items ≡ RouteFull row ∷ [])
 
-abbrev IsAdmittedIn : World → Routes → ℕ → List ℕ → Message → Part → ViewItem → Type 0
+abbrev IsAdmittedIn : World → Routes → ℕ → List ℕ → Message → ViewPart → ViewItem → Type 0
 IsAdmittedIn w routes conn account m p (At into local way) = IsGivenToAdmitted w routes conn account m into local p ⊎ IsWithoutRoute w routes account m p
 IsAdmittedIn w routes conn account m p (NotCrossed row) = IsReported w.policy routes account m.subject row × (p.subs ≡ []) × (p.items ≡ MapTooLong row ∷ [])
 
-abbrev IsAdmittedPart : World → Routes → ℕ → List ℕ → Message → Part → Type 0
+abbrev IsAdmittedPart : World → Routes → ℕ → List ℕ → Message → ViewPart → Type 0
 IsAdmittedPart w routes conn account m p = IsAdmittedIn w routes conn account m p p.view
 
 -- a request has a route's subject for its reply, or none
@@ -114,7 +114,7 @@ none-for reply is = subst (λ o. HasRouteReply o reply) (sym is) is
 route-for : (published : Option (List Token)) (reply : List Token) (word number : ℕ) → published ≡ Some reply → HasRouteReply published (Some (route_subject word number))
 route-for published reply word number is = subst (λ o. HasRouteReply o (Some (route_subject word number))) (sym is) (word, number, refl)
 
-module _ (w : World) (now conn word : ℕ) (account : List ℕ) (m : Message) (before : List Part) (p : Part) where
+module _ (w : World) (now conn word : ℕ) (account : List ℕ) (m : Message) (before : List ViewPart) (p : ViewPart) where
   abbrev routes : Routes
   routes = pruned now w.routes
 
@@ -172,10 +172,10 @@ parts_are : (w : World) (now : ℕ) (by : By) (conn : ℕ) (asked : List Token) 
     All (IsAdmittedPart w (pruned now w.routes) conn account m) sent.parts
 parts_are w now by conn asked m word account items after sent k d below =
     let at = each_split Parted sent.parts (λ before p later at. (before, sent.each before p later at)) k d below in
-    part_is w now conn word account m at.0 (get_or sent.parts k d) (get_or sent.parts k d).view (All-in_map (λ (p : Part). p.view) sent.parts (views_by w.policy (pruned now w.routes) account m.subject) sent.in_views k d below) at.1
+    part_is w now conn word account m at.0 (get_or sent.parts k d) (get_or sent.parts k d).view (All-in_map (λ (p : ViewPart). p.view) sent.parts (views_by w.policy (pruned now w.routes) account m.subject) sent.in_views k d below) at.1
   where
-    Parted : Part → Type 0
-    Parted p = (before : List Part) × IsPart w now conn m word before p
+    Parted : ViewPart → Type 0
+    Parted p = (before : List ViewPart) × IsViewPart w now conn m word before p
 
 -- ---- items
 
@@ -202,7 +202,7 @@ module _ (w : World) (routes : Routes) (conn : ℕ) (account : List ℕ) (m : Me
   item_is into local UnmappedItem sub admitted names = absurd (cc)
   item_is into local (MappedTooLong index) sub admitted names = absurd (cc)
 
-  pub items_in : (p : Part) (v : ViewItem) → IsAdmittedIn w routes conn account m p v → All IsItemOfAdmitted p.items
+  pub items_in : (p : ViewPart) (v : ViewItem) → IsAdmittedIn w routes conn account m p v → All IsItemOfAdmitted p.items
   items_in p (At into local way) (inl part) =
       (λ k d below. let is = names_each (IsAdmittedAs w routes conn account m into local p.seen.message) p.items p.subs part.1 part.0 k d below in item_is into local (get_or p.items k d) is.0 is.1.0 is.2)
   items_in p (At into local way) (inr full) =
@@ -214,17 +214,17 @@ module _ (w : World) (routes : Routes) (conn : ℕ) (account : List ℕ) (m : Me
   abbrev pub IsAdmittedSending : Sending → Type 0
   IsAdmittedSending s = (into : List ℕ) × (local : List Token) × IsAdmittedAs w routes conn account m into local s.message s.to
 
-  no_sendings : (p : Part) → p.subs ≡ [] → All IsAdmittedSending (sendings_in p)
+  no_sendings : (p : ViewPart) → p.subs ≡ [] → All IsAdmittedSending (sendings_in p)
   no_sendings p none =
       subst (λ (l : List Subscription). All IsAdmittedSending (map (λ (sub : Subscription). record { message = p.seen.message; to = sub }) l)) (sym none) (All-nil IsAdmittedSending)
 
-  sendings_of : (p : Part) (v : ViewItem) → IsAdmittedIn w routes conn account m p v → All IsAdmittedSending (sendings_in p)
+  sendings_of : (p : ViewPart) (v : ViewItem) → IsAdmittedIn w routes conn account m p v → All IsAdmittedSending (sendings_in p)
   sendings_of p (At into local way) (inl part) =
       All-map IsAdmittedSending (λ (sub : Subscription). record { message = p.seen.message; to = sub }) p.subs (λ k d below. (into, local, part.0 k d below))
   sendings_of p (At into local way) (inr full) = no_sendings p full.2
   sendings_of p (NotCrossed row) part = no_sendings p part.1
 
-  pub sendings_are : (parts : List Part) → All (IsAdmittedPart w routes conn account m) parts → All IsAdmittedSending (sendings parts)
+  pub sendings_are : (parts : List ViewPart) → All (IsAdmittedPart w routes conn account m) parts → All IsAdmittedSending (sendings parts)
   sendings_are parts all =
       All-flat_map IsAdmittedSending sendings_in parts (λ k d below. let p = get_or parts k d in sendings_of p p.view (all k d below))
 
@@ -264,7 +264,7 @@ nothing_unadmitted = of_each _ (λ w after by conn asked m word u items sent.
     let routes : Routes = live_routes w after in
     let all = parts_are w after.moment by conn asked m word u.account items after sent in record {
       told = subst (All (IsItemOfAdmitted w routes conn u.account m)) (sym sent.items_are)
-          (All-flat_map (IsItemOfAdmitted w routes conn u.account m) (λ (p : Part). p.items) sent.parts
+          (All-flat_map (IsItemOfAdmitted w routes conn u.account m) (λ (p : ViewPart). p.items) sent.parts
           (λ k d below. items_in w routes conn u.account m (get_or sent.parts k d) (get_or sent.parts k d).view (all k d below)));
       sent = new_in (IsDeliveryToAdmitted w routes conn u.account m) after.moment by conn asked (sendings sent.parts) w.sessions after.sessions
           (λ to. deliveries_to w routes conn u.account m to (sendings sent.parts) (sendings_are w routes conn u.account m sent.parts all))
@@ -274,7 +274,7 @@ nothing_unadmitted = of_each _ (λ w after by conn asked m word u items sent.
 -- ---- nobody is left out
 
 -- whom a view gives the message has an item
-given_has : (w : World) (conn word : ℕ) (before : List Part) (p : Part) (sub : Subscription) → IsGivenTo w conn word before p →
+given_has : (w : World) (conn word : ℕ) (before : List ViewPart) (p : ViewPart) (sub : Subscription) → IsGivenTo w conn word before p →
     Contains w.subscriptions sub → is_for w conn p.seen.account p.seen.message.subject sub ≡ true → sub.queue ≡ None → sub.most ≡ None → Contains (map item_names p.items) (named sub)
 given_has w conn word before p sub given stood may plain unlimited =
     subst (λ l. Contains l (named sub)) (sym given.one_each) (Contains-map named p.subs sub served)
@@ -295,7 +295,7 @@ given_has w conn word before p sub given stood may plain unlimited =
     served = All-contains (Contains p.subs) (filter is_plain p.subs) sub (All-filter is_plain (Contains p.subs) p.subs (All-contains_itself p.subs)) (subst (λ l. Contains l sub) (sym given.served.plain) able)
 
 -- or its row is reported
-module _ (w : World) (now conn word : ℕ) (m : Message) (before : List Part) (p : Part) (sub : Subscription) (stood : Contains w.subscriptions sub) (plain : sub.queue ≡ None) (unlimited : sub.most ≡ None) where
+module _ (w : World) (now conn word : ℕ) (m : Message) (before : List ViewPart) (p : ViewPart) (sub : Subscription) (stood : Contains w.subscriptions sub) (plain : sub.queue ≡ None) (unlimited : sub.most ≡ None) where
   abbrev HasItem : Way → Type 0
   HasItem way = Contains (map item_names p.items) (named sub) ⊎ HasNoRoute way p.items
 
@@ -339,8 +339,8 @@ left_out w now by conn asked m word account items after sent into local sub admi
     v : ViewItem
     v = At into local admitted.seen.way
 
-    part : IsSplit (λ (p : Part). p.view) sent.parts v
-    part = split_at (λ (p : Part). p.view) sent.parts v (subst (λ l. Contains l v) (sym sent.in_views) admitted.seen.view)
+    part : IsSplit (λ (p : ViewPart). p.view) sent.parts v
+    part = split_at (λ (p : ViewPart). p.view) sent.parts v (subst (λ l. Contains l v) (sym sent.in_views) admitted.seen.view)
 
     given : IsGiven w now conn m word part.before part.here v
     given = subst (IsGiven w now conn m word part.before part.here) part.makes (sent.each part.before part.here part.later part.all)
@@ -348,7 +348,7 @@ left_out w now by conn asked m word account items after sent into local sub admi
     told : (item : Item) → Contains part.here.items item → Contains items item
     told item has =
         subst (λ l. Contains l item) (sym sent.items_are)
-        (Contains-flat_map (λ (p : Part). p.items) sent.parts part.here item (Contains-split (λ (p : Part). p.view) sent.parts v part) has)
+        (Contains-flat_map (λ (p : ViewPart). p.items) sent.parts part.here item (Contains-split (λ (p : ViewPart). p.view) sent.parts v part) has)
 
     here : Contains (map item_names part.here.items) (named sub) ⊎ HasNoRoute admitted.seen.way part.here.items → Contains (map item_names items) (named sub) ⊎ HasNoRoute admitted.seen.way items
     here (inl has) =
@@ -437,7 +437,7 @@ accounts_apart = weaker _ _ (λ w after conn u m items sound reaches. let routes
 
 -- ---- queue groups
 
-module _ (w : World) (now conn word : ℕ) (m : Message) (before : List Part) (p : Part) where
+module _ (w : World) (now conn word : ℕ) (m : Message) (before : List ViewPart) (p : ViewPart) where
   one_at : (into : List ℕ) (local : List Token) (seen : View) → p.seen ≡ seen → seen.account ≡ into → seen.message.subject ≡ local → IsGivenTo w conn word before p → HasOneOfEachAt w conn before into local p
   one_at into local seen is of under given = record {
     account = ap (λ (x : View). x.account) is ∙ of;

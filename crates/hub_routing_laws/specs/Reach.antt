@@ -30,7 +30,7 @@ use Rattle.world.specs.Routing.{view_of}
 use Rattle.world.specs.Transition.{sent_on}
 use Rattle.hub.specs.Sound.{user_at}
 use Rattle.hub.specs.History.{State}
-use Rattle.hub.specs.Guarantee.{IsRouted, Part, told_by, eligible, is_for, item_names, names_of}
+use Rattle.hub.specs.Guarantee.{IsRouted, ViewPart, told_by, eligible, is_for, item_names, names_of}
 use Rattle.hub_routing_laws.specs.Seen.{Routes, views_by, IsSeen, IsReported, IsRequested, IsSeenAs, IsTaken, ComesBy, IsTooLong}
 
 -- What holds whenever a message is published, by its user in the policy in force, and as it is sent on, if it is.
@@ -157,7 +157,7 @@ AccountsApart = OfEachPublish (λ w after conn u m items. let routes = live_rout
 -- What is told of one view in an account, on a subject, behind the parts before it: an item for each of some subscriptions
 -- that may be sent the message there, of which one, and no other, is a member of each queue group that has a member among
 -- those.
-pub record HasOneOfEachAt (w : World) (conn : ℕ) (before : List Part) (into : List ℕ) (local : List Token) (p : Part) : Type 0 where
+pub record HasOneOfEachAt (w : World) (conn : ℕ) (before : List ViewPart) (into : List ℕ) (local : List Token) (p : ViewPart) : Type 0 where
   pub account : p.seen.account ≡ into
   pub subject : p.seen.message.subject ≡ local
   pub named : map item_names p.items ≡ map (λ (sub : Subscription). Some (names_of sub)) p.subs
@@ -165,7 +165,7 @@ pub record HasOneOfEachAt (w : World) (conn : ℕ) (before : List Part) (into : 
   pub one : (name : List ℕ) → list_any (is_member name) (eligible w conn before p.seen) ≡ true → length (members name p.subs) ≡ 1
 
 -- of a row that is reported nothing else is told, and nothing is told of a request for nobody
-abbrev pub HasOneOfEach : World → ℕ → Message → List Part → Part → ViewItem → Type 0
+abbrev pub HasOneOfEach : World → ℕ → Message → List ViewPart → ViewPart → ViewItem → Type 0
 HasOneOfEach w conn m before p (At into local Own) = HasOneOfEachAt w conn before into local p
 HasOneOfEach w conn m before p (At into local (Stream row)) = HasOneOfEachAt w conn before into local p
 HasOneOfEach w conn m before p (At into local (Service row)) =
@@ -175,10 +175,10 @@ HasOneOfEach w conn m before p (TooLong row) = p.items ≡ MapTooLong row ∷ []
 
 -- What is told is what is told of each view, in order.
 pub record HasOneInEach (w : World) (routes : Routes) (conn : ℕ) (account : List ℕ) (m : Message) (items : List Item) : Type 0 where
-  pub parts : List Part
-  pub in_views : map (λ (p : Part). p.view) parts ≡ views_by w.policy routes account m.subject
+  pub parts : List ViewPart
+  pub in_views : map (λ (p : ViewPart). p.view) parts ≡ views_by w.policy routes account m.subject
   pub items_are : items ≡ told_by parts
-  pub each : (before : List Part) (p : Part) (later : List Part) → parts ≡ before ++ p ∷ later → HasOneOfEach w conn m before p p.view
+  pub each : (before : List ViewPart) (p : ViewPart) (later : List ViewPart) → parts ≡ before ++ p ∷ later → HasOneOfEach w conn m before p p.view
 
 -- Of each queue group with a member that may be sent the message exactly one has an item, in each view that isn't reported.
 abbrev pub OneOfEachGroup : Type 0

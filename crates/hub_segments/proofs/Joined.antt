@@ -9,7 +9,7 @@ use Rattle.std.proofs.lemmas.List.Elements.{All-head, All-tail}
 use Rattle.events.specs.declared.answer.Entry.{Entry}
 use Rattle.world.specs.World.{World}
 use Rattle.hub.specs.History.{State, IsOpening, IsLegalRun}
-use Rattle.hub.specs.Segments.{Part, IsPart, IsReached, first_number, tail_of}
+use Rattle.hub.specs.Segments.{HistoryPart, IsHistoryPart, IsReached, first_number, tail_of}
 use Rattle.hub_segments.specs.Joins.{parts_of, has_number, due, is_empty, place, may_precede, is_between, may_be_before, is_judged, IsRight, AreOneHistory}
 use Rattle.hub.proofs.Finds.{any-none}
 use Rattle.hub_segments.proofs.Pushed.{All-back}
@@ -81,17 +81,17 @@ count-some {X} t (x ∷ xs) d le = here (t x) refl le (count-some t xs d)
 
 -- ---- numbers
 
-has : (p : Part) (n : ℕ) → p.opening.number < n → n ≤ p.closing.number → has_number n p ≡ true
+has : (p : HistoryPart) (n : ℕ) → p.opening.number < n → n ≤ p.closing.number → has_number n p ≡ true
 has p n low high = ap (λ b. b && nat_le n p.closing.number) (lt-ltb _ _ low) ∙ le-leb _ _ high
 
-has-low : (p : Part) (n : ℕ) → has_number n p ≡ true → p.opening.number < n
+has-low : (p : HistoryPart) (n : ℕ) → has_number n p ≡ true → p.opening.number < n
 has-low p n h = by (nat_lt p.opening.number n) refl h
   where
     by : (b : Bool) → nat_lt p.opening.number n ≡ b → (b && nat_le n p.closing.number) ≡ true → p.opening.number < n
     by true e h' = ltb-true _ _ e
     by false e h' = absurd (cc)
 
-has-high : (p : Part) (n : ℕ) → has_number n p ≡ true → n ≤ p.closing.number
+has-high : (p : HistoryPart) (n : ℕ) → has_number n p ≡ true → n ≤ p.closing.number
 has-high p n h = by (nat_lt p.opening.number n) refl h
   where
     by : (b : Bool) → nat_lt p.opening.number n ≡ b → (b && nat_le n p.closing.number) ≡ true → n ≤ p.closing.number
@@ -121,7 +121,7 @@ due-above last n h = by (nat_lt 0 n) (nat_le n last) refl h
 -- ---- parts
 
 -- a part without entries ends where it begins, and one with entries ends above
-abbrev pub Kind : Part → Type 0
+abbrev pub Kind : HistoryPart → Type 0
 Kind p =
     ((place p ≡ 2 * p.opening.number) × (p.closing ≡ p.opening) × (is_empty p ≡ true))
     ⊎ ((place p ≡ 2 * p.opening.number + 1) × (p.opening.number < p.closing.number) × (is_empty p ≡ false))
@@ -135,30 +135,30 @@ kind w (x ∷ es) after run =
     inr (ap (λ (b : Bool). 2 * w.number + cond b 0 1) some, omega (arith, n), some)
 
 -- each number stands in as many parts as it is to
-abbrev IsCounted : List Part → ℕ → Type 0
+abbrev IsCounted : List HistoryPart → ℕ → Type 0
 IsCounted ps last = (n : ℕ) → length (filter (has_number n) ps) ≡ due last n
 
 -- two parts with one number are one
-only : (ps : List Part) (d : Part) (last : ℕ) → IsCounted ps last → (n i j : ℕ) → i < length ps → j < length ps →
+only : (ps : List HistoryPart) (d : HistoryPart) (last : ℕ) → IsCounted ps last → (n i j : ℕ) → i < length ps → j < length ps →
     has_number n (get_or ps i d) ≡ true → has_number n (get_or ps j d) ≡ true → i ≡ j
 only ps d last one n i j li lj hi hj =
     let e = one n in let m = due-most last n in
     count-one (has_number n) ps i j d li lj hi hj (omega (arith, e, m))
 
 -- and no number is above the last
-below : (ps : List Part) (d : Part) (last : ℕ) → IsCounted ps last → (n i : ℕ) → i < length ps → has_number n (get_or ps i d) ≡ true → n ≤ last
+below : (ps : List HistoryPart) (d : HistoryPart) (last : ℕ) → IsCounted ps last → (n i : ℕ) → i < length ps → has_number n (get_or ps i d) ≡ true → n ≤ last
 below ps d last one n i li hi =
     let e = one n in let p = count-positive (has_number n) ps i d li hi in
     due-above last n (omega (arith, e, p))
 
 -- What is known of parts, of which d is one, with the last number, and which of them are judged.
-pub record Facts (ps : List Part) (d : Part) (last : ℕ) (judged : Part → Bool) : Type 0 where
+pub record Facts (ps : List HistoryPart) (d : HistoryPart) (last : ℕ) (judged : HistoryPart → Bool) : Type 0 where
   pub legal : (i : ℕ) → i < length ps → IsLegalRun (get_or ps i d).opening (get_or ps i d).entries (get_or ps i d).closing
   pub reached : (i : ℕ) → i < length ps → IsReached (get_or ps i d).opening
   pub one : IsCounted ps last
   pub begins : (q : ℕ) → q < length ps → judged (get_or ps q d) ≡ true → (p : ℕ) → p < length ps → may_be_before ps (get_or ps q d) (get_or ps p d) ≡ true →
       (get_or ps q d).opening ≡ (get_or ps p d).closing
-  pub lower : (p q : Part) → place p ≤ place q → judged q ≡ true → judged p ≡ true
+  pub lower : (p q : HistoryPart) → place p ≤ place q → judged q ≡ true → judged p ≡ true
   pub entered : (q : ℕ) → q < length ps → (get_or ps q d).opening.number < (get_or ps q d).closing.number → judged (get_or ps q d) ≡ true
   pub here : ℕ
   pub within : here < length ps
@@ -166,11 +166,11 @@ pub record Facts (ps : List Part) (d : Part) (last : ℕ) (judged : Part → Boo
   pub present : d.closing.number ≡ last
   pub owned : judged d ≡ true
 
-kind-at : (ps : List Part) (d : Part) (last : ℕ) (judged : Part → Bool) → Facts ps d last judged → (i : ℕ) → i < length ps → Kind (get_or ps i d)
+kind-at : (ps : List HistoryPart) (d : HistoryPart) (last : ℕ) (judged : HistoryPart → Bool) → Facts ps d last judged → (i : ℕ) → i < length ps → Kind (get_or ps i d)
 kind-at ps d last judged f i li = kind (get_or ps i d).opening (get_or ps i d).entries (get_or ps i d).closing (f.legal i li)
 
 -- a part is not between where that is absurd
-not-between : (p q r : Part) → (place p < place r → place r < place q → ⊥) → is_between p q r ≡ false
+not-between : (p q r : HistoryPart) → (place p < place r → place r < place q → ⊥) → is_between p q r ≡ false
 not-between p q r never = by (nat_lt (place p) (place r)) (nat_lt (place r) (place q)) refl refl
   where
     by : (a b : Bool) → nat_lt (place p) (place r) ≡ a → nat_lt (place r) (place q) ≡ b → (a && b) ≡ false
@@ -180,25 +180,25 @@ not-between p q r never = by (nat_lt (place p) (place r)) (nat_lt (place r) (pla
     by false false e f = refl
 
 -- a part below another, with none between, may be the one before it
-before-by : (ps : List Part) (d : Part) (q p : Part) → may_precede p q ≡ true → ((u : ℕ) → u < length ps → place p < place (get_or ps u d) → place (get_or ps u d) < place q → ⊥) → may_be_before ps q p ≡ true
+before-by : (ps : List HistoryPart) (d : HistoryPart) (q p : HistoryPart) → may_precede p q ≡ true → ((u : ℕ) → u < length ps → place p < place (get_or ps u d) → place (get_or ps u d) < place q → ⊥) → may_be_before ps q p ≡ true
 before-by ps d q p precedes none =
     let no : list_any (is_between p q) ps ≡ false = any-nothing (is_between p q) ps (λ k e lt. nothing k e lt) in
     ap (λ b. b && not (list_any (is_between p q) ps)) precedes ∙ ap not no
   where
-    same : (k : ℕ) (e : Part) → k < length ps → get_or ps k e ≡ get_or ps k d
+    same : (k : ℕ) (e : HistoryPart) → k < length ps → get_or ps k e ≡ get_or ps k d
     same k e lt = get_or_default ps k e d lt
 
-    nothing : (k : ℕ) (e : Part) → k < length ps → is_between p q (get_or ps k e) ≡ false
+    nothing : (k : ℕ) (e : HistoryPart) → k < length ps → is_between p q (get_or ps k e) ≡ false
     nothing k e lt = ap (is_between p q) (same k e lt) ∙ not-between p q (get_or ps k d) (none k lt)
 
 or-true : (b : Bool) → (b || true) ≡ true
 or-true true = refl
 or-true false = refl
 
-precedes-below : (p q : Part) → place p < place q → may_precede p q ≡ true
+precedes-below : (p q : HistoryPart) → place p < place q → may_precede p q ≡ true
 precedes-below p q lt = ap (λ b. b || (is_empty q && place p == place q)) (lt-ltb _ _ lt)
 
-precedes-equal : (p q : Part) → place p ≡ place q → is_empty q ≡ true → may_precede p q ≡ true
+precedes-equal : (p q : HistoryPart) → place p ≡ place q → is_empty q ≡ true → may_precede p q ≡ true
 precedes-equal p q e empty =
     ap (λ b. nat_lt (place p) (place q) || (b && place p == place q)) empty
     ∙ ap (λ b. nat_lt (place p) (place q) || b) (eq-eqb _ _ e)
@@ -206,11 +206,11 @@ precedes-equal p q e empty =
 
 -- ---- a run through the parts
 
-abbrev Slice : List Entry → Part → Type 0
+abbrev Slice : List Entry → HistoryPart → Type 0
 Slice es p = take (length p.entries) (drop p.opening.number es) ≡ p.entries
 
 -- The parts up to a number are one run.
-pub record Upto (ps : List Part) (d : Part) (judged : Part → Bool) (k : ℕ) : Type 0 where
+pub record Upto (ps : List HistoryPart) (d : HistoryPart) (judged : HistoryPart → Bool) (k : ℕ) : Type 0 where
   pub first : World
   pub opens : IsOpening first
   pub entries : List Entry
@@ -224,12 +224,12 @@ pub record Upto (ps : List Part) (d : Part) (judged : Part → Bool) (k : ℕ) :
   pub slices : (p : ℕ) → p < length ps → (get_or ps p d).closing.number ≤ k → Slice entries (get_or ps p d)
 
 -- no part begins within another, as far as j
-abbrev Clear : List Part → Part → ℕ → ℕ → Type 0
+abbrev Clear : List HistoryPart → HistoryPart → ℕ → ℕ → Type 0
 Clear ps d q j =
     (t : ℕ) → t < length ps → (get_or ps t d).opening.number < j → (get_or ps q d).opening.number < (get_or ps t d).opening.number →
     (get_or ps t d).opening.number < (get_or ps q d).closing.number → ⊥
 
-between-clear : (ps : List Part) (d : Part) (q j t u : ℕ) → Clear ps d q j → u < length ps → Kind (get_or ps u d) → (get_or ps t d).opening.number < suc j →
+between-clear : (ps : List HistoryPart) (d : HistoryPart) (q j t u : ℕ) → Clear ps d q j → u < length ps → Kind (get_or ps u d) → (get_or ps t d).opening.number < suc j →
     (get_or ps t d).opening.number < (get_or ps q d).closing.number → place (get_or ps t d) ≡ 2 * (get_or ps t d).opening.number →
     place (get_or ps q d) ≡ 2 * (get_or ps q d).opening.number + 1 → place (get_or ps q d) < place (get_or ps u d) → place (get_or ps u d) < place (get_or ps t d) → ⊥
 between-clear ps d q j t u clear lu (inl k) under high even odd above lower =
@@ -238,7 +238,7 @@ between-clear ps d q j t u clear lu (inr k) under high even odd above lower =
     let e = k.0 in clear u lu (omega (arith, e, even, lower, under)) (omega (arith, e, odd, above)) (omega (arith, e, even, lower, high))
 
 -- one more
-clear-more : (ps : List Part) (d : Part) (last : ℕ) (judged : Part → Bool) → Facts ps d last judged → (q r j t : ℕ) → q < length ps → t < length ps →
+clear-more : (ps : List HistoryPart) (d : HistoryPart) (last : ℕ) (judged : HistoryPart → Bool) → Facts ps d last judged → (q r j t : ℕ) → q < length ps → t < length ps →
     place (get_or ps q d) ≡ 2 * (get_or ps q d).opening.number + 1 → judged (get_or ps r d) ≡ true →
     (get_or ps q d).closing.number ≤ (get_or ps r d).opening.number → 2 * (get_or ps r d).opening.number ≤ place (get_or ps r d) →
     (get_or ps t d).opening.number < suc j → (get_or ps q d).opening.number < (get_or ps t d).opening.number →
@@ -260,7 +260,7 @@ clear-more ps d last judged f q r j t lq lt odd jr upto even under low high clea
     let e = ap (λ (i : ℕ). (get_or ps i d).opening.number) same in
     omega (arith, e, low)
 
-all-clear : (ps : List Part) (d : Part) (last : ℕ) (judged : Part → Bool) → Facts ps d last judged → (q r : ℕ) → q < length ps →
+all-clear : (ps : List HistoryPart) (d : HistoryPart) (last : ℕ) (judged : HistoryPart → Bool) → Facts ps d last judged → (q r : ℕ) → q < length ps →
     place (get_or ps q d) ≡ 2 * (get_or ps q d).opening.number + 1 → judged (get_or ps r d) ≡ true →
     (get_or ps q d).closing.number ≤ (get_or ps r d).opening.number → 2 * (get_or ps r d).opening.number ≤ place (get_or ps r d) → (j : ℕ) → Clear ps d q j
 all-clear ps d last judged f q r lq odd jr upto even zero t lt under low high = omega (arith, under)
@@ -270,7 +270,7 @@ all-clear ps d last judged f q r lq odd jr upto even (suc j) t lt under low high
 -- ---- the next part
 
 -- a part that begins where one with entries ends begins in the world in which that ends
-next-between : (ps : List Part) (d : Part) (q r u : ℕ) → Clear ps d q (get_or ps r d).opening.number → u < length ps → Kind (get_or ps u d) →
+next-between : (ps : List HistoryPart) (d : HistoryPart) (q r u : ℕ) → Clear ps d q (get_or ps r d).opening.number → u < length ps → Kind (get_or ps u d) →
     (get_or ps r d).opening.number ≡ (get_or ps q d).closing.number → place (get_or ps q d) ≡ 2 * (get_or ps q d).opening.number + 1 →
     place (get_or ps q d) < place (get_or ps u d) → place (get_or ps u d) < 2 * (get_or ps r d).opening.number → ⊥
 next-between ps d q r u clear lu (inl k) at odd above lower =
@@ -278,7 +278,7 @@ next-between ps d q r u clear lu (inl k) at odd above lower =
 next-between ps d q r u clear lu (inr k) at odd above lower =
     let e = k.0 in clear u lu (omega (arith, e, lower)) (omega (arith, e, odd, above)) (omega (arith, e, lower, at))
 
-next-empty : (ps : List Part) (d : Part) (last : ℕ) (judged : Part → Bool) → Facts ps d last judged → (q r : ℕ) → q < length ps → r < length ps →
+next-empty : (ps : List HistoryPart) (d : HistoryPart) (last : ℕ) (judged : HistoryPart → Bool) → Facts ps d last judged → (q r : ℕ) → q < length ps → r < length ps →
     place (get_or ps q d) ≡ 2 * (get_or ps q d).opening.number + 1 → (get_or ps q d).opening.number < (get_or ps q d).closing.number →
     judged (get_or ps r d) ≡ true → (get_or ps r d).opening.number ≡ (get_or ps q d).closing.number → place (get_or ps r d) ≡ 2 * (get_or ps r d).opening.number →
     (get_or ps r d).opening ≡ (get_or ps q d).closing
@@ -288,13 +288,13 @@ next-empty ps d last judged f q r lq lr odd grows jr at even =
     (λ u lu above lower. next-between ps d q r u clear lu (kind-at ps d last judged f u lu) at odd above (omega (arith, lower, even))))
 
 -- an empty part of a number
-abbrev is_empty_at : ℕ → Part → Bool
+abbrev is_empty_at : ℕ → HistoryPart → Bool
 is_empty_at m t = is_empty t && t.opening.number == m
 
-empty-at : (m : ℕ) (t : Part) → is_empty t ≡ true → t.opening.number ≡ m → is_empty_at m t ≡ true
+empty-at : (m : ℕ) (t : HistoryPart) → is_empty t ≡ true → t.opening.number ≡ m → is_empty_at m t ≡ true
 empty-at m t empty at = ap (λ b. b && t.opening.number == m) empty ∙ eq-eqb _ _ at
 
-empty-there : (m : ℕ) (t : Part) → is_empty_at m t ≡ true → (is_empty t ≡ true) × (t.opening.number ≡ m)
+empty-there : (m : ℕ) (t : HistoryPart) → is_empty_at m t ≡ true → (is_empty t ≡ true) × (t.opening.number ≡ m)
 empty-there m t h = by (is_empty t) (t.opening.number == m) refl refl h
   where
     by : (a b : Bool) → is_empty t ≡ a → (t.opening.number == m) ≡ b → (a && b) ≡ true → (is_empty t ≡ true) × (t.opening.number ≡ m)
@@ -303,11 +303,11 @@ empty-there m t h = by (is_empty t) (t.opening.number == m) refl refl h
     by false true e f h' = absurd (cc)
     by false false e f h' = absurd (cc)
 
-empty-kind : (p : Part) → Kind p → is_empty p ≡ true → (place p ≡ 2 * p.opening.number) × (p.closing ≡ p.opening)
+empty-kind : (p : HistoryPart) → Kind p → is_empty p ≡ true → (place p ≡ 2 * p.opening.number) × (p.closing ≡ p.opening)
 empty-kind p (inl k) e = (k.0, k.1)
 empty-kind p (inr k) e = let no = k.2 in absurd (cc)
 
-last-between : (ps : List Part) (d : Part) (q r u : ℕ) → Clear ps d q (get_or ps r d).opening.number → u < length ps → Kind (get_or ps u d) →
+last-between : (ps : List HistoryPart) (d : HistoryPart) (q r u : ℕ) → Clear ps d q (get_or ps r d).opening.number → u < length ps → Kind (get_or ps u d) →
     is_empty_at (get_or ps r d).opening.number (get_or ps u d) ≡ false →
     (get_or ps r d).opening.number ≡ (get_or ps q d).closing.number → place (get_or ps q d) ≡ 2 * (get_or ps q d).opening.number + 1 →
     place (get_or ps q d) < place (get_or ps u d) → place (get_or ps u d) < 2 * (get_or ps r d).opening.number + 1 → ⊥
@@ -325,7 +325,7 @@ last-between ps d q r u clear lu (inl k) none at odd above lower = by (nat_lt (g
 last-between ps d q r u clear lu (inr k) none at odd above lower =
     let e = k.0 in clear u lu (omega (arith, e, lower)) (omega (arith, e, odd, above)) (omega (arith, e, lower, at))
 
-next-entered : (ps : List Part) (d : Part) (last : ℕ) (judged : Part → Bool) → Facts ps d last judged → (q r : ℕ) → q < length ps → r < length ps →
+next-entered : (ps : List HistoryPart) (d : HistoryPart) (last : ℕ) (judged : HistoryPart → Bool) → Facts ps d last judged → (q r : ℕ) → q < length ps → r < length ps →
     place (get_or ps q d) ≡ 2 * (get_or ps q d).opening.number + 1 → (get_or ps q d).opening.number < (get_or ps q d).closing.number →
     judged (get_or ps r d) ≡ true → (get_or ps r d).opening.number ≡ (get_or ps q d).closing.number → place (get_or ps r d) ≡ 2 * (get_or ps r d).opening.number + 1 →
     (get_or ps r d).opening ≡ (get_or ps q d).closing
@@ -351,7 +351,7 @@ next-entered ps d last judged f q r lq lr odd grows jr at odd_r = by (list_any (
         f.begins r lr jr q lq (before-by ps d (get_or ps r d) (get_or ps q d) (precedes-below (get_or ps q d) (get_or ps r d) (omega (arith, odd, grows, at, odd_r)))
         (λ u lu above lower. last-between ps d q r u clear lu (kind-at ps d last judged f u lu) (none u d lu) at odd above (omega (arith, lower, odd_r))))
 
-next-of : (ps : List Part) (d : Part) (last : ℕ) (judged : Part → Bool) → Facts ps d last judged → (q r : ℕ) → q < length ps → r < length ps →
+next-of : (ps : List HistoryPart) (d : HistoryPart) (last : ℕ) (judged : HistoryPart → Bool) → Facts ps d last judged → (q r : ℕ) → q < length ps → r < length ps →
     place (get_or ps q d) ≡ 2 * (get_or ps q d).opening.number + 1 → (get_or ps q d).opening.number < (get_or ps q d).closing.number →
     judged (get_or ps r d) ≡ true → (get_or ps r d).opening.number ≡ (get_or ps q d).closing.number → Kind (get_or ps r d) →
     (get_or ps r d).opening ≡ (get_or ps q d).closing
@@ -360,11 +360,11 @@ next-of ps d last judged f q r lq lr odd grows jr at (inr k) = next-entered ps d
 
 -- ---- from part to part
 
-entered-kind : (p : Part) → Kind p → p.opening.number < p.closing.number → place p ≡ 2 * p.opening.number + 1
+entered-kind : (p : HistoryPart) → Kind p → p.opening.number < p.closing.number → place p ≡ 2 * p.opening.number + 1
 entered-kind p (inl k) lt = let e = ap (λ (w : World). w.number) k.1 in absurd (omega (arith, e, lt))
 entered-kind p (inr k) lt = k.0
 
-part-length : (ps : List Part) (d : Part) (last : ℕ) (judged : Part → Bool) → Facts ps d last judged → (p : ℕ) → p < length ps →
+part-length : (ps : List HistoryPart) (d : HistoryPart) (last : ℕ) (judged : HistoryPart → Bool) → Facts ps d last judged → (p : ℕ) → p < length ps →
     (get_or ps p d).closing.number ≡ (get_or ps p d).opening.number + length (get_or ps p d).entries
 part-length ps d last judged f p lp = run-number (get_or ps p d).opening (get_or ps p d).entries (get_or ps p d).closing (f.legal p lp)
 
@@ -387,7 +387,7 @@ slice-none es [] a e = refl
 slice-none es (x ∷ xs) a e = absurd (omega (arith, e))
 
 -- where the numbers so far end, the next part begins
-begins-at : (ps : List Part) (d : Part) (last : ℕ) (judged : Part → Bool) → Facts ps d last judged → (k : ℕ) → k < last → Upto ps d judged k →
+begins-at : (ps : List HistoryPart) (d : HistoryPart) (last : ℕ) (judged : HistoryPart → Bool) → Facts ps d last judged → (k : ℕ) → k < last → Upto ps d judged k →
     (q : ℕ) → q < length ps → (get_or ps q d).opening.number < k + 1 → k + 1 ≤ (get_or ps q d).closing.number → (get_or ps q d).opening.number ≡ k
 begins-at ps d last judged f k lk u q lq low high = by u.ends
   where
@@ -407,7 +407,7 @@ begins-at ps d last judged f k lk u q lq low high = by u.ends
     by (inr p) = at-part p.0 p.1 p.2 p.3 (nat_lt (get_or ps q d).opening.number k) refl
 
 -- the part that has the next number is added
-upto-part : (ps : List Part) (d : Part) (last : ℕ) (judged : Part → Bool) → Facts ps d last judged → (k : ℕ) → Upto ps d judged k → (q : ℕ) → q < length ps →
+upto-part : (ps : List HistoryPart) (d : HistoryPart) (last : ℕ) (judged : HistoryPart → Bool) → Facts ps d last judged → (k : ℕ) → Upto ps d judged k → (q : ℕ) → q < length ps →
     (get_or ps q d).opening.number ≡ k → (get_or ps q d).opening.number < (get_or ps q d).closing.number → Upto ps d judged (get_or ps q d).closing.number
 upto-part ps d last judged f k u q lq at grows =
     let odd = entered-kind (get_or ps q d) (kind-at ps d last judged f q lq) grows in
@@ -447,7 +447,7 @@ upto-part ps d last judged f k u q lq at grows =
         slice-more u.entries (get_or ps q d).entries (get_or ps p d).entries (get_or ps p d).opening.number (omega (arith, le, len, lq_is, at)) (u.slices p lp le)
     slice p lp upto lq_is false e = here p lp upto (leb-false _ _ e) lq_is (kind-at ps d last judged f p lp)
 
-upto-step : (ps : List Part) (d : Part) (last : ℕ) (judged : Part → Bool) → Facts ps d last judged → (k : ℕ) → k < last → Upto ps d judged k →
+upto-step : (ps : List HistoryPart) (d : HistoryPart) (last : ℕ) (judged : HistoryPart → Bool) → Facts ps d last judged → (k : ℕ) → k < last → Upto ps d judged k →
     (m : ℕ) × (k < m) × (m ≤ last) × Upto ps d judged m
 upto-step ps d last judged f k lk u =
     let e = f.one (k + 1) in
@@ -461,7 +461,7 @@ upto-step ps d last judged f k lk u =
     let most = below ps d last f.one (get_or ps q d).closing.number q lq (has (get_or ps q d) (get_or ps q d).closing.number (omega (arith, low, high)) (omega arith)) in
     ((get_or ps q d).closing.number, omega (arith, high), most, upto-part ps d last judged f k u q lq at (omega (arith, low, high)))
 
-upto-last : (ps : List Part) (d : Part) (last : ℕ) (judged : Part → Bool) → Facts ps d last judged → (fuel k : ℕ) → k ≤ last → last ≤ k + fuel → Upto ps d judged k → Upto ps d judged last
+upto-last : (ps : List HistoryPart) (d : HistoryPart) (last : ℕ) (judged : HistoryPart → Bool) → Facts ps d last judged → (fuel k : ℕ) → k ≤ last → last ≤ k + fuel → Upto ps d judged k → Upto ps d judged last
 upto-last ps d last judged f zero k le ge u = let same : k ≡ last = omega (arith, le, ge) in subst (Upto ps d judged) same u
 upto-last ps d last judged f (suc fuel) k le ge u = by (nat_lt k last) refl (λ m lt most v. upto-last ps d last judged f fuel m most (omega (arith, lt, ge)) v)
   where
@@ -475,11 +475,11 @@ run-none : (w : World) → IsLegalRun w [] w
 unfolding IsLegalRun
 run-none w = refl
 
-slices-none : (ps : List Part) (d : Part) (last : ℕ) (judged : Part → Bool) → Facts ps d last judged → (p : ℕ) → p < length ps → (get_or ps p d).closing.number ≤ 0 → Slice [] (get_or ps p d)
+slices-none : (ps : List HistoryPart) (d : HistoryPart) (last : ℕ) (judged : HistoryPart → Bool) → Facts ps d last judged → (p : ℕ) → p < length ps → (get_or ps p d).closing.number ≤ 0 → Slice [] (get_or ps p d)
 slices-none ps d last judged f p lp le = let len = part-length ps d last judged f p lp in slice-none [] (get_or ps p d).entries (get_or ps p d).opening.number (omega (arith, le, len))
 
 -- an empty part comes first
-begins-empty : (ps : List Part) (d : Part) (last : ℕ) (judged : Part → Bool) → Facts ps d last judged → (t : ℕ) → t < length ps → is_empty (get_or ps t d) ≡ true → (get_or ps t d).opening.number ≡ 0 → Upto ps d judged 0
+begins-empty : (ps : List HistoryPart) (d : HistoryPart) (last : ℕ) (judged : HistoryPart → Bool) → Facts ps d last judged → (t : ℕ) → t < length ps → is_empty (get_or ps t d) ≡ true → (get_or ps t d).opening.number ≡ 0 → Upto ps d judged 0
 begins-empty ps d last judged f t lt empty at =
     let is = empty-kind (get_or ps t d) (kind-at ps d last judged f t lt) empty in
     record {
@@ -508,7 +508,7 @@ begins-empty ps d last judged f t lt empty at =
         ∙ is.1
 
 -- or the part that has number 1
-begins-entered : (ps : List Part) (d : Part) (last : ℕ) (judged : Part → Bool) → Facts ps d last judged → All (λ p. is_empty_at 0 p ≡ false) ps → 1 ≤ last → Upto ps d judged 0
+begins-entered : (ps : List HistoryPart) (d : HistoryPart) (last : ℕ) (judged : HistoryPart → Bool) → Facts ps d last judged → All (λ p. is_empty_at 0 p ≡ false) ps → 1 ≤ last → Upto ps d judged 0
 begins-entered ps d last judged f none le =
     let e = f.one 1 in
     let once = due-one last 1 (omega arith) le in
@@ -538,13 +538,13 @@ begins-entered ps d last judged f none le =
         let same : r ≡ q = only ps d last f.one 1 r q lr lq hr hq in
         ap (λ (i : ℕ). (get_or ps i d).opening) same
 
-upto-none : (ps : List Part) (d : Part) (last : ℕ) (judged : Part → Bool) → Facts ps d last judged → Upto ps d judged 0
+upto-none : (ps : List HistoryPart) (d : HistoryPart) (last : ℕ) (judged : HistoryPart → Bool) → Facts ps d last judged → Upto ps d judged 0
 upto-none ps d last judged f = by (list_any (is_empty_at 0) ps) refl
   where
     present : Kind (get_or ps f.here d) → All (λ p. is_empty_at 0 p ≡ false) ps → 1 ≤ last
     present (inl k) none =
         let no = none f.here d f.within in
-        let c = ap (λ (p : Part). p.closing.number) f.is in let l = f.present in
+        let c = ap (λ (p : HistoryPart). p.closing.number) f.is in let l = f.present in
         let e = ap (λ (w : World). w.number) k.1 in
         by_number (nat_lt 0 last) refl (λ zero_last. let there = empty-at 0 (get_or ps f.here d) k.2 (omega (arith, c, l, e, zero_last)) in absurd (cc))
       where
@@ -552,7 +552,7 @@ upto-none ps d last judged f = by (list_any (is_empty_at 0) ps) refl
         by_number true e later = ltb-true _ _ e
         by_number false e later = let no = ltb-false _ _ e in later (omega (arith, no))
     present (inr k) none =
-        let c = ap (λ (p : Part). p.closing.number) f.is in let l = f.present in let grows = k.1 in omega (arith, c, l, grows)
+        let c = ap (λ (p : HistoryPart). p.closing.number) f.is in let l = f.present in let grows = k.1 in omega (arith, c, l, grows)
 
     by : (b : Bool) → list_any (is_empty_at 0) ps ≡ b → Upto ps d judged 0
     by true e =
@@ -564,18 +564,18 @@ upto-none ps d last judged f = by (list_any (is_empty_at 0) ps) refl
         begins-entered ps d last judged f none (present (kind-at ps d last judged f f.here f.within) none)
 
 -- the run ends in the closing world of d
-ends-there : (ps : List Part) (d : Part) (last : ℕ) (judged : Part → Bool) (f : Facts ps d last judged) → (u : Upto ps d judged last) → Kind (get_or ps f.here d) → (get_or ps f.here d).closing ≡ u.now
+ends-there : (ps : List HistoryPart) (d : HistoryPart) (last : ℕ) (judged : HistoryPart → Bool) (f : Facts ps d last judged) → (u : Upto ps d judged last) → Kind (get_or ps f.here d) → (get_or ps f.here d).closing ≡ u.now
 ends-there ps d last judged f u (inl k) =
-    let c = ap (λ (p : Part). p.closing.number) f.is in let l = f.present in
+    let c = ap (λ (p : HistoryPart). p.closing.number) f.is in let l = f.present in
     let e = ap (λ (w : World). w.number) k.1 in
-    k.1 ∙ u.joined f.here f.within (subst (λ (p : Part). judged p ≡ true) (sym f.is) f.owned) (omega (arith, c, l, e))
+    k.1 ∙ u.joined f.here f.within (subst (λ (p : HistoryPart). judged p ≡ true) (sym f.is) f.owned) (omega (arith, c, l, e))
 ends-there ps d last judged f u (inr k) = by u.ends
   where
     by : ((last ≡ 0) ⊎ ((p : ℕ) × (p < length ps) × ((get_or ps p d).opening.number < last) × ((get_or ps p d).closing ≡ u.now))) → (get_or ps f.here d).closing ≡ u.now
     by (inl zero_last) =
-        let c = ap (λ (p : Part). p.closing.number) f.is in let l = f.present in let grows = k.1 in absurd (omega (arith, c, l, grows, zero_last))
+        let c = ap (λ (p : HistoryPart). p.closing.number) f.is in let l = f.present in let grows = k.1 in absurd (omega (arith, c, l, grows, zero_last))
     by (inr p) =
-        let c = ap (λ (q : Part). q.closing.number) f.is in let l = f.present in let grows = k.1 in
+        let c = ap (λ (q : HistoryPart). q.closing.number) f.is in let l = f.present in let grows = k.1 in
         let n = ap (λ (w : World). w.number) p.3 in let un = u.number in
         let low = p.2 in
         let hp = has (get_or ps p.0 d) last low (omega (arith, n, un)) in
@@ -583,7 +583,7 @@ ends-there ps d last judged f u (inr k) = by u.ends
         let same : f.here ≡ p.0 = only ps d last f.one last f.here p.0 f.within p.1 hh hp in
         ap (λ (i : ℕ). (get_or ps i d).closing) same ∙ p.3
 
-slices-all : (ps : List Part) (d : Part) (last : ℕ) (judged : Part → Bool) → Facts ps d last judged → (u : Upto ps d judged last) → (p : ℕ) → p < length ps → Kind (get_or ps p d) → Slice u.entries (get_or ps p d)
+slices-all : (ps : List HistoryPart) (d : HistoryPart) (last : ℕ) (judged : HistoryPart → Bool) → Facts ps d last judged → (u : Upto ps d judged last) → (p : ℕ) → p < length ps → Kind (get_or ps p d) → Slice u.entries (get_or ps p d)
 slices-all ps d last judged f u p lp (inl k) =
     let e = ap (λ (w : World). w.number) k.1 in let len = part-length ps d last judged f p lp in slice-none u.entries (get_or ps p d).entries (get_or ps p d).opening.number (omega (arith, e, len))
 slices-all ps d last judged f u p lp (inr k) =
@@ -592,7 +592,7 @@ slices-all ps d last judged f u p lp (inr k) =
 -- ---- where nothing is wrong
 
 -- what stands before a judged part is judged
-lower : (s : State) (p q : Part) → place p ≤ place q → is_judged s q ≡ true → is_judged s p ≡ true
+lower : (s : State) (p q : HistoryPart) → place p ≤ place q → is_judged s q ≡ true → is_judged s p ≡ true
 lower s p q le jq = by (length s.entries == 0) jq
   where
     by : (b : Bool) → (b || nat_le (place q) (place (tail_of s))) ≡ true → (b || nat_le (place p) (place (tail_of s))) ≡ true
@@ -607,7 +607,7 @@ owned s = by (length s.entries == 0)
     by false = le-leb _ _ (omega arith)
 
 -- what has entries is judged
-entered-by : (segments : List Part) (s : State) → IsCounted (parts_of segments s) s.world.number → (h : ℕ) → h < length (parts_of segments s) → get_or (parts_of segments s) h (tail_of s) ≡ tail_of s →
+entered-by : (segments : List HistoryPart) (s : State) → IsCounted (parts_of segments s) s.world.number → (h : ℕ) → h < length (parts_of segments s) → get_or (parts_of segments s) h (tail_of s) ≡ tail_of s →
     Kind (tail_of s) → (q : ℕ) → q < length (parts_of segments s) → Kind (get_or (parts_of segments s) q (tail_of s)) →
     (get_or (parts_of segments s) q (tail_of s)).opening.number < (get_or (parts_of segments s) q (tail_of s)).closing.number → is_judged s (get_or (parts_of segments s) q (tail_of s)) ≡ true
 entered-by segments s one h lh is (inl k) q lq kq grows = ap (λ b. b || nat_le (place (get_or (parts_of segments s) q (tail_of s))) (place (tail_of s))) k.2
@@ -622,20 +622,20 @@ entered-by segments s one h lh is (inr k) q lq kq grows =
     let n = (get_or ps q d).opening.number + 1 in
     let hq = has (get_or ps q d) n (omega arith) (omega (arith, grows)) in
     let hd = has d n (omega (arith, above, odd, odd_d)) (omega (arith, grows, most)) in
-    let same : q ≡ h = only ps d last one n q h lq lh hq (subst (λ (p : Part). has_number n p ≡ true) (sym is) hd) in
+    let same : q ≡ h = only ps d last one n q h lq lh hq (subst (λ (p : HistoryPart). has_number n p ≡ true) (sym is) hd) in
     let e = ap (λ (i : ℕ). (get_or ps i d).opening.number) same in
-    let at = ap (λ (p : Part). p.opening.number) is in
+    let at = ap (λ (p : HistoryPart). p.opening.number) is in
     omega (arith, above, odd, odd_d, e, at))
   where
     by : (b : Bool) → nat_le (place (get_or (parts_of segments s) q (tail_of s))) (place (tail_of s)) ≡ b → (place (tail_of s) < place (get_or (parts_of segments s) q (tail_of s)) → ⊥) → is_judged s (get_or (parts_of segments s) q (tail_of s)) ≡ true
     by true e never = ap (λ b. (length s.entries == 0) || b) e ∙ or-true (length s.entries == 0)
     by false e never = absurd (never (leb-false _ _ e))
 
-pub facts : (segments : List Part) (s : State) → All IsPart (parts_of segments s) → ((n : ℕ) → IsRight segments s n) → Facts (parts_of segments s) (tail_of s) s.world.number (is_judged s)
+pub facts : (segments : List HistoryPart) (s : State) → All IsHistoryPart (parts_of segments s) → ((n : ℕ) → IsRight segments s n) → Facts (parts_of segments s) (tail_of s) s.world.number (is_judged s)
 facts segments s all right =
     let ps = parts_of segments s in
     let d = tail_of s in
-    let own : IsPart d = All-back IsPart segments d all in
+    let own : IsHistoryPart d = All-back IsHistoryPart segments d all in
     let len = length-append segments (d ∷ []) in
     let within : length segments < length ps = omega (arith, len) in
     let is : get_or ps (length segments) d ≡ d = get_or-append_seam segments d [] d in
@@ -655,14 +655,14 @@ facts segments s all right =
     }
 
 -- so the parts are one history
-pub one-history : (segments : List Part) (s : State) → Facts (parts_of segments s) (tail_of s) s.world.number (is_judged s) → AreOneHistory segments s
+pub one-history : (segments : List HistoryPart) (s : State) → Facts (parts_of segments s) (tail_of s) s.world.number (is_judged s) → AreOneHistory segments s
 one-history segments s f =
     let ps = parts_of segments s in
     let d = tail_of s in
     let last = s.world.number in
     let u = upto-last ps d last (is_judged s) f last 0 (omega arith) (omega arith) (upto-none ps d last (is_judged s) f) in
     let end = ends-there ps d last (is_judged s) f u (kind-at ps d last (is_judged s) f f.here f.within) in
-    let at : (get_or ps f.here d).closing ≡ s.world = ap (λ (p : Part). p.closing) f.is in
+    let at : (get_or ps f.here d).closing ≡ s.world = ap (λ (p : HistoryPart). p.closing) f.is in
     record {
       first = u.first;
       opens = u.opens;

@@ -7,7 +7,7 @@ use Rattle.std.proofs.lemmas.Bool.{lt-ltb, le-ltb, le-leb, lt-leb, ltb-true, ltb
 use Rattle.std.proofs.lemmas.List.{take_more}
 use Rattle.std.proofs.lemmas.List.Elements.{All-head, All-tail, All-push}
 use Rattle.hub.specs.History.{State}
-use Rattle.hub.specs.Segments.{Part, first_number, tail_of}
+use Rattle.hub.specs.Segments.{HistoryPart, first_number, tail_of}
 use Rattle.hub.proofs.Lists.{filter_same_on}
 use Rattle.hub.proofs.Finds.{any-none}
 use Rattle.hub_segments.specs.Joins.{parts_of, has_number, due, is_judged, Begins, IsRight}
@@ -63,10 +63,10 @@ next-high c n other = by (nat_le n c) refl
     by false e = let lt = leb-false _ _ e in lt-leb _ _ (omega (arith, lt))
 
 -- whether a part begins or ends right before the next number
-abbrev meets : ℕ → Part → Bool
+abbrev meets : ℕ → HistoryPart → Bool
 meets n p = (p.opening.number == n) || (p.closing.number == n)
 
-meets-neither : (n : ℕ) (p : Part) → meets n p ≡ false → (p.opening.number ≡ n → ⊥) × (p.closing.number ≡ n → ⊥)
+meets-neither : (n : ℕ) (p : HistoryPart) → meets n p ≡ false → (p.opening.number ≡ n → ⊥) × (p.closing.number ≡ n → ⊥)
 meets-neither n p h = by (p.opening.number == n) (p.closing.number == n) refl refl h
   where
     by : (a b : Bool) → (p.opening.number == n) ≡ a → (p.closing.number == n) ≡ b → (a || b) ≡ false → (p.opening.number ≡ n → ⊥) × (p.closing.number ≡ n → ⊥)
@@ -75,7 +75,7 @@ meets-neither n p h = by (p.opening.number == n) (p.closing.number == n) refl re
     by false false e f h' = (λ is. let yes' = eq-eqb _ _ is in absurd (cc), λ is. let yes' = eq-eqb _ _ is in absurd (cc))
 
 -- a part that doesn't has both numbers or neither
-next-part : (n : ℕ) (p : Part) → meets n p ≡ false → has_number (suc n) p ≡ has_number n p
+next-part : (n : ℕ) (p : HistoryPart) → meets n p ≡ false → has_number (suc n) p ≡ has_number n p
 next-part n p h =
     let neither = meets-neither n p h in
     ap (λ b. b && nat_le (suc n) p.closing.number) (next-low p.opening.number n neither.0)
@@ -91,7 +91,7 @@ next-due last (suc n) some other =
     due-on last (suc (suc n)) (omega arith) ∙ ap f (next-high last (suc n) other) ∙ sym (due-on last (suc n) (omega arith))
 
 -- where no part begins or ends between two numbers, the second is in place with the first
-next-in-place : (segments : List Part) (s : State) (n : ℕ) → All (λ p. meets n p ≡ false) (parts_of segments s) → (n ≡ 0 → ⊥) → IsInPlace segments s n → IsInPlace segments s (suc n)
+next-in-place : (segments : List HistoryPart) (s : State) (n : ℕ) → All (λ p. meets n p ≡ false) (parts_of segments s) → (n ≡ 0 → ⊥) → IsInPlace segments s n → IsInPlace segments s (suc n)
 next-in-place segments s n none some here =
     let ps = parts_of segments s in
     let same : filter (has_number (suc n)) ps ≡ filter (has_number n) ps = filter_same_on (has_number (suc n)) (has_number n) ps (λ i d lt. next-part n (get_or ps i d) (none i d lt)) in
@@ -103,17 +103,17 @@ count-none t [] none = refl
 count-none t (x ∷ xs) none =
     ap (λ b. length (cond b (x ∷ filter t xs) (filter t xs))) (All-head (λ y. t y ≡ false) x xs none) ∙ count-none t xs (All-tail (λ y. t y ≡ false) x xs none)
 
-has-none : (n : ℕ) (p : Part) → p.closing.number < n → has_number n p ≡ false
+has-none : (n : ℕ) (p : HistoryPart) → p.closing.number < n → has_number n p ≡ false
 has-none n p lt = ap (λ b. nat_lt p.opening.number n && b) (lt-leb _ _ lt) ∙ and-none (nat_lt p.opening.number n)
   where
     and-none : (b : Bool) → (b && false) ≡ false
     and-none true = refl
     and-none false = refl
 
-has-zero : (p : Part) → has_number 0 p ≡ false
+has-zero : (p : HistoryPart) → has_number 0 p ≡ false
 has-zero p = ap (λ b. b && nat_le 0 p.closing.number) (le-ltb p.opening.number 0 (omega arith))
 
-in-place-zero : (segments : List Part) (s : State) → IsInPlace segments s 0
+in-place-zero : (segments : List HistoryPart) (s : State) → IsInPlace segments s 0
 in-place-zero segments s = count-none (has_number 0) (parts_of segments s) (λ i d lt. has-zero (get_or (parts_of segments s) i d))
 
 -- ---- below the least
@@ -123,19 +123,19 @@ less-below n None h = omega (arith, h)
 less-below n (Some most) h = let lt = h.0 in let fits = h.1 in (omega (arith, lt), omega (arith, fits))
 
 -- What is known of the parts so far, and of the least number so far at which something is wrong.
-pub record Found (segments : List Part) (s : State) (least : Option ℕ) (done : List Part) : Type 0 where
+pub record Found (segments : List HistoryPart) (s : State) (least : Option ℕ) (done : List HistoryPart) : Type 0 where
   pub wrong : IfSome least (λ n. IsRight segments s n → ⊥)
   pub one : IsBelow 1 least → IsInPlace segments s 1
   pub clear : All (IsClear segments s least) done
 
-in-place : (segments : List Part) (s : State) (least : Option ℕ) → Found segments s least (parts_of segments s) → (n : ℕ) → IsBelow n least → IsInPlace segments s n
+in-place : (segments : List HistoryPart) (s : State) (least : Option ℕ) → Found segments s least (parts_of segments s) → (n : ℕ) → IsBelow n least → IsInPlace segments s n
 in-place segments s least f zero below = in-place-zero segments s
 in-place segments s least f (suc n) below = by (list_any (meets n) (parts_of segments s)) refl (in-place segments s least f n (less-below n least below))
   where
-    ps : List Part
+    ps : List HistoryPart
     ps = parts_of segments s
 
-    at : (q : Part) → IsClear segments s least q → (a b : Bool) → (q.opening.number == n) ≡ a → (q.closing.number == n) ≡ b → (a || b) ≡ true → IsInPlace segments s (suc n)
+    at : (q : HistoryPart) → IsClear segments s least q → (a b : Bool) → (q.opening.number == n) ≡ a → (q.closing.number == n) ≡ b → (a || b) ≡ true → IsInPlace segments s (suc n)
     at q clear true b e g h =
         let is = eqb-true _ _ e in let next : q.opening.number + 1 ≡ suc n = omega (arith, is) in
         subst (λ (k : ℕ). IsBelow k least → IsInPlace segments s k) next clear.first below
@@ -157,27 +157,27 @@ in-place segments s least f (suc n) below = by (list_any (meets n) (parts_of seg
         at q (f.clear one.0 (tail_of s) one.1) (q.opening.number == n) (q.closing.number == n) refl refl one.2
     by false e here = from (n == 0) refl (any-none (meets n) (parts_of segments s) e) here
 
-right-below : (segments : List Part) (s : State) (least : Option ℕ) → Found segments s least (parts_of segments s) → (n : ℕ) → IsBelow n least → IsRight segments s n
+right-below : (segments : List HistoryPart) (s : State) (least : Option ℕ) → Found segments s least (parts_of segments s) → (n : ℕ) → IsBelow n least → IsRight segments s n
 right-below segments s least f n below = record {
   once = in-place segments s least f n below;
   begins = λ i d li. (f.clear i d li).begun n below;
 }
 
 -- no number is above
-right-above : (segments : List Part) (s : State) → AreNumbered (parts_of segments s) → (n : ℕ) → 18446744073709551616 ≤ n → IsRight segments s n
+right-above : (segments : List HistoryPart) (s : State) → AreNumbered (parts_of segments s) → (n : ℕ) → 18446744073709551616 ≤ n → IsRight segments s n
 right-above segments s numbered n high =
     let ps = parts_of segments s in
-    let last = All-back (λ (p : Part). p.closing.number < 18446744073709551616) segments (tail_of s) numbered in
+    let last = All-back (λ (p : HistoryPart). p.closing.number < 18446744073709551616) segments (tail_of s) numbered in
     let none : length (filter (has_number n) ps) ≡ 0 = count-none (has_number n) ps (λ i d li. above (get_or ps i d) (numbered i d li)) in
     record {
       once = none ∙ sym (due-none s.world.number (omega (arith, last, high)));
       begins = λ i d li judged first. absurd (too-high (get_or ps i d) first);
     }
   where
-    above : (p : Part) → p.closing.number < 18446744073709551616 → has_number n p ≡ false
+    above : (p : HistoryPart) → p.closing.number < 18446744073709551616 → has_number n p ≡ false
     above p lt = has-none n p (omega (arith, lt, high))
 
-    too-high : (q : Part) → first_number q ≡ n → ⊥
+    too-high : (q : HistoryPart) → first_number q ≡ n → ⊥
     too-high q first = omega (arith, first, high)
 
     due-none : (last : ℕ) → last < n → due last n ≡ 0
@@ -189,35 +189,35 @@ right-above segments s numbered n high =
         by false true e = refl
         by false false e = refl
 
-right-all : (segments : List Part) (s : State) → Found segments s None (parts_of segments s) → AreNumbered (parts_of segments s) → (n : ℕ) → IsRight segments s n
+right-all : (segments : List HistoryPart) (s : State) → Found segments s None (parts_of segments s) → AreNumbered (parts_of segments s) → (n : ℕ) → IsRight segments s n
 right-all segments s f numbered n = by (nat_lt n 18446744073709551616) refl
   where
     by : (b : Bool) → nat_lt n 18446744073709551616 ≡ b → IsRight segments s n
     by true e = right-below segments s None f n (ltb-true _ _ e)
     by false e = right-above segments s numbered n (ltb-false _ _ e)
 
-right-least : (segments : List Part) (s : State) (least : ℕ) → Found segments s (Some least) (parts_of segments s) → AreNumbered (parts_of segments s) → (n : ℕ) → n < least → IsRight segments s n
+right-least : (segments : List HistoryPart) (s : State) (least : ℕ) → Found segments s (Some least) (parts_of segments s) → AreNumbered (parts_of segments s) → (n : ℕ) → n < least → IsRight segments s n
 right-least segments s least f numbered n lt = by (nat_lt least 18446744073709551616) refl
   where
     by : (b : Bool) → nat_lt least 18446744073709551616 ≡ b → IsRight segments s n
     by true e = let fits = ltb-true _ _ e in right-below segments s (Some least) f n (lt, omega (arith, fits, lt))
     by false e = absurd (f.wrong (right-above segments s numbered least (ltb-false _ _ e)))
 
-pub right-found : (segments : List Part) (s : State) (least : Option ℕ) → Found segments s least (parts_of segments s) → AreNumbered (parts_of segments s) →
+pub right-found : (segments : List HistoryPart) (s : State) (least : Option ℕ) → Found segments s least (parts_of segments s) → AreNumbered (parts_of segments s) →
     MatchOption least ((n : ℕ) → IsRight segments s n) (λ l. (n : ℕ) → n < l → IsRight segments s n)
 right-found segments s None f numbered = right-all segments s f numbered
 right-found segments s (Some least) f numbered = right-least segments s least f numbered
 
 -- ---- one part more
 
-clear-lesser : (segments : List Part) (s : State) (least less : Option ℕ) (q : Part) → ((n : ℕ) → IsBelow n less → IsBelow n least) → IsClear segments s least q → IsClear segments s less q
+clear-lesser : (segments : List HistoryPart) (s : State) (least less : Option ℕ) (q : HistoryPart) → ((n : ℕ) → IsBelow n less → IsBelow n least) → IsClear segments s least q → IsClear segments s less q
 clear-lesser segments s least less q under clear = record {
   first = λ below. clear.first (under (q.opening.number + 1) below);
   next = λ below. clear.next (under (q.closing.number + 1) below);
   begun = λ n below. clear.begun n (under n below);
 }
 
-pub found-more : (segments : List Part) (s : State) (least fault : Option ℕ) (done : List Part) (q : Part) → Found segments s least done → ((n : ℕ) → IsRight segments s n → IsBegun segments s q n) →
+pub found-more : (segments : List HistoryPart) (s : State) (least fault : Option ℕ) (done : List HistoryPart) (q : HistoryPart) → Found segments s least done → ((n : ℕ) → IsRight segments s n → IsBegun segments s q n) →
     IfSome fault (IsFaultOf segments s q) → IsClear segments s fault q → Found segments s (lesser least fault) (done ++ q ∷ [])
 found-more segments s least fault done q f begun wrong clear = record {
   wrong = some-lesser (λ n. IsRight segments s n → ⊥) least fault f.wrong (IfSome_then fault wrong (λ n fault' right. fault' right.once (begun n right)));
@@ -228,32 +228,32 @@ found-more segments s least fault done q f begun wrong clear = record {
 }
 
 -- what is right at a number is right of each part
-pub begun-segment : (segments : List Part) (s : State) (i : ℕ) (d : Part) → i < length segments → (n : ℕ) → IsRight segments s n → IsBegun segments s (get_or segments i d) n
+pub begun-segment : (segments : List HistoryPart) (s : State) (i : ℕ) (d : HistoryPart) → i < length segments → (n : ℕ) → IsRight segments s n → IsBegun segments s (get_or segments i d) n
 begun-segment segments s i d li n right =
-    All-front (λ (q : Part). is_judged s q ≡ true → first_number q ≡ n → Begins (parts_of segments s) q) segments (tail_of s) right.begins i d li
+    All-front (λ (q : HistoryPart). is_judged s q ≡ true → first_number q ≡ n → Begins (parts_of segments s) q) segments (tail_of s) right.begins i d li
 
-pub begun-tail : (segments : List Part) (s : State) (n : ℕ) → IsRight segments s n → IsBegun segments s (tail_of s) n
+pub begun-tail : (segments : List HistoryPart) (s : State) (n : ℕ) → IsRight segments s n → IsBegun segments s (tail_of s) n
 begun-tail segments s n right =
-    All-back (λ (q : Part). is_judged s q ≡ true → first_number q ≡ n → Begins (parts_of segments s) q) segments (tail_of s) right.begins
+    All-back (λ (q : HistoryPart). is_judged s q ≡ true → first_number q ≡ n → Begins (parts_of segments s) q) segments (tail_of s) right.begins
 
 -- one segment more
-pub found-segment : (segments : List Part) (s : State) (least fault less : Option ℕ) (i : ℕ) (q : Part) → i < length segments → q ≡ get_or segments i q → less ≡ lesser least fault →
+pub found-segment : (segments : List HistoryPart) (s : State) (least fault less : Option ℕ) (i : ℕ) (q : HistoryPart) → i < length segments → q ≡ get_or segments i q → less ≡ lesser least fault →
     Found segments s least (take i segments) → IfSome fault (IsFaultOf segments s q) → IsClear segments s fault q → Found segments s less (take (i + 1) segments)
 found-segment segments s least fault less i q li is lesser_is f wrong clear =
-    let begun : (n : ℕ) → IsRight segments s n → IsBegun segments s q n = subst (λ (p : Part). (n : ℕ) → IsRight segments s n → IsBegun segments s p n) (sym is) (begun-segment segments s i q li) in
+    let begun : (n : ℕ) → IsRight segments s n → IsBegun segments s q n = subst (λ (p : HistoryPart). (n : ℕ) → IsRight segments s n → IsBegun segments s p n) (sym is) (begun-segment segments s i q li) in
     let next = found-more segments s least fault (take i segments) q f begun wrong clear in
-    let rows : take (i + 1) segments ≡ take i segments ++ q ∷ [] = take_more segments i q li ∙ ap (λ (p : Part). take i segments ++ p ∷ []) (sym is) in
+    let rows : take (i + 1) segments ≡ take i segments ++ q ∷ [] = take_more segments i q li ∙ ap (λ (p : HistoryPart). take i segments ++ p ∷ []) (sym is) in
     subst (λ (o : Option ℕ). Found segments s o (take (i + 1) segments)) (sym lesser_is) (subst (Found segments s (lesser least fault)) (sym rows) next)
 
 -- and the tail
-pub found-tail : (segments : List Part) (s : State) (least fault less : Option ℕ) (done : List Part) → done ≡ segments → less ≡ lesser least fault →
+pub found-tail : (segments : List HistoryPart) (s : State) (least fault less : Option ℕ) (done : List HistoryPart) → done ≡ segments → less ≡ lesser least fault →
     Found segments s least done → IfSome fault (IsFaultOf segments s (tail_of s)) → IsClear segments s fault (tail_of s) → Found segments s less (parts_of segments s)
 found-tail segments s least fault less done all lesser_is f wrong clear =
     let next = found-more segments s least fault segments (tail_of s) (subst (Found segments s least) all f) (begun-tail segments s) wrong clear in
     subst (λ (o : Option ℕ). Found segments s o (parts_of segments s)) (sym lesser_is) next
 
 -- a fault that a part shows
-pub fault-wrong : (segments : List Part) (s : State) (q : Part) (first next both unbegun least : Option ℕ) → both ≡ lesser first next → least ≡ lesser both unbegun →
+pub fault-wrong : (segments : List HistoryPart) (s : State) (q : HistoryPart) (first next both unbegun least : Option ℕ) → both ≡ lesser first next → least ≡ lesser both unbegun →
     IfSome first (λ n. IsInPlace segments s n → ⊥) → IfSome next (λ n. IsInPlace segments s n → ⊥) → IfSome unbegun (λ n. IsBegun segments s q n → ⊥) → IfSome least (IsFaultOf segments s q)
 fault-wrong segments s q first next both unbegun least both_is least_is f n u =
     let places : IfSome both (λ k. IsInPlace segments s k → ⊥) = subst (λ (o : Option ℕ). IfSome o (λ k. IsInPlace segments s k → ⊥)) (sym both_is) (some-lesser (λ k. IsInPlace segments s k → ⊥) first next f n) in

@@ -2,7 +2,7 @@
 ghost use Rattle.std.specs.Prelude.{◌≡◌, ◌<◌, ◌+◌, ◌&&◌, ◌||◌, ℕ, true, OnOk, IfSome, MatchOption, All, filter, length, nat_lt};
 ghost use Rattle.std.specs.Bool.{Decides};
 ghost use Rattle.std.specs.List.{list_any};
-ghost use Rattle.hub.specs.Segments.{Part, IsPart, tail_of};
+ghost use Rattle.hub.specs.Segments.{HistoryPart, IsHistoryPart, tail_of};
 ghost use Rattle.hub_segments.specs.Joins.{parts_of, has_number, is_empty, place, Begins, is_judged, IsRight, IsLeastFault, AreOneHistory};
 ghost use Rattle.hub_segments.specs.Search.{lesser, is_before, IsBelow, IsInPlace, IsBegun, IsClear, IsFaultOf, AreNumbered};
 
@@ -32,7 +32,7 @@ pub fn joins(segments: &[Segment], hub: &Hub) -> Result<(), u64>
 
 /// Tells what every part keeps.
 fn known_parts(segments: &[Segment], hub: &Hub)
-    ensures parts { All IsPart (parts_of segments.now hub.now) }
+    ensures parts { All IsHistoryPart (parts_of segments.now hub.now) }
     ensures numbers { AreNumbered (parts_of segments.now hub.now) }
 {
     for segment in segments {
@@ -176,7 +176,7 @@ fn tail_begins(segments: &[Segment], hub: &Hub) -> bool
 /// Whether a part that is judged begins in the world in which the part before it ends. The tail stands before such a part
 /// only if it has no entries, and so ends in the world in which it begins.
 fn begins(segments: &[Segment], hub: &Hub, opening: &PlainWorld, at: u128, empty: bool) -> bool
-    ensures { (q : Part) → q.opening ≡ opening.now → place q ≡ at → is_empty q ≡ empty → is_judged hub.now q ≡ true
+    ensures { (q : HistoryPart) → q.opening ≡ opening.now → place q ≡ at → is_empty q ≡ empty → is_judged hub.now q ≡ true
         → Decides result (Begins (parts_of segments.now hub.now) q) }
 {
     // Tells the prover that the tail is a legal run.
@@ -213,7 +213,7 @@ fn is_before(place: u128, nearest: u128, at: u128, empty: bool) -> bool
 
 /// The greatest place of a part below another place, 0 without one.
 fn nearest_below(segments: &[Segment], hub: &Hub, at: u128) -> u128
-    ensures { (n : ℕ) → list_any (λ (r : Part). nat_lt n (place r) && nat_lt (place r) at) (parts_of segments.now hub.now) ≡ nat_lt n result }
+    ensures { (n : ℕ) → list_any (λ (r : HistoryPart). nat_lt n (place r) && nat_lt (place r) at) (parts_of segments.now hub.now) ≡ nat_lt n result }
 {
     let mut nearest = 0;
     for segment in segments {

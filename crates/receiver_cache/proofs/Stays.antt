@@ -232,15 +232,15 @@ module _ (f : Subscription → Subscription) (same : (s : Subscription) → made
     (zs after : List Session) (seated : AreSeated zs after) (subs : List Subscription) (rows : List ImportRow) where
   so-stays : (cached : CachedReceivers) → IsSo rows zs subs cached → IsSo rows after (map f subs) cached
   so-stays cached so = (
-    whom-stays f same zs after seated subs cached.whom cached.published.conn cached.published.subject.items so.0,
-    others-stay f same zs after seated subs most_same cached.others rows cached.published.conn cached.published.subject.items so.1,
-    alone-stays zs after seated cached.alone rows cached.published.conn cached.published.subject.items so.2,
+    whom-stays f same zs after seated subs cached.whom cached.key.conn cached.key.subject.items so.0,
+    others-stay f same zs after seated subs most_same cached.others rows cached.key.conn cached.key.subject.items so.1,
+    alone-stays zs after seated cached.alone rows cached.key.conn cached.key.subject.items so.2,
   )
 
   current-stays : (cache : ReceiverCache) → IsCurrent rows zs subs cache → IsCurrent rows after (map f subs) cache
   current-stays cache current = record {
     each = λ cached has. so-stays cached (current.each cached has);
-    drawn = drawn-stay f same zs after seated subs most_same cache.drawn.by_draw.items rows cache.drawn.published.conn cache.drawn.published.subject.items current.drawn;
+    drawn = drawn-stay f same zs after seated subs most_same cache.drawn.by_draw.items rows cache.drawn.key.conn cache.drawn.key.subject.items current.drawn;
   }
 
 pub current_taken : (cache : ReceiverCache) (rows : List ImportRow) (zs after : List Session) (subs : List Subscription) → AreSeated zs after → IsCurrent rows zs subs cache → IsCurrent rows after subs cache

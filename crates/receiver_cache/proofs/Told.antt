@@ -17,7 +17,7 @@ use Rattle.world_deliveries.specs.declared.session.Session.{Session}
 use Rattle.world_subscriptions.specs.Addressing.{addressed_to}
 use Rattle.world_rows.specs.declared.subscription.Subscription.{Subscription}
 use Rattle.receiver_views.specs.Open.{open_among}
-use Rattle.receiver_cache.specs.Published.{IsOf}
+use Rattle.receiver_cache.specs.Key.{IsOf}
 use Rattle.receiver_views.specs.Receivers.{receiver_of, addressed_at, addressed_among}
 use Rattle.receiver_views.specs.Known.{AreSeen, IsWhom, others_in, KnowsOthers}
 use Rattle.receiver_cache.specs.Drawn.{IsCached, IsDrawn, IsSentOn, KnowsDrawn, TellsDrawn}
@@ -27,7 +27,7 @@ use Rattle.receiver_cache.specs.declared.cached.CachedReceivers.{CachedReceivers
 use Rattle.receiver_cache.specs.declared.drawn.Drawn.{Drawn}
 use Rattle.receiver_cache.specs.declared.drawn.DrawnCache.{DrawnCache}
 use Rattle.receiver_views.specs.declared.known.KnownView.{KnownView}
-use Rattle.receiver_cache.specs.declared.published.Published.{Published}
+use Rattle.receiver_cache.specs.declared.key.CacheKey.{CacheKey}
 use Rattle.receiver_views.specs.declared.whom.Whom.{Whom}
 
 -- a message on its way to the receiver of a subscription is on its way to that
@@ -37,20 +37,20 @@ addressed_each m (s ∷ subs) = ap (λ (rest : List Addressed). addressed_to m s
 
 -- so the deliveries that it tells are those of the message
 pub told_are : (cached : CachedReceivers) (conn : ℕ) (text : List ℕ) (m : Message) (word : ℕ) (all : List Addressed) (rows : List ImportRow) (zs : List Session) (subs : List Subscription) (z : Session) →
-    Tells cached m word all → IsSo rows zs subs cached → IsOf cached.published conn text → session_of zs conn ≡ Some z → tokens_of text ≡ m.subject → all ≡ addressed_among zs subs z m word
+    Tells cached m word all → IsSo rows zs subs cached → IsOf cached.key conn text → session_of zs conn ≡ Some z → tokens_of text ≡ m.subject → all ≡ addressed_among zs subs z m word
 told_are cached conn text m word all rows zs subs z tells so of there same =
-    let whom : IsWhom cached.whom (open_among zs subs z z.user.account (tokens_of cached.published.subject.items)) = so.0 z (ap (session_of zs) of.0 ∙ there) in
+    let whom : IsWhom cached.whom (open_among zs subs z z.user.account (tokens_of cached.key.subject.items)) = so.0 z (ap (session_of zs) of.0 ∙ there) in
     tells.1
     ∙ ap (map (addressed_at m)) (sym (whom tells.0 word))
-    ∙ addressed_each m (served word (open_among zs subs z z.user.account (tokens_of cached.published.subject.items)))
+    ∙ addressed_each m (served word (open_among zs subs z z.user.account (tokens_of cached.key.subject.items)))
     ∙ ap (λ (s : List Token). map (addressed_to m) (served word (open_among zs subs z z.user.account s))) (ap tokens_of of.1 ∙ same)
 
 -- and what it says of the views of its publisher's messages on its subject is so
 pub others_are : (cached : CachedReceivers) (rows : List ImportRow) (zs : List Session) (subs : List Subscription) (z : Session) (conn : ℕ) (text : List ℕ) (s : List Token) →
-    IsSo rows zs subs cached → IsOf cached.published conn text → session_of zs conn ≡ Some z → tokens_of text ≡ s → KnowsOthers cached.others rows zs subs z s
+    IsSo rows zs subs cached → IsOf cached.key conn text → session_of zs conn ≡ Some z → tokens_of text ≡ s → KnowsOthers cached.others rows zs subs z s
 others_are cached rows zs subs z conn text s so of there same = here cached.others so.1
   where
-    here : (o : Option (Vec KnownView)) → KnowsOthersFor o rows cached.published.conn cached.published.subject.items zs subs → KnowsOthers o rows zs subs z s
+    here : (o : Option (Vec KnownView)) → KnowsOthersFor o rows cached.key.conn cached.key.subject.items zs subs → KnowsOthers o rows zs subs z s
     here None is = tt
     here (Some known) is =
         subst (λ (t : List Token). KnowsOthers (Some known) rows zs subs z t) (ap tokens_of of.1 ∙ same) (is z (ap (session_of zs) of.0 ∙ there))
@@ -58,14 +58,14 @@ others_are cached rows zs subs z conn text s so of there same = here cached.othe
 -- what says nothing is so
 pub blank_so : (cached : CachedReceivers) (rows : List ImportRow) (zs : List Session) (subs : List Subscription) → IsBlank cached → IsSo rows zs subs cached
 blank_so cached rows zs subs blank = (
-  λ z there. subst (λ (w : Whom). IsWhom w (open_among zs subs z z.user.account (tokens_of cached.published.subject.items))) (sym blank.0) (λ says. absurd says),
-  subst (λ (o : Option (Vec KnownView)). KnowsOthersFor o rows cached.published.conn cached.published.subject.items zs subs) (sym blank.1) tt,
-  subst (λ (o : Option By). IsAloneFor o rows cached.published.conn cached.published.subject.items zs) (sym blank.2) tt,
+  λ z there. subst (λ (w : Whom). IsWhom w (open_among zs subs z z.user.account (tokens_of cached.key.subject.items))) (sym blank.0) (λ says. absurd says),
+  subst (λ (o : Option (Vec KnownView)). KnowsOthersFor o rows cached.key.conn cached.key.subject.items zs subs) (sym blank.1) tt,
+  subst (λ (o : Option By). IsAloneFor o rows cached.key.conn cached.key.subject.items zs) (sym blank.2) tt,
 )
 
 -- nothing is cached of draws
 pub none_drawn : (cache : DrawnCache) (rows : List ImportRow) (zs : List Session) (subs : List Subscription) → cache.by_draw.items ≡ [] →
-    KnowsDrawn cache.by_draw.items rows cache.published.conn cache.published.subject.items zs subs
+    KnowsDrawn cache.by_draw.items rows cache.key.conn cache.key.subject.items zs subs
 none_drawn cache rows zs subs none = record {
   each = λ draw drawn cached z there. absurd (none-some (Some drawn) (subst (λ (all : List (Option Drawn)). IsCached all draw drawn) none cached));
 }
@@ -86,7 +86,7 @@ pub still_current : (old new : ReceiverCache) (rows : List ImportRow) (zs : List
     ((cached : CachedReceivers) → Has new cached → Has old cached ⊎ IsBlank cached ⊎ IsSo rows zs subs cached) → new.drawn ≡ old.drawn → IsCurrent rows zs subs old → IsCurrent rows zs subs new
 still_current old new rows zs subs less same current = record {
   each = λ cached has. here cached (less cached has);
-  drawn = subst (λ (drawn : DrawnCache). KnowsDrawn drawn.by_draw.items rows drawn.published.conn drawn.published.subject.items zs subs) (sym same) current.drawn;
+  drawn = subst (λ (drawn : DrawnCache). KnowsDrawn drawn.by_draw.items rows drawn.key.conn drawn.key.subject.items zs subs) (sym same) current.drawn;
 }
   where
     here : (cached : CachedReceivers) → Has old cached ⊎ IsBlank cached ⊎ IsSo rows zs subs cached → IsSo rows zs subs cached
@@ -122,35 +122,35 @@ alone_filled (Some by) allowed others rows zs subs z s conn text filled lists kn
 }
 
 -- what was found of those that the publisher's message may be sent to is so
-pub found_so : (cached : CachedReceivers) (published : Published) (others : Option (Vec KnownView)) (allowed : Option By) (conn : ℕ) (text : List ℕ) (rows : List ImportRow) (zs : List Session) (subs found : List Subscription) (z : Session) (s : List Token) →
-    IsFound cached published found others allowed → IsOf published conn text → tokens_of text ≡ s → session_of zs conn ≡ Some z → found ≡ open_among zs subs z z.user.account s →
+pub found_so : (cached : CachedReceivers) (key : CacheKey) (others : Option (Vec KnownView)) (allowed : Option By) (conn : ℕ) (text : List ℕ) (rows : List ImportRow) (zs : List Session) (subs found : List Subscription) (z : Session) (s : List Token) →
+    IsFound cached key found others allowed → IsOf key conn text → tokens_of text ≡ s → session_of zs conn ≡ Some z → found ≡ open_among zs subs z z.user.account s →
     KnowsOthers others rows zs subs z s → IfSome allowed (IsAllowed z.user s) → IsSo rows zs subs cached
-found_so cached published others allowed conn text rows zs subs found z s is of same there are known lists = (
+found_so cached key others allowed conn text rows zs subs found z s is of same there are known lists = (
   λ y seated.
-      subst (λ (x : Session). IsWhom cached.whom (open_among zs subs x x.user.account (tokens_of cached.published.subject.items))) (sym (one y seated))
+      subst (λ (x : Session). IsWhom cached.whom (open_among zs subs x x.user.account (tokens_of cached.key.subject.items))) (sym (one y seated))
       (subst (λ (t : List Token). IsWhom cached.whom (open_among zs subs z z.user.account t)) (sym texts)
       (subst (IsWhom cached.whom) are is.whom)),
   apart cached.others (subst (λ (o : Option (Vec KnownView)). KnowsOthers o rows zs subs z s) (sym is.others_are) known),
-  alone_filled cached.alone allowed others rows zs subs z s cached.published.conn cached.published.subject.items is.alone lists known seat texts,
+  alone_filled cached.alone allowed others rows zs subs z s cached.key.conn cached.key.subject.items is.alone lists known seat texts,
 )
   where
-    seat : session_of zs cached.published.conn ≡ Some z
-    seat = ap (session_of zs) (ap (λ p. p.conn) is.published_is ∙ of.0) ∙ there
+    seat : session_of zs cached.key.conn ≡ Some z
+    seat = ap (session_of zs) (ap (λ p. p.conn) is.key_is ∙ of.0) ∙ there
 
-    texts : tokens_of cached.published.subject.items ≡ s
-    texts = ap tokens_of (ap (λ p. p.subject.items) is.published_is ∙ of.1) ∙ same
+    texts : tokens_of cached.key.subject.items ≡ s
+    texts = ap tokens_of (ap (λ p. p.subject.items) is.key_is ∙ of.1) ∙ same
 
     or_else : Option Session → Session → Session
     or_else None d = d
     or_else (Some x) d = x
 
-    one : (y : Session) → session_of zs cached.published.conn ≡ Some y → y ≡ z
+    one : (y : Session) → session_of zs cached.key.conn ≡ Some y → y ≡ z
     one y seated = ap (λ (o : Option Session). or_else o y) (sym seated ∙ seat)
 
-    apart : (o : Option (Vec KnownView)) → KnowsOthers o rows zs subs z s → KnowsOthersFor o rows cached.published.conn cached.published.subject.items zs subs
+    apart : (o : Option (Vec KnownView)) → KnowsOthers o rows zs subs z s → KnowsOthersFor o rows cached.key.conn cached.key.subject.items zs subs
     apart None known = tt
     apart (Some views) known = λ y seated.
-        subst (λ (x : Session). KnowsOthers (Some views) rows zs subs x (tokens_of cached.published.subject.items)) (sym (one y seated))
+        subst (λ (x : Session). KnowsOthers (Some views) rows zs subs x (tokens_of cached.key.subject.items)) (sym (one y seated))
         (subst (λ (t : List Token). KnowsOthers (Some views) rows zs subs z t) (sym texts) known)
 
 -- where the message that was addressed last isn't cached, nothing is known of its views
@@ -161,15 +161,15 @@ if_last_known false others rows zs subs z s known = tt
 
 -- what is cached of a message's publisher and subject is so
 alone_of : (by : By) (cached : CachedReceivers) (conn : ℕ) (text : List ℕ) (s : List Token) (rows : List ImportRow) (zs : List Session) (subs : List Subscription) →
-    cached.alone ≡ Some by → IsOf cached.published conn text → IsSo rows zs subs cached → tokens_of text ≡ s → IsAloneOf rows zs conn s by
+    cached.alone ≡ Some by → IsOf cached.key conn text → IsSo rows zs subs cached → tokens_of text ≡ s → IsAloneOf rows zs conn s by
 alone_of by cached conn text s rows zs subs is of so same =
     subst (λ (n : ℕ). IsAloneOf rows zs n s by) of.0
-    (subst (λ (t : List Token). IsAloneOf rows zs cached.published.conn t by) (ap tokens_of of.1 ∙ same)
-    (subst (λ (o : Option By). IsAloneFor o rows cached.published.conn cached.published.subject.items zs) is so.2))
+    (subst (λ (t : List Token). IsAloneOf rows zs cached.key.conn t by) (ap tokens_of of.1 ∙ same)
+    (subst (λ (o : Option By). IsAloneFor o rows cached.key.conn cached.key.subject.items zs) is so.2))
 
 -- and what it tells of a message, whatever it answers
 pub alone_told : (result : Result (Option By) NoMemory) (cache : ReceiverCache) (cached : CachedReceivers) (conn : ℕ) (text : List ℕ) (m : Message) (word : ℕ) (all : List Addressed) →
-    Has cache cached → IsOf cached.published conn text → tokens_of text ≡ m.subject → IfOk result (λ by. IfSome by (λ allowed. (cached.alone ≡ Some allowed) × Tells cached m word all)) →
+    Has cache cached → IsOf cached.key conn text → tokens_of text ≡ m.subject → IfOk result (λ by. IfSome by (λ allowed. (cached.alone ≡ Some allowed) × Tells cached m word all)) →
     IfOk result (λ by. IfSome by (λ allowed. (rows : List ImportRow) (zs : List Session) (subs : List Subscription) → IsCurrent rows zs subs cache → IsAloneAt rows zs subs conn m word allowed all))
 alone_told (Ok (Some by)) cache cached conn text m word all has of same tells = λ rows zs subs current.
     let so : IsSo rows zs subs cached = current.each cached has in
@@ -179,7 +179,7 @@ alone_told (Ok None) cache cached conn text m word all has of same tells = tt
 alone_told (Err none) cache cached conn text m word all has of same tells = tt
 
 pub alone_refused : (result : Result (Option By) NoMemory) (cache : ReceiverCache) (cached : CachedReceivers) (conn : ℕ) (text : List ℕ) (s : List Token) →
-    Has cache cached → IsOf cached.published conn text → tokens_of text ≡ s → IfErr result (λ none. (by : By) × (cached.alone ≡ Some by)) →
+    Has cache cached → IsOf cached.key conn text → tokens_of text ≡ s → IfErr result (λ none. (by : By) × (cached.alone ≡ Some by)) →
     IfErr result (λ none. (rows : List ImportRow) (zs : List Session) (subs : List Subscription) → IsCurrent rows zs subs cache → (by : By) × IsAloneOf rows zs conn s by)
 alone_refused (Ok by) cache cached conn text s has of same is = tt
 alone_refused (Err none) cache cached conn text s has of same is = λ rows zs subs current. (is.0, alone_of is.0 cached conn text s rows zs subs is.1 of (current.each cached has) same)
@@ -188,10 +188,10 @@ alone_refused (Err none) cache cached conn text s has of same is = λ rows zs su
 
 -- what it tells of a message's draw is so of the message
 pub sent_on : (cache : DrawnCache) (conn : ℕ) (text : List ℕ) (m : Message) (word : ℕ) (all : List Addressed) (rows : List ImportRow) (zs : List Session) (subs : List Subscription) (z : Session) →
-    TellsDrawn cache conn text m word all → KnowsDrawn cache.by_draw.items rows cache.published.conn cache.published.subject.items zs subs → session_of zs conn ≡ Some z → tokens_of text ≡ m.subject →
+    TellsDrawn cache conn text m word all → KnowsDrawn cache.by_draw.items rows cache.key.conn cache.key.subject.items zs subs → session_of zs conn ≡ Some z → tokens_of text ≡ m.subject →
     IsSentOn rows zs subs z m word all
 sent_on cache conn text m word all rows zs subs z tells known there same =
-    let is : IsDrawn rows zs subs z cache.published.subject.items (draw_of word) tells.drawn =
+    let is : IsDrawn rows zs subs z cache.key.subject.items (draw_of word) tells.drawn =
     known.each (draw_of word) tells.drawn tells.cached z (ap (session_of zs) tells.of.0 ∙ there) in
     record {
       drawn = tells.drawn;
@@ -202,28 +202,28 @@ sent_on cache conn text m word all rows zs subs z tells known there same =
 
 -- where others are selected, nothing is cached
 pub drawn_selected : (old new : DrawnCache) (rows : List ImportRow) (zs : List Session) (subs : List Subscription) → (new ≡ old) ⊎ (new.by_draw.items ≡ []) →
-    KnowsDrawn old.by_draw.items rows old.published.conn old.published.subject.items zs subs → KnowsDrawn new.by_draw.items rows new.published.conn new.published.subject.items zs subs
+    KnowsDrawn old.by_draw.items rows old.key.conn old.key.subject.items zs subs → KnowsDrawn new.by_draw.items rows new.key.conn new.key.subject.items zs subs
 drawn_selected old new rows zs subs (inl same) known =
-    subst (λ (drawn : DrawnCache). KnowsDrawn drawn.by_draw.items rows drawn.published.conn drawn.published.subject.items zs subs) (sym same) known
+    subst (λ (drawn : DrawnCache). KnowsDrawn drawn.by_draw.items rows drawn.key.conn drawn.key.subject.items zs subs) (sym same) known
 drawn_selected old new rows zs subs (inr none) known = none_drawn new rows zs subs none
 
 -- where one more draw is cached, what is cached stays so
-pub kept_drawn : (old new : DrawnCache) (rows : List ImportRow) (zs : List Session) (subs : List Subscription) (z : Session) (draw : ℕ) (drawn : Drawn) → new.published ≡ old.published →
+pub kept_drawn : (old new : DrawnCache) (rows : List ImportRow) (zs : List Session) (subs : List Subscription) (z : Session) (draw : ℕ) (drawn : Drawn) → new.key ≡ old.key →
     ((other : ℕ) (known : Drawn) → IsCached new.by_draw.items other known → IsCached old.by_draw.items other known ⊎ ((other ≡ draw) × (known ≡ drawn))) →
-    session_of zs old.published.conn ≡ Some z → IsDrawn rows zs subs z old.published.subject.items draw drawn →
-    KnowsDrawn old.by_draw.items rows old.published.conn old.published.subject.items zs subs → KnowsDrawn new.by_draw.items rows new.published.conn new.published.subject.items zs subs
+    session_of zs old.key.conn ≡ Some z → IsDrawn rows zs subs z old.key.subject.items draw drawn →
+    KnowsDrawn old.by_draw.items rows old.key.conn old.key.subject.items zs subs → KnowsDrawn new.by_draw.items rows new.key.conn new.key.subject.items zs subs
 kept_drawn old new rows zs subs z draw drawn same more there is known =
-    subst (λ (p : Published). KnowsDrawn new.by_draw.items rows p.conn p.subject.items zs subs) (sym same)
+    subst (λ (p : CacheKey). KnowsDrawn new.by_draw.items rows p.conn p.subject.items zs subs) (sym same)
     (record { each = λ other known cached y seated. here other known (more other known cached) y seated })
   where
     or_else : Option Session → Session → Session
     or_else None d = d
     or_else (Some x) d = x
 
-    here : (other : ℕ) (one : Drawn) → IsCached old.by_draw.items other one ⊎ ((other ≡ draw) × (one ≡ drawn)) → (y : Session) → session_of zs old.published.conn ≡ Some y →
-        IsDrawn rows zs subs y old.published.subject.items other one
+    here : (other : ℕ) (one : Drawn) → IsCached old.by_draw.items other one ⊎ ((other ≡ draw) × (one ≡ drawn)) → (y : Session) → session_of zs old.key.conn ≡ Some y →
+        IsDrawn rows zs subs y old.key.subject.items other one
     here other one (inl cached) y seated = known.each other one cached y seated
     here other one (inr (at, same)) y seated =
-        subst (λ (x : Session). IsDrawn rows zs subs x old.published.subject.items other one) (ap (λ (o : Option Session). or_else o y) (sym there ∙ seated))
-        (subst (λ (n : ℕ). IsDrawn rows zs subs z old.published.subject.items n one) (sym at)
-        (subst (λ (d : Drawn). IsDrawn rows zs subs z old.published.subject.items draw d) (sym same) is))
+        subst (λ (x : Session). IsDrawn rows zs subs x old.key.subject.items other one) (ap (λ (o : Option Session). or_else o y) (sym there ∙ seated))
+        (subst (λ (n : ℕ). IsDrawn rows zs subs z old.key.subject.items n one) (sym at)
+        (subst (λ (d : Drawn). IsDrawn rows zs subs z old.key.subject.items draw d) (sym same) is))

@@ -22,7 +22,7 @@ use Rattle.receiver_cache.specs.Drawn.{KnowsDrawn}
 use Rattle.receiver_cache.specs.declared.cache.ReceiverCache.{ReceiverCache}
 use Rattle.receiver_cache.specs.declared.cached.CachedReceivers.{CachedReceivers}
 use Rattle.receiver_views.specs.declared.known.KnownView.{KnownView}
-use Rattle.receiver_cache.specs.declared.published.Published.{Published}
+use Rattle.receiver_cache.specs.declared.key.CacheKey.{CacheKey}
 use Rattle.receiver_views.specs.declared.whom.Whom.{Whom}
 use Rattle.receiver_views.specs.declared.whom.Whom.TheVariants.{Various}
 
@@ -68,9 +68,9 @@ IsAloneFor (Some by) rows conn text zs = IsAloneOf rows zs conn (tokens_of text)
 -- what is cached of the messages of a publisher on a subject is so
 abbrev pub IsSo : List ImportRow → List Session → List Subscription → CachedReceivers → Type 0
 IsSo rows zs subs cached =
-    IsWhomFor cached.whom cached.published.conn cached.published.subject.items zs subs
-    × KnowsOthersFor cached.others rows cached.published.conn cached.published.subject.items zs subs
-    × IsAloneFor cached.alone rows cached.published.conn cached.published.subject.items zs
+    IsWhomFor cached.whom cached.key.conn cached.key.subject.items zs subs
+    × KnowsOthersFor cached.others rows cached.key.conn cached.key.subject.items zs subs
+    × IsAloneFor cached.alone rows cached.key.conn cached.key.subject.items zs
 
 -- it says nothing
 abbrev pub IsBlank : CachedReceivers → Type 0
@@ -83,7 +83,7 @@ count_of_others (Some known) = count_in_each known.items
 
 -- It may stand in a slot: a subject of up to 128 bytes, and up to 32 receivers. So the slots have a bound.
 pub record IsSmall (cached : CachedReceivers) : Type 0 where
-  pub subject : length cached.published.subject.items ≤ 128
+  pub subject : length cached.key.subject.items ≤ 128
   pub receivers : count_of cached.whom + count_of_others cached.others ≤ 32
 
 -- it is known that there is no view behind the publisher's own
@@ -93,8 +93,8 @@ AreNone (Some known) = known.items ≡ []
 
 -- it is what was found of these messages: those that may be sent them, the views behind the publisher's own, and by what lists allow
 -- them, if there are no such views
-pub record IsFound (cached : CachedReceivers) (published : Published) (found : List Subscription) (others : Option (Vec KnownView)) (allowed : Option By) : Type 0 where
-  pub published_is : cached.published ≡ published
+pub record IsFound (cached : CachedReceivers) (key : CacheKey) (found : List Subscription) (others : Option (Vec KnownView)) (allowed : Option By) : Type 0 where
+  pub key_is : cached.key ≡ key
   pub whom : IsWhom cached.whom found
   pub others_are : cached.others ≡ others
   pub alone : IfSome cached.alone (λ by. (allowed ≡ Some by) × AreNone others)
@@ -106,7 +106,7 @@ Has cache cached = (cached ≡ cache.last) ⊎ ((place : ℕ) × (value_at cache
 -- what the cache has is so
 pub record IsCurrent (rows : List ImportRow) (zs : List Session) (subs : List Subscription) (cache : ReceiverCache) : Type 0 where
   pub each : (cached : CachedReceivers) → Has cache cached → IsSo rows zs subs cached
-  pub drawn : KnowsDrawn cache.drawn.by_draw.items rows cache.drawn.published.conn cache.drawn.published.subject.items zs subs
+  pub drawn : KnowsDrawn cache.drawn.by_draw.items rows cache.drawn.key.conn cache.drawn.key.subject.items zs subs
 
 -- it says nothing
 abbrev pub IsEmpty : ReceiverCache → Type 0

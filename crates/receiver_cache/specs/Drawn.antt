@@ -11,7 +11,7 @@ use Rattle.world_deliveries.specs.Sessions.{session_of}
 use Rattle.world_deliveries.specs.declared.session.Session.{Session}
 use Rattle.world_rows.specs.declared.subscription.Subscription.{Subscription}
 use Rattle.receiver_views.specs.Known.{IsSeen, AreSeen, others_in, addressed_in, addressed_in_each}
-use Rattle.receiver_cache.specs.Published.{IsOf}
+use Rattle.receiver_cache.specs.Key.{IsOf}
 use Rattle.receiver_cache.specs.declared.drawn.Drawn.{Drawn}
 use Rattle.receiver_cache.specs.declared.drawn.DrawnCache.{DrawnCache}
 
@@ -45,7 +45,7 @@ pub record KnowsDrawn (by_draw : List (Option Drawn)) (rows : List ImportRow) (c
 
 -- what a message of the connection on the subject is sent as is cached, and these are its deliveries
 pub record TellsDrawn (cache : DrawnCache) (conn : ℕ) (text : List ℕ) (m : Message) (word : ℕ) (all : List Addressed) : Type 0 where
-  pub of : IsOf cache.published conn text
+  pub of : IsOf cache.key conn text
   pub drawn : Drawn
   pub cached : IsCached cache.by_draw.items (draw_of word) drawn
   pub deliveries : all ≡ sent_as m word drawn

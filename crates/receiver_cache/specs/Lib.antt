@@ -1,3 +1,3 @@
-pub mod Published
+pub mod Key
 pub mod Drawn
 pub mod Cached

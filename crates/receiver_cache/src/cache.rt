@@ -5,7 +5,7 @@ ghost use Rattle.receiver_cache.specs.Cached.{IsSmall};
 
 use crate::cached::CachedReceivers;
 use crate::drawn::DrawnCache;
-use crate::published::Published;
+use crate::key::CacheKey;
 use base::NoMemory;
 use events::{Addressed, Message};
 use permissions::By;
@@ -62,7 +62,7 @@ impl ReceiverCache {
     ghost use Rattle.world_deliveries.specs.declared.session.Session.{Session};
     ghost use Rattle.world_rows.specs.declared.subscription.Subscription.{Subscription};
     ghost use Rattle.receiver_views.specs.Open.{open_among};
-    ghost use Rattle.receiver_cache.specs.Published.{IsOf};
+    ghost use Rattle.receiver_cache.specs.Key.{IsOf};
     ghost use Rattle.receiver_views.specs.Receivers.{addressed_among};
     ghost use Rattle.receiver_cache.specs.Cached.{IsAllowed, IsAloneAt, IsAloneOf, IsBlank, IsCurrent, IsEmpty, TellsOthers, known_others};
     ghost use Rattle.receiver_views.specs.Known.{KnowsOthers};
@@ -95,7 +95,7 @@ impl ReceiverCache {
     /// Looks in both slots of a sum, that of a connection and the text of a subject. Returns the place that has what is cached of
     /// their messages, with it.
     fn find(&self, sum: u64, conn: u64, text: &[u8]) -> Option<(usize, &CachedReceivers)>
-        ensures { IfSome result (λ found. (value_at self.now.slots found.0 ≡ Some found.1.now) × IsOf found.1.now.published conn text.now) }
+        ensures { IfSome result (λ found. (value_at self.now.slots found.0 ≡ Some found.1.now) × IsOf found.1.now.key conn text.now) }
     {
         let (first, second) = self.slots.places_of(sum);
         match self.slots.get(first) {
@@ -132,7 +132,7 @@ impl ReceiverCache {
     /// Looks for whom a publisher's messages on the subject with this text are for, and has it at hand then.
     #[inline(always)]
     fn select(&mut self, conn: u64, text: &[u8])
-        ensures of { self.new.is_last ≡ true → IsOf self.new.last.published conn text.now }
+        ensures of { self.new.is_last ≡ true → IsOf self.new.last.key conn text.now }
         ensures cached { (rows : List ImportRow) (zs : List Session) (subs : List Subscription) → IsCurrent rows zs subs self.old → IsCurrent rows zs subs self.new }
     {
         if self.last.is_of(conn, text) {
@@ -145,7 +145,7 @@ impl ReceiverCache {
     /// Looks in the slots for whom these messages are for, and has it at hand then.
     #[inline(never)]
     fn look_for(&mut self, conn: u64, text: &[u8])
-        ensures of { self.new.is_last ≡ true → IsOf self.new.last.published conn text.now }
+        ensures of { self.new.is_last ≡ true → IsOf self.new.last.key conn text.now }
         ensures cached { (rows : List ImportRow) (zs : List Session) (subs : List Subscription) → IsCurrent rows zs subs self.old → IsCurrent rows zs subs self.new }
     {
         let sum = sum_of_number(conn, text);
@@ -276,10 +276,10 @@ impl ReceiverCache {
     {
         self.is_last = false;
         let _ = subject.tokens();
-        if let Ok(published) = Published::of(self.alloc, conn, subject.bytes()) {
+        if let Ok(key) = CacheKey::of(self.alloc, conn, subject.bytes()) {
             self.put_back();
             self.place = self.place_for(self.sum);
-            self.last = CachedReceivers::of(self.alloc, published, found, others, allowed);
+            self.last = CachedReceivers::of(self.alloc, key, found, others, allowed);
             self.is_last = true;
         }
     }

@@ -4,9 +4,9 @@ ghost use Rattle.permissions.specs.declared.verdict.By.{By as ByModel};
 ghost use Rattle.world_groups.specs.Chosen.{Rising};
 ghost use Rattle.receiver_cache.specs.Cached.{AreNone, IsBlank, IsFound, IsSmall, Tells, TellsOthers, count_of_others};
 ghost use Rattle.receiver_views.specs.Known.{count_in_each, count_of};
-ghost use Rattle.receiver_cache.specs.Published.{IsOf};
+ghost use Rattle.receiver_cache.specs.Key.{IsOf};
 
-use crate::published::Published;
+use crate::key::CacheKey;
 use base::NoMemory;
 use events::{Addressed, Message};
 use permissions::By;
@@ -24,7 +24,7 @@ const MOST_BYTES: usize = 128;
 /// stay as they are.
 #[derive(Drop)]
 pub(crate) struct CachedReceivers {
-    published: Published,
+    key: CacheKey,
     whom: Whom,
     // The views of these messages behind the publisher's own, where they are known.
     others: Option<Vec<KnownView>>,
@@ -58,7 +58,7 @@ impl CachedReceivers {
         ensures { IsBlank result }
     {
         CachedReceivers {
-            published: Published::nothing(alloc),
+            key: CacheKey::nothing(alloc),
             whom: Whom::Various,
             others: None,
             alone: None,
@@ -69,17 +69,17 @@ impl CachedReceivers {
     /// own, and by what lists allow them, if there are no such views.
     pub fn of(
         alloc: Global,
-        published: Published,
+        key: CacheKey,
         found: &[&SharedSubscription],
         others: Option<Vec<KnownView>>,
         allowed: Option<By>,
     ) -> CachedReceivers
         requires { Rising (map (λ s. s.now) found.now) }
-        ensures { IsFound result published (map (λ s. s.now) found.now) others allowed }
+        ensures { IsFound result key (map (λ s. s.now) found.now) others allowed }
     {
         let alone = if are_none(&others) { allowed } else { None };
         CachedReceivers {
-            published,
+            key,
             whom: whom_of(alloc, found),
             others,
             alone,
@@ -89,9 +89,9 @@ impl CachedReceivers {
     /// Returns whether they are of this publisher and the subject with this text.
     #[inline(always)]
     pub fn is_of(&self, conn: u64, text: &[u8]) -> bool
-        ensures { result ≡ true → IsOf self.now.published conn text.now }
+        ensures { result ≡ true → IsOf self.now.key conn text.now }
     {
-        self.published.is_of(conn, text)
+        self.key.is_of(conn, text)
     }
 
     /// Returns whether it is known that these messages are seen in the publisher's account alone.
@@ -105,7 +105,7 @@ impl CachedReceivers {
     pub fn are_few(&self) -> bool
         ensures { result ≡ true → IsSmall self.now }
     {
-        let bytes = self.published.subject_len();
+        let bytes = self.key.subject_len();
         0 < bytes && bytes <= MOST_BYTES && self.are_at_most(MOST_RECEIVERS)
     }
 

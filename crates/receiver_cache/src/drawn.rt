@@ -6,7 +6,7 @@ ghost use Rattle.receiver_views.specs.Known.{addressed_in, addressed_in_each};
 ghost use Rattle.receiver_cache.specs.declared.drawn.Drawn.{Drawn as DrawnModel};
 
 use crate::cached::clear;
-use crate::published::Published;
+use crate::key::CacheKey;
 use base::{NoMemory, Shared};
 use events::{Addressed, Message};
 use receiver_views::{KnownView, address_known};
@@ -49,7 +49,7 @@ impl Drawn {
 /// What the messages of one publisher on one subject are sent as, by their draws, where it is known.
 #[derive(Drop)]
 pub struct DrawnCache {
-    published: Published,
+    key: CacheKey,
     // One for each draw; none before the first is known.
     by_draw: Vec<Option<Shared<Drawn>>>,
 }
@@ -85,14 +85,14 @@ fn put(by_draw: &mut Vec<Option<Shared<Drawn>>>, draw: usize, drawn: Shared<Draw
 impl DrawnCache {
     ghost use Rattle.std.specs.Prelude.{IfOk, IfSome, true};
     ghost use Rattle.receiver_cache.specs.Drawn.{TellsDrawn, subject_of};
-    ghost use Rattle.receiver_cache.specs.Published.{IsOf};
+    ghost use Rattle.receiver_cache.specs.Key.{IsOf};
 
     /// Knows nothing yet. It takes no memory.
     pub fn new(alloc: Global) -> DrawnCache
         ensures { result.by_draw.items ≡ [] }
     {
         DrawnCache {
-            published: Published::nothing(alloc),
+            key: CacheKey::nothing(alloc),
             by_draw: Vec::new(alloc),
         }
     }
@@ -110,14 +110,14 @@ impl DrawnCache {
     /// Selects the publisher and the subject with this text, of whose messages it is cached next. Returns whether they were selected
     /// already.
     pub fn select(&mut self, conn: u64, text: &[u8]) -> bool
-        ensures selected { result ≡ true → IsOf self.new.published conn text.now }
+        ensures selected { result ≡ true → IsOf self.new.key conn text.now }
         ensures cached { (self.new ≡ self.old) ⊎ (self.new.by_draw.items ≡ []) }
     {
-        if self.published.is_of(conn, text) {
+        if self.key.is_of(conn, text) {
             return true;
         }
         self.clear();
-        self.published.set(conn, text);
+        self.key.set(conn, text);
         false
     }
 
@@ -133,7 +133,7 @@ impl DrawnCache {
     ) -> Result<bool, NoMemory>
         ensures tells { IfOk result (λ done. done ≡ true → TellsDrawn self.now conn text.now message.now word all.new.items) }
     {
-        if !self.published.is_of(conn, text) {
+        if !self.key.is_of(conn, text) {
             return Ok(false);
         }
         match self.find(draw_of(word)) {
@@ -174,7 +174,7 @@ impl DrawnCache {
     /// Caches what a message with this draw is sent as. Without memory it isn't cached.
     pub fn keep(&mut self, draw: u64, drawn: Shared<Drawn>)
         ensures kept { (other : ℕ) (known : DrawnModel) → IsCached self.new.by_draw.items other known → IsCached self.old.by_draw.items other known ⊎ ((other ≡ draw) × (known ≡ drawn)) }
-        ensures published { self.new.published ≡ self.old.published }
+        ensures key { self.new.key ≡ self.old.key }
     {
         let _ = make_places(&mut self.by_draw);
         put(&mut self.by_draw, draw as usize, drawn);

@@ -9,7 +9,7 @@ ghost use Rattle.receiver_cache.specs.Drawn.{IsSent, KnowsDrawn, subject_of};
 use crate::drawn::{Drawn, DrawnCache};
 use base::{NoMemory, Shared};
 use imports::Rows;
-use receiver_views::{Among, KnownView, known_at, known_views};
+use receiver_views::{KnownView, ReceiverSearch, known_at, known_views};
 use std::alloc::Global;
 use subjects::{Subject, SubjectRef};
 
@@ -17,32 +17,32 @@ use subjects::{Subject, SubjectRef};
 /// had.
 fn find_others(
     alloc: Global,
-    among: Among<'_>,
+    search: ReceiverSearch<'_>,
     rows: &Rows,
     subject: &SubjectRef<'_>,
     ids: &mut Vec<u64>,
 ) -> Result<Option<Vec<KnownView>>, NoMemory>
-    requires marked { AreMarked among.sessions.now among.subscriptions.now among.marks.now }
-    ensures { IfOk result (λ others. KnowsOthers others rows.now among.entry.sessions.now among.entry.subscriptions.now among.entry.publisher.now subject.now) }
+    requires marked { AreMarked search.sessions.now search.subscriptions.now search.marks.now }
+    ensures { IfOk result (λ others. KnowsOthers others rows.now search.entry.sessions.now search.entry.subscriptions.now search.entry.publisher.now subject.now) }
 {
-    let account = among.publisher.user.account.as_slice();
+    let account = search.publisher.user.account.as_slice();
     let others = rows.crossings(alloc, account, subject)?;
-    let known = known_views(alloc, among, others.as_slice(), ids)?;
+    let known = known_views(alloc, search, others.as_slice(), ids)?;
     Ok(known)
 }
 
 /// Returns what is known of these views. Without memory they aren't known.
 pub fn others_of(
     alloc: Global,
-    among: Among<'_>,
+    search: ReceiverSearch<'_>,
     rows: &Rows,
     subject: &SubjectRef<'_>,
     ids: &mut Vec<u64>,
 ) -> Option<Vec<KnownView>>
-    requires marked { AreMarked among.sessions.now among.subscriptions.now among.marks.now }
-    ensures { KnowsOthers result rows.now among.entry.sessions.now among.entry.subscriptions.now among.entry.publisher.now subject.now }
+    requires marked { AreMarked search.sessions.now search.subscriptions.now search.marks.now }
+    ensures { KnowsOthers result rows.now search.entry.sessions.now search.entry.subscriptions.now search.entry.publisher.now subject.now }
 {
-    match find_others(alloc, among, rows, subject, ids) {
+    match find_others(alloc, search, rows, subject, ids) {
         Ok(known) => known,
         Err(_) => None,
     }
@@ -52,19 +52,19 @@ pub fn others_of(
 /// had.
 fn find_drawn(
     alloc: Global,
-    among: Among<'_>,
+    search: ReceiverSearch<'_>,
     rows: &Rows,
     subject: &Subject,
     ids: &mut Vec<u64>,
 ) -> Result<Option<Shared<Drawn>>, NoMemory>
-    requires marked { AreMarked among.sessions.now among.subscriptions.now among.marks.now }
+    requires marked { AreMarked search.sessions.now search.subscriptions.now search.marks.now }
     requires unrouted { is_route subject.now ≡ false }
-    ensures { IfOk result (λ found. IfSome found (λ drawn. IsSent rows.now among.entry.sessions.now among.entry.subscriptions.now among.entry.publisher.now drawn × (subject_of drawn ≡ subject.now))) }
+    ensures { IfOk result (λ found. IfSome found (λ drawn. IsSent rows.now search.entry.sessions.now search.entry.subscriptions.now search.entry.publisher.now drawn × (subject_of drawn ≡ subject.now))) }
 {
-    let account = among.publisher.user.account.as_slice();
-    match known_at(alloc, among, account, subject, ids)? {
+    let account = search.publisher.user.account.as_slice();
+    match known_at(alloc, search, account, subject, ids)? {
         None => Ok(None),
-        Some(own) => match find_others(alloc, among, rows, &subject.lend(), ids)? {
+        Some(own) => match find_others(alloc, search, rows, &subject.lend(), ids)? {
             None => Ok(None),
             Some(others) => Ok(Some(Shared::new(alloc, Drawn { own, others })?)),
         },
@@ -75,19 +75,19 @@ fn find_drawn(
 fn drawn_under(
     alloc: Global,
     known: &DrawnCache,
-    among: Among<'_>,
+    search: ReceiverSearch<'_>,
     rows: &Rows,
     subject: &Subject,
     ids: &mut Vec<u64>,
 ) -> Result<Option<Shared<Drawn>>, NoMemory>
-    requires marked { AreMarked among.sessions.now among.subscriptions.now among.marks.now }
+    requires marked { AreMarked search.sessions.now search.subscriptions.now search.marks.now }
     requires unrouted { is_route subject.now ≡ false }
-    ensures { IfOk result (λ found. IfSome found (λ drawn. (conn : ℕ) (text : List ℕ) → KnowsDrawn known.now.by_draw.items rows.now conn text among.entry.sessions.now among.entry.subscriptions.now
-        → session_of among.entry.sessions.now conn ≡ Some among.entry.publisher.now → IsSent rows.now among.entry.sessions.now among.entry.subscriptions.now among.entry.publisher.now drawn × (subject_of drawn ≡ subject.now))) }
+    ensures { IfOk result (λ found. IfSome found (λ drawn. (conn : ℕ) (text : List ℕ) → KnowsDrawn known.now.by_draw.items rows.now conn text search.entry.sessions.now search.entry.subscriptions.now
+        → session_of search.entry.sessions.now conn ≡ Some search.entry.publisher.now → IsSent rows.now search.entry.sessions.now search.entry.subscriptions.now search.entry.publisher.now drawn × (subject_of drawn ≡ subject.now))) }
 {
     match known.find_under(subject) {
         Some(drawn) => Ok(Some(drawn.again()?)),
-        None => find_drawn(alloc, among, rows, subject, ids),
+        None => find_drawn(alloc, search, rows, subject, ids),
     }
 }
 
@@ -95,17 +95,17 @@ fn drawn_under(
 pub fn drawn_of(
     alloc: Global,
     known: &DrawnCache,
-    among: Among<'_>,
+    search: ReceiverSearch<'_>,
     rows: &Rows,
     subject: &Subject,
     ids: &mut Vec<u64>,
 ) -> Option<Shared<Drawn>>
-    requires marked { AreMarked among.sessions.now among.subscriptions.now among.marks.now }
+    requires marked { AreMarked search.sessions.now search.subscriptions.now search.marks.now }
     requires unrouted { is_route subject.now ≡ false }
-    ensures { IfSome result (λ drawn. (conn : ℕ) (text : List ℕ) → KnowsDrawn known.now.by_draw.items rows.now conn text among.entry.sessions.now among.entry.subscriptions.now
-        → session_of among.entry.sessions.now conn ≡ Some among.entry.publisher.now → IsSent rows.now among.entry.sessions.now among.entry.subscriptions.now among.entry.publisher.now drawn × (subject_of drawn ≡ subject.now)) }
+    ensures { IfSome result (λ drawn. (conn : ℕ) (text : List ℕ) → KnowsDrawn known.now.by_draw.items rows.now conn text search.entry.sessions.now search.entry.subscriptions.now
+        → session_of search.entry.sessions.now conn ≡ Some search.entry.publisher.now → IsSent rows.now search.entry.sessions.now search.entry.subscriptions.now search.entry.publisher.now drawn × (subject_of drawn ≡ subject.now)) }
 {
-    match drawn_under(alloc, known, among, rows, subject, ids) {
+    match drawn_under(alloc, known, search, rows, subject, ids) {
         Ok(drawn) => drawn,
         Err(_) => None,
     }

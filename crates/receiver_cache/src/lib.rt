@@ -5,7 +5,7 @@ mod cache;
 mod cached;
 mod drawn;
 mod finding;
-mod published;
+mod key;
 
 pub use cache::ReceiverCache;
 pub use drawn::{Drawn, DrawnCache, draw_of};

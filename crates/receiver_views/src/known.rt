@@ -28,7 +28,7 @@ pub struct KnownView {
 
 /// A publisher, and the tables in which its receivers are found.
 #[derive(Clone, Copy)]
-pub struct Among<'a> {
+pub struct ReceiverSearch<'a> {
     pub sessions: &'a Sessions,
     pub subscriptions: &'a Subscriptions,
     pub marks: &'a DenyMarks,
@@ -70,22 +70,22 @@ fn says(whom: &Whom) -> bool
 /// be had.
 pub fn known_at(
     alloc: Global,
-    among: Among<'_>,
+    search: ReceiverSearch<'_>,
     account: &[u8],
     subject: &Subject,
     ids: &mut Vec<u64>,
 ) -> Result<Option<KnownView>, NoMemory>
-    requires marked { AreMarked among.sessions.now among.subscriptions.now among.marks.now }
-    ensures { IfOk result (λ known. IsKnown known among.entry.sessions.now among.entry.subscriptions.now among.entry.publisher.now account.now subject.now) }
+    requires marked { AreMarked search.sessions.now search.subscriptions.now search.marks.now }
+    ensures { IfOk result (λ known. IsKnown known search.entry.sessions.now search.entry.subscriptions.now search.entry.publisher.now account.now subject.now) }
 {
     let local = subject.lend();
     let open = Open {
-        sessions: among.sessions,
-        marks: among.marks,
-        publisher: among.publisher,
+        sessions: search.sessions,
+        marks: search.marks,
+        publisher: search.publisher,
         subject: &local,
     };
-    let found = passing_of(alloc, among.subscriptions, account, &local, &open, ids)?;
+    let found = passing_of(alloc, search.subscriptions, account, &local, &open, ids)?;
     let whom = whom_of(alloc, found.as_slice());
     if have_limit(found.as_slice()) {
         return Ok(None);
@@ -100,12 +100,12 @@ pub fn known_at(
 /// Returns whom a publisher's messages are for in a view of a stream, if each of them is for the same.
 fn known_view(
     alloc: Global,
-    among: Among<'_>,
+    search: ReceiverSearch<'_>,
     view: &ViewItem,
     ids: &mut Vec<u64>,
 ) -> Result<Option<KnownView>, NoMemory>
-    requires marked { AreMarked among.sessions.now among.subscriptions.now among.marks.now }
-    ensures { IfOk result (λ known. IfSome known (λ known. AreSeen among.entry.sessions.now among.entry.subscriptions.now among.entry.publisher.now (known ∷ []) (view.now ∷ []))) }
+    requires marked { AreMarked search.sessions.now search.subscriptions.now search.marks.now }
+    ensures { IfOk result (λ known. IfSome known (λ known. AreSeen search.entry.sessions.now search.entry.subscriptions.now search.entry.publisher.now (known ∷ []) (view.now ∷ []))) }
 {
     match view {
         ViewItem::TooLong(_) => Ok(None),
@@ -115,7 +115,7 @@ fn known_view(
             way,
         } => match way {
             Way::Stream(_) => {
-                let known = known_at(alloc, among, account.as_slice(), subject, ids)?;
+                let known = known_at(alloc, search, account.as_slice(), subject, ids)?;
                 Ok(known)
             }
             Way::Own => Ok(None),
@@ -129,16 +129,16 @@ fn known_view(
 /// `NoMemory` where memory could not be had.
 pub fn known_views(
     alloc: Global,
-    among: Among<'_>,
+    search: ReceiverSearch<'_>,
     views: &[ViewItem],
     ids: &mut Vec<u64>,
 ) -> Result<Option<Vec<KnownView>>, NoMemory>
-    requires marked { AreMarked among.sessions.now among.subscriptions.now among.marks.now }
-    ensures { IfOk result (λ all. IfSome all (λ known. AreSeen among.entry.sessions.now among.entry.subscriptions.now among.entry.publisher.now known.items views.now)) }
+    requires marked { AreMarked search.sessions.now search.subscriptions.now search.marks.now }
+    ensures { IfOk result (λ all. IfSome all (λ known. AreSeen search.entry.sessions.now search.entry.subscriptions.now search.entry.publisher.now known.items views.now)) }
 {
     let mut all = Vec::with_capacity(alloc, views.len())?;
     for view in views {
-        match known_view(alloc, among, view, ids)? {
+        match known_view(alloc, search, view, ids)? {
             None => return Ok(None),
             Some(known) => all.push(known)?,
         }

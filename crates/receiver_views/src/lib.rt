@@ -7,7 +7,7 @@ mod open;
 mod receiver;
 mod whom;
 
-pub use known::{Among, KnownView, address_known, known_at, known_views};
+pub use known::{KnownView, ReceiverSearch, address_known, known_at, known_views};
 pub use names::names_of;
 pub use open::Open;
 pub use receiver::{Receiver, address_each};

@@ -8,9 +8,9 @@ use Rattle.script.specs.Server.{Serving, opening}
 use Rattle.devices.specs.Device.{AppendsFront}
 use Rattle.script.specs.declared.client.Client.{Client}
 use Rattle.script_text.specs.declared.lines.Line.{Line}
-use Rattle.script_text.specs.declared.lines.Part.{Part}
-use Rattle.script_text.specs.declared.lines.Part.TheVariants.{Head}
-use Rattle.script_text.specs.Lines.{line_of, part_after}
+use Rattle.script_text.specs.declared.lines.Progress.{Progress}
+use Rattle.script_text.specs.declared.lines.Progress.TheVariants.{Head}
+use Rattle.script_text.specs.Lines.{line_of, progress_after}
 use Rattle.script.specs.Play.{Effect, Played, stops_or, line_and_drains, played, output_of, lines_of, IsEffect}
 
 -- what was written, and what is left to come behind it, is all there is to come
@@ -111,28 +111,28 @@ pub IsEffect-fresh : (a : Effect) (before out : List ℕ) (ks : List Client) (w 
 IsEffect-fresh a before out ks w stops e h = let P : List ℕ → Type 0 = λ l. IsEffect a l out ks w stops in subst P e h
 
 -- the first of the lines that are left
-plays_line : (old now : Option (List ℕ)) (number : ℕ) (part : Part) (lines rest : List (List ℕ)) (text : List ℕ) (w : Serving) (ks : List Client) (all : Played) → lines ≡ text ∷ rest →
-    Plays old now (played number part lines w ks) all →
-    Plays old now (stops_or (line_and_drains number part (line_of text) w ks) (line_and_drains number part (line_of text) w ks).stops (λ v l. played (number + 1) (part_after part (line_of text)) rest v l)) all
+plays_line : (old now : Option (List ℕ)) (number : ℕ) (progress : Progress) (lines rest : List (List ℕ)) (text : List ℕ) (w : Serving) (ks : List Client) (all : Played) → lines ≡ text ∷ rest →
+    Plays old now (played number progress lines w ks) all →
+    Plays old now (stops_or (line_and_drains number progress (line_of text) w ks) (line_and_drains number progress (line_of text) w ks).stops (λ v l. played (number + 1) (progress_after progress (line_of text)) rest v l)) all
 unfolding played
-plays_line old now number part lines rest text w ks all e h = let P : List (List ℕ) → Type 0 = λ l. Plays old now (played number part l w ks) all in subst P e h
+plays_line old now number progress lines rest text w ks all e h = let P : List (List ℕ) → Type 0 = λ l. Plays old now (played number progress l w ks) all in subst P e h
 
 -- the line that was read is the text's
-pub plays_read : (old now : Option (List ℕ)) (number : ℕ) (part : Part) (lines rest : List (List ℕ)) (text : List ℕ) (line : Line) (after : Part) (w : Serving) (ks : List Client) (all : Played) → lines ≡ text ∷ rest →
-    line ≡ line_of text → after ≡ part_after part line → Plays old now (played number part lines w ks) all →
-    Plays old now (stops_or (line_and_drains number part line w ks) (line_and_drains number part line w ks).stops (λ v l. played (number + 1) after rest v l)) all
-plays_read old now number part lines rest text line after w ks all e read next h =
-    let P : Part → Type 0 = λ p. Plays old now (stops_or (line_and_drains number part line w ks) (line_and_drains number part line w ks).stops (λ v l. played (number + 1) p rest v l)) all in
-    let Q : Line → Type 0 = λ x. Plays old now (stops_or (line_and_drains number part x w ks) (line_and_drains number part x w ks).stops (λ v l. played (number + 1) (part_after part x) rest v l)) all in
-    subst P (sym next) (subst Q (sym read) (plays_line old now number part lines rest text w ks all e h))
+pub plays_read : (old now : Option (List ℕ)) (number : ℕ) (progress : Progress) (lines rest : List (List ℕ)) (text : List ℕ) (line : Line) (after : Progress) (w : Serving) (ks : List Client) (all : Played) → lines ≡ text ∷ rest →
+    line ≡ line_of text → after ≡ progress_after progress line → Plays old now (played number progress lines w ks) all →
+    Plays old now (stops_or (line_and_drains number progress line w ks) (line_and_drains number progress line w ks).stops (λ v l. played (number + 1) after rest v l)) all
+plays_read old now number progress lines rest text line after w ks all e read next h =
+    let P : Progress → Type 0 = λ p. Plays old now (stops_or (line_and_drains number progress line w ks) (line_and_drains number progress line w ks).stops (λ v l. played (number + 1) p rest v l)) all in
+    let Q : Line → Type 0 = λ x. Plays old now (stops_or (line_and_drains number progress x w ks) (line_and_drains number progress x w ks).stops (λ v l. played (number + 1) (progress_after progress x) rest v l)) all in
+    subst P (sym next) (subst Q (sym read) (plays_line old now number progress lines rest text w ks all e h))
 
 -- no line is left
-pub plays_last : (old now : Option (List ℕ)) (number : ℕ) (part : Part) (lines : List (List ℕ)) (w : Serving) (ks : List Client) (all : Played) → lines ≡ [] →
-    Plays old now (played number part lines w ks) all → Appends old now all.text × (0 ≡ all.status)
+pub plays_last : (old now : Option (List ℕ)) (number : ℕ) (progress : Progress) (lines : List (List ℕ)) (w : Serving) (ks : List Client) (all : Played) → lines ≡ [] →
+    Plays old now (played number progress lines w ks) all → Appends old now all.text × (0 ≡ all.status)
 unfolding played
-plays_last old now number part lines w ks all e h =
-    let P : List (List ℕ) → Type 0 = λ l. Plays old now (played number part l w ks) all in
-    plays_end old now (played number part [] w ks) all refl refl (subst P e h)
+plays_last old now number progress lines w ks all e h =
+    let P : List (List ℕ) → Type 0 = λ l. Plays old now (played number progress l w ks) all in
+    plays_end old now (played number progress [] w ks) all refl refl (subst P e h)
 
 -- the opening
 pub plays_open : (old : Option (List ℕ)) (script : List ℕ) (lines : List (List ℕ)) (w : Serving) (ks : List Client) → lines ≡ lines_of script → w ≡ opening builtin_doc → ks ≡ [] →

@@ -17,7 +17,7 @@ use Rattle.script.specs.Session.{Call, bytes_call, drain_call, end_call}
 use Rattle.reload.specs.Reload.{prepared}
 use Rattle.reload.specs.Fault.{fault_line}
 use Rattle.reload.specs.declared.fault.ReloadFault.{ReloadFault}
-use Rattle.script_text.specs.Lines.{line_of, part_after}
+use Rattle.script_text.specs.Lines.{line_of, progress_after}
 use Rattle.script_text.specs.Output.{shown_line, closed_line, refused_line, full_line}
 use Rattle.reload_lines.specs.Reloads.{reload_text}
 use Rattle.script.specs.declared.client.Client.{Client}
@@ -25,8 +25,8 @@ use Rattle.script_text.specs.declared.lines.Line.{Line}
 use Rattle.script_text.specs.declared.lines.Line.TheVariants as line
 use Rattle.script_text.specs.declared.lines.ClientLine.{ClientLine}
 use Rattle.script_text.specs.declared.lines.ClientLine.TheVariants.{Sends, Holds, Frees, Ends}
-use Rattle.script_text.specs.declared.lines.Part.{Part}
-use Rattle.script_text.specs.declared.lines.Part.TheVariants.{Head, Capped, Body}
+use Rattle.script_text.specs.declared.lines.Progress.{Progress}
+use Rattle.script_text.specs.declared.lines.Progress.TheVariants.{Head, Capped, Body}
 
 -- the line of what a connection was sent, if it was sent anything
 abbrev pub shown_if : ℕ → List ℕ → List ℕ
@@ -180,7 +180,7 @@ abbrev pub refused_effect : ℕ → Serving → List Client → Effect
 refused_effect number w ks = effect (refused_line number) ks w true
 
 -- caps come first of all; an outbox has room for one delivery at least, and for 65,536 at most
-abbrev pub caps_effect : ℕ → Part → Caps → Serving → List Client → Effect
+abbrev pub caps_effect : ℕ → Progress → Caps → Serving → List Client → Effect
 caps_effect number Head caps w ks =
     if nat_le 1 caps.outbox && nat_le caps.outbox 65536 then effect [] ks (with_caps caps w) false else refused_effect number w ks
 caps_effect number Capped caps w ks = refused_effect number w ks
@@ -192,7 +192,7 @@ policy_effect (Ok doc) w ks = effect [] ks (with_policy doc w) false
 policy_effect (Err fault) w ks = effect (fault_line fault ++ codes "\n") ks w true
 
 -- only before anyone is connected
-abbrev pub policy_line_effect : ℕ → Part → List ℕ → Serving → List Client → Effect
+abbrev pub policy_line_effect : ℕ → Progress → List ℕ → Serving → List Client → Effect
 policy_line_effect number Head text w ks = policy_effect (prepared text) w ks
 policy_line_effect number Capped text w ks = policy_effect (prepared text) w ks
 policy_line_effect number Body text w ks = refused_effect number w ks
@@ -208,18 +208,18 @@ reload_effect (Ok doc) w ks = reload_told (installed doc w) ks
 reload_effect (Err fault) w ks = effect (fault_line fault ++ codes "\n") ks w false
 
 -- what a line itself does
-abbrev pub line_effect : ℕ → Part → Line → Serving → List Client → Effect
-line_effect number part line.Skip w ks = effect [] ks w false
-line_effect number part (line.Caps outbox history) w ks = caps_effect number part (record { outbox = outbox; history = history }) w ks
-line_effect number part (line.Policy text) w ks = policy_line_effect number part text w ks
-line_effect number part (line.Reload text) w ks = reload_effect (prepared text) w ks
-line_effect number part (line.Open conn) w ks =
+abbrev pub line_effect : ℕ → Progress → Line → Serving → List Client → Effect
+line_effect number progress line.Skip w ks = effect [] ks w false
+line_effect number progress (line.Caps outbox history) w ks = caps_effect number progress (record { outbox = outbox; history = history }) w ks
+line_effect number progress (line.Policy text) w ks = policy_line_effect number progress text w ks
+line_effect number progress (line.Reload text) w ks = reload_effect (prepared text) w ks
+line_effect number progress (line.Open conn) w ks =
     if is_open ks conn then refused_effect number w ks
     else effect (shown_line conn (info_line (info_text conn))) (with_client (new_client conn) ks) w false
-line_effect number part (line.Client conn said) w ks = done_in conn said w ks
-line_effect number part (line.Now moment) w ks = effect [] ks (record w { moment = moment }) false
-line_effect number part (line.Word word) w ks = effect [] ks (record w { words = w.words ++ word ∷ [] }) false
-line_effect number part line.Other w ks = refused_effect number w ks
+line_effect number progress (line.Client conn said) w ks = done_in conn said w ks
+line_effect number progress (line.Now moment) w ks = effect [] ks (record w { moment = moment }) false
+line_effect number progress (line.Word word) w ks = effect [] ks (record w { words = w.words ++ word ∷ [] }) false
+line_effect number progress line.Other w ks = refused_effect number w ks
 
 -- the connections that are still open
 abbrev pub still_open : List Client → List Client
@@ -230,8 +230,8 @@ abbrev pub and_drains : Effect → Bool → Effect
 and_drains a true = a
 and_drains a false = let d = drained a.clients a.server in effect (a.text ++ d.text) (still_open d.clients) d.server d.stops
 
-unfoldable pub line_and_drains : ℕ → Part → Line → Serving → List Client → Effect
-line_and_drains number part line w ks = let a = line_effect number part line w ks in and_drains a a.stops
+unfoldable pub line_and_drains : ℕ → Progress → Line → Serving → List Client → Effect
+line_and_drains number progress line w ks = let a = line_effect number progress line w ks in and_drains a a.stops
 
 -- what a script prints, and its status
 pub record Played : Type 0 where
@@ -243,11 +243,11 @@ stops_or a true more = record { text = a.text; status = 1 }
 stops_or a false more = let rest = more a.server a.clients in record { text = a.text ++ rest.text; status = rest.status }
 
 -- the lines from a number on
-unfoldable pub played : ℕ → Part → List (List ℕ) → Serving → List Client → Played
-played number part [] w ks = record { text = []; status = 0 }
-played number part (text ∷ texts) w ks =
-    let a = line_and_drains number part (line_of text) w ks in
-    stops_or a a.stops (λ w' ks'. played (number + 1) (part_after part (line_of text)) texts w' ks')
+unfoldable pub played : ℕ → Progress → List (List ℕ) → Serving → List Client → Played
+played number progress [] w ks = record { text = []; status = 0 }
+played number progress (text ∷ texts) w ks =
+    let a = line_and_drains number progress (line_of text) w ks in
+    stops_or a a.stops (λ w' ks'. played (number + 1) (progress_after progress (line_of text)) texts w' ks')
 
 -- the lines of a script: what stands between its LFs. Behind a last LF there is one more, the empty one, which is skipped.
 abbrev pub lines_of : List ℕ → List (List ℕ)

@@ -3,7 +3,7 @@ ghost use Rattle.std.specs.Prelude.{◌≡◌, ◌≤◌, List, IfOk, OnOk, nat_
 ghost use Rattle.std.specs.List.{position_or_len};
 ghost use Rattle.std.specs.Io.KnownBytes.{Appends};
 ghost use Rattle.script.specs.declared.client.Client.{Client};
-ghost use Rattle.script_text.specs.declared.lines.Part.{Part};
+ghost use Rattle.script_text.specs.declared.lines.Progress.{Progress};
 ghost use Rattle.script.specs.Play.{drained, done_in, is_open, with_client, caps_effect, line_effect, still_open, line_and_drains, IsEffect, output_of};
 ghost use Rattle.script.specs.Server.{Serving};
 ghost use Rattle.devices.specs.Device.{AppendsFront};
@@ -17,7 +17,7 @@ use base::{NoMemory, Pieces};
 use devices::{Sink, write_all};
 use hub::Caps;
 use policy_doc::Policy;
-use script_text::{ClientLine, Line, Part, read_line, write_refused, write_shown};
+use script_text::{ClientLine, Line, Progress, read_line, write_refused, write_shown};
 use std::alloc::Global;
 use std::hash::RandomState;
 
@@ -100,7 +100,7 @@ fn open(
     conn: u64,
     out: &mut Vec<u8>,
 ) -> Result<bool, NoMemory>
-    ensures { (part : Part) (w : Serving) → IfOk result (λ stops. IsEffect (line_effect number part (Line.Open conn) w clients.old.items) out.old.items out.new.items clients.new.items w stops) }
+    ensures { (progress : Progress) (w : Serving) → IfOk result (λ stops. IsEffect (line_effect number progress (Line.Open conn) w clients.old.items) out.old.items out.new.items clients.new.items w stops) }
 {
     if is_open(clients.as_slice(), conn) {
         write_refused(out, number)?;
@@ -122,14 +122,14 @@ fn set_caps(
     alloc: Global,
     server: &mut Server,
     number: u64,
-    part: Part,
+    progress: Progress,
     caps: Caps,
     out: &mut Vec<u8>,
 ) -> Result<bool, NoMemory>
-    ensures { (clients : List Client) → IfOk result (λ stops. IsEffect (caps_effect number part caps server.old clients) out.old.items out.new.items clients server.new stops) }
+    ensures { (clients : List Client) → IfOk result (λ stops. IsEffect (caps_effect number progress caps server.old clients) out.old.items out.new.items clients server.new stops) }
 {
-    match part {
-        Part::Head => {
+    match progress {
+        Progress::Head => {
             if 1 <= caps.outbox && caps.outbox <= 65_536 {
                 server.set_caps(alloc, caps)?;
                 return Ok(false);
@@ -137,11 +137,11 @@ fn set_caps(
             write_refused(out, number)?;
             Ok(true)
         }
-        Part::Capped => {
+        Progress::Capped => {
             write_refused(out, number)?;
             Ok(true)
         }
-        Part::Body => {
+        Progress::Body => {
             write_refused(out, number)?;
             Ok(true)
         }
@@ -152,7 +152,7 @@ fn set_caps(
 #[derive(Drop)]
 struct NumberedLine {
     number: u64,
-    part: Part,
+    progress: Progress,
     line: Line,
 }
 
@@ -164,9 +164,13 @@ fn on_line(
     numbered: NumberedLine,
     out: &mut Vec<u8>,
 ) -> Result<bool, NoMemory>
-    ensures { IfOk result (λ stops. IsEffect (line_effect numbered.number numbered.part numbered.line server.old clients.old.items) out.old.items out.new.items clients.new.items server.new stops) }
+    ensures { IfOk result (λ stops. IsEffect (line_effect numbered.number numbered.progress numbered.line server.old clients.old.items) out.old.items out.new.items clients.new.items server.new stops) }
 {
-    let NumberedLine { number, part, line } = numbered;
+    let NumberedLine {
+        number,
+        progress,
+        line,
+    } = numbered;
     match line {
         Line::Skip => Ok(false),
         Line::Caps { outbox, history } => {
@@ -174,9 +178,11 @@ fn on_line(
                 outbox: outbox as usize,
                 history: history as usize,
             };
-            Ok(set_caps(alloc, server, number, part, caps, out)?)
+            Ok(set_caps(alloc, server, number, progress, caps, out)?)
         }
-        Line::Policy(text) => { Ok(on_policy(alloc, server, number, part, text.as_slice(), out)?) }
+        Line::Policy(text) => {
+            Ok(on_policy(alloc, server, number, progress, text.as_slice(), out)?)
+        }
         Line::Reload(text) => { Ok(on_reload(alloc, server, text.as_slice(), out)?) }
         Line::Open(conn) => {
             let stops = open(alloc, clients, number, conn, out)?;
@@ -209,7 +215,7 @@ fn on_line_and_drain(
     numbered: NumberedLine,
     out: &mut Vec<u8>,
 ) -> Result<bool, NoMemory>
-    ensures { IfOk result (λ stops. IsEffect (line_and_drains numbered.number numbered.part numbered.line server.old clients.old.items) out.old.items out.new.items clients.new.items server.new stops) }
+    ensures { IfOk result (λ stops. IsEffect (line_and_drains numbered.number numbered.progress numbered.line server.old clients.old.items) out.old.items out.new.items clients.new.items server.new stops) }
 {
     if on_line(alloc, server, clients, numbered, out)? {
         return Ok(true);
@@ -240,15 +246,19 @@ pub fn play_lines<W: Sink>(
     let mut server = Server::new(alloc, keys, policy)?;
     let mut clients = Vec::new(alloc);
     let mut lines = Pieces::of(script, b'\n');
-    let (mut number, mut part) = (0u64, Part::Head);
+    let (mut number, mut progress) = (0u64, Progress::Head);
     'playing: while let Some(text) = lines.next_piece() {
         number += 1;
         let line = read_line(alloc, text)?;
-        let next = part.after(&line);
+        let next = progress.after(&line);
         let mut out = Vec::new(alloc);
-        let numbered = NumberedLine { number, part, line };
+        let numbered = NumberedLine {
+            number,
+            progress,
+            line,
+        };
         let stops = on_line_and_drain(alloc, &mut server, &mut clients, numbered, &mut out)?;
-        part = next;
+        progress = next;
         match write_all(sink, out.as_slice()) {
             Err(_) => return Err(LinesFault::WriteFailed),
             Ok(()) => {

@@ -11,7 +11,7 @@ use base::NoMemory;
 use hub::Ready;
 use reload::{ReloadFault, prepare, read_valid_policy};
 use reload_lines::write_reload;
-use script_text::{Part, write_full, write_refused};
+use script_text::{Progress, write_full, write_refused};
 use std::alloc::Global;
 
 /// Sets a policy in the place of the built-in one, or prints the line of its fault.
@@ -40,22 +40,22 @@ pub fn on_policy(
     alloc: Global,
     server: &mut Server,
     number: u64,
-    part: Part,
+    progress: Progress,
     text: &[u8],
     out: &mut Vec<u8>,
 ) -> Result<bool, NoMemory>
-    ensures { (clients : List Client) → IfOk result (λ stops. IsEffect (policy_line_effect number part text.now server.old clients) out.old.items out.new.items clients server.new stops) }
+    ensures { (clients : List Client) → IfOk result (λ stops. IsEffect (policy_line_effect number progress text.now server.old clients) out.old.items out.new.items clients server.new stops) }
 {
-    match part {
-        Part::Head => {
+    match progress {
+        Progress::Head => {
             let stops = set_policy(alloc, server, text, out)?;
             Ok(stops)
         }
-        Part::Capped => {
+        Progress::Capped => {
             let stops = set_policy(alloc, server, text, out)?;
             Ok(stops)
         }
-        Part::Body => {
+        Progress::Body => {
             write_refused(out, number)?;
             Ok(true)
         }

@@ -8,8 +8,8 @@ use Rattle.script_text.specs.declared.lines.Line.TheVariants as says
 use Rattle.script_text.specs.declared.lines.ClientLine.TheVariants.{Sends, Holds, Frees, Ends}
 use Rattle.script_text.specs.declared.lines.NumberLine.{NumberLine}
 use Rattle.script_text.specs.declared.lines.NumberLine.TheVariants.{Open, Now, Word, Hold, Free, End}
-use Rattle.script_text.specs.declared.lines.Part.{Part}
-use Rattle.script_text.specs.declared.lines.Part.TheVariants.{Capped, Body}
+use Rattle.script_text.specs.declared.lines.Progress.{Progress}
+use Rattle.script_text.specs.declared.lines.Progress.TheVariants.{Capped, Body}
 use Rattle.script_text.specs.Escapes.{unescaped}
 
 -- an empty line and a comment say nothing
@@ -97,7 +97,7 @@ line_of line =
     else policy_line line
 
 -- a skipped line leaves the part as it is; caps may be followed by a policy, and any other line begins the body
-abbrev pub part_after : Part → Line → Part
-part_after part says.Skip = part
-part_after part (says.Caps outbox history) = Capped
-part_after part _ = Body
+abbrev pub progress_after : Progress → Line → Progress
+progress_after progress says.Skip = progress
+progress_after progress (says.Caps outbox history) = Capped
+progress_after progress _ = Body

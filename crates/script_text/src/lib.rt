@@ -5,5 +5,5 @@ mod escapes;
 mod lines;
 mod output;
 
-pub use lines::{ClientLine, Line, Part, read_line};
+pub use lines::{ClientLine, Line, Progress, read_line};
 pub use output::{write_closed, write_full, write_refused, write_shown};

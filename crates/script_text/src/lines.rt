@@ -1,6 +1,6 @@
 // The lines of a script of `natsd play` (docs/SCRIPT.md).
 ghost use Rattle.std.specs.Prelude.{◌≡◌, IfOk, position, ◌==◌};
-ghost use Rattle.script_text.specs.Lines.{is_skipped, number_of, caps_line, send_line, numbered, client_line, short_line, policy_line, line_of, part_after};
+ghost use Rattle.script_text.specs.Lines.{is_skipped, number_of, caps_line, send_line, numbered, client_line, short_line, policy_line, line_of, progress_after};
 
 use crate::escapes::unescape;
 use base::{Items, NoMemory};
@@ -55,7 +55,7 @@ enum NumberLine {
 
 /// How far a script has come.
 #[derive(Clone, Copy, Debug, PartialEq, Eq)]
-pub enum Part {
+pub enum Progress {
     /// Each line so far is skipped. Caps may follow, or a policy.
     Head,
     /// The first of the lines that are not skipped has given caps, and it is the only one. A policy may follow.
@@ -64,21 +64,21 @@ pub enum Part {
     Body,
 }
 
-impl Part {
+impl Progress {
     /// How far the script has come after one more line.
-    pub fn after(self, line: &Line) -> Part
-        ensures { result ≡ part_after self line.now }
+    pub fn after(self, line: &Line) -> Progress
+        ensures { result ≡ progress_after self line.now }
     {
         match line {
             Line::Skip => self,
-            Line::Caps { .. } => Part::Capped,
-            Line::Policy(_) => Part::Body,
-            Line::Reload(_) => Part::Body,
-            Line::Open(_) => Part::Body,
-            Line::Client(_, _) => Part::Body,
-            Line::Now(_) => Part::Body,
-            Line::Word(_) => Part::Body,
-            Line::Other => Part::Body,
+            Line::Caps { .. } => Progress::Capped,
+            Line::Policy(_) => Progress::Body,
+            Line::Reload(_) => Progress::Body,
+            Line::Open(_) => Progress::Body,
+            Line::Client(_, _) => Progress::Body,
+            Line::Now(_) => Progress::Body,
+            Line::Word(_) => Progress::Body,
+            Line::Other => Progress::Body,
         }
     }
 }

@@ -5,7 +5,7 @@ use server_gates::Gate;
 use server_log::What;
 use server_pacing::{Slice, batch};
 use server_port::Why;
-use server_socket::Served;
+use server_socket::ConnectionTurn;
 use server_turns::Turn;
 use session_conn::{Stall, Words};
 use shared_hub::Run;
@@ -115,7 +115,7 @@ impl<'a, L: Run, R: Wait + Clock, G: Gate + Drop, W: Words + Drop> Worker<'a, L,
 
     /// Counts a piece that was read, and what was buffered before it, where frames of it were entered or will be: the history
     /// keeps both then.
-    fn keep(&mut self, served: Served) {
+    fn keep(&mut self, served: ConnectionTurn) {
         if served.read > 0 && (served.frames_wait || self.port.has_entered()) {
             self.port.keep(served.buffered.saturating_add(served.read));
         }

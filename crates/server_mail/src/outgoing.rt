@@ -14,7 +14,7 @@ const CACHED: usize = 4096;
 
 /// A cache entry: in which worker's mail a connection's entry is, if it still is there, and at which index.
 #[derive(Clone, Copy)]
-struct Slot {
+struct CacheEntry {
     worker: usize,
     index: usize,
 }
@@ -24,7 +24,7 @@ pub struct OutgoingMail {
     by_worker: Vec<Mail>,
     /// A cache of where connections' entries are, by their numbers. Two connections that share a slot may have two entries
     /// each, which does no harm.
-    cache: Vec<Slot>,
+    cache: Vec<CacheEntry>,
     /// The worker that gathers it, if one does.
     own: Option<usize>,
     /// How many deliveries are pending for one connection of another worker, at most.
@@ -67,7 +67,7 @@ impl OutgoingMail {
             by_worker.push(Mail::new(alloc)).ok()?;
         }
         let mut cache = Vec::new(alloc);
-        let unused = Slot {
+        let unused = CacheEntry {
             worker: 0,
             index: 0,
         };
@@ -184,7 +184,7 @@ impl OutgoingMail {
         ensures more { AreMore self.old.by_worker.items self.new.by_worker.items }
         ensures said { result ≡ true → IsSaidBySome more self.new.by_worker.items }
     {
-        let Some(Slot { worker, index }) = self.cache.get(slot).copied() else {
+        let Some(CacheEntry { worker, index }) = self.cache.get(slot).copied() else {
             return false;
         };
         let Some(mail) = self.by_worker.get_mut(worker) else {
@@ -211,12 +211,12 @@ impl OutgoingMail {
         if let Some(mail) = self.by_worker.get_mut(worker) {
             let index = mail.pending.len();
             mail.add_pending(pending);
-            self.note_place(slot, Slot { worker, index });
+            self.note_place(slot, CacheEntry { worker, index });
         }
     }
 
     /// Caches where an entry is.
-    fn note_place(&mut self, slot: usize, place: Slot)
+    fn note_place(&mut self, slot: usize, place: CacheEntry)
         ensures { self.new.by_worker ≡ self.old.by_worker }
     {
         if let Some(cached) = self.cache.get_mut(slot) {

@@ -1,7 +1,7 @@
 -- When a port hands the history out.
 use Rattle.std.specs.Prelude.{ℕ, ◌+◌, ◌≡◌, ◌&&◌, Bool, true, false, Option, None, Some, nat_le}
 use Rattle.std.specs.Io.Iter.{u64_saturate}
-use Rattle.hub.specs.Segments.{Part, IsPart}
+use Rattle.hub.specs.Segments.{HistoryPart, IsHistoryPart}
 use Rattle.server_history.specs.declared.kept.Look.{Look}
 use Rattle.server_history.specs.declared.kept.Telling.{Telling}
 use Rattle.server_history.specs.Bytes.{is_passed}
@@ -9,7 +9,7 @@ use Rattle.server_history.specs.Rotating.{Rotating, failed, is_due, is_same, tak
 
 -- It was handed out: what was handed out, a part of a history, is all that is still to be dropped. Or it could not be.
 abbrev pub IsHandedOut : Bool → Rotating → Rotating → Type 0
-IsHandedOut true before after = (p : Part) × (part : ℕ) × IsPart p × (after ≡ taken_over p.entries part before)
+IsHandedOut true before after = (p : HistoryPart) × (part : ℕ) × IsHistoryPart p × (after ≡ taken_over p.entries part before)
 IsHandedOut false before after = after ≡ failed before
 
 -- how often it was tried, once more if it was to be

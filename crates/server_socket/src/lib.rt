@@ -16,6 +16,6 @@ pub use blocked::Blocked;
 pub use closing::Input;
 pub use connection::{Connection, Queued};
 pub use queue::Queue;
-pub use reading::Served;
+pub use reading::ConnectionTurn;
 pub use unknown::is_unknown;
 pub use writing::Written;

@@ -11,7 +11,7 @@ use session_conn::Words;
 
 /// The result of one turn of a connection.
 #[derive(Clone, Copy, Debug)]
-pub struct Served {
+pub struct ConnectionTurn {
     pub turn: Turn,
     /// How many bytes of frames were buffered before it, and how many were read.
     pub buffered: usize,
@@ -30,7 +30,7 @@ impl Connection {
         buf: &mut [u8],
         errors: &mut Vec<u8>,
         now: u64,
-    ) -> Served
+    ) -> ConnectionTurn
         requires { 0 < length buf.old }
         ensures { P.place port.new ≡ P.place port.old }
     {
@@ -45,7 +45,7 @@ impl Connection {
         let read = reader.count();
         self.note_written(now);
         self.is_let_on = self.is_let_on && turn == Turn::Waits;
-        Served {
+        ConnectionTurn {
             turn,
             buffered,
             read,

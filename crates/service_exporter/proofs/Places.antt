@@ -328,16 +328,16 @@ kept_more f xs i y z h given =
     ap (λ x. x ∷ map f (drop (i + 1) xs)) given
     ∙ ap (λ left. map f left) (sym (drop_more xs i z h)))
 
-pub standing-on_rows : (again : Row → Option NewRow) (slots : List Slot) → standing_in (map (kept_slot again) slots) ≡ filter_map (kept_route again) (standing_in slots)
-standing-on_rows again [] = refl
-standing-on_rows again (s ∷ slots) = by s.route (standing-on_rows again slots)
+pub standing-on_rows : (renewed : Row → Option NewRow) (slots : List Slot) → standing_in (map (kept_slot renewed) slots) ≡ filter_map (kept_route renewed) (standing_in slots)
+standing-on_rows renewed [] = refl
+standing-on_rows renewed (s ∷ slots) = by s.route (standing-on_rows renewed slots)
   where
-    by : (o : Option Route) → standing_in (map (kept_slot again) slots) ≡ filter_map (kept_route again) (standing_in slots)
-        → entry_of s.number (kept_in again o) ++ standing_in (map (kept_slot again) slots) ≡ filter_map (kept_route again) (entry_of s.number o ++ standing_in slots)
+    by : (o : Option Route) → standing_in (map (kept_slot renewed) slots) ≡ filter_map (kept_route renewed) (standing_in slots)
+        → entry_of s.number (kept_in renewed o) ++ standing_in (map (kept_slot renewed) slots) ≡ filter_map (kept_route renewed) (entry_of s.number o ++ standing_in slots)
     by None later = later
-    by (Some r) later = here (again r.row) refl
+    by (Some r) later = here (renewed r.row) refl
       where
-        here : (o : Option NewRow) → again r.row ≡ o → entry_of s.number (option_map (on_row r) (again r.row)) ++ standing_in (map (kept_slot again) slots) ≡ filter_map (kept_route again) ((s.number, r) ∷ standing_in slots)
+        here : (o : Option NewRow) → renewed r.row ≡ o → entry_of s.number (option_map (on_row r) (renewed r.row)) ++ standing_in (map (kept_slot renewed) slots) ≡ filter_map (kept_route renewed) ((s.number, r) ∷ standing_in slots)
         here None e = rw e later
         here (Some new) e = rw e (ap (λ more. (s.number, on_row r new) ∷ more) later)
 

@@ -71,8 +71,8 @@ abbrev pub on_row : Route → NewRow → Route
 on_row r new = record { word = r.word; row = record { importer = r.row.importer; index = new.index }; reply = r.reply; noted = r.noted; terms = new.terms }
 
 abbrev pub kept_route : (Row → Option NewRow) → Numbered → Option Numbered
-kept_route again r = option_map (λ new. (r.0, on_row r.1 new)) (again r.1.row)
+kept_route renewed r = option_map (λ new. (r.0, on_row r.1 new)) (renewed r.1.row)
 
 -- the routes whose row the policy has again
 abbrev pub kept_of : (Row → Option NewRow) → Exporter → Exporter
-kept_of again e = record { last = e.last; routes = filter_map (kept_route again) e.routes }
+kept_of renewed e = record { last = e.last; routes = filter_map (kept_route renewed) e.routes }

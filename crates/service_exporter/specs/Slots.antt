@@ -32,8 +32,8 @@ LivesUntil end (Some r) = (t : ℕ) → t ≤ end → lives t r ≡ true
 
 -- the route on its row in another policy, if that has the row
 abbrev pub kept_in : (Row → Option NewRow) → Option Route → Option Route
-kept_in again None = None
-kept_in again (Some r) = option_map (on_row r) (again r.row)
+kept_in renewed None = None
+kept_in renewed (Some r) = option_map (on_row r) (renewed r.row)
 
 -- the number of every slot is below a number
 abbrev pub AreBelow : ℕ → List Slot → Type 0
@@ -67,4 +67,4 @@ pub record IsPlaceOn (s : List Token) (slots : List Slot) (at : ℕ) : Type 0 wh
 
 -- a slot with its route on the row that another policy has
 abbrev pub kept_slot : (Row → Option NewRow) → Slot → Slot
-kept_slot again slot = record { number = slot.number; route = kept_in again slot.route }
+kept_slot renewed slot = record { number = slot.number; route = kept_in renewed slot.route }

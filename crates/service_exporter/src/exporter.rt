@@ -266,7 +266,7 @@ impl Exporter {
     /// Goes over to another policy: each route goes on by the row that is equal to its own there, on that row's terms. A
     /// route whose row has none ends. Those that are dead by the terms before go by `prune` first, or they may live again.
     pub fn keep_rows<S: ServiceRows>(&mut self, rows: &S)
-        ensures exporter { self.new.exporter ≡ kept_of (S.again rows.now) self.old.exporter }
+        ensures exporter { self.new.exporter ≡ kept_of (S.renewed rows.now) self.old.exporter }
         ensures room { self.new.room ≡ self.old.room }
     {
         keep_rows(self.slots.as_mut_slice(), rows);

@@ -23,12 +23,12 @@ pub trait ServiceRows {
     ghost use Rattle.exports.specs.declared.document.Row.{Row};
 
     /// The least row that is equal to a row of the earlier policy.
-    ghost again: { Self → Row → Option NewRow };
+    ghost renewed: { Self → Row → Option NewRow };
 
     /// The least row that is equal to a row of the earlier policy, if there is one: with the same importer, exporter,
     /// subject and `to`.
-    fn again(&self, row: &Row) -> Option<NewRow>
-        ensures { result ≡ again self.now row.now };
+    fn renewed(&self, row: &Row) -> Option<NewRow>
+        ensures { result ≡ renewed self.now row.now };
 }
 
 /// What an exporter's response needs of the request that it answers. It keeps nothing of what the request was read from.
@@ -87,10 +87,10 @@ impl Route {
     }
 
     /// The route on its row in another policy, on that row's terms, or none where the policy hasn't got the row.
-    pub(crate) fn keep(self, again: Option<NewRow>) -> Option<Route>
-        ensures { result ≡ option_map (on_row self) again }
+    pub(crate) fn keep(self, renewed: Option<NewRow>) -> Option<Route>
+        ensures { result ≡ option_map (on_row self) renewed }
     {
-        match again {
+        match renewed {
             None => None,
             Some(new) => {
                 let Route {

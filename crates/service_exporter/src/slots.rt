@@ -141,13 +141,13 @@ impl Slot {
     /// Puts its route on the row that a policy has again, or takes it out where the policy has none.
     fn keep<S: ServiceRows>(&mut self, rows: &S)
         ensures number { self.new.number ≡ self.old.number }
-        ensures route { self.new.route ≡ kept_in (S.again rows.now) self.old.route }
+        ensures route { self.new.route ≡ kept_in (S.renewed rows.now) self.old.route }
     {
         match self.route.take() {
             None => {}
             Some(route) => {
-                let again = rows.again(&route.row);
-                self.route = route.keep(again);
+                let renewed = rows.renewed(&route.row);
+                self.route = route.keep(renewed);
             }
         }
     }
@@ -191,7 +191,7 @@ pub(crate) fn prune(slots: &mut Vec<Slot>, now: u64)
 /// Puts the routes on the rows that a policy has again, and takes those out whose rows it hasn't.
 pub(crate) fn keep_rows<S: ServiceRows>(slots: &mut [Slot], rows: &S)
     requires rising { AreRising slots.old }
-    ensures kept { standing_in slots.new ≡ filter_map (kept_route (S.again rows.now)) (standing_in slots.old) }
+    ensures kept { standing_in slots.new ≡ filter_map (kept_route (S.renewed rows.now)) (standing_in slots.old) }
     ensures rising { AreRising slots.new }
     ensures below { (n : ℕ) → AreBelow n slots.old → AreBelow n slots.new }
 {
@@ -200,7 +200,7 @@ pub(crate) fn keep_rows<S: ServiceRows>(slots: &mut [Slot], rows: &S)
 
 /// Puts each route on the row that a policy has again.
 fn keep_each<S: ServiceRows>(slots: &mut [Slot], rows: &S)
-    ensures { slots.new ≡ map (kept_slot (S.again rows.now)) slots.old }
+    ensures { slots.new ≡ map (kept_slot (S.renewed rows.now)) slots.old }
 {
     for slot in slots.iter_mut() {
         slot.keep(rows);

@@ -56,4 +56,4 @@ pruned now all = each (pruned_of now) all
 
 -- the routes whose rows another policy has again
 abbrev pub kept : (Row → Option NewRow) → List (Name × Exporter) → List (Name × Exporter)
-kept again all = each (kept_of again) all
+kept renewed all = each (kept_of renewed) all

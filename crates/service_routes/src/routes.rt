@@ -195,7 +195,7 @@ impl Routes {
     /// Goes over to another policy: each route goes on by the row that is equal to its own there, on that row's terms. A
     /// route whose row has none ends. Those that are dead by the terms before go by `prune` first, or they may live again.
     pub fn keep_rows<S: ServiceRows>(&mut self, rows: &S)
-        ensures exporters { self.new.exporters ≡ kept (S.again rows.now) self.old.exporters }
+        ensures exporters { self.new.exporters ≡ kept (S.renewed rows.now) self.old.exporters }
         ensures room { (other : List ℕ) → room_for other self.old ≤ room_for other self.new }
     {
         keep_all(&mut self.exporters, rows);
@@ -437,7 +437,7 @@ fn prune_at(exporters: &mut Exporters, place: usize, now: u64)
 
 /// Puts the routes on the rows that a policy has again, and takes those out whose rows it hasn't.
 fn keep_all<S: ServiceRows>(exporters: &mut Exporters, rows: &S)
-    ensures exporters { exporters_in exporters.new.entries ≡ kept (S.again rows.now) (exporters_in exporters.old.entries) }
+    ensures exporters { exporters_in exporters.new.entries ≡ kept (S.renewed rows.now) (exporters_in exporters.old.entries) }
     ensures rooms { (other : List ℕ) (ready : List (List ℕ × WithRoom)) → room_in other exporters.old.entries ready ≤ room_in other exporters.new.entries ready }
     ensures room { spare exporters.new ≡ spare exporters.old }
 {
@@ -448,7 +448,7 @@ fn keep_all<S: ServiceRows>(exporters: &mut Exporters, rows: &S)
 
 /// Puts the routes of the exporter at a place on the rows that a policy has again, as `keep_all` does.
 fn keep_at<S: ServiceRows>(exporters: &mut Exporters, place: usize, rows: &S)
-    ensures exporters { IsChangedAt (kept_of (S.again rows.now)) place exporters.old.entries exporters.new.entries }
+    ensures exporters { IsChangedAt (kept_of (S.renewed rows.now)) place exporters.old.entries exporters.new.entries }
     ensures rooms { (other : List ℕ) (ready : List (List ℕ × WithRoom)) → room_in other exporters.old.entries ready ≤ room_in other exporters.new.entries ready }
     ensures room { spare exporters.new ≡ spare exporters.old }
     ensures same { length exporters.new.entries ≡ length exporters.old.entries }

@@ -61,12 +61,12 @@ is_same_service i j = is_service i.kind && is_service j.kind && bytes_eq i.accou
 abbrev pub new_row : PolicyDoc → Name → ℕ → NewRow
 new_row doc importer index = record { index = index; terms = terms_at doc importer index }
 
-abbrev pub again_in : PolicyDoc → Name → ImportDoc → NamedAccount → Option NewRow
-again_in doc importer i a = option_map (new_row doc importer) (position (is_same_service i) a.account.imports)
+abbrev pub renewed_in : PolicyDoc → Name → ImportDoc → NamedAccount → Option NewRow
+renewed_in doc importer i a = option_map (new_row doc importer) (position (is_same_service i) a.account.imports)
 
-abbrev pub again_for : PolicyDoc → Name → ImportDoc → Option NewRow
-again_for doc importer i = option_and_then (again_in doc importer i) (find (has_name importer) doc.accounts)
+abbrev pub renewed_for : PolicyDoc → Name → ImportDoc → Option NewRow
+renewed_for doc importer i = option_and_then (renewed_in doc importer i) (find (has_name importer) doc.accounts)
 
 -- the row of the second policy that a row of the first is again: the least one of the same importer that is of the same service
-abbrev pub again : PolicyDoc → PolicyDoc → Row → Option NewRow
-again old new row = option_and_then (again_for new row.importer) (import_at old row.importer row.index)
+abbrev pub renewed : PolicyDoc → PolicyDoc → Row → Option NewRow
+renewed old new row = option_and_then (renewed_for new row.importer) (import_at old row.importer row.index)

@@ -4,7 +4,7 @@ use Rattle.std.specs.Prelude.{◌≡◌, ◌≢◌, ◌≤◌, ◌+◌, ◌-◌,
 use Rattle.events.specs.declared.answer.Entry.{Entry}
 use Rattle.world.specs.World.{World}
 use Rattle.hub.specs.History.{State, IsOpening, IsLegalRun}
-use Rattle.hub.specs.Segments.{Part}
+use Rattle.hub.specs.Segments.{HistoryPart}
 use Rattle.hub_segments.specs.Joins.{parts_of, has_number, IsLeastFault}
 use Rattle.shared_receipts.specs.Receipts.{Receipt}
 use Rattle.shared_hub.specs.declared.audit.AuditFault.{AuditFault}
@@ -48,40 +48,40 @@ IsFound history receipts (Some number) = IsMismatch history receipts number
 
 -- Joined in the order of their numbers they are this history: a legal run from the opening of a hub to its present world,
 -- in which each part stands at its numbers, and each number is in one part.
-pub record IsJoined (segments : List Part) (s : State) (history : List Entry) : Type 0 where
+pub record IsJoined (segments : List HistoryPart) (s : State) (history : List Entry) : Type 0 where
   pub first : World
   pub opens : IsOpening first
   pub legal : IsLegalRun first history s.world
-  pub parts : All (λ (p : Part). take (length p.entries) (drop p.opening.number history) ≡ p.entries) (parts_of segments s)
+  pub parts : All (λ (p : HistoryPart). take (length p.entries) (drop p.opening.number history) ≡ p.entries) (parts_of segments s)
   pub once : (n : ℕ) → 1 ≤ n → n ≤ s.world.number → length (filter (has_number n) (parts_of segments s)) ≡ 1
 
 -- they are a history, in which each receipt stands
-pub record AreEntered (segments : List Part) (s : State) (receipts : List Receipt) : Type 0 where
+pub record AreEntered (segments : List HistoryPart) (s : State) (receipts : List Receipt) : Type 0 where
   pub history : List Entry
   pub joined : IsJoined segments s history
   pub genuine : AreGenuine history receipts
 
 -- and it has as many entries as there were when the run opened, and the seats have made since
-pub record IsWhole (opening : ℕ) (segments : List Part) (s : State) (receipts : List Receipt) (counts : List ℕ) : Type 0 where
+pub record IsWhole (opening : ℕ) (segments : List HistoryPart) (s : State) (receipts : List Receipt) (counts : List ℕ) : Type 0 where
   pub entered : AreEntered segments s receipts
   pub count : length entered.history ≡ opening + sum counts
 
 -- What is wrong with segments and receipts, of the hub that the audit is of: something at a number, the least one; nothing
 -- at any, and a receipt is out of place in their history; or nothing at all, and memory could not be had.
-abbrev pub IsFault : List Part → State → List Receipt → AuditFault → Type 0
+abbrev pub IsFault : List HistoryPart → State → List Receipt → AuditFault → Type 0
 IsFault segments s receipts (SegmentGap number) = IsLeastFault segments s (Err number)
 IsFault segments s receipts (ReceiptMismatch number) = (history : List Entry) × IsJoined segments s history × IsMismatch history receipts number
 IsFault segments s receipts NoMemory = AreEntered segments s receipts
 IsFault segments s receipts SeatMissing = ⊥
 
 -- Where an audit is refused: not all seats were handed in, or else something is wrong with what was handed in beside them.
-abbrev pub IsDue : List Part → State → ℕ → ℕ → List Receipt → AuditFault → Type 0
+abbrev pub IsDue : List HistoryPart → State → ℕ → ℕ → List Receipt → AuditFault → Type 0
 IsDue segments s seats handed receipts SeatMissing = handed ≢ seats
 IsDue segments s seats handed receipts fault = (handed ≡ seats) × IsFault segments s receipts fault
 
 -- ---- looking up
 
 -- what is found of a number in a part: its entry; or None, where the part doesn't have it
-abbrev pub IsLookUp : Part → ℕ → Option Entry → Type 0
+abbrev pub IsLookUp : HistoryPart → ℕ → Option Entry → Type 0
 IsLookUp p number None = has_number number p ≡ false
 IsLookUp p number (Some e) = entry_after p.opening.number p.entries number ≡ Some e

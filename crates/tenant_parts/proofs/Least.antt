@@ -22,7 +22,7 @@ use Rattle.policy_doc.specs.declared.document.NamedAccount.{NamedAccount}
 use Rattle.policy_doc.specs.declared.document.PolicyDoc.{PolicyDoc}
 use Rattle.service_exporter.specs.Routes.{Exporter, Numbered}
 use Rattle.service_exporter.specs.declared.route.NewRow.{NewRow}
-use Rattle.service_rows.specs.Rows.{again, again_for, again_in, import_at, is_same_service, is_service, new_row, no_terms, same_template, terms_at, terms_by, terms_for, terms_in, terms_of}
+use Rattle.service_rows.specs.Rows.{renewed, renewed_for, renewed_in, import_at, is_same_service, is_service, new_row, no_terms, same_template, terms_at, terms_by, terms_for, terms_in, terms_of}
 use Rattle.tenant_parts.specs.Part.{account_held, exporters_of, part_of}
 use Rattle.tenant_parts.specs.Least.{AgainByLeast, HasItself, LeastInPart, all_on_least, exporter_on_least, exporters_on_least, index_by, least_row, on_least}
 use Rattle.tenant_parts.proofs.Policy.{account_kept, import_kept}
@@ -111,7 +111,7 @@ found_at p xs k x at is = ap (λ b. cond b (Some (position_or_len p xs)) None) (
 
 module _ (doc : PolicyDoc) (importer : Name) (index : ℕ) where
   -- the least row stands for the same import
-  least_is : (i : ImportDoc) → import_at doc importer index ≡ Some i → (new : NewRow) → again_for doc importer i ≡ Some new → IsSomeAnd (import_at doc importer new.index) (λ j. is_same_service i j ≡ true)
+  least_is : (i : ImportDoc) → import_at doc importer index ≡ Some i → (new : NewRow) → renewed_for doc importer i ≡ Some new → IsSomeAnd (import_at doc importer new.index) (λ j. is_same_service i j ≡ true)
   least_is i at new e = by (find (has_name importer) doc.accounts) e
     where
       in_account : (a : NamedAccount) (o : Option ℕ) → position (is_same_service i) a.account.imports ≡ o → option_map (new_row doc importer) o ≡ Some new → IsSomeAnd (slice_get a.account.imports new.index) (λ j. is_same_service i j ≡ true)
@@ -120,39 +120,39 @@ module _ (doc : PolicyDoc) (importer : Name) (index : ℕ) where
           let same : k ≡ new.index = ap (λ (o : Option NewRow). index_by o 0) f in
           subst (λ n. IsSomeAnd (slice_get a.account.imports n) (λ j. is_same_service i j ≡ true)) same (placed (is_same_service i) a.account.imports k i p)
 
-      by : (o : Option NamedAccount) → option_and_then (again_in doc importer i) o ≡ Some new →
+      by : (o : Option NamedAccount) → option_and_then (renewed_in doc importer i) o ≡ Some new →
           IsSomeAnd (option_and_then (λ (a : NamedAccount). slice_get a.account.imports new.index) o) (λ j. is_same_service i j ≡ true)
       by None f = absurd (cc)
       by (Some a) f = in_account a (position (is_same_service i) a.account.imports) refl f
 
 -- rows of one service have the same row again
-again_same : (new : PolicyDoc) (importer : Name) (i j : ImportDoc) → AreOne i j → again_for new importer j ≡ again_for new importer i
+again_same : (new : PolicyDoc) (importer : Name) (i j : ImportDoc) → AreOne i j → renewed_for new importer j ≡ renewed_for new importer i
 again_same new importer i j one = by (find (has_name importer) new.accounts)
   where
-    by : (o : Option NamedAccount) → option_and_then (again_in new importer j) o ≡ option_and_then (again_in new importer i) o
+    by : (o : Option NamedAccount) → option_and_then (renewed_in new importer j) o ≡ option_and_then (renewed_in new importer i) o
     by None = refl
     by (Some a) = ap (λ (test : ImportDoc → Bool). option_map (new_row new importer) (position test a.account.imports)) (λ n x. same_test i j one x n)
 
 pub again_by_least : AgainByLeast
 again_by_least old new row = by (import_at old row.importer row.index) refl
   where
-    for_import : (i : ImportDoc) → import_at old row.importer row.index ≡ Some i → (o : Option NewRow) → again_for old row.importer i ≡ o →
-        option_and_then (again_for new row.importer) (import_at old row.importer (index_by o row.index)) ≡ again_for new row.importer i
-    for_import i e None f = ap (option_and_then (again_for new row.importer)) e
+    for_import : (i : ImportDoc) → import_at old row.importer row.index ≡ Some i → (o : Option NewRow) → renewed_for old row.importer i ≡ o →
+        option_and_then (renewed_for new row.importer) (import_at old row.importer (index_by o row.index)) ≡ renewed_for new row.importer i
+    for_import i e None f = ap (option_and_then (renewed_for new row.importer)) e
     for_import i e (Some least) f = within (import_at old row.importer least.index) (least_is old row.importer row.index i e least f)
       where
-        within : (o : Option ImportDoc) → IsSomeAnd o (λ j. is_same_service i j ≡ true) → option_and_then (again_for new row.importer) o ≡ again_for new row.importer i
+        within : (o : Option ImportDoc) → IsSomeAnd o (λ j. is_same_service i j ≡ true) → option_and_then (renewed_for new row.importer) o ≡ renewed_for new row.importer i
         within None never = absurd never
         within (Some j) same = again_same new row.importer i j (are_one i j same)
 
     by : (o : Option ImportDoc) → import_at old row.importer row.index ≡ o →
-        option_and_then (again_for new row.importer) (import_at old row.importer (index_by (option_and_then (again_for old row.importer) (import_at old row.importer row.index)) row.index)) ≡ option_and_then (again_for new row.importer) (import_at old row.importer row.index)
+        option_and_then (renewed_for new row.importer) (import_at old row.importer (index_by (option_and_then (renewed_for old row.importer) (import_at old row.importer row.index)) row.index)) ≡ option_and_then (renewed_for new row.importer) (import_at old row.importer row.index)
     by None e =
-        ap (λ o. option_and_then (again_for new row.importer) (import_at old row.importer (index_by (option_and_then (again_for old row.importer) o) row.index))) e
+        ap (λ o. option_and_then (renewed_for new row.importer) (import_at old row.importer (index_by (option_and_then (renewed_for old row.importer) o) row.index))) e
     by (Some i) e =
-        ap (λ o. option_and_then (again_for new row.importer) (import_at old row.importer (index_by (option_and_then (again_for old row.importer) o) row.index))) e
-        ∙ for_import i e (again_for old row.importer i) refl
-        ∙ sym (ap (option_and_then (again_for new row.importer)) e)
+        ap (λ o. option_and_then (renewed_for new row.importer) (import_at old row.importer (index_by (option_and_then (renewed_for old row.importer) o) row.index))) e
+        ∙ for_import i e (renewed_for old row.importer i) refl
+        ∙ sym (ap (option_and_then (renewed_for new row.importer)) e)
 
 -- ---- the policy's own rows
 
@@ -160,11 +160,11 @@ again_by_least old new row = by (import_at old row.importer row.index) refl
 pub has_itself : HasItself
 has_itself doc row is = by (import_at doc row.importer row.index) refl is
   where
-    for_import : (i : ImportDoc) → import_at doc row.importer row.index ≡ Some i → i.kind ≡ Service → again_for doc row.importer i ≡ Some record { index = index_by (again_for doc row.importer i) row.index; terms = terms_for doc row.importer i }
+    for_import : (i : ImportDoc) → import_at doc row.importer row.index ≡ Some i → i.kind ≡ Service → renewed_for doc row.importer i ≡ Some record { index = index_by (renewed_for doc row.importer i) row.index; terms = terms_for doc row.importer i }
     for_import i e service = for_account (find (has_name row.importer) doc.accounts) refl e
       where
         for_account : (o : Option NamedAccount) → find (has_name row.importer) doc.accounts ≡ o → option_and_then (λ (a : NamedAccount). slice_get a.account.imports row.index) o ≡ Some i →
-            option_and_then (again_in doc row.importer i) o ≡ Some record { index = index_by (option_and_then (again_in doc row.importer i) o) row.index; terms = terms_for doc row.importer i }
+            option_and_then (renewed_in doc row.importer i) o ≡ Some record { index = index_by (option_and_then (renewed_in doc row.importer i) o) row.index; terms = terms_for doc row.importer i }
         for_account None f g = absurd (cc)
         for_account (Some a) f g =
             let k : ℕ = position_or_len (is_same_service i) a.account.imports in
@@ -184,34 +184,34 @@ has_itself doc row is = by (import_at doc row.importer row.index) refl is
                 within (Some j) s = same_terms doc row.importer i j (are_one i j s)
 
     by : (o : Option ImportDoc) → import_at doc row.importer row.index ≡ o → IsSomeAnd o (λ (i : ImportDoc). i.kind ≡ Service) →
-        again doc doc row ≡ Some record { index = index_by (again doc doc row) row.index; terms = terms_of doc row }
+        renewed doc doc row ≡ Some record { index = index_by (renewed doc doc row) row.index; terms = terms_of doc row }
     by None e never = absurd never
     by (Some i) e service =
-        ap (option_and_then (again_for doc row.importer)) e
+        ap (option_and_then (renewed_for doc row.importer)) e
         ∙ for_import i e service
-        ∙ sym (ap (λ o. Some record { index = index_by (option_and_then (again_for doc row.importer) o) row.index; terms = option_map_or (terms_for doc row.importer) o no_terms }) e)
+        ∙ sym (ap (λ o. Some record { index = index_by (option_and_then (renewed_for doc row.importer) o) row.index; terms = option_map_or (terms_for doc row.importer) o no_terms }) e)
 
 -- ---- in a part
 
 -- which index, whatever the terms
-index_in : (K : Name → Bool) (doc : PolicyDoc) (importer : Name) → K importer ≡ true → (i : ImportDoc) (index : ℕ) → index_by (again_for (part_of K doc) importer i) index ≡ index_by (again_for doc importer i) index
+index_in : (K : Name → Bool) (doc : PolicyDoc) (importer : Name) → K importer ≡ true → (i : ImportDoc) (index : ℕ) → index_by (renewed_for (part_of K doc) importer i) index ≡ index_by (renewed_for doc importer i) index
 index_in K doc importer is i index =
-    ap (λ o. index_by (option_and_then (again_in (part_of K doc) importer i) o) index) (account_kept K importer doc is) ∙ by (find (has_name importer) doc.accounts)
+    ap (λ o. index_by (option_and_then (renewed_in (part_of K doc) importer i) o) index) (account_kept K importer doc is) ∙ by (find (has_name importer) doc.accounts)
   where
     at : (o : Option ℕ) → index_by (option_map (new_row (part_of K doc) importer) o) index ≡ index_by (option_map (new_row doc importer) o) index
     at None = refl
     at (Some k) = refl
 
-    by : (o : Option NamedAccount) → index_by (option_and_then (again_in (part_of K doc) importer i) (option_map (account_held doc.default_permissions) o)) index ≡ index_by (option_and_then (again_in doc importer i) o) index
+    by : (o : Option NamedAccount) → index_by (option_and_then (renewed_in (part_of K doc) importer i) (option_map (account_held doc.default_permissions) o)) index ≡ index_by (option_and_then (renewed_in doc importer i) o) index
     by None = refl
     by (Some a) = at (position (is_same_service i) a.account.imports)
 
 pub least_in_row : (K : Name → Bool) (doc : PolicyDoc) (row : Row) → K row.importer ≡ true → least_row doc row ≡ least_row (part_of K doc) row
 least_in_row K doc row is =
     ap (λ index. record { importer = row.importer; index = index })
-    (sym (ap (λ o. index_by (option_and_then (again_for (part_of K doc) row.importer) o) row.index) (import_kept K doc row.importer row.index is) ∙ by (import_at doc row.importer row.index)))
+    (sym (ap (λ o. index_by (option_and_then (renewed_for (part_of K doc) row.importer) o) row.index) (import_kept K doc row.importer row.index is) ∙ by (import_at doc row.importer row.index)))
   where
-    by : (o : Option ImportDoc) → index_by (option_and_then (again_for (part_of K doc) row.importer) o) row.index ≡ index_by (option_and_then (again_for doc row.importer) o) row.index
+    by : (o : Option ImportDoc) → index_by (option_and_then (renewed_for (part_of K doc) row.importer) o) row.index ≡ index_by (option_and_then (renewed_for doc row.importer) o) row.index
     by None = refl
     by (Some i) = index_in K doc row.importer is i row.index
 

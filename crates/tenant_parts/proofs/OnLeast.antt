@@ -15,7 +15,7 @@ use Rattle.service_exporter.specs.Routes.{Exporter, Numbered, ends_by, kept_of, 
 use Rattle.service_exporter.specs.declared.route.NewRow.{NewRow}
 use Rattle.service_exporter.specs.declared.route.Route.{Route}
 use Rattle.service_routes.specs.Routes.{exporter_of, kept, opened, pruned, same_name, spent}
-use Rattle.service_rows.specs.Rows.{again}
+use Rattle.service_rows.specs.Rows.{renewed}
 use Rattle.tenant_parts.specs.Least.{all_on_least, exporter_on_least, exporters_on_least, index_by, least_row, on_least}
 use Rattle.tenant_parts.proofs.Least.{again_by_least}
 
@@ -91,27 +91,27 @@ module _ (doc : PolicyDoc) where
 
   -- ---- another policy
 
-  kept_route_least : (new : PolicyDoc) (r : Numbered) → kept_route (again doc new) (at_least r) ≡ kept_route (again doc new) r
+  kept_route_least : (new : PolicyDoc) (r : Numbered) → kept_route (renewed doc new) (at_least r) ≡ kept_route (renewed doc new) r
   kept_route_least new r = ap (option_map (λ (n : NewRow). (r.0, on_row r.1 n))) (again_by_least doc new r.1.row)
 
-  kept_routes_least : (new : PolicyDoc) (rs : List Numbered) → filter_map (kept_route (again doc new)) (all_on_least doc rs) ≡ filter_map (kept_route (again doc new)) rs
+  kept_routes_least : (new : PolicyDoc) (rs : List Numbered) → filter_map (kept_route (renewed doc new)) (all_on_least doc rs) ≡ filter_map (kept_route (renewed doc new)) rs
   kept_routes_least new [] = refl
   kept_routes_least new (r ∷ rs) =
-      ap (λ o. cons_option o (filter_map (kept_route (again doc new)) (all_on_least doc rs))) (kept_route_least new r)
-      ∙ ap (cons_option (kept_route (again doc new) r)) (kept_routes_least new rs)
+      ap (λ o. cons_option o (filter_map (kept_route (renewed doc new)) (all_on_least doc rs))) (kept_route_least new r)
+      ∙ ap (cons_option (kept_route (renewed doc new) r)) (kept_routes_least new rs)
 
-  pub kept_least : (new : PolicyDoc) (all : List (Name × Exporter)) → kept (again doc new) (exporters_on_least doc all) ≡ kept (again doc new) all
+  pub kept_least : (new : PolicyDoc) (all : List (Name × Exporter)) → kept (renewed doc new) (exporters_on_least doc all) ≡ kept (renewed doc new) all
   kept_least new [] = refl
   kept_least new (e ∷ all) =
-      ap (λ (rs : List Numbered). (e.0, record { last = e.1.last; routes = rs }) ∷ kept (again doc new) (exporters_on_least doc all)) (kept_routes_least new e.1.routes)
-      ∙ ap (λ l. (e.0, kept_of (again doc new) e.1) ∷ l) (kept_least new all)
+      ap (λ (rs : List Numbered). (e.0, record { last = e.1.last; routes = rs }) ∷ kept (renewed doc new) (exporters_on_least doc all)) (kept_routes_least new e.1.routes)
+      ∙ ap (λ l. (e.0, kept_of (renewed doc new) e.1) ∷ l) (kept_least new all)
 
   -- ---- twice
 
   route_twice : (r : Route) → on_least doc (on_least doc r) ≡ on_least doc r
   route_twice r =
       ap (λ o. record r { row = record { importer = r.row.importer; index = index_by o (least_row doc r.row).index } }) (again_by_least doc doc r.row)
-      ∙ by (again doc doc r.row)
+      ∙ by (renewed doc doc r.row)
     where
       by : (o : Option NewRow) → ◌≡◌ {A = Route} (record r { row = record { importer = r.row.importer; index = index_by o (index_by o r.row.index) } }) (record r { row = record { importer = r.row.importer; index = index_by o r.row.index } })
       by None = refl

@@ -30,7 +30,7 @@ use Rattle.imports.specs.declared.rows.ImportRow.{ImportRow}
 use Rattle.imports.specs.declared.view.ViewItem.{ViewItem}
 use Rattle.imports.specs.declared.view.ViewItem.TheVariants.{At, TooLong}
 use Rattle.imports.specs.declared.view.Way.TheVariants.{Own}
-use Rattle.service_rows.specs.Rows.{again_for, again_in, import_at, is_same_service, new_row, no_terms, terms_at, terms_by, terms_for}
+use Rattle.service_rows.specs.Rows.{renewed_for, renewed_in, import_at, is_same_service, new_row, no_terms, terms_at, terms_by, terms_for}
 use Rattle.tenant_parts.specs.Laws.{AgainInPart, LoginsInPart, TermsInPart, UsersArePart, UsersInPart, ViewsInPart, ViewsStay, IsViewWithin, IsWayWithin}
 use Rattle.tenant_parts.specs.Part.{account_held, part_of, user_held}
 use Rattle.list_laws.proofs.Finds.{find-map, find-filter}
@@ -267,17 +267,17 @@ terms_in_part K doc closed row is = terms_kept K doc closed row.importer row.ind
 
 pub again_in_part : AgainInPart
 again_in_part K old new closed row is =
-    ap (option_and_then (again_for (part_of K new) row.importer)) (import_kept K old row.importer row.index is)
+    ap (option_and_then (renewed_for (part_of K new) row.importer)) (import_kept K old row.importer row.index is)
     ∙ by (import_at old row.importer row.index)
   where
     each : (i : ImportDoc) (o : Option ℕ) → option_map (new_row (part_of K new) row.importer) o ≡ option_map (new_row new row.importer) o
     each i None = refl
     each i (Some index) = ap (λ terms. Some record { index = index; terms = terms }) (terms_kept K new closed row.importer index is)
 
-    found : (i : ImportDoc) (o : Option NamedAccount) → option_and_then (again_in (part_of K new) row.importer i) (option_map (account_held new.default_permissions) o) ≡ option_and_then (again_in new row.importer i) o
+    found : (i : ImportDoc) (o : Option NamedAccount) → option_and_then (renewed_in (part_of K new) row.importer i) (option_map (account_held new.default_permissions) o) ≡ option_and_then (renewed_in new row.importer i) o
     found i None = refl
     found i (Some a) = each i (position (is_same_service i) a.account.imports)
 
-    by : (o : Option ImportDoc) → option_and_then (again_for (part_of K new) row.importer) o ≡ option_and_then (again_for new row.importer) o
+    by : (o : Option ImportDoc) → option_and_then (renewed_for (part_of K new) row.importer) o ≡ option_and_then (renewed_for new row.importer) o
     by None = refl
-    by (Some i) = ap (option_and_then (again_in (part_of K new) row.importer i)) (account_kept K row.importer new is) ∙ found i (find (has_name row.importer) new.accounts)
+    by (Some i) = ap (option_and_then (renewed_in (part_of K new) row.importer i)) (account_kept K row.importer new is) ∙ found i (find (has_name row.importer) new.accounts)

@@ -16,7 +16,7 @@ use Rattle.service_exporter.specs.Routes.{Exporter}
 use Rattle.service_exporter.specs.declared.route.NewRow.{NewRow}
 use Rattle.service_exporter.specs.declared.route.Route.{Route}
 use Rattle.service_routes.specs.Routes.{exporter_of, kept, opened, pruned, spent}
-use Rattle.service_rows.specs.Rows.{again, terms_of}
+use Rattle.service_rows.specs.Rows.{renewed, terms_of}
 use Rattle.tenant_parts.specs.Part.{exporters_of, part_of}
 
 -- ---- routes
@@ -70,7 +70,7 @@ abbrev pub TermsInPart : Type 0
 TermsInPart = (K : Name → Bool) (doc : PolicyDoc) → IsClosed doc K → (row : Row) → K row.importer ≡ true → terms_of (part_of K doc) row ≡ terms_of doc row
 
 abbrev pub AgainInPart : Type 0
-AgainInPart = (K : Name → Bool) (old new : PolicyDoc) → IsClosed new K → (row : Row) → K row.importer ≡ true → again (part_of K old) (part_of K new) row ≡ again old new row
+AgainInPart = (K : Name → Bool) (old new : PolicyDoc) → IsClosed new K → (row : Row) → K row.importer ≡ true → renewed (part_of K old) (part_of K new) row ≡ renewed old new row
 
 -- the users of the part are those of the whole whose accounts are in the set, with the permissions and the mappings that hold for
 -- them

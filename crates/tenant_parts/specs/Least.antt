@@ -10,7 +10,7 @@ use Rattle.service_exporter.specs.Routes.{Exporter, Numbered}
 use Rattle.service_exporter.specs.declared.route.NewRow.{NewRow}
 use Rattle.service_exporter.specs.declared.route.Route.{Route}
 use Rattle.service_routes.specs.Routes.{each}
-use Rattle.service_rows.specs.Rows.{again, import_at, terms_of}
+use Rattle.service_rows.specs.Rows.{renewed, import_at, terms_of}
 use Rattle.tenant_parts.specs.Part.{exporters_of, part_of}
 
 abbrev pub index_by : Option NewRow → ℕ → ℕ
@@ -19,7 +19,7 @@ index_by (Some new) index = new.index
 
 -- the least row of the same service
 abbrev pub least_row : PolicyDoc → Row → Row
-least_row doc row = record { importer = row.importer; index = index_by (again doc doc row) row.index }
+least_row doc row = record { importer = row.importer; index = index_by (renewed doc doc row) row.index }
 
 -- routes on the least rows
 abbrev pub on_least : PolicyDoc → Route → Route
@@ -38,12 +38,12 @@ exporters_on_least doc all = each (exporter_on_least doc) all
 
 -- The row that another policy has again is the same for a row and for the least of the same service.
 abbrev pub AgainByLeast : Type 0
-AgainByLeast = (old new : PolicyDoc) (row : Row) → again old new (least_row old row) ≡ again old new row
+AgainByLeast = (old new : PolicyDoc) (row : Row) → renewed old new (least_row old row) ≡ renewed old new row
 
 -- A policy has each of its service rows again: the least of the same service, on the terms of the row.
 abbrev pub HasItself : Type 0
 HasItself = (doc : PolicyDoc) (row : Row) → IsSomeAnd (import_at doc row.importer row.index) (λ (i : ImportDoc). i.kind ≡ Service) →
-    again doc doc row ≡ Some record { index = (least_row doc row).index; terms = terms_of doc row }
+    renewed doc doc row ≡ Some record { index = (least_row doc row).index; terms = terms_of doc row }
 
 -- the least row of a row of one of the set's accounts is that of its part
 abbrev pub LeastInPart : Type 0

@@ -3,7 +3,7 @@ use Rattle.std.specs.Prelude.{◌≡◌, ◌==◌, ◌≤◌, ℕ, true, false, 
 use Rattle.policy_sets.specs.Sets.{IsClosed}
 use Rattle.service_exporter.specs.Routes.{Exporter, Numbered}
 use Rattle.service_routes.specs.Routes.{Name, kept, pruned}
-use Rattle.service_rows.specs.Rows.{again}
+use Rattle.service_rows.specs.Rows.{renewed}
 use Rattle.world_deliveries.specs.declared.session.Session.{Session}
 use Rattle.world_sessions.specs.Renewal.{remaining}
 use Rattle.world_subscriptions.specs.Limit.{has_ended}
@@ -79,4 +79,4 @@ pub record AreApart (t : Tenants) (w : World) : Type 0 where
 pub record IsUpheld (w : World) : Type 0 where
   pub sessions : remaining w.moment w.policy w.sessions ≡ w.sessions
   pub subscriptions : filter (stands_on w.policy w.sessions) w.subscriptions ≡ w.subscriptions
-  pub routes : pruned w.moment (kept (again w.policy w.policy) w.routes) ≡ exporters_on_least w.policy w.routes
+  pub routes : pruned w.moment (kept (renewed w.policy w.policy) w.routes) ≡ exporters_on_least w.policy w.routes

@@ -15,7 +15,7 @@ pub use Rattle.world_leniency.specs.Items.{items_in}
 use Rattle.world_routing.specs.Handing.{met, carried, of_deliveries}
 use Rattle.world_views.specs.Changing.{changed_by, AreNoted}
 use Rattle.service_routes.specs.Routes.{kept, pruned}
-use Rattle.service_rows.specs.Rows.{again}
+use Rattle.service_rows.specs.Rows.{renewed}
 use Rattle.policy_doc.specs.declared.document.PolicyDoc.{PolicyDoc}
 use Rattle.world.specs.Reload.{stands_on}
 use Rattle.world.specs.Transition.{IsRefusal}
@@ -50,7 +50,7 @@ done w (Install doc users lost marks) o = record w {
   epoch = w.epoch + 1;
   sessions = remaining w.moment doc w.sessions;
   subscriptions = filter (stands_on doc w.sessions) w.subscriptions;
-  routes = pruned w.moment (kept (again w.policy doc) w.routes);
+  routes = pruned w.moment (kept (renewed w.policy doc) w.routes);
 }
 
 -- what opens has no session yet, and what is to stand doesn't; the outcome tells what each delivery meets; a policy comes with the users of the sessions that stay, the ids of the

@@ -16,7 +16,7 @@ use Rattle.world_sessions.specs.Renewal.{remaining, closed_conns, HaveOneUser}
 use Rattle.world_deliveries.specs.declared.session.Session.{Session}
 use Rattle.world_rows.specs.declared.subscription.Subscription.{Subscription}
 use Rattle.service_routes.specs.Routes.{kept, pruned}
-use Rattle.service_rows.specs.Rows.{again}
+use Rattle.service_rows.specs.Rows.{renewed}
 use Rattle.world_routing.specs.World.{World}
 pub use Rattle.world_marks.specs.Again.{user_after}
 
@@ -77,7 +77,7 @@ reloaded w doc = (
     epoch = w.epoch + 1;
     sessions = remaining w.moment doc w.sessions;
     subscriptions = filter (stands_on doc w.sessions) w.subscriptions;
-    routes = pruned w.moment (kept (again w.policy doc) w.routes);
+    routes = pruned w.moment (kept (renewed w.policy doc) w.routes);
   },
 )
 

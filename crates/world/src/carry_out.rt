@@ -1,7 +1,7 @@
 //! What was decided is done.
 ghost use Rattle.std.specs.Prelude.{◌≡◌};
 ghost use Rattle.service_routes.specs.Routes.{kept, pruned};
-ghost use Rattle.service_rows.specs.Rows.{again};
+ghost use Rattle.service_rows.specs.Rows.{renewed};
 
 use crate::change::Change;
 use crate::reload::remove_lost;
@@ -11,7 +11,7 @@ use deny_marks::DenyMarks;
 use events::{Outcome, Sid};
 use policy_ready::{Ready, User};
 use service_routes::Routes;
-use service_rows::RowsAgain;
+use service_rows::RenewedRows;
 use std::collections::VecDeque;
 use world_leniency::items_in;
 use world_marks::{mark_next, trim_marks};
@@ -172,10 +172,10 @@ impl World {
 
 /// Takes the routes over to another policy: those that live at a moment, on the rows that it has again.
 fn keep_routes(routes: &mut Routes, old: &Ready, new: &Ready, now: u64)
-    ensures { routes.new.exporters ≡ kept (again old.now new.now) (pruned now routes.old.exporters) }
+    ensures { routes.new.exporters ≡ kept (renewed old.now new.now) (pruned now routes.old.exporters) }
 {
     routes.prune(now);
-    routes.keep_rows(&RowsAgain {
+    routes.keep_rows(&RenewedRows {
         old: old.policy().doc(),
         new: new.policy().doc(),
     });

@@ -24,7 +24,7 @@ use events::{Addressed, Message, Said};
 use imports::Rows;
 use permissions::By;
 use receiver_cache::{ReceiverCache, draw_of, drawn_of, others_of};
-use receiver_views::{Among, Open};
+use receiver_views::{Open, ReceiverSearch};
 use std::alloc::Global;
 use std::hash::RandomState;
 use std::mem;
@@ -190,14 +190,14 @@ impl Receivers {
         }
         let subject = message.subject();
         subscriptions.remember(publisher.user.account.as_slice(), &subject);
-        let among = Among {
+        let search = ReceiverSearch {
             sessions,
             subscriptions,
             marks,
             publisher,
         };
-        self.fill_cache(among, rows, &subject, allowed);
-        self.address_found(among, message, word)?;
+        self.fill_cache(search, rows, &subject, allowed);
+        self.address_found(search, message, word)?;
         Ok(())
     }
 
@@ -205,29 +205,29 @@ impl Receivers {
     /// `NoMemory` where memory could not be had.
     fn address_found(
         &mut self,
-        among: Among<'_>,
+        search: ReceiverSearch<'_>,
         message: &Message,
         word: u64,
     ) -> Result<(), NoMemory>
-        requires marked { AreMarked among.sessions.now among.subscriptions.now among.marks.now }
-        ensures all { OnOk result (self.new.deliveries.items ≡ addressed_among among.entry.sessions.now among.entry.subscriptions.now among.entry.publisher.now message.now word) }
+        requires marked { AreMarked search.sessions.now search.subscriptions.now search.marks.now }
+        ensures all { OnOk result (self.new.deliveries.items ≡ addressed_among search.entry.sessions.now search.entry.subscriptions.now search.entry.publisher.now message.now word) }
         ensures cached { self.new.cache ≡ self.old.cache }
     {
         let subject = message.subject();
         let open = Open {
-            sessions: among.sessions,
-            marks: among.marks,
-            publisher: among.publisher,
+            sessions: search.sessions,
+            marks: search.marks,
+            publisher: search.publisher,
             subject: &subject,
         };
         let routed = Routed {
-            account: among.publisher.user.account.as_slice(),
+            account: search.publisher.user.account.as_slice(),
             message,
             word,
         };
         address_served(
             self.keys,
-            among.subscriptions,
+            search.subscriptions,
             routed,
             &open,
             &mut self.ids,
@@ -343,27 +343,27 @@ impl Receivers {
     /// a row: mappings send it on under this subject.
     pub fn fill_drawn(
         &mut self,
-        among: Among<'_>,
+        search: ReceiverSearch<'_>,
         rows: &Rows,
         message: &Message,
         word: u64,
         subject: &Subject,
     )
-        requires publisher { session_of among.sessions.now among.publisher.now.conn ≡ Some among.publisher.now }
-        requires cached { IsCurrent rows.now among.sessions.now among.subscriptions.now self.old.cache }
-        requires marked { AreMarked among.sessions.now among.subscriptions.now among.marks.now }
-        requires mapped { mapped_by among.publisher.now.user.mappings message.now.subject word ≡ To subject.now }
+        requires publisher { session_of search.sessions.now search.publisher.now.conn ≡ Some search.publisher.now }
+        requires cached { IsCurrent rows.now search.sessions.now search.subscriptions.now self.old.cache }
+        requires marked { AreMarked search.sessions.now search.subscriptions.now search.marks.now }
+        requires mapped { mapped_by search.publisher.now.user.mappings message.now.subject word ≡ To subject.now }
         requires unrouted { is_route subject.now ≡ false }
-        ensures cached { IsCurrent rows.now among.entry.sessions.now among.entry.subscriptions.now self.new.cache }
+        ensures cached { IsCurrent rows.now search.entry.sessions.now search.entry.subscriptions.now self.new.cache }
     {
         let published = message.subject();
         let _ = published.tokens();
-        let conn = among.publisher.conn;
+        let conn = search.publisher.conn;
         if !self.cache.drawn.select(conn, published.bytes()) {
             return;
         }
         let known = &self.cache.drawn;
-        if let Some(drawn) = drawn_of(self.alloc, known, among, rows, subject, &mut self.ids) {
+        if let Some(drawn) = drawn_of(self.alloc, known, search, rows, subject, &mut self.ids) {
             self.cache.drawn.keep(draw_of(word), drawn);
         }
     }
@@ -380,25 +380,25 @@ impl Receivers {
     /// allow them.
     fn fill_cache(
         &mut self,
-        among: Among<'_>,
+        search: ReceiverSearch<'_>,
         rows: &Rows,
         subject: &SubjectRef<'_>,
         allowed: Option<By>,
     )
-        requires publisher { session_of among.sessions.now among.publisher.now.conn ≡ Some among.publisher.now }
-        requires cached { IsCurrent rows.now among.sessions.now among.subscriptions.now self.old.cache }
-        requires allowed { IfSome allowed (IsAllowed among.publisher.now.user subject.now) }
-        requires marked { AreMarked among.sessions.now among.subscriptions.now among.marks.now }
-        requires others { KnowsOthers (known_others self.old.cache) rows.now among.sessions.now among.subscriptions.now among.publisher.now subject.now }
-        ensures cached { IsCurrent rows.now among.entry.sessions.now among.entry.subscriptions.now self.new.cache }
-        ensures others { KnowsOthers (known_others self.new.cache) rows.now among.entry.sessions.now among.entry.subscriptions.now among.entry.publisher.now subject.now }
+        requires publisher { session_of search.sessions.now search.publisher.now.conn ≡ Some search.publisher.now }
+        requires cached { IsCurrent rows.now search.sessions.now search.subscriptions.now self.old.cache }
+        requires allowed { IfSome allowed (IsAllowed search.publisher.now.user subject.now) }
+        requires marked { AreMarked search.sessions.now search.subscriptions.now search.marks.now }
+        requires others { KnowsOthers (known_others self.old.cache) rows.now search.sessions.now search.subscriptions.now search.publisher.now subject.now }
+        ensures cached { IsCurrent rows.now search.entry.sessions.now search.entry.subscriptions.now self.new.cache }
+        ensures others { KnowsOthers (known_others self.new.cache) rows.now search.entry.sessions.now search.entry.subscriptions.now search.entry.publisher.now subject.now }
     {
-        let Among {
+        let ReceiverSearch {
             sessions,
             subscriptions,
             marks,
             publisher,
-        } = among;
+        } = search;
         if !self.cache.is_asked_again() {
             return;
         }
@@ -417,7 +417,7 @@ impl Receivers {
             &open,
             &mut self.ids,
         ) {
-            let others = others_of(self.alloc, among, rows, subject, &mut self.ids);
+            let others = others_of(self.alloc, search, rows, subject, &mut self.ids);
             self.cache
                 .put(publisher.conn, subject, found.as_slice(), others, allowed);
         }

@@ -29,7 +29,7 @@ use events::{Addressed, HubRefusal, Item, Message, Met};
 use imports::Rows;
 use permissions::{By, Verdict};
 use policy_ready::Ready;
-use receiver_views::Among;
+use receiver_views::ReceiverSearch;
 use service_routes::Routes;
 use std::alloc::Global;
 use std::hash::RandomState;
@@ -364,17 +364,17 @@ fn plan_own<'p>(
 /// Caches what a publisher's next messages on a message's subject are sent as, if its account's mappings send it on under another.
 fn keep_drawn(
     receivers: &mut Receivers,
-    among: Among<'_>,
+    search: ReceiverSearch<'_>,
     rows: &Rows,
     message: &Message,
     word: u64,
     elsewhere: &Option<Elsewhere>,
 )
-    requires publisher { session_of among.sessions.now among.publisher.now.conn ≡ Some among.publisher.now }
-    requires cached { IsCurrent rows.now among.sessions.now among.subscriptions.now receivers.old.cache }
-    requires marked { AreMarked among.sessions.now among.subscriptions.now among.marks.now }
-    requires elsewhere { IsElsewhere (mapped_by among.publisher.now.user.mappings message.now.subject word) (Ok elsewhere.now) }
-    ensures cached { IsCurrent rows.now among.entry.sessions.now among.entry.subscriptions.now receivers.new.cache }
+    requires publisher { session_of search.sessions.now search.publisher.now.conn ≡ Some search.publisher.now }
+    requires cached { IsCurrent rows.now search.sessions.now search.subscriptions.now receivers.old.cache }
+    requires marked { AreMarked search.sessions.now search.subscriptions.now search.marks.now }
+    requires elsewhere { IsElsewhere (mapped_by search.publisher.now.user.mappings message.now.subject word) (Ok elsewhere.now) }
+    ensures cached { IsCurrent rows.now search.entry.sessions.now search.entry.subscriptions.now receivers.new.cache }
 {
     match elsewhere {
         None => {}
@@ -382,7 +382,7 @@ fn keep_drawn(
             Elsewhere::Nowhere(_) => {}
             Elsewhere::Under(other) => {
                 if !is_route(&other.lend()) {
-                    receivers.fill_drawn(among, rows, message, word, other);
+                    receivers.fill_drawn(search, rows, message, word, other);
                 }
             }
         },
@@ -410,7 +410,7 @@ fn plan_anew<'p>(
         Some(publisher) => {
             let alloc = receivers.allocator();
             let elsewhere = drawn_for(alloc, publisher, publish.message, publish.word)?;
-            let among = Among {
+            let search = ReceiverSearch {
                 sessions,
                 subscriptions,
                 marks,
@@ -418,7 +418,7 @@ fn plan_anew<'p>(
             };
             let rows = ready.rows();
             let (message, word) = (publish.message, publish.word);
-            keep_drawn(receivers, among, rows, message, word, &elsewhere);
+            keep_drawn(receivers, search, rows, message, word, &elsewhere);
             elsewhere
         }
     };

@@ -3,7 +3,7 @@ use Rattle.std.proofs.Common.{◌≡◌, All, true, subst}
 use Rattle.std.proofs.lemmas.Bool.Decides.{not_from_Decides}
 use Rattle.std.proofs.lemmas.List.{take_all}
 use Rattle.std.proofs.lemmas.List.Elements.{All-more}
-use Rattle.hub.specs.Segments.{Part}
+use Rattle.hub.specs.Segments.{HistoryPart}
 use Rattle.hub_segments.specs.Joins.{place}
 use Rattle.hub_segments.specs.Search.{is_before}
 use Rattle.hub_segments.proofs.Before.{begins-not, begins-tail}
@@ -19,11 +19,11 @@ returns-then-not-leads_to c = λ q opening at empty judged. (
 
 pub loop-segment-preserved : goal.loop-segment-preserved
 loop-segment-preserved c =
-    let P : Part → Type 0 = λ p. is_before (place p) c.nearest_below-nearest.result c.args.at c.args.empty ≡ true → c.args.opening.now ≡ p.closing in
+    let P : HistoryPart → Type 0 = λ p. is_before (place p) c.nearest_below-nearest.result c.args.at c.args.empty ≡ true → c.args.opening.now ≡ p.closing in
     All-more P c.args.segments.now c.loop-segment.segment-index c.segment-item.result c.loop-segment-test.true c.loop-segment.invariant (subst P c.segment-item.is (c.leads_to.ensures.0 c.if-not-leads_to.false))
 
 pub returns : goal.returns
 returns c = λ q opening at empty judged.
-    let P : Part → Type 0 = λ p. is_before (place p) c.nearest_below-nearest.result c.args.at c.args.empty ≡ true → c.args.opening.now ≡ p.closing in
+    let P : HistoryPart → Type 0 = λ p. is_before (place p) c.nearest_below-nearest.result c.args.at c.args.empty ≡ true → c.args.opening.now ≡ p.closing in
     begins-tail c.args.segments.now c.args.hub.now q c.args.opening.now c.nearest_below-nearest.result c.args.at c.args.empty c.tail_leads_to.result c.known.ensures.legal
     opening at empty judged c.nearest_below-nearest.ensures (subst (All P) (take_all _ _ c.loop-segment-test.false) c.loop-segment.invariant) c.tail_leads_to.ensures

@@ -3,25 +3,25 @@ use Rattle.std.proofs.Common.{◌≡◌, ◌∙◌, ◌<◌, ◌∷◌, ℕ, [],
 use Rattle.std.proofs.lemmas.List.{take_all}
 use Rattle.std.proofs.lemmas.List.Elements.{All-more, All-push}
 use Rattle.world.specs.World.{World}
-use Rattle.hub.specs.Segments.{Part, IsPart, tail_of}
+use Rattle.hub.specs.Segments.{HistoryPart, IsHistoryPart, tail_of}
 use Rattle.hub_segments.proofs.joining.known_parts.Goals as goal
 
-abbrev IsNumbered : Part → Type 0
+abbrev IsNumbered : HistoryPart → Type 0
 IsNumbered p = p.closing.number < 18446744073709551616
 
 pub loop-segment-preserved : goal.loop-segment-preserved
 loop-segment-preserved c =
-    let part : IsPart c.segment-item.result = record { reached = c.known.ensures.reached; legal = c.known.ensures.legal } in
+    let part : IsHistoryPart c.segment-item.result = record { reached = c.known.ensures.reached; legal = c.known.ensures.legal } in
     let number = c.number.ensures ∙ ap (λ (w : World). w.number) c.closing.ensures in
     let numbered : IsNumbered c.segment-item.result = subst (λ n. n < 18446744073709551616) number c.number.type_inv in
     record {
-      parts = All-more IsPart c.args.segments.now c.loop-segment.segment-index c.segment-item.result c.loop-segment-test.true c.loop-segment.invariant.parts (subst IsPart c.segment-item.is part);
+      parts = All-more IsHistoryPart c.args.segments.now c.loop-segment.segment-index c.segment-item.result c.loop-segment-test.true c.loop-segment.invariant.parts (subst IsHistoryPart c.segment-item.is part);
       numbers = All-more IsNumbered c.args.segments.now c.loop-segment.segment-index c.segment-item.result c.loop-segment-test.true c.loop-segment.invariant.numbers (subst IsNumbered c.segment-item.is numbered);
     }
 
 pub returns-clause-parts : goal.returns-clause-parts
 returns-clause-parts c =
-    All-push IsPart c.args.segments.now (tail_of c.args.hub.now) (subst (All IsPart) (take_all _ _ c.loop-segment-test.false) c.loop-segment.invariant.parts)
+    All-push IsHistoryPart c.args.segments.now (tail_of c.args.hub.now) (subst (All IsHistoryPart) (take_all _ _ c.loop-segment-test.false) c.loop-segment.invariant.parts)
     (record { reached = c.known-2.ensures.reached; legal = c.known-2.ensures.legal })
 
 pub returns-clause-numbers : goal.returns-clause-numbers

@@ -11,9 +11,9 @@ use Rattle.receiver_cache.proofs.finding.find_drawn.Goals as goal
 
 pub returns-in_ok-new-in-Some-2 : goal.returns-in_ok-new-in-Some-2
 returns-in_ok-new-in-Some-2 c =
-    let zs = c.args.among.sessions.now in
-    let subs = c.args.among.subscriptions.now in
-    let z = c.args.among.publisher.now in
+    let zs = c.args.search.sessions.now in
+    let subs = c.args.search.subscriptions.now in
+    let z = c.args.search.publisher.now in
     let s : List Token = c.args.subject.now in
     subst (λ (d : Drawn). IsSent c.args.rows.now zs subs z d × (subject_of d ≡ s)) (sym c.in_ok-new-in-Some-2.ensures)
     (sent_under c.args.rows.now zs subs z c.in-Some.own c.in-Some-2.others s c.requires.unrouted

@@ -6,9 +6,9 @@ use Rattle.receiver_cache.proofs.finding.find_others.Goals as goal
 
 pub returns : goal.returns
 returns c =
-    let zs = c.args.among.sessions.now in
-    let subs = c.args.among.subscriptions.now in
-    let z = c.args.among.publisher.now in
+    let zs = c.args.search.sessions.now in
+    let subs = c.args.search.subscriptions.now in
+    let z = c.args.search.publisher.now in
     known_if zs subs z c.args.rows.now c.args.subject.now c.in_ok-known.known c.as_slice.result.now
     (c.as_slice.ensures.value ∙ tail_of c.in_ok-others.ensures ∙ ap (λ (a : List ℕ). others_in c.args.rows.now a c.args.subject.now) c.as_slice-account.ensures)
     c.in_ok-known.ensures

@@ -14,15 +14,15 @@ use Rattle.receiver_views.proofs.known.known_at.Goals as goal
 
 pub returns : goal.returns
 returns c =
-    let zs = c.args.among.sessions.now in
-    let subs = c.args.among.subscriptions.now in
-    let z = c.args.among.publisher.now in
+    let zs = c.args.search.sessions.now in
+    let subs = c.args.search.subscriptions.now in
+    let z = c.args.search.publisher.now in
     let account : List ℕ = c.args.account.now in
     let s : List Token = c.args.subject.now in
     let found : map (λ x. x.now) c.in_ok-found.found.items ≡ open_among zs subs z account s =
     c.in_ok-found.ensures.found
-    ∙ ap (λ (t : List Token). filter (is_marked_open c.args.among.marks.now zs z t) (having account t subs)) c.lend-local.ensures
-    ∙ open_marked c.args.among.marks.now zs z account s (λ b sub. b) subs c.requires.marked
+    ∙ ap (λ (t : List Token). filter (is_marked_open c.args.search.marks.now zs z t) (having account t subs)) c.lend-local.ensures
+    ∙ open_marked c.args.search.marks.now zs z account s (λ b sub. b) subs c.requires.marked
     ∙ both (is_open zs z s) (has_subject account s) subs in record {
       names = λ m. ap (λ (n : Names). named n m) c.in_ok-names.ensures;
       unlimited = ap (list_any has_limit) (sym found ∙ ap (map (λ x. x.now)) (sym c.as_slice-2.ensures.value)) ∙ sym c.have_limit.ensures ∙ c.if-have_limit.false;

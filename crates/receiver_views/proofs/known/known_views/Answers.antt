@@ -10,9 +10,9 @@ use Rattle.receiver_views.proofs.known.known_views.Goals as goal
 
 pub loop-view-preserved : goal.loop-view-preserved
 loop-view-preserved c =
-    let zs = c.args.among.sessions.now in
-    let subs = c.args.among.subscriptions.now in
-    let z = c.args.among.publisher.now in
+    let zs = c.args.search.sessions.now in
+    let subs = c.args.search.subscriptions.now in
+    let z = c.args.search.publisher.now in
     let views : List ViewItem = c.args.views.now in
     let i = c.loop-view.view-index in
     let all : List KnownView = c.loop-view.all.items in
@@ -26,4 +26,4 @@ loop-view-preserved c =
 
 pub returns : goal.returns
 returns c =
-    subst (λ (vs : List ViewItem). AreSeen c.args.among.sessions.now c.args.among.subscriptions.now c.args.among.publisher.now c.loop-view.all.items vs) (take_all _ _ c.loop-view-test.false) c.loop-view.invariant
+    subst (λ (vs : List ViewItem). AreSeen c.args.search.sessions.now c.args.search.subscriptions.now c.args.search.publisher.now c.loop-view.all.items vs) (take_all _ _ c.loop-view-test.false) c.loop-view.invariant

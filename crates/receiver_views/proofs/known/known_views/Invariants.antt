@@ -4,4 +4,4 @@ use Rattle.receiver_views.specs.Known.{AreSeen}
 use Rattle.receiver_views.proofs.known.known_views.Given as goal
 
 abbrev pub invariant-loop-view : goal.invariant-loop-view
-invariant-loop-view l = AreSeen l.among.sessions.now l.among.subscriptions.now l.among.publisher.now l.all.items (take l.view-index l.views)
+invariant-loop-view l = AreSeen l.search.sessions.now l.search.subscriptions.now l.search.publisher.now l.all.items (take l.view-index l.views)

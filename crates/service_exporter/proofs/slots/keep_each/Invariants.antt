@@ -5,4 +5,4 @@ use Rattle.service_exporter.proofs.slots.keep_each.Given as goal
 
 abbrev pub invariant-loop-slot : goal.invariant-loop-slot
 invariant-loop-slot g l =
-    take l.slot-index l.slots ++ map (kept_slot (g.S.ServiceRows.again l.rows)) (drop l.slot-index l.slots) ≡ map (kept_slot (g.S.ServiceRows.again l.rows)) l.initial.slots
+    take l.slot-index l.slots ++ map (kept_slot (g.S.ServiceRows.renewed l.rows)) (drop l.slot-index l.slots) ≡ map (kept_slot (g.S.ServiceRows.renewed l.rows)) l.initial.slots

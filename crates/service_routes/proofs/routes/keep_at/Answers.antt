@@ -6,7 +6,7 @@ use Rattle.service_routes.proofs.Maps.{mapped-next, room-at}
 use Rattle.service_routes.proofs.routes.keep_at.Goals as goal
 
 pub returns-in-Some-clause-exporters : goal.returns-in-Some-clause-exporters
-returns-in-Some-clause-exporters g c = mapped-next (kept_of (g.S.ServiceRows.again c.args.rows.now)) c.args.exporters.now.entries c.args.place c.in-Some.part.now c.keep_rows.new.self (sym c.in-Some.ensures.value) c.keep_rows.ensures.exporter
+returns-in-Some-clause-exporters g c = mapped-next (kept_of (g.S.ServiceRows.renewed c.args.rows.now)) c.args.exporters.now.entries c.args.place c.in-Some.part.now c.keep_rows.new.self (sym c.in-Some.ensures.value) c.keep_rows.ensures.exporter
 
 pub returns-in-Some-clause-rooms : goal.returns-in-Some-clause-rooms
 returns-in-Some-clause-rooms g c = λ other ready. room-at other c.args.exporters.now.entries ready c.args.place c.in-Some.part.now c.keep_rows.new.self (sym c.in-Some.ensures.value) (omega (arith, c.keep_rows.ensures.room))

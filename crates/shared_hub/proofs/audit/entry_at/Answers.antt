@@ -2,7 +2,7 @@
 use Rattle.std.proofs.Common.{◌≡◌, false, List, All, subst}
 use Rattle.std.specs.Option.{option_copied}
 use Rattle.std.proofs.lemmas.List.{take_all}
-use Rattle.hub.specs.Segments.{Part}
+use Rattle.hub.specs.Segments.{HistoryPart}
 use Rattle.hub_segments.specs.Joins.{has_number}
 use Rattle.shared_hub.proofs.Entered.{lacks-more, segment_found, tail_found}
 use Rattle.shared_hub.proofs.audit.entry_at.Goals as goal
@@ -14,7 +14,7 @@ loop-segment-preserved c =
 pub returns : goal.returns
 returns c history joined =
     let ps = c.args.segments.now in
-    let P : List Part → Type 0 = λ l. All (λ (p : Part). has_number c.args.number p ≡ false) l in
+    let P : List HistoryPart → Type 0 = λ l. All (λ (p : HistoryPart). has_number c.args.number p ≡ false) l in
     tail_found ps c.args.hub.now history c.args.number (option_copied c.tail_entry.result) joined
     (subst P (take_all c.loop-segment.segment-index ps c.loop-segment-test.false) c.loop-segment.invariant) c.tail_entry.ensures
 

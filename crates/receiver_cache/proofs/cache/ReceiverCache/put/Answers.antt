@@ -19,7 +19,7 @@ returns-in-Ok c = λ rows zs subs z current there are known lists.
     let old : ReceiverCache = c.args.self.now in
     let new : ReceiverCache = record c.put_back.new.self { last = c.of-in-Ok.result; place = c.place_for-self.result; is_last = true } in
     let so : IsSo rows zs subs c.of-in-Ok.result =
-    found_so c.of-in-Ok.result c.in-Ok.published c.args.others c.args.allowed c.args.conn _ rows zs subs _ z c.args.subject.now c.of-in-Ok.ensures c.in-Ok.ensures
+    found_so c.of-in-Ok.result c.in-Ok.key c.args.others c.args.allowed c.args.conn _ rows zs subs _ z c.args.subject.now c.of-in-Ok.ensures c.in-Ok.ensures
     (ap tokens_of c.bytes.ensures ∙ again c.args.subject.now c.tokens.ensures.grammar) there are known lists in (
       still_current old new rows zs subs (λ cached has. elim has [
         | inl last ↦ inr (inr (subst (IsSo rows zs subs) (sym last) so))

@@ -4,7 +4,7 @@ use Rattle.std.specs.List.{filter_map}
 use Rattle.service_exporter.specs.Routes.{Exporter}
 use Rattle.service_routes.specs.Routes.{Name, kept, pruned}
 use Rattle.service_routes.proofs.Seen.{dead}
-use Rattle.service_rows.specs.Rows.{again}
+use Rattle.service_rows.specs.Rows.{renewed}
 use Rattle.world_deliveries.specs.declared.session.Session.{Session}
 use Rattle.world_sessions.specs.Renewal.{remaining}
 use Rattle.world_rows.specs.declared.subscription.Subscription.{Subscription}
@@ -23,7 +23,7 @@ returns c = λ told.
     let ids = c.as_slice.ensures.value ∙ c.requires.lost ∙ ap (λ (w : World). filter_map (lost_id doc w.sessions) w.subscriptions) (sym c.self.view_is) in
     let subs = c.remove_lost.ensures doc h.sessions ids in
     let zs = c.renew.ensures in
-    let table : List (Name × Exporter) → List (Name × Exporter) = λ all. pruned h.moment (kept (again h.ready doc) all) in
+    let table : List (Name × Exporter) → List (Name × Exporter) = λ all. pruned h.moment (kept (renewed h.ready doc) all) in
     let gone : (all : List (Name × Exporter)) → pruned h.moment (pruned h.routes_at all) ≡ pruned h.moment all = λ all. dead h.routes_at h.moment all c.self.invariant.1 in
     let routes : pruned h.moment (pruned h.routes_at c.keep_routes.new.routes.exporters) ≡ table (pruned h.moment (pruned h.routes_at h.routes.exporters)) =
     gone c.keep_routes.new.routes.exporters ∙ ap (pruned h.moment) c.keep_routes.ensures ∙ ap table (sym (gone h.routes.exporters)) in

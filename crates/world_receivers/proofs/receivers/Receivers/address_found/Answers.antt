@@ -14,12 +14,12 @@ use Rattle.world_receivers.proofs.receivers.Receivers.address_found.Goals as goa
 
 pub returns-clause-all : goal.returns-clause-all
 returns-clause-all c =
-    let zs = c.args.among.sessions.now in
-    let subs = c.args.among.subscriptions.now in
-    let z = c.args.among.publisher.now in
+    let zs = c.args.search.sessions.now in
+    let subs = c.args.search.subscriptions.now in
+    let z = c.args.search.publisher.now in
     let m : Message = c.args.message.now in
-    let passes : List Token → Subscription → Bool = λ s. is_marked_open c.args.among.marks.now zs z s in
+    let passes : List Token → Subscription → Bool = λ s. is_marked_open c.args.search.marks.now zs z s in
     c.in_ok-address_served.ensures
     ∙ ap (λ (s : List Token). map (addressed_to m) (served c.args.word (filter (passes s) (having c.as_slice.result.now m.subject subs)))) c.subject-subject.ensures
     ∙ ap (λ (a : List ℕ). map (addressed_to m) (served c.args.word (filter (passes m.subject) (having a m.subject subs)))) c.as_slice.ensures
-    ∙ ap (λ (xs : List Subscription). map (addressed_to m) (served c.args.word xs)) (open_marked c.args.among.marks.now zs z z.user.account m.subject (λ b sub. b) subs c.requires.marked ∙ both (is_open zs z m.subject) (has_subject z.user.account m.subject) subs)
+    ∙ ap (λ (xs : List Subscription). map (addressed_to m) (served c.args.word xs)) (open_marked c.args.search.marks.now zs z z.user.account m.subject (λ b sub. b) subs c.requires.marked ∙ both (is_open zs z m.subject) (has_subject z.user.account m.subject) subs)

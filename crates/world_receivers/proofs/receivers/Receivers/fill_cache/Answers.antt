@@ -12,15 +12,15 @@ use Rattle.world_receivers.proofs.receivers.Receivers.fill_cache.Goals as goal
 
 pub returns-in-Ok : goal.returns-in-Ok
 returns-in-Ok c =
-    let zs = c.args.among.sessions.now in
-    let subs = c.args.among.subscriptions.now in
-    let z = c.args.among.publisher.now in
+    let zs = c.args.search.sessions.now in
+    let subs = c.args.search.subscriptions.now in
+    let z = c.args.search.publisher.now in
     let s = c.args.subject.now in
     let put = c.put.ensures c.args.rows.now zs subs z (c.is_asked_again.ensures.cached c.args.rows.now zs subs c.requires.cached) c.requires.publisher
     (ap (map (λ x. x.now)) c.as_slice.ensures.value
     ∙ c.in-Ok.ensures.found
-    ∙ ap (λ account. filter (is_marked_open c.args.among.marks.now zs z s) (having account s subs)) c.as_slice-account.ensures
-    ∙ open_marked c.args.among.marks.now zs z z.user.account s (λ b sub. b) subs c.requires.marked
+    ∙ ap (λ account. filter (is_marked_open c.args.search.marks.now zs z s) (having account s subs)) c.as_slice-account.ensures
+    ∙ open_marked c.args.search.marks.now zs z z.user.account s (λ b sub. b) subs c.requires.marked
     ∙ both (is_open zs z s) (has_subject z.user.account s) subs)
     c.others_of-others.ensures c.requires.allowed in
     record { cached = put.0; others = put.1 }
@@ -28,14 +28,14 @@ returns-in-Ok c =
 -- what it said already of its publisher and subject stays so
 pub returns-then-not-is_asked_again : goal.returns-then-not-is_asked_again
 returns-then-not-is_asked_again c = record {
-  cached = c.is_asked_again.ensures.cached c.args.rows.now c.args.among.sessions.now c.args.among.subscriptions.now c.requires.cached;
-  others = subst (λ (o : Option (Vec KnownView)). KnowsOthers o c.args.rows.now c.args.among.sessions.now c.args.among.subscriptions.now c.args.among.publisher.now c.args.subject.now)
+  cached = c.is_asked_again.ensures.cached c.args.rows.now c.args.search.sessions.now c.args.search.subscriptions.now c.requires.cached;
+  others = subst (λ (o : Option (Vec KnownView)). KnowsOthers o c.args.rows.now c.args.search.sessions.now c.args.search.subscriptions.now c.args.search.publisher.now c.args.subject.now)
       (sym c.is_asked_again.ensures.others) c.requires.others;
 }
 
 pub returns-in_default : goal.returns-in_default
 returns-in_default c = record {
-  cached = c.is_asked_again.ensures.cached c.args.rows.now c.args.among.sessions.now c.args.among.subscriptions.now c.requires.cached;
-  others = subst (λ (o : Option (Vec KnownView)). KnowsOthers o c.args.rows.now c.args.among.sessions.now c.args.among.subscriptions.now c.args.among.publisher.now c.args.subject.now)
+  cached = c.is_asked_again.ensures.cached c.args.rows.now c.args.search.sessions.now c.args.search.subscriptions.now c.requires.cached;
+  others = subst (λ (o : Option (Vec KnownView)). KnowsOthers o c.args.rows.now c.args.search.sessions.now c.args.search.subscriptions.now c.args.search.publisher.now c.args.subject.now)
       (sym c.is_asked_again.ensures.others) c.requires.others;
 }

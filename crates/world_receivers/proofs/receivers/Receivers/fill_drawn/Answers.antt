@@ -14,7 +14,7 @@ pub returns-then-not-select : goal.returns-then-not-select
 returns-then-not-select c = record {
   cached = record {
     each = c.requires.cached.each;
-    drawn = drawn_selected c.args.self.now.cache.drawn c.select.new.self c.args.rows.now c.args.among.sessions.now c.args.among.subscriptions.now c.select.ensures.cached c.requires.cached.drawn;
+    drawn = drawn_selected c.args.self.now.cache.drawn c.select.new.self c.args.rows.now c.args.search.sessions.now c.args.search.subscriptions.now c.select.ensures.cached c.requires.cached.drawn;
   };
 }
 
@@ -22,7 +22,7 @@ pub returns-in_default : goal.returns-in_default
 returns-in_default c = record {
   cached = record {
     each = c.requires.cached.each;
-    drawn = drawn_selected c.args.self.now.cache.drawn c.select.new.self c.args.rows.now c.args.among.sessions.now c.args.among.subscriptions.now c.select.ensures.cached c.requires.cached.drawn;
+    drawn = drawn_selected c.args.self.now.cache.drawn c.select.new.self c.args.rows.now c.args.search.sessions.now c.args.search.subscriptions.now c.select.ensures.cached c.requires.cached.drawn;
   };
 }
 
@@ -30,9 +30,9 @@ pub returns-in-Some : goal.returns-in-Some
 returns-in-Some c = record {
   cached =
       let rows = c.args.rows.now in
-      let zs = c.args.among.sessions.now in
-      let subs = c.args.among.subscriptions.now in
-      let z = c.args.among.publisher.now in
+      let zs = c.args.search.sessions.now in
+      let subs = c.args.search.subscriptions.now in
+      let z = c.args.search.publisher.now in
       let m = c.args.message.now in
       let word = c.args.word in
       let old : DrawnCache = c.select.new.self in

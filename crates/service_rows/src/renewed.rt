@@ -1,7 +1,7 @@
 //! Which rows another policy has again.
 ghost use Rattle.std.specs.Prelude.{◌≡◌, position};
 ghost use Rattle.subjects.specs.Equal.{same_subject};
-ghost use Rattle.service_rows.specs.Rows.{again, again_for, is_same_service, is_service, same_template};
+ghost use Rattle.service_rows.specs.Rows.{renewed, renewed_for, is_same_service, is_service, same_template};
 
 use crate::terms::{import_at, terms_at};
 use base::Alike;
@@ -14,27 +14,27 @@ use subjects::Pattern;
 /// The service rows of a policy, as those of an earlier one are looked up among them. A row is again the least one of the same
 /// importer that is of the same exporter and subject, with the same text for `to`.
 #[derive(Clone, Copy)]
-pub struct RowsAgain<'a> {
+pub struct RenewedRows<'a> {
     /// The earlier policy.
     pub old: &'a PolicyDoc,
     /// The policy whose rows they are.
     pub new: &'a PolicyDoc,
 }
 
-impl<'a> ServiceRows for RowsAgain<'a> {
-    ghost again = { λ r row. again r.old.now r.new.now row };
+impl<'a> ServiceRows for RenewedRows<'a> {
+    ghost renewed = { λ r row. renewed r.old.now r.new.now row };
 
-    fn again(&self, row: &Row) -> Option<NewRow> {
+    fn renewed(&self, row: &Row) -> Option<NewRow> {
         match import_at(self.old, &row.importer, row.index) {
             None => None,
-            Some(import) => again_for(self.new, &row.importer, import),
+            Some(import) => renewed_for(self.new, &row.importer, import),
         }
     }
 }
 
 /// Returns the least row of an importer that is of the same service as an import.
-fn again_for(doc: &PolicyDoc, importer: &Bytes, import: &ImportDoc) -> Option<NewRow>
-    ensures { result ≡ again_for doc.now importer.now import.now }
+fn renewed_for(doc: &PolicyDoc, importer: &Bytes, import: &ImportDoc) -> Option<NewRow>
+    ensures { result ≡ renewed_for doc.now importer.now import.now }
 {
     match doc.accounts.get(importer) {
         None => None,

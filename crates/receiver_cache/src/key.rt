@@ -1,33 +1,33 @@
 //! A publisher and a subject, of whose messages something is cached.
 ghost use Rattle.std.specs.Prelude.{◌≡◌, ◌==◌, ◌&&◌, IfOk, length, nat_eq, true};
 ghost use Rattle.std.specs.Cmp.Lexicographic.{pointwise};
-ghost use Rattle.receiver_cache.specs.Published.{IsOf};
+ghost use Rattle.receiver_cache.specs.Key.{IsOf};
 
 use base::NoMemory;
 use std::alloc::Global;
 
 /// The messages of one publisher on one subject: its connection, and the subject's text.
 #[derive(Drop)]
-pub(crate) struct Published {
+pub(crate) struct CacheKey {
     conn: u64,
     subject: Vec<u8>,
 }
 
-impl Published {
+impl CacheKey {
     /// Returns the messages of nobody on no subject. It takes no memory.
-    pub fn nothing(alloc: Global) -> Published {
-        Published {
+    pub fn nothing(alloc: Global) -> CacheKey {
+        CacheKey {
             conn: 0,
             subject: Vec::new(alloc),
         }
     }
 
     /// Returns the messages of a connection on a subject with this text. `NoMemory` where memory could not be had.
-    pub fn of(alloc: Global, conn: u64, text: &[u8]) -> Result<Published, NoMemory>
-        ensures { IfOk result (λ published. IsOf published conn text.now) }
+    pub fn of(alloc: Global, conn: u64, text: &[u8]) -> Result<CacheKey, NoMemory>
+        ensures { IfOk result (λ key. IsOf key conn text.now) }
     {
         let subject = Vec::from_slice(alloc, text)?;
-        Ok(Published { conn, subject })
+        Ok(CacheKey { conn, subject })
     }
 
     /// Sets the publisher and the text of the subject. Without memory the text is shorter, or empty.
