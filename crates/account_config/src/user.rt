@@ -88,7 +88,7 @@ fn user_name_from(alloc: Global, path: &Path, name: &[u8]) -> Result<Bytes, Conf
     }
 }
 
-/// A password in clear. `HashedPassword` where it begins as a hashed one does.
+/// A copy of a password in clear. `HashedPassword` where it begins with `$2`.
 fn password_from(alloc: Global, path: &Path, password: &[u8]) -> Result<Bytes, ConfigFault>
     ensures { Gives (λ x. x) result (password_from path.now password.now) }
 {

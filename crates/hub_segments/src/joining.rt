@@ -204,7 +204,8 @@ fn tail_leads_to(hub: &Hub, opening: &PlainWorld, at: u128, empty: bool, nearest
     !is_before(tail_place(hub), nearest, at, empty) || opening.same(hub.opening())
 }
 
-/// Whether a part at a place may be the one before a part at another place, below which the nearest part is given.
+/// Whether a part at `place` may be the one before a part at `at`: `nearest` is the greatest place below `at`, and `empty` is whether
+/// the part at `at` has no entries.
 fn is_before(place: u128, nearest: u128, at: u128, empty: bool) -> bool
     ensures { result ≡ is_before place nearest at empty }
 {

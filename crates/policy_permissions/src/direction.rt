@@ -111,7 +111,7 @@ fn spelled_from(
     }
 }
 
-/// The lists of one direction.
+/// The lists of one direction: `allow` and `deny` of an object, or a text or a list as the allow list.
 fn direction_of(
     alloc: Global,
     side: Side,

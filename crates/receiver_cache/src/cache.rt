@@ -243,10 +243,10 @@ impl ReceiverCache {
         Ok(done)
     }
 
-    /// Notes the message that was addressed last. Returns whether its receivers are to be found and put here: they aren't cached, and
-    /// the message noted before at its place had the same publisher and subject.
+    /// Notes the message that was addressed last, if its receivers aren't cached. Returns whether they are to be found and put here:
+    /// the message that was noted before at its place had the same publisher and subject, as far as half of their sum tells.
     #[tactic(auto, unfolding(crate::specs::Cached::known_others))]
-    pub fn is_asked_again(&mut self) -> bool
+    pub fn note_asked(&mut self) -> bool
         ensures others { known_others self.new ≡ known_others self.old }
         ensures cached { (rows : List ImportRow) (zs : List Session) (subs : List Subscription) → IsCurrent rows zs subs self.old → IsCurrent rows zs subs self.new }
     {

@@ -22,7 +22,7 @@ impl Connections {
     ghost use Rattle.server_socket.specs.Unknown.{IsBounded};
     ghost use Rattle.server_connections.specs.Work.{is_fresh};
 
-    /// Returns a connection's turn. Where too much is kept of a client that hasn't shown who it is, it writes the client an
+    /// Returns a connection's turn. Where too much is kept of a client without an accepted CONNECT, it writes the client an
     /// error and returns `Closed`.
     pub fn bounded(&self, key: usize, turn: Turn) -> Turn
         ensures { is_over result ≡ false → IfSome (get self.entry.now.slab key) (λ it. IsBounded it.client.conn) }
@@ -36,13 +36,13 @@ impl Connections {
     /// Notes a connection that begins. Without memory it never gives way.
     pub(crate) fn note_fresh(&mut self, key: usize, conn: u64) {
         if self.fresh.len() > self.slab.len().saturating_mul(2).saturating_add(SPARE) {
-            self.drop_known();
+            self.drop_connected();
         }
         drop(self.fresh.push_back(Fresh { key, conn }));
     }
 
-    /// Drops the entries of those that have shown who they are, or are gone.
-    fn drop_known(&mut self) {
+    /// Drops the entries of those whose CONNECT was accepted, or that are gone.
+    fn drop_connected(&mut self) {
         for _ in 0..self.fresh.len() {
             let Some(it) = self.fresh.pop_front() else {
                 return;
@@ -53,7 +53,7 @@ impl Connections {
         }
     }
 
-    /// Returns whether an entry is that of a connection that still hasn't shown who it is.
+    /// Returns whether an entry's connection still stands, isn't closed, and has no accepted CONNECT.
     fn is_fresh(&self, entry: Fresh) -> bool
         ensures { result ≡ is_fresh entry (get self.now.slab entry.key) }
     {

@@ -27,7 +27,7 @@ fn read_each(entries: &[Answer]) -> u64 {
 /// When the history is handed out, and what of it is still to be dropped. What it has counted and not told of is below 64 KiB.
 pub struct Rotation {
     half: u64,
-    /// No number below this one is due, since the latest that was looked at.
+    /// The next number at which the history is due; 0 before the first look.
     due: u64,
     /// What was handed out and is still to be dropped.
     spent: Vec<Answer>,
@@ -135,7 +135,7 @@ impl Rotation {
     }
 
     /// Takes over the entries that were handed out, and drops what is left of those that were handed out before.
-    pub fn keep(&mut self, entries: Vec<Answer>, kept: &Kept)
+    pub fn take_over(&mut self, entries: Vec<Answer>, kept: &Kept)
         ensures { (part : ℕ) × (self.new ≡ taken_over entries.items part self.old) }
     {
         self.spent = entries;

@@ -39,7 +39,7 @@ impl<L: Run, R: Wait, G: Gate + Drop> ServerPort<'_, L, R, G> {
         let work = self.outgoing.add_answer(answer, size);
         self.course.share = self.course.share.saturating_sub(work);
         self.course.has_entered = true;
-        let told = self.count(answer);
+        let told = self.count_and_rotate(answer);
         told
     }
 

@@ -22,7 +22,7 @@ impl<L: Run, R: Wait, G: Gate + Drop> ServerPort<'_, L, R, G> {
         ensures course { self.new.course ≡ self.old.course }
         ensures kept { (self.new.gate ≡ self.old.gate) × (self.new.is_spent ≡ self.old.is_spent) × (self.new.noted ≡ self.old.noted) }
     {
-        self.rotation.keep(segment.into_entries(), self.kept);
+        self.rotation.take_over(segment.into_entries(), self.kept);
     }
 
     /// Hands the history out, and answers whether it could. Without memory nothing changes, and the next that meets a full
@@ -97,7 +97,7 @@ impl<L: Run, R: Wait, G: Gate + Drop> ServerPort<'_, L, R, G> {
     /// Counts what the entry of an answer keeps of its own, and hands the history out where that is due at its number or they
     /// keep too much. Answers what others were told, and what it saw where the history is due.
     #[inline(always)]
-    pub(crate) fn count(&mut self, answer: &Answer) -> (Option<Telling>, Option<Look>)
+    pub(crate) fn count_and_rotate(&mut self, answer: &Answer) -> (Option<Telling>, Option<Look>)
         ensures counted { IsCounted self.old.rotation.uncounted (own answer.now) result.0 self.new.rotation.uncounted }
         ensures looked { is_some result.1 ≡ falls_due self.old.rotation answer.now.number }
         ensures tried { self.new.rotation.tries ≡ tried (was_same result.1) (tried (passed result.0) self.old.rotation.tries) }

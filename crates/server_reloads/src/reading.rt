@@ -25,7 +25,8 @@ pub enum NextPolicy {
     NoMemory,
 }
 
-/// Reads the next policy and makes it ready. Whoever opens descriptors meanwhile holds the lock `descriptors`.
+/// Reads the next policy and makes it ready. Returns `Later` where none came for a while. It takes the lock `descriptors` where it
+/// opens and closes a file.
 pub fn next_policy<P: Policies>(
     alloc: Global,
     policies: &mut P,

@@ -150,7 +150,7 @@ impl Client {
     }
 
     /// Writes what is kept once the connection has closed, its closing text too.
-    fn close<S: NonBlockingSink>(&mut self, writer: &mut S) -> Turn
+    fn write_rest<S: NonBlockingSink>(&mut self, writer: &mut S) -> Turn
         requires { is_closed self.old.conn.stage ≡ true }
         ensures conn { self.new.conn ≡ self.old.conn }
         ensures written { Writes (S.contents writer.old) (S.contents writer.new) self.old.kept self.new.kept }
@@ -174,7 +174,7 @@ impl Client {
         ensures told { IsStallTold None result }
     {
         if self.conn.stage().is_closed() {
-            return self.close(writer);
+            return self.write_rest(writer);
         }
         match self.write_kept(writer) {
             Err(_) => Turn::Failed,
@@ -212,7 +212,7 @@ impl Client {
         ensures neither { IsNoRead result }
     {
         if self.conn.stage().is_closed() {
-            return self.close(writer);
+            return self.write_rest(writer);
         }
         match self.write_kept(writer) {
             Err(_) => return Turn::Failed,
@@ -246,7 +246,7 @@ impl Client {
     {
         let ReadContext { buf, moment } = context;
         if self.conn.stage().is_closed() {
-            return self.close(writer);
+            return self.write_rest(writer);
         }
         match self.write_kept(writer) {
             Err(_) => return Turn::Failed,
@@ -281,7 +281,7 @@ impl Client {
         ensures neither { IsNoRead result }
     {
         if self.conn.stage().is_closed() {
-            return self.close(writer);
+            return self.write_rest(writer);
         }
         match self.write_kept(writer) {
             Err(_) => return Turn::Failed,

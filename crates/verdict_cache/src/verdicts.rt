@@ -51,7 +51,8 @@ impl Verdicts {
         }
     }
 
-    /// Returns the verdict of a user's lists on a publish: that of `Compiled::publish`.
+    /// Returns the verdict of a user's lists on a publish: that of `Compiled::publish`, as long as this name has come with the same
+    /// lists since `next_policy`.
     #[inline(always)]
     #[tactic(auto, using(permissions::proofs::Reason::publish_reason))]
     pub fn on_publish<'q>(

@@ -18,23 +18,23 @@ use Rattle.wire_lines.specs.Field.{has_byte, fields}
 use Rattle.wire_lines.specs.Operation.{operation}
 use Rattle.wire_read.specs.Size.{size}
 use Rattle.wire_read.specs.Front.{Whole, front}
-use Rattle.wire_read.specs.Plain.{is_word_byte, IsPlain}
+use Rattle.wire_read.specs.Plain.{is_field_byte, IsPlain}
 use Rattle.wire_read.specs.Grammar.{IsLine, Writes, Announces}
 use Rattle.wire_read.proofs.SizeLemmas.{size_small}
 use Rattle.wire_read.proofs.GrammarLemmas.{is_read}
 
 abbrev IsWord : ℕ → Type 0
-IsWord b = is_word_byte b ≡ true
+IsWord b = is_field_byte b ≡ true
 
 -- the bytes of a word
-words_by : (t : Bool) (x : ℕ) (xs : List ℕ) → is_word_byte x ≡ t → All IsWord (take (prefix_len is_word_byte xs) xs) →
-    All IsWord (take (cond t (1 + prefix_len is_word_byte xs) 0) (x ∷ xs))
-words_by true x xs is more = let next : 1 + prefix_len is_word_byte xs ≡ suc (prefix_len is_word_byte xs) = omega arith in rw next (All-cons IsWord x _ is more)
+words_by : (t : Bool) (x : ℕ) (xs : List ℕ) → is_field_byte x ≡ t → All IsWord (take (prefix_len is_field_byte xs) xs) →
+    All IsWord (take (cond t (1 + prefix_len is_field_byte xs) 0) (x ∷ xs))
+words_by true x xs is more = let next : 1 + prefix_len is_field_byte xs ≡ suc (prefix_len is_field_byte xs) = omega arith in rw next (All-cons IsWord x _ is more)
 words_by false x xs is more = All-nil IsWord
 
-words : (text : List ℕ) → All IsWord (take (prefix_len is_word_byte text) text)
+words : (text : List ℕ) → All IsWord (take (prefix_len is_field_byte text) text)
 words [] = All-nil IsWord
-words (x ∷ xs) = words_by (is_word_byte x) x xs refl (words xs)
+words (x ∷ xs) = words_by (is_field_byte x) x xs refl (words xs)
 
 abbrev IsNoBlank : ℕ → Type 0
 IsNoBlank b = is_blank b ≡ false
@@ -172,8 +172,8 @@ at_places s d p more is_s is_d some few_s few_d is =
 
 -- what was found of some bytes, one part behind the other
 pub found_plain : (bytes behind field block more : List ℕ) (n k total : ℕ) → bytes ≡ 80 ∷ 85 ∷ 66 ∷ 32 ∷ behind →
-    n ≡ prefix_len is_word_byte behind → n ≤ length behind → drop n behind ≡ 32 ∷ field →
-    k ≡ prefix_len is_word_byte field → k ≤ length field → drop k field ≡ 13 ∷ 10 ∷ block →
+    n ≡ prefix_len is_field_byte behind → n ≤ length behind → drop n behind ≡ 32 ∷ field →
+    k ≡ prefix_len is_field_byte field → k ≤ length field → drop k field ≡ 13 ∷ 10 ∷ block →
     (n ≡ 0 → ⊥) → n ≤ 2000 → k ≤ 2000 → Ok total ≡ size (take k field) → total ≤ length block → drop total block ≡ 13 ∷ 10 ∷ more →
     IsPlain (record { subject = n; start = n + k + 7; total = total }) bytes
 found_plain bytes behind field block more n k total is is_n in_n at_n is_k in_k at_k some few_n few_k says in_total at_total =

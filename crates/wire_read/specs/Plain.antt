@@ -7,8 +7,8 @@ use Rattle.wire_read.specs.declared.plain.PlainAt.{PlainAt}
 use Rattle.wire_read.specs.Front.{Whole, front}
 
 -- neither a blank nor a control
-abbrev pub is_word_byte : ℕ → Bool
-is_word_byte b = nat_lt 32 b
+abbrev pub is_field_byte : ℕ → Bool
+is_field_byte b = nat_lt 32 b
 
 -- the frame of the texts at these places
 abbrev pub plain_frame : PlainAt → List ℕ → Frame

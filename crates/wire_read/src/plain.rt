@@ -1,7 +1,7 @@
 // A PUB as most clients write it: one space between its fields, no subject for answers, CR LF behind its line.
 ghost use Rattle.std.specs.Prelude.{◌≡◌, ◌∷◌, ◌++◌, ◌≤◌, [], length, IfSome, OnOk};
 ghost use Rattle.std.specs.List.{prefix_len};
-ghost use Rattle.wire_read.specs.Plain.{is_word_byte, plain_frame, IsPlain};
+ghost use Rattle.wire_read.specs.Plain.{is_field_byte, plain_frame, IsPlain};
 
 use crate::Frame;
 use crate::size::size_of;
@@ -23,9 +23,9 @@ pub struct PlainAt {
     pub total: usize,
 }
 
-/// How many bytes stand in front that are neither blanks nor controls.
-fn word_len(text: &[u8]) -> usize
-    ensures value { result ≡ prefix_len is_word_byte text.now }
+/// How many bytes stand before the first that is a space or less.
+fn field_len(text: &[u8]) -> usize
+    ensures value { result ≡ prefix_len is_field_byte text.now }
     ensures bound { result ≤ length text.now }
 {
     for (i, byte) in text.iter().enumerate() {
@@ -73,9 +73,9 @@ pub fn find_plain(bytes: &[u8]) -> Option<PlainAt>
     ensures { IfSome result (λ at. IsPlain at bytes.now) }
 {
     let fields = behind_pub(bytes)?;
-    let subject = word_len(fields);
+    let subject = field_len(fields);
     let field = behind_space(&fields[subject..])?;
-    let digits = word_len(field);
+    let digits = field_len(field);
     let block = behind_end(&field[digits..])?;
     if subject == 0 || MAX_FIELD < subject || MAX_FIELD < digits {
         return None;

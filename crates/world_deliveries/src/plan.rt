@@ -239,9 +239,9 @@ fn plan_by_rooms(
     Ok(items)
 }
 
-/// Returns what each delivery of a message will meet, where they are handed over in turn. Also sets each one's `noted`,
-/// what its session is to note. `has_reply` is false only where none of the deliveries has a reply; then, where all have
-/// room, no room has to be counted.
+/// Returns what each delivery of a message will meet, where they are handed over in turn: `Entered`, or `Full` where its session has
+/// no room left or is missing. Also sets each one's `noted`, what its session is to note. `rooms` is a list to work in.
+/// `has_reply` is false only where none of the deliveries has a reply. `NoMemory` where memory could not be had: then some are set.
 #[inline(never)]
 pub fn plan_all(
     alloc: Global,

@@ -399,7 +399,7 @@ impl Receivers {
             marks,
             publisher,
         } = search;
-        if !self.cache.is_asked_again() {
+        if !self.cache.note_asked() {
             return;
         }
         let open = Open {

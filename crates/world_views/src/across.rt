@@ -241,8 +241,9 @@ fn is_own_alone(rows: &Rows, routes: &Routes) -> bool
     }
 }
 
-/// Addresses a message in all its views: these are the deliveries of the receivers. Returns what is told between them, and what
-/// becomes of routes. `NoMemory` where memory could not be had.
+/// Puts a message's deliveries in all its views into `receivers`, in the place of what was there. Returns the import rows across
+/// which it isn't seen, and the response routes that it opens or ends: `None` if there are neither. No route changes yet.
+/// `NoMemory` where memory could not be had.
 #[inline(always)]
 pub fn address_all<'p>(
     sessions: &'p Sessions,

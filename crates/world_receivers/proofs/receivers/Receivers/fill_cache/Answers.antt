@@ -16,7 +16,7 @@ returns-in-Ok c =
     let subs = c.args.search.subscriptions.now in
     let z = c.args.search.publisher.now in
     let s = c.args.subject.now in
-    let put = c.put.ensures c.args.rows.now zs subs z (c.is_asked_again.ensures.cached c.args.rows.now zs subs c.requires.cached) c.requires.publisher
+    let put = c.put.ensures c.args.rows.now zs subs z (c.note_asked.ensures.cached c.args.rows.now zs subs c.requires.cached) c.requires.publisher
     (ap (map (λ x. x.now)) c.as_slice.ensures.value
     ∙ c.in-Ok.ensures.found
     ∙ ap (λ account. filter (is_marked_open c.args.search.marks.now zs z s) (having account s subs)) c.as_slice-account.ensures
@@ -26,16 +26,16 @@ returns-in-Ok c =
     record { cached = put.0; others = put.1 }
 
 -- what it said already of its publisher and subject stays so
-pub returns-then-not-is_asked_again : goal.returns-then-not-is_asked_again
-returns-then-not-is_asked_again c = record {
-  cached = c.is_asked_again.ensures.cached c.args.rows.now c.args.search.sessions.now c.args.search.subscriptions.now c.requires.cached;
+pub returns-then-not-note_asked : goal.returns-then-not-note_asked
+returns-then-not-note_asked c = record {
+  cached = c.note_asked.ensures.cached c.args.rows.now c.args.search.sessions.now c.args.search.subscriptions.now c.requires.cached;
   others = subst (λ (o : Option (Vec KnownView)). KnowsOthers o c.args.rows.now c.args.search.sessions.now c.args.search.subscriptions.now c.args.search.publisher.now c.args.subject.now)
-      (sym c.is_asked_again.ensures.others) c.requires.others;
+      (sym c.note_asked.ensures.others) c.requires.others;
 }
 
 pub returns-in_default : goal.returns-in_default
 returns-in_default c = record {
-  cached = c.is_asked_again.ensures.cached c.args.rows.now c.args.search.sessions.now c.args.search.subscriptions.now c.requires.cached;
+  cached = c.note_asked.ensures.cached c.args.rows.now c.args.search.sessions.now c.args.search.subscriptions.now c.requires.cached;
   others = subst (λ (o : Option (Vec KnownView)). KnowsOthers o c.args.rows.now c.args.search.sessions.now c.args.search.subscriptions.now c.args.search.publisher.now c.args.subject.now)
-      (sym c.is_asked_again.ensures.others) c.requires.others;
+      (sym c.note_asked.ensures.others) c.requires.others;
 }

@@ -2,7 +2,7 @@
 use Rattle.std.proofs.Common.{◌∙◌, refl, sym, inl, inr}
 use Rattle.receiver_cache.specs.declared.cache.ReceiverCache.{ReceiverCache}
 use Rattle.receiver_cache.proofs.Told.{still_current}
-use Rattle.receiver_cache.proofs.cache.ReceiverCache.is_asked_again.Goals as goal
+use Rattle.receiver_cache.proofs.cache.ReceiverCache.note_asked.Goals as goal
 
 pub returns-clause-cached : goal.returns-clause-cached
 returns-clause-cached c = λ rows zs subs current.
