@@ -3,6 +3,7 @@ use Rattle.std.proofs.Common.{◌≡◌, ◌+◌, ◌∙◌, ℕ, Bool, true, fa
 use Rattle.std.proofs.lemmas.Bool.{and_parts}
 use Rattle.std.proofs.lemmas.Bool.Decides.{nat_tests}
 use Rattle.subjects.specs.Subject.{Token, is_concrete, in_set, tokens_of, IsConcreteSubject, IsSubject}
+use Rattle.subjects.proofs.Text.{tokens_from_literals}
 use Rattle.mapping.specs.declared.side.Side.{Side}
 use Rattle.mapping.specs.declared.error.MapError.{MapError}
 use Rattle.mapping.specs.Pairs.{IsMapped, IsSent, carried, count_stars, are_within, filled, numbered, stars_of, tail_of}
@@ -11,7 +12,7 @@ use Rattle.mapping_template.specs.Text.{with_tokens}
 use Rattle.mapping_template.proofs.Patterns.{grammar}
 use Rattle.mapping.proofs.Filling.{counted-stars}
 use Rattle.mapping.proofs.Pairs.{AreFit, Joins, carried_if, some-joined, to_concrete, lengths, concrete_parts}
-use Rattle.mapping.proofs.Texts.{with-tokens_of, tokens_from_literals}
+use Rattle.mapping.proofs.Texts.{with-tokens_of}
 
 fit : (from to : Side) → AreSides from to → AreFit from.pattern to.pattern to.references.items
 fit from to a = record { from_pattern = a.from_pattern; to_pattern = a.to_pattern; tails = a.tails; stars = a.stars; within = a.within }

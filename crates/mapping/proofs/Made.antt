@@ -5,6 +5,7 @@ use Rattle.std.proofs.lemmas.Bool.{and_parts}
 use Rattle.std.proofs.lemmas.List.FromFn.{length-range_with_len}
 use Rattle.subjects.specs.Subject.{Token, is_star, is_tail, is_token, is_wildcard, is_literal, IsPattern, IsSubject, tokens_of}
 use Rattle.mapping.specs.Pairs.{RowMap, IsRowMap, IsPair, IsMapped, IsSide, carried, forward, back, count_stars, has_tail, has_repeat, refers_to_each}
+use Rattle.subjects.proofs.Text.{tokens_from_literals}
 use Rattle.mapping_template.specs.Template.{local_of, local_token, references_of}
 use Rattle.mapping_template.specs.Text.{with_tokens}
 use Rattle.mapping_template.proofs.Patterns.{grammar}
@@ -15,7 +16,7 @@ use Rattle.mapping.specs.declared.error.MapError.{MapError}
 use Rattle.mapping.specs.Sides.{row_map, AreOf, AreSides}
 use Rattle.mapping.specs.declared.side.Side.{Side}
 use Rattle.mapping.proofs.Carries.{concrete}
-use Rattle.mapping.proofs.Texts.{with-append, with-tokens_of, tokens-append, tokens_from_literals}
+use Rattle.mapping.proofs.Texts.{with-append, with-tokens_of, tokens-append}
 use Rattle.mapping_template.proofs.Parts.{fits, spelled-pattern, tokens-local, tail-local, stars-local}
 use Rattle.mapping.specs.Fault.{in_order, templated, template_fault}
 use Rattle.std.specs.Prelude.{nat_lt}

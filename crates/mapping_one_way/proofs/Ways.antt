@@ -2,6 +2,7 @@
 use Rattle.std.proofs.Common.{◌≡◌, ◌+◌, ◌∙◌, ℕ, Bool, true, false, ltb, leb, List, [], Option, None, Result, Ok, length, refl, sym, ap, subst, arith}
 use Rattle.std.proofs.lemmas.Bool.Decides.{nat_tests}
 use Rattle.subjects.specs.Subject.{Token, in_set, tokens_of, IsSubject}
+use Rattle.subjects.proofs.Text.{tokens_from_literals}
 use Rattle.mapping_template.specs.Template.{local_of, references_of}
 use Rattle.mapping_template.specs.Text.{with_tokens}
 use Rattle.mapping_template.specs.Wildcards.{are_within, count_stars, has_tail}
@@ -11,7 +12,7 @@ use Rattle.mapping.specs.Fault.{templated}
 use Rattle.mapping.specs.declared.error.MapError.{MapError}
 use Rattle.mapping.proofs.Carries.{concrete}
 use Rattle.mapping.proofs.Pairs.{AreFit, Joins, by_pairs, carried_from, carried_if, concrete_parts, joined_from, joins_pair, lengths, pair_joins, some-joined, to_concrete}
-use Rattle.mapping.proofs.Texts.{with-tokens_of, tokens_from_literals}
+use Rattle.mapping.proofs.Texts.{with-tokens_of}
 use Rattle.std.specs.Prelude.{nat_lt}
 use Rattle.subjects.specs.Fault.{pattern_fault}
 use Rattle.mapping_template.specs.Fault.{is_spelled}

@@ -23,29 +23,31 @@ token : (t : Token) → is_token t ≡ true → HasNoDot t
 token [] h = absurd (cc)
 token (b ∷ bs) h = no_dot (b ∷ bs) h
 
-cut : (t : Token) (ts : List Token) → list_all is_token (t ∷ ts) ≡ true → tokens_of (text_of (t ∷ ts)) ≡ t ∷ ts
-cut t [] h = slice_split_none (λ b. b == 46) t (token t (and_parts (is_token t) true h).0)
-cut t (u ∷ ts) h =
+-- the text of tokens has them
+pub tokens_again : (t : Token) (ts : List Token) → list_all is_token (t ∷ ts) ≡ true → tokens_of (text_of (t ∷ ts)) ≡ t ∷ ts
+tokens_again t [] h = slice_split_none (λ b. b == 46) t (token t (and_parts (is_token t) true h).0)
+tokens_again t (u ∷ ts) h =
     let parts = and_parts (is_token t) (list_all is_token (u ∷ ts)) h in
-    slice_split_at (λ b. b == 46) t 46 (text_of (u ∷ ts)) (token t parts.0) refl ∙ ap (λ us. t ∷ us) (cut u ts parts.1)
+    slice_split_at (λ b. b == 46) t 46 (text_of (u ∷ ts)) (token t parts.0) refl ∙ ap (λ us. t ∷ us) (tokens_again u ts parts.1)
 
 -- the text of a pattern has its tokens
 pub pattern_again : (p : List Token) → IsPattern p → tokens_of (text_of p) ≡ p
 pattern_again [] h = absurd (cc)
 pattern_again (t ∷ ts) h =
     let first = and_parts (list_all is_token (t ∷ ts) && tail_is_last (t ∷ ts)) (nat_le (length (t ∷ ts)) 512) h in
-    cut t ts (and_parts (list_all is_token (t ∷ ts)) (tail_is_last (t ∷ ts)) first.0).0
+    tokens_again t ts (and_parts (list_all is_token (t ∷ ts)) (tail_is_last (t ∷ ts)) first.0).0
 
-tokens : (ts : List Token) → list_all is_literal ts ≡ true → list_all is_token ts ≡ true
-tokens [] h = refl
-tokens (t ∷ ts) h =
+-- what has no wildcard is made of tokens
+pub tokens_from_literals : (ts : List Token) → list_all is_literal ts ≡ true → list_all is_token ts ≡ true
+tokens_from_literals [] h = refl
+tokens_from_literals (t ∷ ts) h =
     let parts = and_parts (is_literal t) (list_all is_literal ts) h in
-    ap (λ b. b && list_all is_token ts) (and_parts (is_token t) (not (is_wildcard t)) parts.0).0 ∙ tokens ts parts.1
+    ap (λ b. b && list_all is_token ts) (and_parts (is_token t) (not (is_wildcard t)) parts.0).0 ∙ tokens_from_literals ts parts.1
 
 -- the text of a concrete subject has its tokens
 pub concrete_again : (s : List Token) → IsConcreteSubject s → tokens_of (text_of s) ≡ s
 concrete_again [] h = absurd (cc)
-concrete_again (t ∷ ts) h = cut t ts (tokens (t ∷ ts) h)
+concrete_again (t ∷ ts) h = tokens_again t ts (tokens_from_literals (t ∷ ts) h)
 
 -- and that of a subject
 pub again : (s : List Token) → IsSubject s → tokens_of (text_of s) ≡ s
