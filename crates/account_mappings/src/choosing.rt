@@ -5,7 +5,7 @@ ghost use Rattle.account_mappings.specs.Drawing.{chosen, draw_of, weights_of};
 use crate::Destination;
 
 /// Returns one of a hundred draws, by the upper half of a word.
-pub(crate) fn draw_of(word: u64) -> u64
+pub fn draw_of(word: u64) -> u64
     ensures draw { result ≡ draw_of word }
     ensures few { result < 100 }
 {

@@ -12,6 +12,7 @@ mod laws;
 mod mappings;
 
 pub use account_map::AccountMap;
+pub use choosing::draw_of;
 pub use destination::Destination;
 pub use drawing::{Mapped, mapped_by, source_of};
 pub use laws::fair_draws;

@@ -1,12 +1,12 @@
 //! What a publisher's messages on a subject are sent as, where its account's mappings send them on.
 ghost use Rattle.std.specs.Prelude.{◌≡◌, ◌++◌, ◌⊎◌, ℕ, [], OnOk};
-ghost use Rattle.account_mappings.specs.Drawing.{draw_of};
 ghost use Rattle.receiver_cache.specs.Drawn.{IsCached};
 ghost use Rattle.receiver_views.specs.Known.{addressed_in, addressed_in_each};
 ghost use Rattle.receiver_cache.specs.declared.drawn.Drawn.{Drawn as DrawnModel};
 
 use crate::cached::clear;
 use crate::key::CacheKey;
+use account_mappings::draw_of;
 use base::{NoMemory, Shared};
 use events::{Addressed, Message};
 use receiver_views::{KnownView, address_known};
@@ -15,13 +15,6 @@ use subjects::Subject;
 
 /// How many draws there are.
 const DRAWS: usize = 100;
-
-/// Returns one of the draws, by the upper half of a word.
-pub fn draw_of(word: u64) -> u64
-    ensures { result ≡ draw_of word }
-{
-    word / 0x1_0000_0000 % 100
-}
 
 /// What messages are sent as under one subject: whom they are for in their publisher's account, and in the views behind it.
 #[derive(Drop)]

@@ -8,5 +8,5 @@ mod finding;
 mod key;
 
 pub use cache::ReceiverCache;
-pub use drawn::{Drawn, DrawnCache, draw_of};
+pub use drawn::{Drawn, DrawnCache};
 pub use finding::{drawn_of, others_of};

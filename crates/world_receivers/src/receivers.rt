@@ -17,13 +17,14 @@ ghost use Rattle.world_receivers.specs.Standing.{addressed_behind_in, is_for_nob
 
 use crate::naming::address_under;
 use crate::standing::Standing;
+use account_mappings::draw_of;
 use base::NoMemory;
 use bytes::Bytes;
 use deny_marks::DenyMarks;
 use events::{Addressed, Message, Said};
 use imports::Rows;
 use permissions::By;
-use receiver_cache::{ReceiverCache, draw_of, drawn_of, others_of};
+use receiver_cache::{ReceiverCache, drawn_of, others_of};
 use receiver_views::{Open, ReceiverSearch};
 use std::alloc::Global;
 use std::hash::RandomState;

@@ -13,7 +13,7 @@ returns-in_ok-address-in-Some c = record {
       record {
         of = c.is_of.ensures.same c.if-not-is_of.false;
         drawn = drawn;
-        cached = subst (λ draw. IsCached c.args.self.now.by_draw.items draw drawn) c.draw_of.ensures c.in-Some.ensures;
+        cached = subst (λ draw. IsCached c.args.self.now.by_draw.items draw drawn) c.draw_of.ensures.draw c.in-Some.ensures;
         deliveries = c.in_ok-address-in-Some.ensures ∙ ap (λ (before : List Addressed). addressed_in_each m c.args.word (addressed_in m c.args.word before drawn.own) drawn.others.items) c.clear.ensures;
       };
 }

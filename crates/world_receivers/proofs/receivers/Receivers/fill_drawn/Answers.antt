@@ -47,7 +47,7 @@ returns-in-Some c = record {
         drawn = kept_drawn old c.keep.new.self rows zs subs z c.draw_of.result c.in-Some.drawn c.keep.ensures.published c.keep.ensures.kept there (record {
           mapped = λ other same.
               ap (λ (s : List Token). mapped_by z.user.mappings s other) published
-              ∙ same_draw z.user.mappings m.subject other word (same ∙ c.draw_of.ensures)
+              ∙ same_draw z.user.mappings m.subject other word (same ∙ c.draw_of.ensures.draw)
               ∙ c.requires.mapped
               ∙ ap To (sym found.1);
           sent = found.0;
