@@ -85,6 +85,12 @@ found_is missing (Some y) x h = ap Some (sym h)
 pub told_is : (found : Option Explanation) (reason : Explanation) (lines : List ℕ) → Answers explaining.NoSuchUser found (Ok reason) → lines ≡ explanation_text reason → told found ≡ Ok lines
 told_is found reason lines h e = ap told (found_is explaining.NoSuchUser found reason h) ∙ ap Ok (sym e)
 
+-- what is told of a user, by the name and the queue name that were read
+pub told_of : (known : List ℕ → Option (List Token) → Option Explanation) (who read : List ℕ) (queue : Result (Option (List Token)) AnswerFault) (name lent : Option (List Token)) →
+    queue ≡ Ok name → read ≡ who → lent ≡ name → with_queue queue (λ q. told (known who q)) ≡ told (known read lent)
+told_of known who read queue name lent named same same_name =
+    ap (λ asked. with_queue asked (λ q. told (known who q))) named ∙ ap (λ q. told (known who q)) (sym same_name) ∙ ap (λ user. told (known user lent)) (sym same)
+
 -- ---- an error that is handed on
 
 pub handed_on : (wanted : Answer) (r : Result (Vec ℕ) AnswerFault) (fault : AnswerFault) → IsErrAnd r (λ e. e ≡ fault) → IsRefused wanted fault → IsAnswered wanted r

@@ -1,11 +1,9 @@
 -- the fault of a text, or what is told of the user
-use Rattle.std.proofs.Common.{◌∙◌, Ok, Err, ap, refl, subst}
-use Rattle.std.specs.Option.{option_copied}
+use Rattle.std.proofs.Common.{◌∙◌, refl}
 use Rattle.std.specs.Prelude.{string_bytes}
-use Rattle.explain.specs.Fault.{Answers}
 use Rattle.explain.specs.declared.fault.ExplainFault.TheVariants as explaining
-use Rattle.tasks.specs.Explaining.{of_explaining, of_parsing, queue_asked, delivery_answer, delivery_known, delivery_told, told, with_queue}
-use Rattle.tasks.proofs.Answered.{handed_on, no_queue, no_subject, told_is, unknown, with_subject}
+use Rattle.tasks.specs.Explaining.{of_explaining, of_parsing, queue_asked, delivery_answer, delivery_known, delivery_told, told}
+use Rattle.tasks.proofs.Answered.{handed_on, no_queue, no_subject, told_is, told_of, unknown, with_subject}
 use Rattle.tasks.proofs.answer.on_delivery.Goals as goal
 
 pub returns-in_err-subject : goal.returns-in_err-subject
@@ -15,26 +13,23 @@ returns-in_err-subject c =
 
 pub returns-in_err-queue : goal.returns-in_err-queue
 returns-in_err-queue c =
-    let asked = with_subject _ (string_bytes c.args.question.now.subject) c.in_ok-subject.subject (delivery_told c.args.question.now c.args.policy.now) c.as_bytes.ensures.value c.in_ok-subject.ensures.tokens in
-    let known = delivery_known c.args.policy.now (string_bytes c.args.question.now.who) c.in_ok-subject.subject in
-    handed_on (delivery_answer c.args.question.now c.args.policy.now) _ c.in_err-queue.field-0.0 c.from_residual-in_err-queue.ensures.1
-    (rw asked (no_queue (queue_asked c.args.question.now.queue) (λ q. told (known q)) c.in_err-queue.field-0.0 c.in_err-queue.ensures))
+    let q = c.args.question.now in
+    let asked = with_subject _ (string_bytes q.subject) c.in_ok-subject.subject (delivery_told q c.args.policy.now) c.as_bytes.ensures.value c.in_ok-subject.ensures.tokens in
+    let known = delivery_known c.args.policy.now (string_bytes q.who) c.in_ok-subject.subject in
+    handed_on (delivery_answer q c.args.policy.now) _ c.in_err-queue.field-0.0 c.from_residual-in_err-queue.ensures.1
+    (rw asked (no_queue (queue_asked q.queue) (λ name. told (known name)) c.in_err-queue.field-0.0 c.in_err-queue.ensures))
 
 pub returns-in_err-reason : goal.returns-in_err-reason
 returns-in_err-reason c =
-    let asked = with_subject _ (string_bytes c.args.question.now.subject) c.in_ok-subject.subject (delivery_told c.args.question.now c.args.policy.now) c.as_bytes.ensures.value c.in_ok-subject.ensures.tokens in
-    let known = delivery_known c.args.policy.now (string_bytes c.args.question.now.who) c.in_ok-subject.subject in
-    let queued = ap (λ queue. with_queue queue (λ q. told (known q))) c.in_ok-queue.ensures in
-    let by_name = subst (λ who. Answers explaining.NoSuchUser (delivery_known c.args.policy.now who c.in_ok-subject.subject (option_copied c.as_ref.result)) (Err c.in_err-reason.field-0.0)) c.as_bytes-who.ensures.value c.in_err-reason.ensures in
-    let found = subst (λ q. Answers explaining.NoSuchUser (known q) (Err c.in_err-reason.field-0.0)) c.as_ref.ensures.value by_name in
-    handed_on (delivery_answer c.args.question.now c.args.policy.now) _ (of_explaining c.in_err-reason.field-0.0) c.from_residual-in_err-reason.ensures.1
-    (rw (asked ∙ queued) (unknown explaining.NoSuchUser told (known c.in_ok-queue.queue) c.in_err-reason.field-0.0 refl found))
+    let q = c.args.question.now in
+    let asked = with_subject _ (string_bytes q.subject) c.in_ok-subject.subject (delivery_told q c.args.policy.now) c.as_bytes.ensures.value c.in_ok-subject.ensures.tokens in
+    let of_user = told_of (λ who. delivery_known c.args.policy.now who c.in_ok-subject.subject) (string_bytes q.who) _ (queue_asked q.queue) c.in_ok-queue.queue _ c.in_ok-queue.ensures c.as_bytes-who.ensures.value c.as_ref.ensures.value in
+    handed_on (delivery_answer q c.args.policy.now) _ (of_explaining c.in_err-reason.field-0.0) c.from_residual-in_err-reason.ensures.1
+    (rw (asked ∙ of_user) (unknown explaining.NoSuchUser told _ c.in_err-reason.field-0.0 refl c.in_err-reason.ensures))
 
 pub returns : goal.returns
 returns c =
-    let asked = with_subject _ (string_bytes c.args.question.now.subject) c.in_ok-subject.subject (delivery_told c.args.question.now c.args.policy.now) c.as_bytes.ensures.value c.in_ok-subject.ensures.tokens in
-    let known = delivery_known c.args.policy.now (string_bytes c.args.question.now.who) c.in_ok-subject.subject in
-    let queued = ap (λ queue. with_queue queue (λ q. told (known q))) c.in_ok-queue.ensures in
-    let by_name = subst (λ who. Answers explaining.NoSuchUser (delivery_known c.args.policy.now who c.in_ok-subject.subject (option_copied c.as_ref.result)) (Ok c.in_ok-reason.reason)) c.as_bytes-who.ensures.value c.in_ok-reason.ensures in
-    let found = subst (λ q. Answers explaining.NoSuchUser (known q) (Ok c.in_ok-reason.reason)) c.as_ref.ensures.value by_name in
-    asked ∙ queued ∙ told_is (known c.in_ok-queue.queue) c.in_ok-reason.reason _ found c.in_ok-lines.ensures
+    let q = c.args.question.now in
+    let asked = with_subject _ (string_bytes q.subject) c.in_ok-subject.subject (delivery_told q c.args.policy.now) c.as_bytes.ensures.value c.in_ok-subject.ensures.tokens in
+    let of_user = told_of (λ who. delivery_known c.args.policy.now who c.in_ok-subject.subject) (string_bytes q.who) _ (queue_asked q.queue) c.in_ok-queue.queue _ c.in_ok-queue.ensures c.as_bytes-who.ensures.value c.as_ref.ensures.value in
+    asked ∙ of_user ∙ told_is _ c.in_ok-reason.reason _ c.in_ok-reason.ensures c.in_ok-lines.ensures

@@ -1,7 +1,6 @@
 -- the text's fault, or where the message is sent on and seen
-use Rattle.std.proofs.Common.{Err, refl, subst}
+use Rattle.std.proofs.Common.{◌∙◌, ap, refl, sym}
 use Rattle.std.specs.Prelude.{string_bytes}
-use Rattle.explain.specs.Fault.{Answers}
 use Rattle.explain.specs.Path.{path_of}
 use Rattle.explain.specs.declared.fault.ExplainFault.TheVariants as explaining
 use Rattle.tasks.specs.Explaining.{of_explaining, of_parsing, path_answer, path_shown, shown}
@@ -15,7 +14,8 @@ returns-in_err-subject c =
 
 pub returns-in_err-shares : goal.returns-in_err-shares
 returns-in_err-shares c =
-    let asked = with_subject _ (string_bytes c.args.question.now.subject) c.in_ok-subject.subject (path_shown c.args.question.now c.args.policy.now) c.as_bytes.ensures.value c.in_ok-subject.ensures.tokens in
-    let found = subst (λ who. Answers explaining.NoSuchAccount (path_of c.args.policy.now who c.in_ok-subject.subject) (Err c.in_err-shares.field-0.0)) c.as_bytes-2.ensures.value c.in_err-shares.ensures in
-    handed_on (path_answer c.args.question.now c.args.policy.now) _ (of_explaining c.in_err-shares.field-0.0) c.from_residual-in_err-shares.ensures.1
-    (rw asked (unknown explaining.NoSuchAccount shown (path_of c.args.policy.now (string_bytes c.args.question.now.who) c.in_ok-subject.subject) c.in_err-shares.field-0.0 refl found))
+    let q = c.args.question.now in
+    let asked = with_subject _ (string_bytes q.subject) c.in_ok-subject.subject (path_shown q c.args.policy.now) c.as_bytes.ensures.value c.in_ok-subject.ensures.tokens in
+    let of_account = ap (λ who. shown (path_of c.args.policy.now who c.in_ok-subject.subject)) (sym c.as_bytes-2.ensures.value) in
+    handed_on (path_answer q c.args.policy.now) _ (of_explaining c.in_err-shares.field-0.0) c.from_residual-in_err-shares.ensures.1
+    (rw (asked ∙ of_account) (unknown explaining.NoSuchAccount shown _ c.in_err-shares.field-0.0 refl c.in_err-shares.ensures))
