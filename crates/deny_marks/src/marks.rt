@@ -93,7 +93,7 @@ impl Marks {
 
     /// Returns whether these marks let a message through to a subscription whose user has at most 8 deny entries.
     #[inline(always)]
-    pub(crate) fn let_through(
+    pub(crate) fn lets_through(
         self,
         rules: &Compiled,
         subject: &SubjectRef<'_>,

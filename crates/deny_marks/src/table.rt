@@ -91,13 +91,13 @@ impl DenyMarks {
         ensures marks { result ≡ admits_by (marks_at self.now id) rules.now subject.now queue.now }
         ensures lists { AreFor rules.now subject.now queue.now (marks_at self.now id) → result ≡ is_allowed (delivery_verdict rules.now subject.now queue.now) }
     {
-        let lets = self.let_through(id, rules, subject, queue);
+        let lets = self.lets_through(id, rules, subject, queue);
         lets
     }
 
     /// The same. Nobody is looked up for a user who is denied nothing; of more than 8 entries the lists are asked.
     #[inline(always)]
-    fn let_through(
+    fn lets_through(
         &self,
         id: u64,
         rules: &Compiled,
@@ -113,7 +113,7 @@ impl DenyMarks {
         if deny.len() > SHORT {
             return rules.admits(subject, queue.as_ref()).is_allowed();
         }
-        self.at(id).let_through(rules, subject, queue)
+        self.at(id).lets_through(rules, subject, queue)
     }
 
     /// Puts the marks of a subscription in the place of what stands under its id: one entry more at most. Where memory could not

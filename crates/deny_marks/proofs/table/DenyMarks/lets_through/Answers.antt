@@ -3,7 +3,7 @@ use Rattle.std.proofs.Common.{◌≡◌, ◌∙◌, [], sym}
 use Rattle.std.proofs.lemmas.Bool.{eqb-true}
 use Rattle.std.proofs.lemmas.List.{nil_from_length}
 use Rattle.deny_marks.proofs.Judged.{none_denied}
-use Rattle.deny_marks.proofs.table.DenyMarks.let_through.Goals as goal
+use Rattle.deny_marks.proofs.table.DenyMarks.lets_through.Goals as goal
 
 pub returns-then-is_empty : goal.returns-then-is_empty
 returns-then-is_empty c =
