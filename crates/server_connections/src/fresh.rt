@@ -24,12 +24,12 @@ impl Connections {
 
     /// Returns a connection's turn. Where too much is kept of a client without an accepted CONNECT, it writes the client an
     /// error and returns `Closed`.
-    pub fn bounded(&self, key: usize, turn: Turn) -> Turn
+    pub fn close_if_beyond(&self, key: usize, turn: Turn) -> Turn
         ensures { is_over result ≡ false → IfSome (get self.entry.now.slab key) (λ it. IsBounded it.client.conn) }
     {
         match self.slab.get(key) {
             None => turn,
-            Some(it) => it.bounded(self.alloc, turn),
+            Some(it) => it.close_if_beyond(self.alloc, turn),
         }
     }
 

@@ -103,7 +103,7 @@ impl<'a, L: Run, R: Wait + Clock, G: Gate + Drop, W: Words + Drop> Worker<'a, L,
         self.keep(served);
         self.tell_pending();
         self.tell_turn(key);
-        let turn = self.connections.bounded(key, served.turn);
+        let turn = self.connections.close_if_beyond(key, served.turn);
         if turn != served.turn {
             self.tell_of(key, What::Limit(UNKNOWN));
         }

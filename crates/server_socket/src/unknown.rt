@@ -30,7 +30,7 @@ fn is_beyond(conn: &Conn) -> bool
 impl Connection {
     /// Returns its turn. Where too much is kept of a client that hasn't shown who it is, it writes the client an error and
     /// returns `Closed`.
-    pub fn bounded(&self, alloc: Global, turn: Turn) -> Turn
+    pub fn close_if_beyond(&self, alloc: Global, turn: Turn) -> Turn
         ensures { is_over result ≡ false → IsBounded self.now.client.conn }
     {
         if turn.is_over() || !is_beyond(self.client.conn()) {
