@@ -1,7 +1,9 @@
 //! The exports of an account.
-ghost use Rattle.std.specs.Prelude.{◌≡◌, option_map};
+ghost use Rattle.std.specs.Prelude.{◌≡◌, codes, option_map};
+ghost use Rattle.serde_json.specs.Find.{get};
 ghost use Rattle.serde_json.specs.View.{view};
 ghost use Rattle.policy_walk.specs.Fault.{Gives};
+ghost use Rattle.policy_walk.specs.Path.{at_key};
 ghost use Rattle.policy_rows.specs.Exports.{accounts_under, either_rows, export_at, exports_under, service_at, stream_at};
 ghost use Rattle.policy_rows.specs.Names.{account_name_at, kindless_at};
 
@@ -58,8 +60,7 @@ fn stream_of(alloc: Global, path: &Path, value: &Value) -> Result<ExportDoc, Con
 {
     judge(alloc, &[("stream", true), ("accounts", false)], path, value)?;
     let subject = pattern_of(alloc, "stream", path, value)?;
-    let below = path.key(alloc, "accounts")?;
-    let accounts = accounts_under(alloc, &below, value.get("accounts"))?;
+    let accounts = accounts_of(alloc, path, value)?;
     Ok(ExportDoc {
         kind: Kind::Stream,
         subject,
@@ -81,8 +82,7 @@ fn service_of(alloc: Global, path: &Path, value: &Value) -> Result<ExportDoc, Co
     ];
     judge(alloc, &rows, path, value)?;
     let subject = pattern_of(alloc, "service", path, value)?;
-    let below = path.key(alloc, "accounts")?;
-    let accounts = accounts_under(alloc, &below, value.get("accounts"))?;
+    let accounts = accounts_of(alloc, path, value)?;
     let response = response_of(alloc, path, value)?;
     Ok(ExportDoc {
         kind: Kind::Service,
@@ -121,15 +121,16 @@ impl Reader for AccountName {
 }
 
 /// The accounts that may import, if there is a list of them.
-fn accounts_under(
+fn accounts_of(
     alloc: Global,
     path: &Path,
-    found: Option<&Value>,
+    value: &Value,
 ) -> Result<Option<Items<Bytes>>, ConfigFault>
-    ensures { Gives (λ x. x) result (accounts_under path.now (option_map (λ v. view v.now) found.entry)) }
+    ensures { Gives (λ x. x) result (accounts_under (at_key path.now (codes "accounts")) (get (codes "accounts") (view value.now))) }
 {
-    match found {
+    let below = path.key(alloc, "accounts")?;
+    match value.get("accounts") {
         None => Ok(None),
-        Some(value) => Ok(Some(list_of(alloc, &AccountName, path, value)?)),
+        Some(names) => Ok(Some(list_of(alloc, &AccountName, &below, names)?)),
     }
 }

@@ -1,5 +1,5 @@
 -- the fault of an export is that of its first part that has one
-use Rattle.std.proofs.Common.{refl, sym}
+use Rattle.std.proofs.Common.{refl}
 use Rattle.std.proofs.lemmas.Result.{err_from_is_err_and}
 use Rattle.policy_rows.specs.Exports.{service_at}
 use Rattle.policy_rows.proofs.export_row.service_of.Goals as goal
@@ -14,10 +14,10 @@ pub returns-in_err-accounts : goal.returns-in_err-accounts
 unfolding service_at
 returns-in_err-accounts c =
     let p = err_from_is_err_and c.from_residual-in_err-accounts.result c.from_residual-in_err-accounts.ensures.1 in
-    rw (p.1, p.2) (λ other. rw (c.in_ok-judge.ensures, c.in_ok-subject.ensures, sym c.in_ok-below.ensures, sym c.get.ensures, c.in_err-accounts.ensures other) refl)
+    rw (p.1, p.2) (λ other. rw (c.in_ok-judge.ensures, c.in_ok-subject.ensures, c.in_err-accounts.ensures other) refl)
 
 pub returns-in_err-response : goal.returns-in_err-response
 unfolding service_at
 returns-in_err-response c =
     let p = err_from_is_err_and c.from_residual-in_err-response.result c.from_residual-in_err-response.ensures.1 in
-    rw (p.1, p.2) (λ other. rw (c.in_ok-judge.ensures, c.in_ok-subject.ensures, sym c.in_ok-below.ensures, sym c.get.ensures, c.in_ok-accounts.ensures, c.in_err-response.ensures other) refl)
+    rw (p.1, p.2) (λ other. rw (c.in_ok-judge.ensures, c.in_ok-subject.ensures, c.in_ok-accounts.ensures, c.in_err-response.ensures other) refl)
