@@ -95,7 +95,8 @@ impl DenyMarks {
         lets
     }
 
-    /// The same. Nobody is looked up for a user who is denied nothing; of more than 8 entries the lists are asked.
+    /// Returns what `admits` does. A user without deny entries is let through without a look at the marks; of more than 8 entries the
+    /// lists are asked.
     #[inline(always)]
     fn lets_through(
         &self,

@@ -72,7 +72,7 @@ fn other_side(
         from.pattern.bytes().len(),
     );
     let text = filled_text(alloc, to, &given, size)?;
-    let other = Subject::known(alloc, text)?;
+    let other = Subject::from_valid(alloc, text)?;
     Ok(other)
 }
 

@@ -147,7 +147,7 @@ impl OneWay {
             self.references.as_slice(),
             subject,
         )?;
-        let mapped = Subject::known(alloc, text)?;
+        let mapped = Subject::from_valid(alloc, text)?;
         Ok(mapped)
     }
 }

@@ -80,7 +80,7 @@ impl Message {
     pub fn subject(&self) -> SubjectRef<'_>
         ensures { result ≡ self.now.subject }
     {
-        SubjectRef::known(self.text.subject())
+        SubjectRef::from_valid(self.text.subject())
     }
 
     /// The subject to answer on, if it has one.
@@ -90,7 +90,7 @@ impl Message {
     {
         match self.text.reply() {
             None => None,
-            Some(text) => Some(SubjectRef::known(text)),
+            Some(text) => Some(SubjectRef::from_valid(text)),
         }
     }
 

@@ -162,6 +162,6 @@ fn own_subject(alloc: Global, subject: &SubjectRef<'_>) -> Result<Subject, NoMem
 {
     let _known = subject.tokens();
     let text = Vec::from_slice(alloc, subject.bytes())?;
-    let own = Subject::known(alloc, text)?;
+    let own = Subject::from_valid(alloc, text)?;
     Ok(own)
 }

@@ -52,7 +52,7 @@ pub fn route_subject(alloc: Global, word: u64, number: u64) -> Result<Subject, N
     ensures { IfOk result (λ subject. subject ≡ route_subject word number) }
 {
     let text = route_text(alloc, word, number)?;
-    let subject = Subject::known(alloc, text)?;
+    let subject = Subject::from_valid(alloc, text)?;
     Ok(subject)
 }
 

@@ -54,7 +54,7 @@ impl Subject {
 
     /// The subject of a text that is known to be one. The text isn't copied. `NoMemory` where memory could not be had, or
     /// the text has 2^32 bytes or more.
-    pub fn known(alloc: Global, text: Vec<u8>) -> Result<Subject, NoMemory>
+    pub fn from_valid(alloc: Global, text: Vec<u8>) -> Result<Subject, NoMemory>
         requires { IsSubject (tokens_of text.items) }
         ensures { IfOk result (λ subject. subject ≡ tokens_of text.items) }
     {
@@ -74,7 +74,7 @@ impl Subject {
     pub fn lend(&self) -> SubjectRef<'_>
         ensures { result ≡ self.now }
     {
-        SubjectRef::known(self.text.as_slice())
+        SubjectRef::from_valid(self.text.as_slice())
     }
 
     /// The tokens in order.

@@ -40,7 +40,7 @@ impl<'a> SubjectRef<'a> {
 
     /// The subject of a text that is known to be one.
     #[inline(always)]
-    pub fn known(text: &'a [u8]) -> SubjectRef<'a>
+    pub fn from_valid(text: &'a [u8]) -> SubjectRef<'a>
         requires { IsSubject (tokens_of text.now) }
         ensures { result ≡ tokens_of text.now }
     {

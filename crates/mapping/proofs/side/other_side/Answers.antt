@@ -10,8 +10,8 @@ filled_text-requires-clause-within c =
     let h = within_given c.args.from.now c.args.to.now c.args.subject.now (map (λ s. s.now) c.in_ok-given.given.stars.items) c.requires.sides c.requires.member c.in_ok-given.ensures.stars in
     rw (length-map c.in_ok-given.given.stars.items (λ s. s.now)) at h
 
-pub known-requires : goal.known-requires
-known-requires c =
+pub from_valid-requires : goal.from_valid-requires
+from_valid-requires c =
     let text : c.in_ok-text.text.items ≡ with_tokens [] (other_side c.args.from.now c.args.to.now c.args.subject.now) =
     written c.args.from.now c.args.to.now c.args.subject.now _ _ _ c.in_ok-given.ensures.stars c.in_ok-given.ensures.tail c.in_ok-text.ensures in
     (text_subject c.args.from.now c.args.to.now c.args.subject.now c.in_ok-text.text.items c.requires.sides c.requires.grammar c.requires.member c.requires.short text).0

@@ -4,8 +4,8 @@ use Rattle.subjects.specs.Subject.{IsSubject, tokens_of}
 use Rattle.subjects.proofs.Text.{again}
 use Rattle.service_exporter.proofs.route.own_subject.Goals as goal
 
-pub known-requires : goal.known-requires
-known-requires c =
+pub from_valid-requires : goal.from_valid-requires
+from_valid-requires c =
     subst IsSubject (sym (ap tokens_of (c.in_ok-text.ensures.items ∙ c.bytes.ensures) ∙ again c.args.subject.now c.tokens-known.ensures.grammar)) c.tokens-known.ensures.grammar
 
 pub returns : goal.returns

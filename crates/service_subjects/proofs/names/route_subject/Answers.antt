@@ -4,8 +4,8 @@ use Rattle.subjects.specs.Subject.{IsSubject, tokens_of}
 use Rattle.service_subjects.proofs.Tokens.{is_subject_of_route, tokens_of_route}
 use Rattle.service_subjects.proofs.names.route_subject.Goals as goal
 
-pub known-requires : goal.known-requires
-known-requires c =
+pub from_valid-requires : goal.from_valid-requires
+from_valid-requires c =
     let fits : c.args.number < 2 ^ 64 = c.ranges.number.fits in
     subst IsSubject (sym (ap tokens_of c.in_ok-text.ensures ∙ tokens_of_route c.args.word c.args.number fits)) (is_subject_of_route c.args.word c.args.number fits)
 

@@ -5,8 +5,8 @@ use Rattle.mapping_one_way.specs.OneWay.{IsOneWay, mapped, way}
 use Rattle.mapping_one_way.proofs.Ways.{text_subject}
 use Rattle.mapping_one_way.proofs.one_way.OneWay.mapped.Goals as goal
 
-pub known-requires : goal.known-requires
-known-requires c =
+pub from_valid-requires : goal.from_valid-requires
+from_valid-requires c =
     let numbers : c.as_slice.result.now ≡ c.self.inside.references.items = search rules in
     let text : c.in_ok-text.text.items ≡ with_tokens [] (mapped c.args.self.now c.args.subject.now) =
     subst (λ (m : RowMap). c.in_ok-text.text.items ≡ with_tokens [] (mapped m c.args.subject.now)) c.self.view_is
