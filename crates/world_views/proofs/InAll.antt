@@ -1,12 +1,13 @@
 -- A message in all its views: its own account's first, and then the others: none, those across rows, or that of the account that has
 -- asked.
-use Rattle.std.proofs.Common.{◌≡◌, ◌∙◌, ◌==◌, List, [], None, true, false, length, ap, sym}
+use Rattle.std.proofs.Common.{◌≡◌, ◌∙◌, ◌==◌, List, [], None, true, false, length, ap, sym, subst}
 use Rattle.subjects.specs.Subject.{Token}
 use Rattle.events.specs.declared.answer.Addressed.{Addressed}
 use Rattle.imports.specs.Views.{is_route, rows_of}
+use Rattle.imports.specs.declared.rows.ImportRow.{ImportRow}
 use Rattle.imports.specs.declared.view.ViewItem.{ViewItem}
 use Rattle.service_exporter.specs.Routes.{Exporter, route_on}
-use Rattle.service_routes.specs.Routes.{Name, exporter_of, spent}
+use Rattle.service_routes.specs.Routes.{Name, exporter_of, pruned, spent}
 use Rattle.receiver_views.specs.Known.{others_in, others_with}
 use Rattle.world_receivers.specs.Standing.{addressed_behind_in}
 use Rattle.world_views.specs.Changing.{opened_each}
@@ -46,14 +47,14 @@ module _ (t : Tables) (p : Publication) where
   changed vs = spent account s (opened_each (behind vs).openings t.routes)
 
   -- without rows and routes there is no other view
-  module _ (rows : (length (rows_of t.policy) == 0) ≡ true) (empty : t.routes ≡ []) where
+  module _ (lent : List ImportRow) (exporters : List (Name × Exporter)) (same : lent ≡ rows_of t.policy) (standing : t.routes ≡ pruned t.now exporters) (alone : ((length lent == 0) ≡ true) × (exporters ≡ [])) where
     none : route_on s (exporter_of account t.routes).routes ≡ None
-    none = ap (λ (all : List (Name × Exporter)). route_on s (exporter_of account all).routes) empty
+    none = ap (λ (all : List (Name × Exporter)). route_on s (exporter_of account all).routes) (standing ∙ ap (pruned t.now) alone.1)
 
     no_others : others ≡ []
     no_others =
         ap (λ (rs : List ViewItem). others_with (rows_of t.policy) rs account s) (no_response t.routes account s none)
-        ∙ across_none (rows_of t.policy) account s rows
+        ∙ across_none (rows_of t.policy) account s (subst (λ (rows : List ImportRow). (length rows == 0) ≡ true) same alone.0)
 
     pub alone_all : (all : List Addressed) → all ≡ own → all ≡ (behind others).deliveries
     alone_all all is = is ∙ ap (λ (vs : List ViewItem). (behind vs).deliveries) (sym no_others)

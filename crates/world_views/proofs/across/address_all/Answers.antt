@@ -1,10 +1,9 @@
 -- the own view first, and then the others, some of which are known
-use Rattle.std.proofs.Common.{◌≡◌, ◌∙◌, ◌==◌, List, [], true, false, length, ap, sym, subst}
+use Rattle.std.proofs.Common.{◌≡◌, ◌∙◌, List, [], true, false, ap, refl, sym, subst}
 use Rattle.subjects.specs.Subject.{Token}
 use Rattle.events.specs.declared.answer.Addressed.{Addressed}
 use Rattle.imports.specs.Views.{is_route, rows_of}
 use Rattle.imports.specs.declared.rows.ImportRow.{ImportRow}
-use Rattle.service_routes.specs.Routes.{pruned}
 use Rattle.world_rows.specs.declared.subscription.Subscription.{Subscription}
 use Rattle.receiver_cache.specs.Cached.{known_others}
 use Rattle.receiver_views.specs.Known.{KnowsOthers, others_in}
@@ -20,28 +19,19 @@ returns-then-is_own_alone-clause-all c =
     let t : Tables = tables_at c.args.publishing.ready.now c.args.publishing.now c.args.sessions.now c.args.subscriptions.now c.args.routes.now.exporters in
     let p : Publication = publication c.args.publishing.sending.publisher.now c.args.publishing.sending.message.now c.args.publishing.sending.word in
     let is : c.address.new.self.deliveries.items ≡ own t p = c.in_ok-address.ensures.all ∙ own_first t.sessions t.subscriptions p.publisher p.message p.word c.known.ensures.going in
-    let alone = c.is_own_alone.ensures c.if-is_own_alone.true in
-    let rows = subst (λ (rows : List ImportRow). (length rows == 0) ≡ true) c.rows-2.ensures alone.0 in
-    let empty = ap (pruned t.now) alone.1 in
-    alone_all t p rows empty c.address.new.self.deliveries.items is
+    alone_all t p _ c.args.routes.now.exporters c.rows-2.ensures refl (c.is_own_alone.ensures c.if-is_own_alone.true) c.address.new.self.deliveries.items is
 
 pub returns-then-is_own_alone-clause-reports : goal.returns-then-is_own_alone-clause-reports
 returns-then-is_own_alone-clause-reports c =
     let t : Tables = tables_at c.args.publishing.ready.now c.args.publishing.now c.args.sessions.now c.args.subscriptions.now c.args.routes.now.exporters in
     let p : Publication = publication c.args.publishing.sending.publisher.now c.args.publishing.sending.message.now c.args.publishing.sending.word in
-    let alone = c.is_own_alone.ensures c.if-is_own_alone.true in
-    let rows = subst (λ (rows : List ImportRow). (length rows == 0) ≡ true) c.rows-2.ensures alone.0 in
-    let empty = ap (pruned t.now) alone.1 in
-    alone_reports t p rows empty
+    alone_reports t p _ c.args.routes.now.exporters c.rows-2.ensures refl (c.is_own_alone.ensures c.if-is_own_alone.true)
 
 pub returns-then-is_own_alone-clause-changed : goal.returns-then-is_own_alone-clause-changed
 returns-then-is_own_alone-clause-changed c =
     let t : Tables = tables_at c.args.publishing.ready.now c.args.publishing.now c.args.sessions.now c.args.subscriptions.now c.args.routes.now.exporters in
     let p : Publication = publication c.args.publishing.sending.publisher.now c.args.publishing.sending.message.now c.args.publishing.sending.word in
-    let alone = c.is_own_alone.ensures c.if-is_own_alone.true in
-    let rows = subst (λ (rows : List ImportRow). (length rows == 0) ≡ true) c.rows-2.ensures alone.0 in
-    let empty = ap (pruned t.now) alone.1 in
-    alone_changed t p rows empty
+    alone_changed t p _ c.args.routes.now.exporters c.rows-2.ensures refl (c.is_own_alone.ensures c.if-is_own_alone.true)
 
 pub returns-then-branch-clause-all : goal.returns-then-branch-clause-all
 returns-then-branch-clause-all c =

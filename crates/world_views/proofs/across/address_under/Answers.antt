@@ -1,10 +1,8 @@
 -- the own view first, under the message's new subject, and then the others
-use Rattle.std.proofs.Common.{◌≡◌, ◌∙◌, ◌==◌, ◌++◌, List, [], true, false, length, ap, sym, subst}
+use Rattle.std.proofs.Common.{◌≡◌, ◌∙◌, ◌++◌, List, [], true, false, ap, refl, sym}
 use Rattle.subjects.specs.Subject.{Token}
 use Rattle.events.specs.declared.answer.Addressed.{Addressed}
 use Rattle.imports.specs.Views.{is_route, rows_of}
-use Rattle.imports.specs.declared.rows.ImportRow.{ImportRow}
-use Rattle.service_routes.specs.Routes.{pruned}
 use Rattle.receiver_views.specs.Known.{others_in, under_subject}
 use Rattle.world_receivers.specs.Standing.{addressed_behind_in}
 use Rattle.world_views.specs.Changing.{opened_each}
@@ -19,28 +17,19 @@ returns-then-is_own_alone-clause-all c =
     let q : Publication = publication c.args.publishing.sending.publisher.now (under_subject c.args.subject.now c.args.publishing.sending.message.now) c.args.publishing.sending.word in
     let is : c.address_in.new.receivers.deliveries.items ≡ own t q =
     c.in_ok-address_in.ensures.all ∙ ap (λ (before : List Addressed). before ++ addressed_behind_in t.sessions t.subscriptions before q.publisher q.message q.word q.publisher.user.account) c.take_back.ensures.all in
-    let alone = c.is_own_alone.ensures c.if-is_own_alone.true in
-    let rows = subst (λ (rows : List ImportRow). (length rows == 0) ≡ true) c.rows.ensures alone.0 in
-    let empty = ap (pruned t.now) alone.1 in
-    alone_all t q rows empty c.address_in.new.receivers.deliveries.items is
+    alone_all t q _ c.args.routes.now.exporters c.rows.ensures refl (c.is_own_alone.ensures c.if-is_own_alone.true) c.address_in.new.receivers.deliveries.items is
 
 pub returns-then-is_own_alone-clause-reports : goal.returns-then-is_own_alone-clause-reports
 returns-then-is_own_alone-clause-reports c =
     let t : Tables = tables_at c.args.publishing.ready.now c.args.publishing.now c.args.sessions.now c.args.subscriptions.now c.args.routes.now.exporters in
     let q : Publication = publication c.args.publishing.sending.publisher.now (under_subject c.args.subject.now c.args.publishing.sending.message.now) c.args.publishing.sending.word in
-    let alone = c.is_own_alone.ensures c.if-is_own_alone.true in
-    let rows = subst (λ (rows : List ImportRow). (length rows == 0) ≡ true) c.rows.ensures alone.0 in
-    let empty = ap (pruned t.now) alone.1 in
-    alone_reports t q rows empty
+    alone_reports t q _ c.args.routes.now.exporters c.rows.ensures refl (c.is_own_alone.ensures c.if-is_own_alone.true)
 
 pub returns-then-is_own_alone-clause-changed : goal.returns-then-is_own_alone-clause-changed
 returns-then-is_own_alone-clause-changed c =
     let t : Tables = tables_at c.args.publishing.ready.now c.args.publishing.now c.args.sessions.now c.args.subscriptions.now c.args.routes.now.exporters in
     let q : Publication = publication c.args.publishing.sending.publisher.now (under_subject c.args.subject.now c.args.publishing.sending.message.now) c.args.publishing.sending.word in
-    let alone = c.is_own_alone.ensures c.if-is_own_alone.true in
-    let rows = subst (λ (rows : List ImportRow). (length rows == 0) ≡ true) c.rows.ensures alone.0 in
-    let empty = ap (pruned t.now) alone.1 in
-    alone_changed t q rows empty
+    alone_changed t q _ c.args.routes.now.exporters c.rows.ensures refl (c.is_own_alone.ensures c.if-is_own_alone.true)
 
 pub returns-then-is_route-clause-all : goal.returns-then-is_route-clause-all
 returns-then-is_route-clause-all c =
