@@ -2,51 +2,44 @@
 use Rattle.std.proofs.Common.{◌≡◌, ◌==◌, ℕ, length, Bool, true, false, not, ◌&&◌, cond, List, [], ◌∷◌, Option, Some, None, Vec, Box, refl, sym, ap, subst, ◌∙◌, inl, inr, arith}
 use Rattle.std.specs.List.{filter}
 use Rattle.std.specs.Map.{lookup, KeepsOthers, IsKeyTest, AreApart}
-use Rattle.std.specs.BTreeSet.{BTreeSet}
 use Rattle.std.specs.Cmp.Lexicographic.{nat_list_eq_equiv}
 use Rattle.std.specs.declared.alloc.Global.{Global}
 use Rattle.std.proofs.lemmas.Bool.{cases_Bool, both_ways, eqb-true}
 use Rattle.subjects.proofs.Same.{equal_from_same}
 use Rattle.subjects.specs.Subject.{Token, is_star, is_tail, same_token, tail_is_last}
+use Rattle.sublist.specs.declared.ids.Ids.{Ids}
 use Rattle.sublist.specs.declared.node.Node.{Node}
 use Rattle.sublist.specs.declared.node.Node.TheOpen.{Node-F}
 use Rattle.sublist.specs.declared.node.Node.TheViews.{out-Node, roll-Node, out-roll-Node, roll-out-Node}
-use Rattle.sublist.specs.Tree.{below, at_end, ids_at, same_path, IsSame, IsChanged}
-
--- the key is this token
-abbrev pub has : Token → Vec ℕ Global → Bool
-has t k = same_token t k.items
-
-abbrev pub Entries : Type 0
-Entries = List (Vec ℕ Global × Box Node Global)
+use Rattle.sublist.specs.Tree.{Entries, held, named, has, child_of, IsPut, below, at_end, ids_at, same_path, IsSame, IsChanged}
 
 abbrev pub star_at : List Token → Node → List ℕ
 star_at ts n = below (ids_at ts) (out-Node n).star
 
 abbrev pub child_at : Token → List Token → Node → List ℕ
-child_at t ts n = below (ids_at ts) (lookup (has t) (out-Node n).children.entries)
+child_at t ts n = below (ids_at ts) (lookup (has t) (named (out-Node n).children))
 
-pub ids_at-end : (n : Node) → ids_at [] n ≡ (out-Node n).ids.keys
+pub ids_at-end : (n : Node) → ids_at [] n ≡ (held (out-Node n).ids)
 unfolding ids_at
 ids_at-end n = refl
 
-pub ids_at-more : (t : Token) (ts : List Token) (n : Node) → ids_at (t ∷ ts) n ≡ cond (is_tail t) (at_end ts (out-Node n).tail.keys) (cond (is_star t) (star_at ts n) (child_at t ts n))
+pub ids_at-more : (t : Token) (ts : List Token) (n : Node) → ids_at (t ∷ ts) n ≡ cond (is_tail t) (at_end ts (held (out-Node n).tail)) (cond (is_star t) (star_at ts n) (child_at t ts n))
 unfolding ids_at
 ids_at-more t ts n = refl
 
-pub at_end-roll : (x : Node-F Node) → ids_at [] (roll-Node x) ≡ x.ids.keys
-at_end-roll x = ids_at-end (roll-Node x) ∙ ap (λ (y : Node-F Node). y.ids.keys) (out-roll-Node x)
+pub at_end-roll : (x : Node-F Node) → ids_at [] (roll-Node x) ≡ (held x.ids)
+at_end-roll x = ids_at-end (roll-Node x) ∙ ap (λ (y : Node-F Node). (held y.ids)) (out-roll-Node x)
 
 abbrev pub one_more : Token → List Token → Node-F Node → List ℕ
-one_more t ts x = cond (is_tail t) (at_end ts x.tail.keys) (cond (is_star t) (below (ids_at ts) x.star) (below (ids_at ts) (lookup (has t) x.children.entries)))
+one_more t ts x = cond (is_tail t) (at_end ts (held x.tail)) (cond (is_star t) (below (ids_at ts) x.star) (below (ids_at ts) (lookup (has t) (named x.children))))
 
 pub more-roll : (t : Token) (ts : List Token) (x : Node-F Node) → ids_at (t ∷ ts) (roll-Node x) ≡ one_more t ts x
 more-roll t ts x = ids_at-more t ts (roll-Node x) ∙ ap (one_more t ts) (out-roll-Node x)
 
-abbrev pub put_ids : Node → BTreeSet ℕ → Node-F Node
+abbrev pub put_ids : Node → Ids → Node-F Node
 put_ids n v = record { ids = v; tail = (out-Node n).tail; star = (out-Node n).star; children = (out-Node n).children }
 
-abbrev pub put_tail : Node → BTreeSet ℕ → Node-F Node
+abbrev pub put_tail : Node → Ids → Node-F Node
 put_tail n v = record { ids = (out-Node n).ids; tail = v; star = (out-Node n).star; children = (out-Node n).children }
 
 abbrev pub put_star : Node → Option (Box Node Global) → Node-F Node
@@ -54,15 +47,15 @@ put_star n o = record { ids = (out-Node n).ids; tail = (out-Node n).tail; star =
 
 -- the new level has here, behind `>` and below `*` what the old node has
 pub record IsSameButChildren (old : Node) (new : Node-F Node) : Type 0 where
-  pub here : new.ids.keys ≡ (out-Node old).ids.keys
-  pub behind : new.tail.keys ≡ (out-Node old).tail.keys
+  pub here : (held new.ids) ≡ (held (out-Node old).ids)
+  pub behind : (held new.tail) ≡ (held (out-Node old).tail)
   pub any : new.star ≡ (out-Node old).star
 
-pub same-ids : (n : Node) (v : BTreeSet ℕ) → v.keys ≡ (out-Node n).ids.keys → IsSame n (roll-Node (put_ids n v))
+pub same-ids : (n : Node) (v : Ids) → held v ≡ (held (out-Node n).ids) → IsSame n (roll-Node (put_ids n v))
 same-ids n v e [] = at_end-roll _ ∙ (e ∙ sym (ids_at-end n))
 same-ids n v e (t ∷ ts) = more-roll t ts _ ∙ sym (ids_at-more t ts n)
 
-pub same-tail : (n : Node) (v : BTreeSet ℕ) → v.keys ≡ (out-Node n).tail.keys → IsSame n (roll-Node (put_tail n v))
+pub same-tail : (n : Node) (v : Ids) → held v ≡ (held (out-Node n).tail) → IsSame n (roll-Node (put_tail n v))
 same-tail n v e [] = at_end-roll _ ∙ sym (ids_at-end n)
 same-tail n v e (t ∷ ts) = rw (more-roll t ts (put_tail n v), ids_at-more t ts n, e) refl
 
@@ -71,7 +64,7 @@ same-star n o e [] = at_end-roll _ ∙ sym (ids_at-end n)
 same-star n o e (t ∷ ts) = rw (more-roll t ts (put_star n o), ids_at-more t ts n, e ts) refl
 
 abbrev pub named_at : Token → List Token → Node-F Node → List ℕ
-named_at t ts x = below (ids_at ts) (lookup (has t) x.children.entries)
+named_at t ts x = below (ids_at ts) (lookup (has t) (named x.children))
 
 pub same-children : (old : Node) (new : Node-F Node) → IsSameButChildren old new → ((u : Token) (us : List Token) → named_at u us new ≡ child_at u us old) → IsSame old (roll-Node new)
 same-children old new h e [] = at_end-roll _ ∙ (h.here ∙ sym (ids_at-end old))
@@ -90,12 +83,12 @@ apart_star t u b h e = subst (λ x. is_star x ≡ b) (equal_from_same t u e) h
 stays_tail : (t u : Token) (b : Bool) → is_tail t ≡ b → same_token t u ≡ true → is_tail u ≡ b
 stays_tail t u b h e = subst (λ x. is_tail x ≡ b) (equal_from_same t u e) h
 
-pub changed-ids : (f : List ℕ → List ℕ) (n : Node) (v : BTreeSet ℕ) → v.keys ≡ f (out-Node n).ids.keys → IsChanged f [] n (roll-Node (put_ids n v))
+pub changed-ids : (f : List ℕ → List ℕ) (n : Node) (v : Ids) → held v ≡ f (held (out-Node n).ids) → IsChanged f [] n (roll-Node (put_ids n v))
 changed-ids f n v e [] = rw (at_end-roll (put_ids n v), ids_at-end n) e
 changed-ids f n v e (t ∷ ts) = rw (more-roll t ts (put_ids n v), ids_at-more t ts n) refl
 
 -- behind `>`
-pub changed-tail : (f : List ℕ → List ℕ) (n : Node) (v : BTreeSet ℕ) (t : Token) → is_tail t ≡ true → v.keys ≡ f (out-Node n).tail.keys → IsChanged f (t ∷ []) n (roll-Node (put_tail n v))
+pub changed-tail : (f : List ℕ → List ℕ) (n : Node) (v : Ids) (t : Token) → is_tail t ≡ true → held v ≡ f (held (out-Node n).tail) → IsChanged f (t ∷ []) n (roll-Node (put_tail n v))
 changed-tail f n v t y e [] = rw (at_end-roll (put_tail n v), ids_at-end n) refl
 changed-tail f n v t y e (u ∷ us) = elim (cases_Bool (is_tail u)) [
   | inl z ↦ at_tail us z (rw (equal_from_same t (62 ∷ []) y, equal_from_same u (62 ∷ []) z) refl)
@@ -161,7 +154,7 @@ module _ (t : Token) (old new : Entries) (o : Option (Box Node Global)) where
   ]
 
 -- a level with nothing in it
-pub nothing : (x : Node-F Node) → x.ids.keys ≡ [] → x.tail.keys ≡ [] → x.star ≡ None → x.children.entries ≡ [] → (q : List Token) → ids_at q (roll-Node x) ≡ []
+pub nothing : (x : Node-F Node) → (held x.ids) ≡ [] → (held x.tail) ≡ [] → x.star ≡ None → (named x.children) ≡ [] → (q : List Token) → ids_at q (roll-Node x) ≡ []
 nothing x i t s c [] = at_end-roll x ∙ i
 nothing x i t s c (u ∷ us) = rw (more-roll u us x, t, s, c) (no_ids (is_tail u) (is_star u) us)
   where
@@ -196,17 +189,16 @@ same_below t old new child w e here others same u us = elim (cases_Bool (same_to
 ]
 
 -- a node is put at a token that had none
-pub below_put : (f : List ℕ → List ℕ) (ts : List Token) (t : Token) (key : Vec ℕ Global) (old lent new : Entries) (child : Box Node Global) → key.items ≡ t → lent ≡ old → lookup (has t) old ≡ None
-    → lookup (has key.items) new ≡ Some child → KeepsOthers (λ a b. same_token a.items b.items) (has key.items) lent new
+pub below_put : (f : List ℕ → List ℕ) (ts : List Token) (t : Token) (old lent new : Entries) (child : Box Node Global) → lent ≡ old → lookup (has t) old ≡ None → IsPut lent t child new
     → ((us : List Token) → ids_at us child.value ≡ cond (same_path ts us) (f []) [])
     → (u : Token) (us : List Token) → below (ids_at us) (lookup (has u) new) ≡ cond (same_token t u) (cond (same_path ts us) (f (below (ids_at us) (lookup (has u) old))) (below (ids_at us) (lookup (has u) old))) (below (ids_at us) (lookup (has u) old))
-below_put f ts t key old lent new child k l none here others grown =
-    below_changed t old new (Some child) f ts (subst (λ x. lookup (has x) new ≡ Some child) k here)
-    (subst (λ x. KeepsOthers (λ a b. same_token a.items b.items) (has x) old new) k (subst (λ es. KeepsOthers (λ a b. same_token a.items b.items) (has key.items) es new) l others))
+below_put f ts t old lent new child l none put grown =
+    below_changed t old new (Some child) f ts put.0
+    (subst (λ es. KeepsOthers (λ a b. same_token a.items b.items) (has t) es new) l put.1)
     (λ us. at_none f ts us t old child.value none (grown us))
 
 -- a node with nothing in it
-pub nothing_in : (n : Node) → (out-Node n).ids.keys ≡ [] → (out-Node n).tail.keys ≡ [] → (out-Node n).star ≡ None → (out-Node n).children.entries ≡ [] → (q : List Token) → ids_at q n ≡ []
+pub nothing_in : (n : Node) → (held (out-Node n).ids) ≡ [] → (held (out-Node n).tail) ≡ [] → (out-Node n).star ≡ None → (named (out-Node n).children) ≡ [] → (q : List Token) → ids_at q n ≡ []
 nothing_in n i t s c q = subst (λ m. ids_at q m ≡ []) (roll-out-Node n) (nothing (out-Node n) i t s c q)
 
 -- a node with nothing in it is taken away
@@ -224,7 +216,7 @@ at_star t ts n m y = rw (ids_at-more t ts n, m, y) refl
 pub at_literal : (t : Token) (ts : List Token) (n : Node) → is_tail t ≡ false → is_star t ≡ false → ids_at (t ∷ ts) n ≡ child_at t ts n
 at_literal t ts n m y = rw (ids_at-more t ts n, m, y) refl
 
-pub at_tail_end : (t : Token) (n : Node) → is_tail t ≡ true → ids_at (t ∷ []) n ≡ (out-Node n).tail.keys
+pub at_tail_end : (t : Token) (n : Node) → is_tail t ≡ true → ids_at (t ∷ []) n ≡ (held (out-Node n).tail)
 at_tail_end t n y = rw (ids_at-more t [] n, y) refl
 
 pub nil_by_length : {X : Type 0} (xs : List X) → length xs ≡ 0 → xs ≡ []

@@ -14,16 +14,16 @@ use Rattle.subjects.proofs.Same.{same_token-itself, equal_from_same}
 use Rattle.sublist.specs.declared.node.Node.{Node}
 use Rattle.sublist.specs.declared.node.Node.TheViews.{out-Node}
 use Rattle.sublist.specs.declared.tree.Sublist.{Sublist}
-use Rattle.sublist.specs.Tree.{below, at_end, matched, ids_at, contains}
+use Rattle.sublist.specs.Tree.{held, named, has, below, at_end, matched, ids_at, contains}
 use Rattle.sublist.specs.Pairs.{IsMatching}
-use Rattle.sublist.proofs.Levels.{has, ids_at-end, at_star, at_literal, at_tail_end, ids_at-more}
+use Rattle.sublist.proofs.Levels.{ids_at-end, at_star, at_literal, at_tail_end, ids_at-more}
 use Rattle.sublist.proofs.Rising.{contains-dedup}
 
-matched-end : (n : Node) → matched [] n ≡ (out-Node n).ids.keys
+matched-end : (n : Node) → matched [] n ≡ (held (out-Node n).ids)
 unfolding matched
 matched-end n = refl
 
-matched-more : (t : Token) (ts : List Token) (n : Node) → matched (t ∷ ts) n ≡ (out-Node n).tail.keys ++ (below (matched ts) (out-Node n).star ++ below (matched ts) (lookup (has t) (out-Node n).children.entries))
+matched-more : (t : Token) (ts : List Token) (n : Node) → matched (t ∷ ts) n ≡ (held (out-Node n).tail) ++ (below (matched ts) (out-Node n).star ++ below (matched ts) (lookup (has t) (named (out-Node n).children)))
 unfolding matched
 matched-more t ts n = refl
 
@@ -51,12 +51,12 @@ sound [] l n i h = ([], rw (ids_at-end n) (rw (matched-end n) at h), refl)
 sound (t ∷ ts) l n i h =
     let parts = and_parts (is_literal t) (list_all is_literal ts) l in
     let plain = literal-parts t parts.0 in
-    let found : (contains (out-Node n).tail.keys i || (contains (below (matched ts) (out-Node n).star) i || contains (below (matched ts) (lookup (has t) (out-Node n).children.entries)) i)) ≡ true = sym (in_three (out-Node n).tail.keys (below (matched ts) (out-Node n).star) (below (matched ts) (lookup (has t) (out-Node n).children.entries)) i) ∙ (rw (matched-more t ts n) at h) in
+    let found : (contains (held (out-Node n).tail) i || (contains (below (matched ts) (out-Node n).star) i || contains (below (matched ts) (lookup (has t) (named (out-Node n).children))) i)) ≡ true = sym (in_three (held (out-Node n).tail) (below (matched ts) (out-Node n).star) (below (matched ts) (lookup (has t) (named (out-Node n).children))) i) ∙ (rw (matched-more t ts n) at h) in
     elim (or_cases _ _ found) [
       | inl y ↦ ((62 ∷ []) ∷ [], rw (at_tail_end (62 ∷ []) n refl) y, refl)
       | inr z ↦ elim (or_cases _ _ z) [
         | inl y ↦ from_star (sound ts parts.1) (out-Node n).star refl y
-        | inr y ↦ from_child (sound ts parts.1) plain (lookup (has t) (out-Node n).children.entries) refl y
+        | inr y ↦ from_child (sound ts parts.1) plain (lookup (has t) (named (out-Node n).children)) refl y
       ]
     ]
   where
@@ -66,7 +66,7 @@ sound (t ∷ ts) l n i h =
         let f = again b.value i y in
         ((42 ∷ []) ∷ f.0, rw (at_star (42 ∷ []) f.0 n refl refl, e) f.1, f.2)
 
-    from_child : ((m : Node) (i : ℕ) → contains (matched ts m) i ≡ true → Found m ts i) → (is_tail t ≡ false) × (is_star t ≡ false) → (o : Option (Box Node Global)) → lookup (has t) (out-Node n).children.entries ≡ o → contains (below (matched ts) o) i ≡ true → Found n (t ∷ ts) i
+    from_child : ((m : Node) (i : ℕ) → contains (matched ts m) i ≡ true → Found m ts i) → (is_tail t ≡ false) × (is_star t ≡ false) → (o : Option (Box Node Global)) → lookup (has t) (named (out-Node n).children) ≡ o → contains (below (matched ts) o) i ≡ true → Found n (t ∷ ts) i
     from_child again plain None e y = absurd (false≢true y)
     from_child again plain (Some b) e y =
         let f = again b.value i y in
@@ -77,18 +77,18 @@ complete : (p ts : List Token) (n : Node) (i : ℕ) → contains (ids_at p n) i 
 complete [] [] n i h m = rw (matched-end n) (rw (ids_at-end n) at h)
 complete [] (s ∷ ss) n i h m = absurd (false≢true m)
 complete (p ∷ ps) [] n i h m = absurd (false≢true m)
-complete (p ∷ ps) (s ∷ ss) n i h m = rw (matched-more s ss n, in_three (out-Node n).tail.keys (below (matched ss) (out-Node n).star) (below (matched ss) (lookup (has s) (out-Node n).children.entries)) i)
+complete (p ∷ ps) (s ∷ ss) n i h m = rw (matched-more s ss n, in_three (held (out-Node n).tail) (below (matched ss) (out-Node n).star) (below (matched ss) (lookup (has s) (named (out-Node n).children))) i)
     (elim (cases_Bool (is_tail p)) [
       | inl y ↦ at_tail ps y (rw (ids_at-more p ps n, y) at h)
       | inr t ↦ elim (cases_Bool (is_star p)) [
         | inl y ↦ or_right _ _ (or_left _ _ (from_star (complete ps ss) (out-Node n).star (rw (at_star p ps n t y) at h) (rw (t, y) at m)))
         | inr k ↦
             let both = and_parts (same_token p s) (in_set ps ss) (rw (t, k) at m) in
-            or_right _ _ (or_right _ _ (from_child (complete ps ss) (lookup (has s) (out-Node n).children.entries) (subst (λ x. contains (below (ids_at ps) (lookup (has x) (out-Node n).children.entries)) i ≡ true) (equal_from_same p s both.0) (rw (at_literal p ps n t k) at h)) both.1))
+            or_right _ _ (or_right _ _ (from_child (complete ps ss) (lookup (has s) (named (out-Node n).children)) (subst (λ x. contains (below (ids_at ps) (lookup (has x) (named (out-Node n).children))) i ≡ true) (equal_from_same p s both.0) (rw (at_literal p ps n t k) at h)) both.1))
       ]
     ])
   where
-    at_tail : (ps : List Token) → is_tail p ≡ true → contains (at_end ps (out-Node n).tail.keys) i ≡ true → (contains (out-Node n).tail.keys i || (contains (below (matched ss) (out-Node n).star) i || contains (below (matched ss) (lookup (has s) (out-Node n).children.entries)) i)) ≡ true
+    at_tail : (ps : List Token) → is_tail p ≡ true → contains (at_end ps (held (out-Node n).tail)) i ≡ true → (contains (held (out-Node n).tail) i || (contains (below (matched ss) (out-Node n).star) i || contains (below (matched ss) (lookup (has s) (named (out-Node n).children))) i)) ≡ true
     at_tail [] y g = or_left _ _ g
     at_tail (u ∷ us) y g = absurd (false≢true g)
 

@@ -1,16 +1,47 @@
 -- What stands where in a tree of nodes.
-use Rattle.std.specs.Prelude.{◌≡◌, ◌==◌, ℕ, Bool, false, not, cond, List, [], ◌∷◌, ◌++◌, Option, Some, None, Box}
+use Rattle.std.specs.Prelude.{◌≡◌, ◌==◌, ℕ, Bool, false, not, cond, List, [], ◌∷◌, ◌++◌, Option, Some, None, Vec, Box}
 use Rattle.std.specs.List.{list_any, filter}
 use Rattle.std.specs.BTreeSet.{insert_key}
-use Rattle.std.specs.Map.{lookup}
+use Rattle.std.specs.HashMap.{HashMap}
+use Rattle.std.specs.Map.{lookup, KeepsOthers}
 use Rattle.std.specs.Ordering.{nat_cmp}
 use Rattle.std.specs.Cmp.Lexicographic.{pointwise}
 use Rattle.std.specs.declared.alloc.Global.{Global}
+use Rattle.std.specs.declared.random_state.RandomState.{RandomState}
 use Rattle.subjects.specs.Subject.{Token, is_star, is_tail, same_token}
 use Rattle.sublist.specs.declared.node.Node.{Node}
 use Rattle.sublist.specs.declared.node.Node.TheViews.{out-Node}
+use Rattle.sublist.specs.declared.ids.Ids.{Ids}
+use Rattle.sublist.specs.declared.ids.Ids.TheVariants as ids
 use Rattle.sublist.specs.declared.branch.Branch.{Branch}
 use Rattle.sublist.specs.declared.branch.Branch.TheVariants.{End, Tail, Star, Literal}
+
+-- the ids, in rising order
+abbrev pub held : Ids → List ℕ
+held ids.None = []
+held (ids.One id) = id ∷ []
+held (ids.Several set) = set.value.keys
+
+-- the nodes below literal tokens, by their tokens
+abbrev pub Entries : Type 0
+Entries = List (Vec ℕ Global × Box Node Global)
+
+-- those of a table that may be missing
+abbrev pub named : Option (Box (HashMap (Vec ℕ Global) (Box Node Global) RandomState) Global) → Entries
+named None = []
+named (Some children) = children.value.entries
+
+-- the key is this token
+abbrev pub has : Token → Vec ℕ Global → Bool
+has t k = same_token t k.items
+
+-- the node below a literal token
+abbrev pub child_of : Token → Node → Option (Box Node Global)
+child_of t n = lookup (has t) (named (out-Node n).children)
+
+-- the new entries have this node at a token, and at each other token what the old ones have
+abbrev pub IsPut : Entries → Token → Box Node Global → Entries → Type 0
+IsPut old t child new = (lookup (has t) new ≡ Some child) × KeepsOthers (λ a b. same_token a.items b.items) (has t) old new
 
 -- what f gives of a node that may be missing
 abbrev pub below : (Node → List ℕ) → Option (Box Node Global) → List ℕ
@@ -19,8 +50,8 @@ below f (Some n) = f n.value
 
 -- the ids whose patterns have the subject with these tokens left, in the order of the walk
 unfoldable pub matched : List Token → Node → List ℕ
-matched [] n = (out-Node n).ids.keys
-matched (t ∷ ts) n = (out-Node n).tail.keys ++ (below (matched ts) (out-Node n).star ++ below (matched ts) (lookup (λ k. same_token t k.items) (out-Node n).children.entries))
+matched [] n = held (out-Node n).ids
+matched (t ∷ ts) n = held (out-Node n).tail ++ (below (matched ts) (out-Node n).star ++ below (matched ts) (child_of t n))
 
 -- what stands at a path that ends here
 abbrev pub at_end : List Token → List ℕ → List ℕ
@@ -29,11 +60,11 @@ at_end (t ∷ ts) ids = []
 
 -- the ids at the path of a pattern
 unfoldable pub ids_at : List Token → Node → List ℕ
-ids_at [] n = (out-Node n).ids.keys
+ids_at [] n = held (out-Node n).ids
 ids_at (t ∷ ts) n =
-    cond (is_tail t) (at_end ts (out-Node n).tail.keys)
+    cond (is_tail t) (at_end ts (held (out-Node n).tail))
     (cond (is_star t) (below (ids_at ts) (out-Node n).star)
-    (below (ids_at ts) (lookup (λ k. same_token t k.items) (out-Node n).children.entries)))
+    (below (ids_at ts) (child_of t n)))
 
 abbrev pub same_path : List Token → List Token → Bool
 same_path = pointwise same_token

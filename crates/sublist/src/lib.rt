@@ -3,6 +3,7 @@
 
 mod branch;
 mod error;
+mod ids;
 mod node;
 mod tree;
 

@@ -1,23 +1,26 @@
 ghost use Rattle.std.specs.Bool.{OnTrue};
-ghost use Rattle.std.specs.BTreeSet.{insert_key};
-ghost use Rattle.std.specs.List.{filter};
-ghost use Rattle.std.specs.Ordering.{nat_cmp};
-ghost use Rattle.std.specs.Prelude.{◌≡◌, ◌==◌, not, ◌++◌, ◌∷◌, [], IfOk, OnOk, OnErr, IsTrue};
+ghost use Rattle.std.specs.Option.{option_copied};
+ghost use Rattle.std.specs.Prelude.{◌≡◌, ◌++◌, [], IfOk, OnOk, OnErr, IsTrue};
 ghost use Rattle.subjects.specs.Subject.{Token, tail_is_last};
-ghost use Rattle.sublist.specs.Tree.{matched, ids_at, contains, IsSame, IsAdded, IsRemoved, HasOnly};
+ghost use Rattle.sublist.specs.Tree.{matched, ids_at, child_of, contains, IsPut, IsSame, IsAdded, IsRemoved, HasOnly};
 
 use crate::branch::{Branch, next_branch};
+use crate::ids::Ids;
 use base::{NoMemory, Pieces};
 use std::alloc::Global;
-use std::collections::{BTreeSet, HashMap};
+use std::collections::HashMap;
 use std::hash::RandomState;
 
-/// What stands at one path of the tree, and below it. A path is the tokens of a pattern.
+/// The nodes below the literal tokens of one path.
+type Children = HashMap<Vec<u8>, Box<Node>, RandomState>;
+
+/// What stands at one path of the tree, and below it. A path is the tokens of a pattern. Most nodes are the ends of paths, with
+/// nothing below them, so the table of what is below has a block of its own.
 pub struct Node {
-    ids: BTreeSet<u64>,
-    tail: BTreeSet<u64>,
+    ids: Ids,
+    tail: Ids,
     star: Option<Box<Node>>,
-    children: HashMap<Vec<u8>, Box<Node>, RandomState>,
+    children: Option<Box<Children>>,
 }
 
 impl Drop for Node {
@@ -36,14 +39,24 @@ impl Node {
 
     /// Returns a node with nothing below it.
     #[tactic(auto, unfolding(crate::specs::Tree::ids_at))]
-    pub fn new(alloc: Global, keys: RandomState) -> Node
+    pub fn new() -> Node
         ensures { (path : List Token) → ids_at path result ≡ [] }
     {
         Node {
-            ids: BTreeSet::new(alloc),
-            tail: BTreeSet::new(alloc),
+            ids: Ids::None,
+            tail: Ids::None,
             star: None,
-            children: HashMap::with_hasher(alloc, keys),
+            children: None,
+        }
+    }
+
+    /// Returns the node below a literal token.
+    fn child(&self, token: &[u8]) -> Option<&Box<Node>>
+        ensures { option_copied result ≡ child_of token.now self.now }
+    {
+        match &self.children {
+            None => None,
+            Some(children) => children.get(token),
         }
     }
 
@@ -53,14 +66,14 @@ impl Node {
         ensures { OnOk result (found.new.items ≡ found.old.items ++ matched tokens.entry self.now) }
     {
         let Some(token) = tokens.next_piece() else {
-            append(&self.ids, found)?;
+            self.ids.append(found)?;
             return Ok(());
         };
-        append(&self.tail, found)?;
+        self.tail.append(found)?;
         if let Some(star) = &self.star {
             star.matching(tokens.again(), found)?;
         }
-        match self.children.get(token) {
+        match self.child(token) {
             Some(child) => child.matching(tokens, found),
             None => Ok(()),
         }
@@ -80,11 +93,11 @@ impl Node {
         ensures err { OnErr result (IsSame self.old self.new) }
     {
         match next_branch(&mut path) {
-            Branch::End => match add(&mut self.ids, id) {
+            Branch::End => match self.ids.add(alloc, id) {
                 Ok(()) => Ok(()),
                 Err(refused) => Err(refused),
             },
-            Branch::Tail => match add(&mut self.tail, id) {
+            Branch::Tail => match self.tail.add(alloc, id) {
                 Ok(()) => Ok(()),
                 Err(refused) => Err(refused),
             },
@@ -98,18 +111,24 @@ impl Node {
                     Ok(())
                 }
             },
-            Branch::Literal(token) => match self.children.get_mut(token) {
-                Some(child) => match child.insert(alloc, keys, path, id) {
-                    Ok(()) => Ok(()),
-                    Err(refused) => Err(refused),
+            Branch::Literal(token) => match &mut self.children {
+                Some(children) => match children.get_mut(token) {
+                    Some(child) => match child.insert(alloc, keys, path, id) {
+                        Ok(()) => Ok(()),
+                        Err(refused) => Err(refused),
+                    },
+                    None => {
+                        let child = Node::grown(alloc, keys, path, id)?;
+                        match put(alloc, children, token, child) {
+                            Ok(()) => Ok(()),
+                            Err(refused) => Err(refused),
+                        }
+                    }
                 },
                 None => {
-                    let key = Vec::from_slice(alloc, token)?;
                     let child = Node::grown(alloc, keys, path, id)?;
-                    match self.children.insert(key, child) {
-                        Ok(_) => Ok(()),
-                        Err(_) => Err(NoMemory),
-                    }
+                    self.children = Some(alone(alloc, keys, token, child)?);
+                    Ok(())
                 }
             },
         }
@@ -126,7 +145,7 @@ impl Node {
         requires { IsTrue (tail_is_last path) }
         ensures { IfOk result (λ node. HasOnly path.entry id node.value) }
     {
-        let mut node = Node::new(alloc, keys);
+        let mut node = Node::new();
         node.insert(alloc, keys, path, id)?;
         let node = Box::new(alloc, node)?;
         Ok(node)
@@ -138,8 +157,8 @@ impl Node {
         ensures { IsRemoved path.entry id self.old self.new }
     {
         match next_branch(&mut path) {
-            Branch::End => take_out(&mut self.ids, id),
-            Branch::Tail => take_out(&mut self.tail, id),
+            Branch::End => self.ids.take_out(id),
+            Branch::Tail => self.tail.take_out(id),
             Branch::Star => match &mut self.star {
                 None => (),
                 Some(star) => {
@@ -149,14 +168,17 @@ impl Node {
                     }
                 }
             },
-            Branch::Literal(token) => match self.children.get_mut(token) {
+            Branch::Literal(token) => match &mut self.children {
                 None => (),
-                Some(child) => {
-                    child.remove(path, id);
-                    if child.is_bare() {
-                        self.children.remove(token);
+                Some(children) => match children.get_mut(token) {
+                    None => (),
+                    Some(child) => {
+                        child.remove(path, id);
+                        if child.is_bare() {
+                            children.remove(token);
+                        }
                     }
-                }
+                },
             },
         }
     }
@@ -167,13 +189,13 @@ impl Node {
         ensures { result ≡ contains (ids_at path.entry self.now) id }
     {
         match next_branch(&mut path) {
-            Branch::End => self.ids.contains(&id),
-            Branch::Tail => self.tail.contains(&id),
+            Branch::End => self.ids.contains(id),
+            Branch::Tail => self.tail.contains(id),
             Branch::Star => match &self.star {
                 Some(star) => star.contains(path, id),
                 None => false,
             },
-            Branch::Literal(token) => match self.children.get(token) {
+            Branch::Literal(token) => match self.child(token) {
                 Some(child) => child.contains(path, id),
                 None => false,
             },
@@ -192,37 +214,42 @@ impl Node {
         }
         match &self.star {
             Some(_) => false,
-            None => self.children.is_empty(),
+            None => match &self.children {
+                None => true,
+                Some(children) => children.is_empty(),
+            },
         }
     }
 }
 
-/// Appends ids, in rising order.
-fn append(ids: &BTreeSet<u64>, found: &mut Vec<u64>) -> Result<(), NoMemory>
-    ensures { OnOk result (found.new.items ≡ found.old.items ++ ids.now.keys) }
+/// Puts a node below a token that has none.
+fn put(
+    alloc: Global,
+    children: &mut Children,
+    token: &[u8],
+    child: Box<Node>,
+) -> Result<(), NoMemory>
+    ensures ok { OnOk result (IsPut children.old.entries token.now child children.new.entries) }
+    ensures err { OnErr result (children.new.entries ≡ children.old.entries) }
 {
-    for id in ids.iter() {
-        found.push(*id)?;
-    }
-    Ok(())
-}
-
-/// Adds an id, if it isn't there.
-fn add(ids: &mut BTreeSet<u64>, id: u64) -> Result<(), NoMemory>
-    ensures ok { OnOk result (ids.new.keys ≡ insert_key nat_cmp ids.old.keys id) }
-    ensures err { OnErr result (ids.new.keys ≡ ids.old.keys) }
-{
-    match ids.insert(id) {
+    let key = Vec::from_slice(alloc, token)?;
+    match children.insert(key, child) {
         Ok(_) => Ok(()),
         Err(_) => Err(NoMemory),
     }
 }
 
-/// Takes an id out, if it is there.
-fn take_out(ids: &mut BTreeSet<u64>, id: u64)
-    ensures { ids.new.keys ≡ filter (λ i. not (i == id)) ids.old.keys }
+/// Returns the table of one node below a token.
+fn alone(
+    alloc: Global,
+    keys: RandomState,
+    token: &[u8],
+    child: Box<Node>,
+) -> Result<Box<Children>, NoMemory>
+    ensures { IfOk result (λ children. IsPut [] token.now child children.value.entries) }
 {
-    // (it tells the prover that they rise)
-    let _ = ids.len();
-    ids.remove(&id);
+    let mut children = HashMap::with_hasher(alloc, keys);
+    put(alloc, &mut children, token, child)?;
+    let children = Box::new(alloc, children)?;
+    Ok(children)
 }

@@ -51,7 +51,7 @@ impl Sublist {
         Sublist {
             alloc,
             keys,
-            root: Node::new(alloc, keys),
+            root: Node::new(),
         }
     }
 

@@ -1,5 +1,5 @@
 use Rattle.std.proofs.Common.{◌≡◌, ◌++◌}
-use Rattle.sublist.proofs.node.append.Given as goal
+use Rattle.sublist.proofs.ids.append_set.Given as goal
 
 -- what is appended and what is left are all of them
 abbrev pub invariant-loop-id : goal.invariant-loop-id
