@@ -16,6 +16,7 @@ use Rattle.std.specs.contracts.vec.Vec as vec_row
 use Rattle.std.specs.contracts.alloc.Global as heap_row
 use Rattle.std.specs.contracts.impls.GlobalAllocator.TheImpl.{ghosts}
 use Rattle.sublist.specs.contracts.tree.Sublist as tree
+use Rattle.sublist.specs.contracts.ids.Ids as ids
 use Rattle.sublist.specs.contracts.node.Node as node
 use Rattle.sublist.proofs.node.Node.TheLaws.TheKnot.{send-Node}
 use Rattle.std.proofs.alloc.Global.TheSendSync as global
@@ -52,14 +53,17 @@ use Rattle.world_ids.proofs.sids.Sids.TheSendSync as sids
 use Rattle.world_ids.proofs.id_cache.IdCache.TheSendSync as id_cache
 use Rattle.world_rows.proofs.rows.Rows.TheSendSync as rows
 
-node_send : IsSend (node.the_field).row
-node_send = send-Node (BTreeSet-send u64 heap_row.the_row u64_ord.ghosts u64_eq.ghosts u64_partial.ghosts ghosts (search sendable) global.the_send frees) (λ h s. option.the_send _ (boxed.the_send _ _ _ s global.the_send frees)) (λ h s. hash_map.the_send _ _ _ _ hasher.the_row _ _ _ _ _ (vec.the_send _ _ _ (search sendable) global.the_send frees) (boxed.the_send _ _ _ s global.the_send frees) state.the_send global.the_send frees)
-
-tree_send : IsSend tree.the_row
-tree_send = search (sendable, node_send) depth 12
+ids_send : IsSend (ids.the_field).row
+ids_send = let m = boxed.the_send _ _ _ (BTreeSet-send u64 heap_row.the_row u64_ord.ghosts u64_eq.ghosts u64_partial.ghosts ghosts (search sendable) global.the_send frees) global.the_send frees in search sendable depth 20
 
 u8s_send : IsSend (vec_row.the_row u8 heap_row.the_row ghosts)
 u8s_send = vec.the_send u8 heap_row.the_row ghosts (search sendable) global.the_send frees
+
+node_send : IsSend (node.the_field).row
+node_send = send-Node ids_send (λ h s. option.the_send _ (boxed.the_send _ _ _ s global.the_send frees)) (λ h s. option.the_send _ (boxed.the_send _ _ _ (hash_map.the_send _ _ _ _ hasher.the_row _ _ _ _ _ u8s_send (boxed.the_send _ _ _ s global.the_send frees) state.the_send global.the_send frees) global.the_send frees))
+
+tree_send : IsSend tree.the_row
+tree_send = search (sendable, node_send) depth 12
 
 fold_send : IsSend (by_default.the_row fold.the_row)
 fold_send = search (sendable, crosses) depth 12
