@@ -1,5 +1,5 @@
 -- The cache of whom the messages of publishers on subjects are for.
-use Rattle.std.specs.Prelude.{◌≡◌, ◌≤◌, ◌⊎◌, ◌+◌, ℕ, Bool, true, false, List, [], Option, Some, None, IfSome, length, map}
+use Rattle.std.specs.Prelude.{◌≡◌, ◌⊎◌, ℕ, Bool, true, false, List, [], Option, Some, None, IfSome, map}
 use Rattle.std.specs.Global.{Vec}
 use Rattle.subjects.specs.Subject.{Token, tokens_of}
 use Rattle.imports.specs.Views.{is_route}
@@ -17,7 +17,7 @@ use Rattle.world_deliveries.specs.declared.session.Session.{Session}
 use Rattle.world_rows.specs.declared.subscription.Subscription.{Subscription}
 use Rattle.receiver_views.specs.Open.{open_among}
 use Rattle.receiver_views.specs.Receivers.{addressed_among, addressed_at}
-use Rattle.receiver_views.specs.Known.{KnowsOthers, count_in_each, count_of, picked, Says, IsWhom, others_in, AreSeen, addressed_in_each}
+use Rattle.receiver_views.specs.Known.{KnowsOthers, picked, Says, IsWhom, others_in, AreSeen, addressed_in_each}
 use Rattle.receiver_cache.specs.Drawn.{KnowsDrawn}
 use Rattle.receiver_cache.specs.declared.cache.ReceiverCache.{ReceiverCache}
 use Rattle.receiver_cache.specs.declared.cached.CachedReceivers.{CachedReceivers}
@@ -75,16 +75,6 @@ IsSo rows zs subs cached =
 -- it says nothing
 abbrev pub IsBlank : CachedReceivers → Type 0
 IsBlank cached = (cached.whom ≡ Various) × (cached.others ≡ None) × (cached.alone ≡ None)
-
--- how many receivers are kept of the views behind the publisher's own, each view counted as one more
-abbrev pub count_of_others : Option (Vec KnownView) → ℕ
-count_of_others None = 0
-count_of_others (Some known) = count_in_each known.items
-
--- It may stand in a slot: a subject of up to 128 bytes, and up to 32 receivers. So the slots have a bound.
-pub record IsSmall (cached : CachedReceivers) : Type 0 where
-  pub subject : length cached.key.subject.items ≤ 128
-  pub receivers : count_of cached.whom + count_of_others cached.others ≤ 32
 
 -- it is known that there is no view behind the publisher's own
 abbrev pub AreNone : Option (Vec KnownView) → Type 0

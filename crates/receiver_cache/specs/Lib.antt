@@ -1,3 +1,4 @@
 pub mod Key
 pub mod Drawn
 pub mod Cached
+pub mod Small

@@ -1,7 +1,4 @@
 //! A cache of whom the messages of publishers on subjects are for.
-ghost use Rattle.std.specs.Prelude.{ℕ, IfSome};
-ghost use Rattle.slot_cache.specs.Slots.{value_at};
-ghost use Rattle.receiver_cache.specs.Cached.{IsSmall};
 
 use crate::cached::CachedReceivers;
 use crate::drawn::DrawnCache;
@@ -32,7 +29,6 @@ pub struct ReceiverCache {
     // The sum of the publisher and the subject of the message that was addressed last, where it isn't one of them.
     sum: u64,
     slots: SlotCache<CachedReceivers>,
-    ghost small: { (place : ℕ) → IfSome (value_at slots place) IsSmall },
     /// What messages are sent as, where an account's mappings send them on.
     pub drawn: DrawnCache,
 }
@@ -53,10 +49,11 @@ impl Drop for ReceiverCache {
 }
 
 impl ReceiverCache {
-    ghost use Rattle.std.specs.Prelude.{◌≡◌, ◌⊎◌, List, None, Some, IfErr, IfOk, map, true, false};
+    ghost use Rattle.std.specs.Prelude.{◌≡◌, ◌⊎◌, ℕ, List, None, Some, IfErr, IfOk, IfSome, map, true, false};
     ghost use Rattle.std.specs.Option.{option_copied};
     ghost use Rattle.permissions.specs.declared.verdict.By.{By as ByModel};
     ghost use Rattle.imports.specs.declared.rows.ImportRow.{ImportRow};
+    ghost use Rattle.slot_cache.specs.Slots.{value_at};
     ghost use Rattle.world_groups.specs.Chosen.{Rising};
     ghost use Rattle.world_deliveries.specs.Sessions.{session_of};
     ghost use Rattle.world_deliveries.specs.declared.session.Session.{Session};
@@ -65,6 +62,7 @@ impl ReceiverCache {
     ghost use Rattle.receiver_cache.specs.Key.{IsOf};
     ghost use Rattle.receiver_views.specs.Receivers.{addressed_among};
     ghost use Rattle.receiver_cache.specs.Cached.{IsAllowed, IsAloneAt, IsAloneOf, IsBlank, IsCurrent, IsEmpty, TellsOthers, known_others};
+    ghost use Rattle.receiver_cache.specs.Small.{IsSmall};
     ghost use Rattle.receiver_views.specs.Known.{KnowsOthers};
 
     /// Returns an empty cache. It takes no memory.
@@ -121,6 +119,7 @@ impl ReceiverCache {
     fn put_back(&mut self)
         ensures last { IsBlank self.new.last }
         ensures slots { (place : ℕ) → (value_at self.new.slots place ≡ value_at self.old.slots place) ⊎ (value_at self.new.slots place ≡ Some self.old.last) }
+        ensures small { (place : ℕ) → (value_at self.new.slots place ≡ value_at self.old.slots place) ⊎ IsSmall self.old.last }
         ensures drawn { self.new.drawn ≡ self.old.drawn }
     {
         let last = mem::replace(&mut self.last, CachedReceivers::blank(self.alloc));

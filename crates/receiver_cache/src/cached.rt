@@ -2,8 +2,10 @@
 ghost use Rattle.std.specs.Prelude.{◌≡◌, ◌≤◌, ◌+◌, [], IfErr, IfOk, IfSome, Some, false, map, true};
 ghost use Rattle.permissions.specs.declared.verdict.By.{By as ByModel};
 ghost use Rattle.world_groups.specs.Chosen.{Rising};
-ghost use Rattle.receiver_cache.specs.Cached.{AreNone, IsBlank, IsFound, IsSmall, Tells, TellsOthers, count_of_others};
-ghost use Rattle.receiver_views.specs.Known.{count_in_each, count_of};
+ghost use Rattle.receiver_cache.specs.Cached.{AreNone, IsBlank, IsFound, Tells, TellsOthers};
+ghost use Rattle.receiver_cache.specs.Small.{IsSmall, count_of_others, count_with};
+ghost use Rattle.receiver_views.specs.Known.{count_of};
+ghost use Rattle.std.specs.List.{sum_by};
 ghost use Rattle.receiver_cache.specs.Key.{IsOf};
 
 use crate::key::CacheKey;
@@ -197,7 +199,7 @@ impl CachedReceivers {
 
 /// Returns how much of a number is left behind the receivers in these views, with one for each view: `None` where they are more.
 fn left_behind(most: usize, views: &[KnownView]) -> Option<usize>
-    ensures { IfSome result (λ left. left + count_in_each views.now ≡ most) }
+    ensures { IfSome result (λ left. left + sum_by count_with views.now ≡ most) }
 {
     let mut left = most;
     for view in views {

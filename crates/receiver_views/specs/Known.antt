@@ -1,5 +1,5 @@
 -- Whom messages are for, said once for all of a publisher's messages on a subject: in its own account, and in other views.
-use Rattle.std.specs.Prelude.{◌≡◌, ◌++◌, ◌∷◌, ◌+◌, ℕ, Bool, false, List, [], Option, Some, None, is_some, filter, length, map, not}
+use Rattle.std.specs.Prelude.{◌≡◌, ◌++◌, ◌∷◌, ℕ, Bool, false, List, [], Option, Some, None, is_some, filter, length, map, not}
 use Rattle.std.specs.Global.{Vec}
 use Rattle.std.specs.List.{list_any}
 use Rattle.subjects.specs.Subject.{Token}
@@ -35,11 +35,6 @@ abbrev pub count_of : Whom → ℕ
 count_of (Each rs) = length rs.items
 count_of (One rs) = length rs.items
 count_of Various = 0
-
--- how many known views keep, each view counted as one more
-pub count_in_each : List KnownView → ℕ
-count_in_each [] = 0
-count_in_each (known ∷ views) = count_of known.whom + 1 + count_in_each views
 
 -- whether it says whom
 abbrev pub Says : Whom → Type 0
