@@ -38,13 +38,13 @@ returns-in-Some c = record {
       let old : DrawnCache = c.select.new.self in
       let known = drawn_selected c.args.self.now.cache.drawn old rows zs subs c.select.ensures.cached c.requires.cached.drawn in
       let selected = c.select.ensures.selected c.if-not-select.false in
-      let there : session_of zs old.published.conn ≡ Some z = ap (session_of zs) selected.0 ∙ c.requires.publisher in
-      let found = c.in-Some.ensures old.published.conn old.published.subject.items known there in
-      let published : tokens_of old.published.subject.items ≡ m.subject =
+      let there : session_of zs old.key.conn ≡ Some z = ap (session_of zs) selected.0 ∙ c.requires.publisher in
+      let found = c.in-Some.ensures old.key.conn old.key.subject.items known there in
+      let published : tokens_of old.key.subject.items ≡ m.subject =
       ap tokens_of (selected.1 ∙ c.bytes.ensures) ∙ again c.subject-published.result c.tokens.ensures.grammar ∙ c.subject-published.ensures in
       record {
         each = c.requires.cached.each;
-        drawn = kept_drawn old c.keep.new.self rows zs subs z c.draw_of.result c.in-Some.drawn c.keep.ensures.published c.keep.ensures.kept there (record {
+        drawn = kept_drawn old c.keep.new.self rows zs subs z c.draw_of.result c.in-Some.drawn c.keep.ensures.key c.keep.ensures.kept there (record {
           mapped = λ other same.
               ap (λ (s : List Token). mapped_by z.user.mappings s other) published
               ∙ same_draw z.user.mappings m.subject other word (same ∙ c.draw_of.ensures.draw)
