@@ -19,7 +19,7 @@ use Rattle.permissions.specs.declared.verdict.Verdict.TheVariants.{Allowed, Deni
 use Rattle.policy_ready.specs.Users.{users_of, user_named, is_same_user, user_again}
 use Rattle.policy_ready.specs.declared.ready.User.{User}
 use Rattle.service_routes.specs.Routes.{kept, pruned}
-use Rattle.service_rows.specs.Rows.{renewed}
+use Rattle.service_rows.specs.Rows.{renewed as renewed_row}
 use Rattle.world_deliveries.specs.Sessions.{session_of}
 use Rattle.world_sessions.specs.Renewal.{user_again_of, stays, goes, with_user, renewed, remaining, connection_of, closed_conns}
 use Rattle.world_deliveries.specs.declared.session.Session.{Session}
@@ -193,7 +193,7 @@ after_reload w now doc = record w {
   number = w.number + 1;
   sessions = remaining (max w.moment now) doc w.sessions;
   subscriptions = filter (stands_on doc w.sessions) w.subscriptions;
-  routes = pruned (max w.moment now) (kept (renewed w.policy doc) (pruned (max w.moment now) w.routes));
+  routes = pruned (max w.moment now) (kept (renewed_row w.policy doc) (pruned (max w.moment now) w.routes));
 }
 
 -- whom the new policy has behind a connection
@@ -270,8 +270,8 @@ sound-reload w now doc sound reasoned = let valid = reasoned.0 in record {
   quotas = quotas-filter (stands_on doc w.sessions) w.subscriptions sound.quotas;
   ids = AllPairs-filter (λ (s t : Subscription). s.id < t.id) (stands_on doc w.sessions) w.subscriptions sound.ids;
   numbers = All-filter (stands_on doc w.sessions) (λ (s : Subscription). s.id ≤ w.number + 1) w.subscriptions (λ k d h. let n = sound.numbers k d h in omega arith);
-  routes = routed-kept (max w.moment now) (renewed w.policy doc) (pruned (max w.moment now) w.routes) (routed-pruned w.moment (max w.moment now) w.routes (omega arith) sound.routes);
-  rows = each-pruned (IsOfRow doc) (max w.moment now) (kept (renewed w.policy doc) (pruned (max w.moment now) w.routes))
+  routes = routed-kept (max w.moment now) (renewed_row w.policy doc) (pruned (max w.moment now) w.routes) (routed-pruned w.moment (max w.moment now) w.routes (omega arith) sound.routes);
+  rows = each-pruned (IsOfRow doc) (max w.moment now) (kept (renewed_row w.policy doc) (pruned (max w.moment now) w.routes))
       (rows-kept w.policy doc (pruned (max w.moment now) w.routes) (each-pruned (IsOfRow w.policy) (max w.moment now) w.routes sound.rows));
   epoch = let h = sound.epoch in omega arith;
 }

@@ -35,7 +35,7 @@ use Rattle.imports.specs.declared.view.ViewItem.TheVariants.{At, TooLong}
 use Rattle.imports.specs.declared.view.Way.TheVariants.{Own, Stream, Service, Response}
 use Rattle.service_exporter.specs.Routes.{Exporter}
 use Rattle.service_routes.specs.Routes.{Name, kept, pruned}
-use Rattle.service_rows.specs.Rows.{renewed}
+use Rattle.service_rows.specs.Rows.{renewed as renewed_row}
 use Rattle.world_deliveries.specs.Sessions.{session_of, new_session, drained}
 use Rattle.world_sessions.specs.Renewal.{user_again_of, stays, goes, with_user, renewed, remaining, connection_of, closed_conns}
 use Rattle.world_deliveries.specs.declared.session.Session.{Session}
@@ -347,7 +347,7 @@ module _ (steps : List Step) (w : World) (now : ℕ) (t : Told steps w.moment w.
     epoch = w.epoch + 1;
     sessions = remaining M doc w.sessions;
     subscriptions = filter (stands_on doc w.sessions) w.subscriptions;
-    routes = pruned M (kept (renewed w.policy doc) (pruned M w.routes));
+    routes = pruned M (kept (renewed_row w.policy doc) (pruned M w.routes));
     number = w.number + 1;
   }) refl
       (apart-map (renewed M doc) left (λ z. conn-is z (user_again_of doc z)) (AllPairs-filter IsApart (stays doc) w.sessions t.apart))

@@ -39,7 +39,7 @@ use Rattle.world_rows.specs.declared.subscription.Subscription.{Subscription}
 use Rattle.world.specs.World.{World, advanced}
 use Rattle.world.specs.Granting.{or_granted, verdict_on, counted_on, ended_on}
 use Rattle.service_routes.specs.Routes.{kept, pruned, spent}
-use Rattle.service_rows.specs.Rows.{renewed}
+use Rattle.service_rows.specs.Rows.{renewed as renewed_row}
 use Rattle.world.specs.Routing.{may_hear, lets_through, under_subject}
 use Rattle.world.specs.Reload.{user_after, verdict_for, may_stand, stands_on, removal, removal_after}
 use Rattle.account_mappings.specs.Drawing.{mapped_by}
@@ -372,7 +372,7 @@ module _ (w : World) (moment : ℕ) where
       ∙ map-twice (λ z. renewed M doc (with_live M z)) (with_live M) (λ z. with_live M (renewed M doc z)) (filter (stays doc) zs) (renewed-same doc)
       ∙ sym (map-twice (renewed M doc) (with_live M) (λ z. with_live M (renewed M doc z)) (filter (stays doc) zs) (λ z. refl)) in (
         sym (λ i. Reloaded (gone i) (lost i)),
-        (λ i. record whole { policy = doc; epoch = w.epoch + 1; sessions = stay i; subscriptions = stand i; routes = pruned M (kept (renewed w.policy doc) whole.routes); number = n }),
+        (λ i. record whole { policy = doc; epoch = w.epoch + 1; sessions = stay i; subscriptions = stand i; routes = pruned M (kept (renewed_row w.policy doc) whole.routes); number = n }),
       )
 
   each : (c : Command) → AllPairs IsApart zs → All (HasTable (max w.moment moment)) zs → AreAlike (numbered n (moved whole c)) (numbered n (moved left c))

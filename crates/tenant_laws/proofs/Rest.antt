@@ -19,7 +19,7 @@ use Rattle.service_exporter.specs.Routes.{Exporter, Numbered, kept_route, lives,
 use Rattle.service_exporter.specs.declared.route.NewRow.{NewRow}
 use Rattle.service_routes.specs.Routes.{Name, kept, pruned}
 use Rattle.service_routes.proofs.Seen.{dead}
-use Rattle.service_rows.specs.Rows.{renewed, import_at}
+use Rattle.service_rows.specs.Rows.{renewed as renewed_row, import_at}
 use Rattle.world_deliveries.specs.Sessions.{session_of}
 use Rattle.world_deliveries.specs.declared.session.Session.{Session}
 use Rattle.world_sessions.specs.Renewal.{remaining, renewed, stays, with_user}
@@ -52,7 +52,7 @@ all_same f (x ∷ xs) all = ap (λ y. y ∷ map f xs) (All-head (λ y. f y ≡ y
 
 -- ---- routes of a policy's own rows
 
-kept_on_row : (doc : PolicyDoc) (exporter : Name) (r : Numbered) → IsOfRow doc exporter r → kept_route (renewed doc doc) r ≡ Some (r.0, on_least doc r.1)
+kept_on_row : (doc : PolicyDoc) (exporter : Name) (r : Numbered) → IsOfRow doc exporter r → kept_route (renewed_row doc doc) r ≡ Some (r.0, on_least doc r.1)
 kept_on_row doc exporter r is =
     ap (option_map (λ (new : NewRow). (r.0, on_row r.1 new))) (has_itself doc r.1.row (service (import_at doc r.1.row.importer r.1.row.index) is.row))
     ∙ ap (λ terms. Some (r.0, record r.1 { row = least_row doc r.1.row; terms = terms })) (sym is.terms)
@@ -61,17 +61,17 @@ kept_on_row doc exporter r is =
     service None never = never
     service (Some i) both = both.0
 
-kept_routes : (doc : PolicyDoc) (exporter : Name) (rs : List Numbered) → All (IsOfRow doc exporter) rs → filter_map (kept_route (renewed doc doc)) rs ≡ all_on_least doc rs
+kept_routes : (doc : PolicyDoc) (exporter : Name) (rs : List Numbered) → All (IsOfRow doc exporter) rs → filter_map (kept_route (renewed_row doc doc)) rs ≡ all_on_least doc rs
 kept_routes doc exporter [] is = refl
 kept_routes doc exporter (r ∷ rs) is =
-    ap (λ o. cons_option o (filter_map (kept_route (renewed doc doc)) rs)) (kept_on_row doc exporter r (All-head (IsOfRow doc exporter) r rs is))
+    ap (λ o. cons_option o (filter_map (kept_route (renewed_row doc doc)) rs)) (kept_on_row doc exporter r (All-head (IsOfRow doc exporter) r rs is))
     ∙ ap (λ l. (r.0, on_least doc r.1) ∷ l) (kept_routes doc exporter rs (All-tail (IsOfRow doc exporter) r rs is))
 
 -- a policy that comes into force again moves each to the least row of its service
-kept_on_least : (doc : PolicyDoc) (all : List (Name × Exporter)) → EachRoute (IsOfRow doc) all → kept (renewed doc doc) all ≡ exporters_on_least doc all
+kept_on_least : (doc : PolicyDoc) (all : List (Name × Exporter)) → EachRoute (IsOfRow doc) all → kept (renewed_row doc doc) all ≡ exporters_on_least doc all
 kept_on_least doc [] is = refl
 kept_on_least doc (e ∷ all) is =
-    ap (λ (rs : List Numbered). (e.0, record { last = e.1.last; routes = rs }) ∷ kept (renewed doc doc) all) (kept_routes doc e.0 e.1.routes (All-head (λ (x : Name × Exporter). All (IsOfRow doc x.0) x.1.routes) e all is))
+    ap (λ (rs : List Numbered). (e.0, record { last = e.1.last; routes = rs }) ∷ kept (renewed_row doc doc) all) (kept_routes doc e.0 e.1.routes (All-head (λ (x : Name × Exporter). All (IsOfRow doc x.0) x.1.routes) e all is))
     ∙ ap (λ l. (e.0, exporter_on_least doc e.1) ∷ l) (kept_on_least doc all (All-tail (λ (x : Name × Exporter). All (IsOfRow doc x.0) x.1.routes) e all is))
 
 -- ---- users
@@ -169,7 +169,7 @@ module _ (w : World) (now : ℕ) (sound : IsSound w) where
 
   -- ---- routes
 
-  rest_routes : pruned m (kept (renewed w.policy w.policy) (pruned m w.routes)) ≡ exporters_on_least w.policy (pruned m w.routes)
+  rest_routes : pruned m (kept (renewed_row w.policy w.policy) (pruned m w.routes)) ≡ exporters_on_least w.policy (pruned m w.routes)
   rest_routes =
       ap (pruned m)
       (kept_on_least w.policy (pruned m w.routes)

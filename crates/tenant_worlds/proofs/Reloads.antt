@@ -16,7 +16,7 @@ use Rattle.events.specs.declared.answer.Outcome.TheVariants.{Reloaded}
 use Rattle.service_exporter.specs.Routes.{Exporter, Numbered, kept_of, kept_route, lives, on_row, pruned_of}
 use Rattle.service_exporter.specs.declared.route.NewRow.{NewRow}
 use Rattle.service_routes.specs.Routes.{Name, kept, pruned}
-use Rattle.service_rows.specs.Rows.{renewed}
+use Rattle.service_rows.specs.Rows.{renewed as renewed_row}
 use Rattle.world_deliveries.specs.Sessions.{session_of}
 use Rattle.world_sessions.specs.Renewal.{ascending, closed_conns, connection_of, goes, remaining, renewed, stays, user_again_of, with_number, with_user}
 use Rattle.world_deliveries.specs.declared.session.Session.{Session}
@@ -278,16 +278,16 @@ module _ (t : Tenants) (doc : PolicyDoc) where
   Each e = All IsRowOfTheirs e.1.routes
 
   abbrev at_each : PolicyDoc → Name × Exporter → Name × Exporter
-  at_each old e = (e.0, kept_of (renewed old doc) e.1)
+  at_each old e = (e.0, kept_of (renewed_row old doc) e.1)
 
   abbrev at_part : PolicyDoc → Name × Exporter → Name × Exporter
-  at_part old e = (e.0, kept_of (renewed (part_of t.accounts old) part) e.1)
+  at_part old e = (e.0, kept_of (renewed_row (part_of t.accounts old) part) e.1)
 
   pub routes_own : (now : ℕ) (old : PolicyDoc) → IsClosed doc t.accounts → (all : List (Name × Exporter)) → All (IsOwnExporter t) all →
-      exporters_of t.accounts (pruned now (kept (renewed old doc) all)) ≡ pruned now (kept (renewed (part_of t.accounts old) part) (exporters_of t.accounts all))
+      exporters_of t.accounts (pruned now (kept (renewed_row old doc) all)) ≡ pruned now (kept (renewed_row (part_of t.accounts old) part) (exporters_of t.accounts all))
   routes_own now old closed all own =
-      prunes t.accounts now (kept (renewed old doc) all)
-      ∙ ap (pruned now) (keeps t.accounts (renewed old doc) all ∙ same_mapped (at_each old) (at_part old) (exporters_of t.accounts all) (All-weaker Each (λ e. at_each old e ≡ at_part old e) same_each (exporters_of t.accounts all) theirs'))
+      prunes t.accounts now (kept (renewed_row old doc) all)
+      ∙ ap (pruned now) (keeps t.accounts (renewed_row old doc) all ∙ same_mapped (at_each old) (at_part old) (exporters_of t.accounts all) (All-weaker Each (λ e. at_each old e ≡ at_part old e) same_each (exporters_of t.accounts all) theirs'))
     where
       theirs' : All Each (exporters_of t.accounts all)
       theirs' = passing_all (λ (e : Name × Exporter). t.accounts e.0) (IsOwnExporter t) Each
@@ -296,8 +296,8 @@ module _ (t : Tenants) (doc : PolicyDoc) where
       same_each : (e : Name × Exporter) → Each e → at_each old e ≡ at_part old e
       same_each e each =
           ap (λ rs. (e.0, record { last = e.1.last; routes = rs }))
-          (same_given (kept_route (renewed old doc)) (kept_route (renewed (part_of t.accounts old) part)) e.1.routes
-          (All-weaker IsRowOfTheirs (λ r. kept_route (renewed old doc) r ≡ kept_route (renewed (part_of t.accounts old) part) r)
+          (same_given (kept_route (renewed_row old doc)) (kept_route (renewed_row (part_of t.accounts old) part)) e.1.routes
+          (All-weaker IsRowOfTheirs (λ r. kept_route (renewed_row old doc) r ≡ kept_route (renewed_row (part_of t.accounts old) part) r)
           (λ r is. ap (option_map (λ (new : NewRow). (r.0, on_row r.1 new))) (sym (again_in_part t.accounts old doc closed r.1.row is))) e.1.routes each))
 
 -- routes that are kept, and those on the least rows, are for whom they were
@@ -334,12 +334,12 @@ module _ (t : Tenants) (w p : World) (is_part : IsPartOf t w p) (apart : AreApar
   pub reloaded_own : AreMovedAlike t (numbered (w.number + 1) (Ok (reloaded w doc))) (numbered (p.number + 1) (Ok (reloaded p part')))
   reloaded_own =
       let zs : List Session = sessions_of t w.sessions in
-      let after : List (Name × Exporter) = pruned w.moment (kept (renewed w.policy doc) w.routes) in
-      let routes_same : pruned p.moment (kept (renewed p.policy part') p.routes) ≡ exporters_of t.accounts after =
-      ap (λ (now : ℕ). pruned now (kept (renewed p.policy part') p.routes)) is_part.moment
+      let after : List (Name × Exporter) = pruned w.moment (kept (renewed_row w.policy doc) w.routes) in
+      let routes_same : pruned p.moment (kept (renewed_row p.policy part') p.routes) ≡ exporters_of t.accounts after =
+      ap (λ (now : ℕ). pruned now (kept (renewed_row p.policy part') p.routes)) is_part.moment
       ∙ ap (pruned w.moment) (sym (kept_least p.policy part' p.routes))
-      ∙ ap (λ rs. pruned w.moment (kept (renewed p.policy part') rs)) is_part.routes
-      ∙ ap (λ (old : PolicyDoc). pruned w.moment (kept (renewed old part') (exporters_of t.accounts (exporters_on_least w.policy w.routes)))) is_part.policy
+      ∙ ap (λ rs. pruned w.moment (kept (renewed_row p.policy part') rs)) is_part.routes
+      ∙ ap (λ (old : PolicyDoc). pruned w.moment (kept (renewed_row old part') (exporters_of t.accounts (exporters_on_least w.policy w.routes)))) is_part.policy
       ∙ sym (routes_own t doc w.moment w.policy closed (exporters_on_least w.policy w.routes) (least_own t w.policy w.routes apart.routes))
       ∙ ap (λ rs. exporters_of t.accounts (pruned w.moment rs)) (kept_least w.policy doc w.routes) in
       let closed_same : filter t.connections (closed_conns part' p.sessions) ≡ filter t.connections (closed_conns doc w.sessions) =
@@ -360,7 +360,7 @@ module _ (t : Tenants) (w p : World) (is_part : IsPartOf t w p) (apart : AreApar
               (pairs_kept t (w.number + 1) (p.number + 1) (stands_on part' zs) (stands_on part' zs) (subscriptions_of t w.subscriptions) p.subscriptions later_given
               (λ k d h. let P = is_part.subscriptions in let a : Pair = get_or P.pairs k d in
               ap may_stand (sym (verdict_same t doc w.sessions apart.sessions a.0 (P.within k d h)) ∙ verdict_paired t doc w.sessions apart.sessions a (P.within k d h) (P.same k d h)))));
-          routes = ap (exporters_on_least part') routes_same ∙ sym (least_in_part t.accounts doc after (kept_own t w.moment (renewed w.policy doc) w.routes apart.routes));
+          routes = ap (exporters_on_least part') routes_same ∙ sym (least_in_part t.accounts doc after (kept_own t w.moment (renewed_row w.policy doc) w.routes apart.routes));
         },
       )
 
@@ -368,11 +368,11 @@ module _ (t : Tenants) (w p : World) (is_part : IsPartOf t w p) (apart : AreApar
   pub reloaded_others : part_of t.accounts doc ≡ part_of t.accounts w.policy → IsUpheld w → HasLeft t p (numbered (w.number + 1) (Ok (reloaded w doc)))
   reloaded_others same upheld =
       let zs : List Session = sessions_of t w.sessions in
-      let after : List (Name × Exporter) = pruned w.moment (kept (renewed w.policy doc) w.routes) in
+      let after : List (Name × Exporter) = pruned w.moment (kept (renewed_row w.policy doc) w.routes) in
       let theirs : List (Name × Exporter) = exporters_of t.accounts (exporters_on_least w.policy w.routes) in
       let stayed : exporters_of t.accounts after ≡ theirs =
       routes_own t doc w.moment w.policy closed w.routes apart.routes
-      ∙ ap (λ d. pruned w.moment (kept (renewed (part_of t.accounts w.policy) d) (exporters_of t.accounts w.routes))) same
+      ∙ ap (λ d. pruned w.moment (kept (renewed_row (part_of t.accounts w.policy) d) (exporters_of t.accounts w.routes))) same
       ∙ sym (routes_own t w.policy w.moment w.policy apart.closed w.routes apart.routes)
       ∙ ap (exporters_of t.accounts) upheld.routes in
       let sessions : sessions_of t (remaining w.moment doc w.sessions) ≡ sessions_of t w.sessions =
@@ -394,7 +394,7 @@ module _ (t : Tenants) (w p : World) (is_part : IsPartOf t w p) (apart : AreApar
             (later_pairs t w.number p.number (w.number + 1) p.number (subscriptions_of t w.subscriptions) p.subscriptions (omega arith) (omega arith) is_part.subscriptions);
         routes =
             is_part.routes
-            ∙ sym (least_in_part t.accounts doc after (kept_own t w.moment (renewed w.policy doc) w.routes apart.routes)
+            ∙ sym (least_in_part t.accounts doc after (kept_own t w.moment (renewed_row w.policy doc) w.routes apart.routes)
             ∙ ap (exporters_on_least part') stayed
             ∙ ap (λ d. exporters_on_least d theirs) same
             ∙ sym (least_in_part t.accounts w.policy (exporters_on_least w.policy w.routes) (least_own t w.policy w.routes apart.routes))
