@@ -6,5 +6,5 @@ use Rattle.script.proofs.player.on_line.Goals as goal
 
 pub returns-in_ok-stops-in-Open : goal.returns-in_ok-stops-in-Open
 returns-in_ok-stops-in-Open c =
-    let P : Line → Type 0 = λ l. IsEffect (line_effect c.args.numbered.number c.args.numbered.part l c.args.server.now c.args.clients.now.items) c.args.out.now.items c.open.new.out.items c.open.new.clients.items c.args.server.now c.in_ok-stops-in-Open.stops in
-    subst P (sym c.in-Open.is) (c.in_ok-stops-in-Open.ensures c.args.numbered.part c.args.server.now)
+    let P : Line → Type 0 = λ l. IsEffect (line_effect c.args.numbered.number c.args.numbered.progress l c.args.server.now c.args.clients.now.items) c.args.out.now.items c.open.new.out.items c.open.new.clients.items c.args.server.now c.in_ok-stops-in-Open.stops in
+    subst P (sym c.in-Open.is) (c.in_ok-stops-in-Open.ensures c.args.numbered.progress c.args.server.now)

@@ -37,23 +37,23 @@ returns-in_err-stops-clause-prefix g c = OnErr-always _ _ (plays_refused _ _ _ _
 pub returns-in-Err-clause-prefix : goal.returns-in-Err-clause-prefix
 returns-in-Err-clause-prefix g c =
     plays_failed _ _ _ _ _ _ _ _ _ _
-    (plays_read _ _ (c.playing.number + 1) c.playing.part c.playing.lines c.next_piece.new.self c.in-Some.text.now c.in_ok-line.line c.after-next.result c.playing.server c.playing.clients.items (output_of c.args.script.now) c.in-Some.ensures c.in_ok-line.ensures c.after-next.ensures c.playing.invariant.plays)
+    (plays_read _ _ (c.playing.number + 1) c.playing.progress c.playing.lines c.next_piece.new.self c.in-Some.text.now c.in_ok-line.line c.after-next.result c.playing.server c.playing.clients.items (output_of c.args.script.now) c.in-Some.ensures c.in_ok-line.ensures c.after-next.ensures c.playing.invariant.plays)
     (IsEffect-fresh _ _ _ _ _ _ c.new-out.ensures.items c.in_ok-stops.ensures) (AppendsFront-same _ _ _ _ c.as_slice.ensures.value c.in-Err.ensures.err)
 
 pub returns-then-stops-clause-meaning : goal.returns-then-stops-clause-meaning
 returns-then-stops-clause-meaning g c =
     plays_stop _ _ _ _ _ _ _ _ _ _
-    (plays_read _ _ (c.playing.number + 1) c.playing.part c.playing.lines c.next_piece.new.self c.in-Some.text.now c.in_ok-line.line c.after-next.result c.playing.server c.playing.clients.items (output_of c.args.script.now) c.in-Some.ensures c.in_ok-line.ensures c.after-next.ensures c.playing.invariant.plays)
+    (plays_read _ _ (c.playing.number + 1) c.playing.progress c.playing.lines c.next_piece.new.self c.in-Some.text.now c.in_ok-line.line c.after-next.result c.playing.server c.playing.clients.items (output_of c.args.script.now) c.in-Some.ensures c.in_ok-line.ensures c.after-next.ensures c.playing.invariant.plays)
     (IsEffect-fresh _ _ _ _ _ _ c.new-out.ensures.items c.in_ok-stops.ensures) c.if-stops.true (Appends-same _ _ _ _ c.as_slice.ensures.value c.in-Ok.ensures.ok)
 
 pub playing-preserved : goal.playing-preserved
 playing-preserved g c = record {
   plays = plays_more _ _ _ _ _ _ _ _ _ _
-      (plays_read _ _ (c.playing.number + 1) c.playing.part c.playing.lines c.next_piece.new.self c.in-Some.text.now c.in_ok-line.line c.after-next.result c.playing.server c.playing.clients.items (output_of c.args.script.now) c.in-Some.ensures c.in_ok-line.ensures c.after-next.ensures c.playing.invariant.plays)
+      (plays_read _ _ (c.playing.number + 1) c.playing.progress c.playing.lines c.next_piece.new.self c.in-Some.text.now c.in_ok-line.line c.after-next.result c.playing.server c.playing.clients.items (output_of c.args.script.now) c.in-Some.ensures c.in_ok-line.ensures c.after-next.ensures c.playing.invariant.plays)
       (IsEffect-fresh _ _ _ _ _ _ c.new-out.ensures.items c.in_ok-stops.ensures) c.if-stops.false (Appends-same _ _ _ _ c.as_slice.ensures.value c.in-Ok.ensures.ok);
   count = omega (arith, ap length c.in-Some.ensures, c.playing.invariant.count);
   failed = c.in-Ok.ensures.failed ∙ or-false _ ∙ c.playing.invariant.failed;
 }
 
 pub returns-clause-meaning : goal.returns-clause-meaning
-returns-clause-meaning g c = plays_last _ _ (c.playing.number + 1) c.playing.part c.playing.lines c.playing.server c.playing.clients.items _ c.in_default.ensures.0 c.playing.invariant.plays
+returns-clause-meaning g c = plays_last _ _ (c.playing.number + 1) c.playing.progress c.playing.lines c.playing.server c.playing.clients.items _ c.in_default.ensures.0 c.playing.invariant.plays

@@ -6,7 +6,7 @@ use Rattle.script.proofs.player.play_lines.Given as goal
 
 abbrev pub invariant-playing : goal.invariant-playing
 invariant-playing g l = record {
-  plays : Plays (g.W.Sink.contents l.fn.sink) (g.W.Sink.contents l.sink) (played (l.number + 1) l.part l.lines l.server l.clients.items) (output_of l.script);
+  plays : Plays (g.W.Sink.contents l.fn.sink) (g.W.Sink.contents l.sink) (played (l.number + 1) l.progress l.lines l.server l.clients.items) (output_of l.script);
   count : l.number + length l.lines ≤ length l.script + 1;
   failed : g.W.Sink.failed l.sink ≡ g.W.Sink.failed l.fn.sink;
 }
