@@ -6,7 +6,7 @@ ghost use Rattle.receiver_cache.specs.Key.{IsOf};
 use base::NoMemory;
 use std::alloc::Global;
 
-/// The messages of one publisher on one subject: its connection, and the subject's text.
+/// Under what receivers are cached: a publisher's connection, and the text of a subject.
 #[derive(Drop)]
 pub(crate) struct CacheKey {
     conn: u64,
@@ -14,7 +14,7 @@ pub(crate) struct CacheKey {
 }
 
 impl CacheKey {
-    /// Returns the messages of nobody on no subject. It takes no memory.
+    /// Returns the key of nobody's messages, on no subject. It takes no memory.
     pub fn nothing(alloc: Global) -> CacheKey {
         CacheKey {
             conn: 0,
@@ -22,7 +22,7 @@ impl CacheKey {
         }
     }
 
-    /// Returns the messages of a connection on a subject with this text. `NoMemory` where memory could not be had.
+    /// Returns the key of a connection's messages on a subject with this text. `NoMemory` where memory could not be had.
     pub fn of(alloc: Global, conn: u64, text: &[u8]) -> Result<CacheKey, NoMemory>
         ensures { IfOk result (λ key. IsOf key conn text.now) }
     {
@@ -37,14 +37,14 @@ impl CacheKey {
         let _ = self.subject.extend_from_slice(text);
     }
 
-    /// Returns how many bytes the subject has: none where they are on no subject.
+    /// Returns how many bytes the subject has: none where there is no subject.
     pub fn subject_len(&self) -> usize
         ensures { result ≡ length self.now.subject.items }
     {
         self.subject.len()
     }
 
-    /// Returns whether they are those of this publisher on the subject with this text.
+    /// Returns whether it is the key of this publisher and the subject with this text.
     #[inline(always)]
     pub fn is_of(&self, conn: u64, text: &[u8]) -> bool
         ensures tests { result ≡ ((self.now.conn == conn) && pointwise nat_eq self.now.subject.items text.now) }
