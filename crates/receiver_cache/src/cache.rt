@@ -7,7 +7,7 @@ use base::NoMemory;
 use events::{Addressed, Message};
 use permissions::By;
 use receiver_views::KnownView;
-use slot_cache::{SlotCache, sum_of_number};
+use slot_cache::{SlotCache, hash_of_number};
 use std::alloc::Global;
 use std::mem;
 use subjects::SubjectRef;
@@ -26,8 +26,8 @@ pub struct ReceiverCache {
     is_last: bool,
     // The slot from which they were taken, or into which they come.
     place: usize,
-    // The sum of the publisher and the subject of the message that was addressed last, where it isn't one of them.
-    sum: u64,
+    // The hash of the publisher and the subject of the message that was addressed last, where it isn't one of them.
+    hash: u64,
     slots: SlotCache<CachedReceivers>,
     /// What messages are sent as, where an account's mappings send them on.
     pub drawn: DrawnCache,
@@ -41,7 +41,7 @@ impl Drop for ReceiverCache {
             last: _,
             is_last: _,
             place: _,
-            sum: _,
+            hash: _,
             slots: _,
             drawn: _,
         } = self;
@@ -74,7 +74,7 @@ impl ReceiverCache {
             last: CachedReceivers::blank(alloc),
             is_last: false,
             place: 0,
-            sum: 0,
+            hash: 0,
             slots: SlotCache::new(alloc, SLOTS),
             drawn: DrawnCache::new(alloc),
         }
@@ -90,12 +90,12 @@ impl ReceiverCache {
         self.drawn.clear();
     }
 
-    /// Looks in both slots of a sum, that of a connection and the text of a subject. Returns the place that has what is cached of
+    /// Looks in both slots of a hash, that of a connection and the text of a subject. Returns the place that has what is cached of
     /// their messages, with it.
-    fn find(&self, sum: u64, conn: u64, text: &[u8]) -> Option<(usize, &CachedReceivers)>
+    fn find(&self, hash: u64, conn: u64, text: &[u8]) -> Option<(usize, &CachedReceivers)>
         ensures { IfSome result (λ found. (value_at self.now.slots found.0 ≡ Some found.1.now) × IsOf found.1.now.key conn text.now) }
     {
-        let (first, second) = self.slots.places_of(sum);
+        let (first, second) = self.slots.places_of(hash);
         match self.slots.get(first) {
             Some(cached) if cached.is_of(conn, text) => Some((first, cached)),
             _ => match self.slots.get(second) {
@@ -105,9 +105,9 @@ impl ReceiverCache {
         }
     }
 
-    /// Returns the place of a sum into which something is put: the second one where only the first is taken, else the first.
-    fn place_for(&self, sum: u64) -> usize {
-        let (first, second) = self.slots.places_of(sum);
+    /// Returns the place of a hash into which something is put: the second one where only the first is taken, else the first.
+    fn place_for(&self, hash: u64) -> usize {
+        let (first, second) = self.slots.places_of(hash);
         if self.slots.get(first).is_some() && self.slots.get(second).is_none() {
             second
         } else {
@@ -147,12 +147,12 @@ impl ReceiverCache {
         ensures of { self.new.is_last ≡ true → IsOf self.new.last.key conn text.now }
         ensures cached { (rows : List ImportRow) (zs : List Session) (subs : List Subscription) → IsCurrent rows zs subs self.old → IsCurrent rows zs subs self.new }
     {
-        let sum = sum_of_number(conn, text);
-        let place = match self.find(sum, conn, text) {
+        let hash = hash_of_number(conn, text);
+        let place = match self.find(hash, conn, text) {
             None => None,
             Some((place, _)) => Some(place),
         };
-        self.sum = sum;
+        self.hash = hash;
         self.is_last = false;
         if let Some(place) = place {
             if let Some(found) = self.slots.take(place) {
@@ -216,7 +216,7 @@ impl ReceiverCache {
         if self.last.is_of(conn, text) {
             return self.last.address_alone(message, word, all);
         }
-        match self.find(sum_of_number(conn, text), conn, text) {
+        match self.find(hash_of_number(conn, text), conn, text) {
             None => Ok(None),
             Some((_, cached)) => cached.address_alone(message, word, all),
         }
@@ -243,7 +243,7 @@ impl ReceiverCache {
     }
 
     /// Notes the message that was addressed last, if its receivers aren't cached. Returns whether they are to be found and put here:
-    /// the message that was noted before at its place had the same publisher and subject, as far as half of their sum tells.
+    /// the message that was noted before at its place had the same publisher and subject, as far as half of their hash tells.
     #[tactic(auto, unfolding(crate::specs::Cached::known_others))]
     pub fn note_asked(&mut self) -> bool
         ensures others { known_others self.new ≡ known_others self.old }
@@ -252,7 +252,7 @@ impl ReceiverCache {
         if self.is_last {
             return false;
         }
-        self.slots.is_asked_again(self.sum)
+        self.slots.note_asked(self.hash)
     }
 
     /// Caches that the publisher's messages on the subject of the message that was addressed last may be sent to these, what is known
@@ -277,7 +277,7 @@ impl ReceiverCache {
         let _ = subject.tokens();
         if let Ok(key) = CacheKey::of(self.alloc, conn, subject.bytes()) {
             self.put_back();
-            self.place = self.place_for(self.sum);
+            self.place = self.place_for(self.hash);
             self.last = CachedReceivers::of(self.alloc, key, found, others, allowed);
             self.is_last = true;
         }

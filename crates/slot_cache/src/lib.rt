@@ -1,8 +1,8 @@
-//! A cache in slots, each found by a plain sum of what is asked for.
+//! A cache in slots, each found by a plain hash of what is asked for.
 #![tactic(auto)]
 
 mod slots;
-mod sum;
+mod hash;
 
 pub use slots::SlotCache;
-pub use sum::{sum_of_number, sum_of_texts};
+pub use hash::{hash_of_number, hash_of_texts};

@@ -2,7 +2,7 @@
 ghost use Rattle.std.specs.Prelude.{◌≡◌, ◌≤◌, ◌⊎◌, ℕ, Some, None, All, IfOk, IsTrue};
 ghost use Rattle.std.specs.Option.{option_copied};
 
-use crate::sum::spread;
+use crate::hash::spread;
 use base::NoMemory;
 use std::alloc::Global;
 
@@ -22,7 +22,7 @@ impl<T: Drop> Drop for Slot<T> {
     }
 }
 
-/// Values in slots. Whoever asks for one finds its slot by a sum, and tests whether the value there is the one that is
+/// Values in slots. Whoever asks for one finds its slot by a hash, and tests whether the value there is the one that is
 /// asked for.
 ///
 /// A value comes into a slot once it is asked for twice, and nothing with its place in between: what is asked for once, as an
@@ -32,7 +32,7 @@ pub struct SlotCache<T> {
     // How many slots there are, once there are some.
     count: usize,
     slots: Vec<Slot<T>>,
-    // The lower half of the sum that was asked for last, with the generation in it; four places for each slot.
+    // The lower half of the hash that was asked for last, with the generation in it; four places for each slot.
     asked: Vec<u32>,
     generation: u64,
     ghost past: { All (λ slot. slot.generation ≤ generation) slots.items },
@@ -54,14 +54,14 @@ impl<T: Drop> Drop for SlotCache<T> {
 impl<T> SlotCache<T> {
     ghost use Rattle.slot_cache.specs.Slots.{value_at};
 
-    /// Returns the place of a sum.
-    pub fn place_of(&self, sum: u64) -> usize {
-        place_among(self.count, sum)
+    /// Returns the place of a hash.
+    pub fn place_of(&self, hash: u64) -> usize {
+        place_among(self.count, hash)
     }
 
-    /// Returns the two places of a sum, so that few have to share one.
-    pub fn places_of(&self, sum: u64) -> (usize, usize) {
-        (self.place_of(sum), self.place_of(spread(sum)))
+    /// Returns the two places of a hash, so that few have to share one.
+    pub fn places_of(&self, hash: u64) -> (usize, usize) {
+        (self.place_of(hash), self.place_of(spread(hash)))
     }
 
     /// Returns what the slot at a place has.
@@ -81,17 +81,17 @@ impl<T> SlotCache<T> {
         }
     }
 
-    /// Notes that a sum is asked for. Returns whether the last one that was noted at its place, in this generation, had the same
+    /// Notes that a hash is asked for. Returns whether the last one that was noted at its place, in this generation, had the same
     /// lower half. Without memory it hasn't.
-    pub fn is_asked_again(&mut self, sum: u64) -> bool
+    pub fn note_asked(&mut self, hash: u64) -> bool
         ensures { (other : ℕ) → value_at self.new other ≡ value_at self.old other }
     {
         let count = self.count.saturating_mul(4);
-        let lower = ((sum ^ self.generation) % 0x1_0000_0000) as u32;
+        let lower = ((hash ^ self.generation) % 0x1_0000_0000) as u32;
         if self.asked.is_empty() {
             let _ = self.asked.resize(count, 0);
         }
-        match self.asked.get_mut(place_among(count, sum)) {
+        match self.asked.get_mut(place_among(count, hash)) {
             None => false,
             Some(last) => {
                 let again = *last == lower;
@@ -178,9 +178,9 @@ impl<T: Drop> SlotCache<T> {
     }
 }
 
-/// Returns which of so many places is that of a sum: the upper bits decide.
-fn place_among(count: usize, sum: u64) -> usize {
-    ((sum >> 32).wrapping_mul(count as u64) >> 32) as usize
+/// Returns which of so many places is that of a hash: the upper bits decide.
+fn place_among(count: usize, hash: u64) -> usize {
+    ((hash >> 32).wrapping_mul(count as u64) >> 32) as usize
 }
 
 /// Returns so many slots with nothing. `NoMemory` where memory could not be had.

@@ -11,8 +11,8 @@ use std::alloc::Global;
 /// The ids that were found for an account and the text of a subject, or none where they are too many.
 #[derive(Drop)]
 pub(crate) struct CachedIds {
-    // The sum under which they are cached.
-    sum: u64,
+    // The hash under which they are cached.
+    hash: u64,
     account: Vec<u8>,
     subject: Vec<u8>,
     ids: Option<Vec<u64>>,
@@ -20,11 +20,11 @@ pub(crate) struct CachedIds {
 
 impl CachedIds {
     /// Returns what is cached of a subject that has too many. It takes no memory.
-    pub fn too_many(alloc: Global, sum: u64) -> CachedIds
+    pub fn too_many(alloc: Global, hash: u64) -> CachedIds
         ensures { result.ids ≡ None }
     {
         CachedIds {
-            sum,
+            hash,
             account: Vec::new(alloc),
             subject: Vec::new(alloc),
             ids: None,
@@ -34,7 +34,7 @@ impl CachedIds {
     /// Returns these ids, which were found for the account and the text. `NoMemory` where memory could not be had.
     pub fn of(
         alloc: Global,
-        sum: u64,
+        hash: u64,
         account: &[u8],
         text: &[u8],
         ids: Vec<u64>,
@@ -44,16 +44,16 @@ impl CachedIds {
         let account = Vec::from_slice(alloc, account)?;
         let subject = Vec::from_slice(alloc, text)?;
         Ok(CachedIds {
-            sum,
+            hash,
             account,
             subject,
             ids: Some(ids),
         })
     }
 
-    /// Returns whether they are cached under this sum.
-    pub fn has_sum(&self, sum: u64) -> bool {
-        self.sum == sum
+    /// Returns whether they are cached under this hash.
+    pub fn has_hash(&self, hash: u64) -> bool {
+        self.hash == hash
     }
 
     /// Returns whether they are of this account and this text.

@@ -1,7 +1,7 @@
 //! A cache of the ids that subjects were found to have, so that the next message of a subject needs no search.
 
 use crate::cached_ids::CachedIds;
-use slot_cache::{SlotCache, sum_of_texts};
+use slot_cache::{SlotCache, hash_of_texts};
 use std::alloc::Global;
 
 /// How many slots the cache has.
@@ -16,8 +16,8 @@ const MOST_IDS: usize = 256;
 pub(crate) struct IdCache {
     alloc: Global,
     slots: SlotCache<CachedIds>,
-    // The sum of the selected subject, and its slot.
-    sum: u64,
+    // The hash of the selected subject, and its slot.
+    hash: u64,
     at: usize,
 }
 
@@ -35,7 +35,7 @@ impl IdCache {
         IdCache {
             alloc,
             slots: SlotCache::new(alloc, SLOTS),
-            sum: 0,
+            hash: 0,
             at: 0,
         }
     }
@@ -44,16 +44,16 @@ impl IdCache {
     pub fn select(&mut self, account: &[u8], text: &[u8]) -> bool
         ensures { (entries : Entries) → AreTold self.old entries → AreTold self.new entries }
     {
-        self.sum = sum_of_texts(account, text);
-        self.at = self.slots.place_of(self.sum);
-        !self.has_sum() && self.slots.is_asked_again(self.sum)
+        self.hash = hash_of_texts(account, text);
+        self.at = self.slots.place_of(self.hash);
+        !self.has_hash() && self.slots.note_asked(self.hash)
     }
 
-    /// Returns whether ids are cached under that sum.
-    fn has_sum(&self) -> bool {
+    /// Returns whether ids are cached under that hash.
+    fn has_hash(&self) -> bool {
         match self.slots.get(self.at) {
             None => false,
-            Some(cached) => cached.has_sum(self.sum),
+            Some(cached) => cached.has_hash(self.hash),
         }
     }
 
@@ -62,10 +62,10 @@ impl IdCache {
         ensures { (entries : Entries) → AreTold self.old entries → IsTold account.now (tokens_of text.now) ids.items entries → AreTold self.new entries }
     {
         if ids.len() > MOST_IDS {
-            self.set(CachedIds::too_many(self.alloc, self.sum));
+            self.set(CachedIds::too_many(self.alloc, self.hash));
             return;
         }
-        match CachedIds::of(self.alloc, self.sum, account, text, ids) {
+        match CachedIds::of(self.alloc, self.hash, account, text, ids) {
             Err(_) => {}
             Ok(cached) => self.set(cached),
         }

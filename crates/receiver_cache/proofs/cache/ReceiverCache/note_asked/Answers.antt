@@ -7,7 +7,7 @@ use Rattle.receiver_cache.proofs.cache.ReceiverCache.note_asked.Goals as goal
 pub returns-clause-cached : goal.returns-clause-cached
 returns-clause-cached c = λ rows zs subs current.
     let old : ReceiverCache = c.args.self.now in
-    still_current old (record old { slots = c.is_asked_again.new.self }) rows zs subs (λ cached has. elim has [
+    still_current old (record old { slots = c.note_asked.new.self }) rows zs subs (λ cached has. elim has [
       | inl last ↦ inl (inl last)
-      | inr at ↦ inl (inr (at.0, sym (c.is_asked_again.ensures at.0) ∙ at.1))
+      | inr at ↦ inl (inr (at.0, sym (c.note_asked.ensures at.0) ∙ at.1))
     ]) refl current
