@@ -1,4 +1,4 @@
--- The rows that are asked, found by their numbers.
+-- The rows that are asked, found by their hashes.
 use Rattle.std.proofs.Common.{◌≡◌, ◌∙◌, ◌&&◌, ◌+◌, ◌<◌, ℕ, zero, suc, Bool, true, false, true≢false, cond, append_assoc, List, [], ◌∷◌, ◌++◌, Option, None, length, take, map, filter, ap, sym, refl, subst, arith}
 use Rattle.std.specs.Prelude.{All}
 use Rattle.std.specs.List.{cons_option, filter_map, range_with_len, slice_index_or}
@@ -9,16 +9,16 @@ use Rattle.std.proofs.lemmas.List.{get_or-map, length-map, map-append, take_more
 use Rattle.std.proofs.lemmas.List.Elements.{All-nil, All-cons}
 use Rattle.std.proofs.lemmas.Slice.Eq.{bytes_eq-Decides}
 use Rattle.subjects.specs.Subject.{Token, IsSubject, in_set, text_of, tokens_of}
-use Rattle.subjects.specs.Mark.{number_from}
+use Rattle.subjects.specs.Fingerprint.{hash_from}
 use Rattle.subjects.proofs.Text.{again}
 use Rattle.mapping.specs.Pairs.{RowMap}
 use Rattle.exports.specs.declared.document.Kind.{Kind}
 use Rattle.exports.specs.declared.document.Kind.TheVariants as kind
-use Rattle.pattern_groups.specs.Numbers.{front_from, IsOfFront}
+use Rattle.pattern_groups.specs.Hashes.{front_from, IsOfFront}
 use Rattle.pattern_groups.specs.Links.{at, PassesBehind}
 use Rattle.pattern_groups.proofs.Fronts.{in_set-front}
 use Rattle.imports.specs.Across.{across, across_by, crossed, crossing, entrance_of, first_by, source_of}
-use Rattle.imports.specs.Rows.{is_crossed, no_row, numbers_of, row_by, row_number, rows_at}
+use Rattle.imports.specs.Rows.{is_crossed, no_row, hashes_of, row_by, row_hash, rows_at}
 use Rattle.imports.specs.declared.rows.ImportRow.{ImportRow}
 use Rattle.imports.specs.declared.view.ViewItem.{ViewItem}
 
@@ -68,11 +68,11 @@ behind_front front (r ∷ rows) =
     again_as {all} {other} {m} {n} same as_long is = sym (ap (λ l. map (row_by l) (range_with_len n (length rows))) same) ∙ sym (ap (λ k. map (row_by all) (range_with_len k (length rows))) as_long) ∙ is
 
 -- the rows that are crossed give what all rows give
-pub crossed_give_all : (a : List ℕ) (s : List Token) (rows : List ImportRow) (numbers : List ℕ) (places : List ℕ) → numbers ≡ numbers_of rows →
-    places ≡ filter (λ i. is_crossed a s (row_by rows i)) (range_with_len 0 (length numbers)) →
+pub crossed_give_all : (a : List ℕ) (s : List Token) (rows : List ImportRow) (hashes : List ℕ) (places : List ℕ) → hashes ≡ hashes_of rows →
+    places ≡ filter (λ i. is_crossed a s (row_by rows i)) (range_with_len 0 (length hashes)) →
     filter_map (crossing a s) (rows_at rows places) ≡ filter_map (crossing a s) rows
-crossed_give_all a s rows numbers places are is =
-    ap (λ l. filter_map (crossing a s) (rows_at rows l)) (is ∙ ap (λ n. filter (λ i. is_crossed a s (row_by rows i)) (range_with_len 0 n)) (ap length are ∙ length-map rows row_number))
+crossed_give_all a s rows hashes places are is =
+    ap (λ l. filter_map (crossing a s) (rows_at rows l)) (is ∙ ap (λ n. filter (λ i. is_crossed a s (row_by rows i)) (range_with_len 0 n)) (ap length are ∙ length-map rows row_hash))
     ∙ left_out (crossing a s) (is_crossed a s) (row_by rows) (not_crossed a s) (range_with_len 0 (length rows))
     ∙ ap (filter_map (crossing a s)) (behind_front [] rows)
 
@@ -88,25 +88,25 @@ places_within test count = from 0 count (omega arith)
         by true all = All-cons (λ i. i < count) a (filter test (range_with_len (a + 1) n)) (omega (arith, is)) all
         by false all = all
 
--- whatever row is crossed has the number of the account and of some of the subject's first tokens
-pub crossed_by_front : (a : List ℕ) (s : List Token) (rows : List ImportRow) (numbers text : List ℕ) → numbers ≡ numbers_of rows → IsSubject s → text ≡ text_of s →
-    PassesBehind (λ i. is_crossed a s (row_by rows i)) numbers (number_from 7 a) (tokens_of text)
-crossed_by_front a s rows numbers text are subject is j below passes =
+-- whatever row is crossed has the hash of the account and of some of the subject's first tokens
+pub crossed_by_front : (a : List ℕ) (s : List Token) (rows : List ImportRow) (hashes text : List ℕ) → hashes ≡ hashes_of rows → IsSubject s → text ≡ text_of s →
+    PassesBehind (λ i. is_crossed a s (row_by rows i)) hashes (hash_from 7 a) (tokens_of text)
+crossed_by_front a s rows hashes text are subject is j below passes =
     let r = row_by rows j in
-    let inside : j < length rows = omega (arith, below, ap length are ∙ length-map rows row_number) in
+    let inside : j < length rows = omega (arith, below, ap length are ∙ length-map rows row_hash) in
     let parts = and_parts (bytes_eq (source_of r) a) (in_set (entrance_of r) s) passes in
     let source : source_of r ≡ a = (bytes_eq-Decides (source_of r) a).0 parts.0 in
-    let number : at numbers j ≡ front_from (number_from 7 a) (entrance_of r) =
-    ap (λ ns. at ns j) are ∙ get_or-map row_number rows j no_row 0 inside ∙ ap (λ e. front_from (number_from 7 e) (entrance_of r)) source in
-    subst (λ k. IsOfFront k (number_from 7 a) (tokens_of text)) (sym number)
-    (subst (λ ts. IsOfFront (front_from (number_from 7 a) (entrance_of r)) (number_from 7 a) ts) (sym (ap tokens_of is ∙ again s subject))
-    (in_set-front (number_from 7 a) (entrance_of r) s parts.1))
+    let hash : at hashes j ≡ front_from (hash_from 7 a) (entrance_of r) =
+    ap (λ ns. at ns j) are ∙ get_or-map row_hash rows j no_row 0 inside ∙ ap (λ e. front_from (hash_from 7 e) (entrance_of r)) source in
+    subst (λ k. IsOfFront k (hash_from 7 a) (tokens_of text)) (sym hash)
+    (subst (λ ts. IsOfFront (front_from (hash_from 7 a) (entrance_of r)) (hash_from 7 a) ts) (sym (ap tokens_of is ∙ again s subject))
+    (in_set-front (hash_from 7 a) (entrance_of r) s parts.1))
 
 -- a place more
 pub place_more : (rows : List ImportRow) (places : List ℕ) (i : ℕ) → i < length places →
     rows_at rows (take (i + 1) places) ≡ rows_at rows (take i places) ++ row_by rows (slice_index_or places i 0) ∷ []
 place_more rows places i below = ap (rows_at rows) (take_more places i 0 below) ∙ map-append (row_by rows) (take i places) (slice_index_or places i 0 ∷ [])
 
--- there are as many numbers as rows
-pub as_many : (numbers : List ℕ) (rows : List ImportRow) → numbers ≡ numbers_of rows → length numbers ≡ length rows
-as_many numbers rows are = ap length are ∙ length-map rows row_number
+-- there are as many hashes as rows
+pub as_many : (hashes : List ℕ) (rows : List ImportRow) → hashes ≡ hashes_of rows → length hashes ≡ length rows
+as_many hashes rows are = ap length are ∙ length-map rows row_hash

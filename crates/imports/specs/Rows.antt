@@ -3,9 +3,9 @@ use Rattle.std.specs.Prelude.{◌≡◌, ◌&&◌, ◌++◌, ◌∷◌, ℕ, Boo
 use Rattle.std.specs.List.{list_any, slice_index_or}
 use Rattle.std.specs.Str.{bytes_eq}
 use Rattle.subjects.specs.Subject.{Token, in_set}
-use Rattle.subjects.specs.Mark.{number_from}
+use Rattle.subjects.specs.Fingerprint.{hash_from}
 use Rattle.mapping.specs.Pairs.{IsRowMap}
-use Rattle.pattern_groups.specs.Numbers.{front_from}
+use Rattle.pattern_groups.specs.Hashes.{front_from}
 use Rattle.exports.specs.declared.document.Kind.TheVariants as kind
 use Rattle.imports.specs.Across.{entrance_of, source_of}
 use Rattle.imports.specs.Views.{is_same}
@@ -28,13 +28,13 @@ with_crossing views (Some v) = if list_any (λ u. is_same u v) views then views 
 abbrev pub is_crossed : List ℕ → List Token → ImportRow → Bool
 is_crossed account s r = bytes_eq (source_of r) account && in_set (entrance_of r) s
 
--- the number by which a row is found: that of the account whose messages cross it, and of the literal tokens that their
+-- the hash by which a row is found: that of the account whose messages cross it, and of the literal tokens that their
 -- subjects begin with
-abbrev pub row_number : ImportRow → ℕ
-row_number r = front_from (number_from 7 (source_of r)) (entrance_of r)
+abbrev pub row_hash : ImportRow → ℕ
+row_hash r = front_from (hash_from 7 (source_of r)) (entrance_of r)
 
-abbrev pub numbers_of : List ImportRow → List ℕ
-numbers_of rows = map row_number rows
+abbrev pub hashes_of : List ImportRow → List ℕ
+hashes_of rows = map row_hash rows
 
 -- what stands behind the rows
 abbrev pub no_row : ImportRow

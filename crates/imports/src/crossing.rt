@@ -3,7 +3,7 @@ ghost use Rattle.std.specs.Prelude.{◌≡◌, ◌<◌, ℕ, All, IfOk, OnOk, So
 ghost use Rattle.std.specs.List.{filter_map, list_any};
 ghost use Rattle.imports.specs.Across.{across, crossing, entrance_of, source_of, target_of, way_of};
 ghost use Rattle.imports.specs.Views.{first_of_each, is_at, is_route, is_same};
-ghost use Rattle.imports.specs.Rows.{is_crossed, numbers_of, row_by, rows_at, with_crossing};
+ghost use Rattle.imports.specs.Rows.{is_crossed, hashes_of, row_by, rows_at, with_crossing};
 ghost use Rattle.mapping.specs.Pairs.{IsMapped};
 
 use crate::{ImportRow, ViewItem, Way};
@@ -53,7 +53,7 @@ pub(crate) fn crossings(
     account: &[u8],
     subject: &SubjectRef<'_>,
 ) -> Result<Vec<ViewItem>, NoMemory>
-    requires { groups.now ≡ numbers_of rows.now }
+    requires { groups.now ≡ hashes_of rows.now }
     ensures { IfOk result (λ views. views.items ≡ first_of_each (filter_map (crossing account.now subject.now) rows.now)) }
 {
     let _ = subject.tokens();

@@ -5,7 +5,7 @@ ghost use Rattle.mapping.specs.Fault.{IsMade};
 ghost use Rattle.policy_doc.specs.Imports.{mapping_of, mapping_fault, AreValidImports, IsValidImport};
 ghost use Rattle.policy_doc.specs.declared.document.NamedAccount.{NamedAccount};
 ghost use Rattle.imports.specs.Views.{row_at, rows_in};
-ghost use Rattle.imports.specs.Rows.{IsRow, numbers_of, row_number};
+ghost use Rattle.imports.specs.Rows.{IsRow, hashes_of, row_hash};
 
 use crate::ImportRow;
 use crate::crossing::{entrance_of, source_of};
@@ -13,7 +13,7 @@ use base::{Items, NoMemory, Shared};
 use bytes::Bytes;
 use exports::Row;
 use mapping::{Mapping, MappingError};
-use pattern_groups::{Groups, number_under};
+use pattern_groups::{Groups, hash_under};
 use policy_doc::{ImportDoc, NamedAccount};
 use std::alloc::Global;
 
@@ -96,18 +96,18 @@ fn made(alloc: Global, import: &ImportDoc) -> Result<Mapping, MappingError>
 
 /// Returns the groups of rows, by the accounts whose messages cross them and the tokens that these messages begin with.
 pub(crate) fn groups_of(alloc: Global, rows: &[ImportRow]) -> Result<Groups, NoMemory>
-    ensures { IfOk result (λ groups. groups ≡ numbers_of rows.now) }
+    ensures { IfOk result (λ groups. groups ≡ hashes_of rows.now) }
 {
-    let mut numbers = Vec::with_capacity(alloc, rows.len())?;
+    let mut hashes = Vec::with_capacity(alloc, rows.len())?;
     for row in rows {
-        numbers.push(number_of(row))?;
+        hashes.push(hash_of(row))?;
     }
-    let groups = Groups::of(alloc, numbers)?;
+    let groups = Groups::of(alloc, hashes)?;
     Ok(groups)
 }
 
-fn number_of(row: &ImportRow) -> u32
-    ensures { result ≡ row_number row.now }
+fn hash_of(row: &ImportRow) -> u32
+    ensures { result ≡ row_hash row.now }
 {
-    number_under(source_of(row), entrance_of(row))
+    hash_under(source_of(row), entrance_of(row))
 }

@@ -38,13 +38,13 @@ impl Model for Rows {
     ghost use Rattle.std.specs.Prelude.{List, All};
     ghost use Rattle.imports.specs.declared.rows.ImportRow.{ImportRow};
     ghost use Rattle.std.specs.Prelude.{◌≡◌};
-    ghost use Rattle.imports.specs.Rows.{IsRow, numbers_of};
+    ghost use Rattle.imports.specs.Rows.{IsRow, hashes_of};
 
     ghost Value = { List ImportRow };
 
     ghost view = { λ r. r.rows.items };
 
-    ghost invariant = { λ r. All IsRow r.rows.items × (r.groups ≡ numbers_of r.rows.items) };
+    ghost invariant = { λ r. All IsRow r.rows.items × (r.groups ≡ hashes_of r.rows.items) };
 }
 
 impl Rows {

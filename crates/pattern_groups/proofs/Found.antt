@@ -1,4 +1,4 @@
--- All places that pass, found number by number, then brought in order.
+-- All places that pass, found hash by hash, then brought in order.
 use Rattle.std.proofs.Common.{◌≡◌, ◌∙◌, ◌<◌, ◌≤◌, ◌+◌, ◌⊎◌, inl, inr, ℕ, zero, suc, Bool, true, false, true≢false, cond, List, [], ◌∷◌, ◌++◌, length, filter, ap, sym, refl, subst, arith}
 use Rattle.std.specs.Prelude.{⊤, All, Contains, nat_lt}
 use Rattle.std.specs.List.{range_with_len, slice_index_or, AllPairs}
@@ -8,7 +8,7 @@ use Rattle.std.proofs.lemmas.List.{get_or_default}
 use Rattle.std.proofs.lemmas.List.Elements.{All-nil, All-head, All-tail, filter-append}
 use Rattle.std.proofs.lemmas.List.Kept.{AllPairs-from_increasing}
 use Rattle.subjects.specs.Subject.{Token, tokens_of}
-use Rattle.pattern_groups.specs.Numbers.{IsOfFront, IsPast}
+use Rattle.pattern_groups.specs.Hashes.{IsOfFront, IsPast}
 use Rattle.pattern_groups.specs.Links.{at, row_of, IsNext, IsFound, Finds, AreFound, AreFoundBut}
 
 -- ---- lists that rise
@@ -85,27 +85,27 @@ all_in_order passes count found up are =
     (λ k d below. (omega arith, omega (arith, (are.sound k d below).0), (are.sound k d below).1))
     (λ j from below pass. are.each j (omega (arith, below)) pass)
 
--- ---- one walk for a number
+-- ---- one walk for a hash
 
-pub walk_begun : (passes : ℕ → Bool) (numbers : List ℕ) (rows number place : ℕ) (found : List ℕ) → IsNext numbers rows 0 (row_of number rows) place → Finds passes numbers number place found found
-walk_begun passes numbers rows number place found first = record {
+pub walk_begun : (passes : ℕ → Bool) (hashes : List ℕ) (rows hash place : ℕ) (found : List ℕ) → IsNext hashes rows 0 (row_of hash rows) place → Finds passes hashes hash place found found
+walk_begun passes hashes rows hash place found first = record {
   kept = λ j has. has;
   sound = λ all. all;
   each = λ j before inside e pass. absurd (first.none_before j (omega arith) before inside (ap (λ n. row_of n rows) e));
 }
 
 -- from a place to the next of its row
-pub walk_on : (passes : ℕ → Bool) (numbers : List ℕ) (rows number place next : ℕ) (old new more : List ℕ) → Finds passes numbers number place old new →
-    IsNext numbers rows (place + 1) (row_of (at numbers place) rows) next → row_of (at numbers place) rows ≡ row_of number rows → place < length numbers →
-    ((j : ℕ) → Contains new j → Contains more j) → (All (IsFound passes (length numbers)) new → All (IsFound passes (length numbers)) more) →
-    (at numbers place ≡ number → passes place ≡ true → Contains more place) → Finds passes numbers number next old more
-walk_on passes numbers rows number place next old new more so_far following row inside keeps sound here = record {
+pub walk_on : (passes : ℕ → Bool) (hashes : List ℕ) (rows hash place next : ℕ) (old new more : List ℕ) → Finds passes hashes hash place old new →
+    IsNext hashes rows (place + 1) (row_of (at hashes place) rows) next → row_of (at hashes place) rows ≡ row_of hash rows → place < length hashes →
+    ((j : ℕ) → Contains new j → Contains more j) → (All (IsFound passes (length hashes)) new → All (IsFound passes (length hashes)) more) →
+    (at hashes place ≡ hash → passes place ≡ true → Contains more place) → Finds passes hashes hash next old more
+walk_on passes hashes rows hash place next old new more so_far following row inside keeps sound here = record {
   kept = λ j has. keeps j (so_far.kept j has);
   sound = λ all. sound (so_far.sound all);
   each = each;
 }
   where
-    each : (j : ℕ) → j < next → j < length numbers → at numbers j ≡ number → passes j ≡ true → Contains more j
+    each : (j : ℕ) → j < next → j < length hashes → at hashes j ≡ hash → passes j ≡ true → Contains more j
     each j before within e pass = by (nat_lt j place) (nat_lt place j) refl refl
       where
         by : (b c : Bool) → nat_lt j place ≡ b → nat_lt place j ≡ c → Contains more j
@@ -113,33 +113,33 @@ walk_on passes numbers rows number place next old new more so_far following row 
         by false true lower upper = absurd (following.none_before j (grind (arith, nat_tests, upper)) before within (ap (λ n. row_of n rows) e ∙ sym row))
         by false false lower upper =
             let same : j ≡ place = grind (arith, nat_tests, lower, upper) in
-            subst (Contains more) (sym same) (here (ap (at numbers) (sym same) ∙ e) (ap passes (sym same) ∙ pass))
+            subst (Contains more) (sym same) (here (ap (at hashes) (sym same) ∙ e) (ap passes (sym same) ∙ pass))
 
--- ---- number by number
+-- ---- hash by hash
 
-pub search_begun : (passes : ℕ → Bool) (numbers : List ℕ) (IsLeft : ℕ → Type 0) → ((j : ℕ) → j < length numbers → passes j ≡ true → IsLeft (at numbers j)) → AreFoundBut passes numbers IsLeft []
-search_begun passes numbers IsLeft left = record {
-  sound = All-nil (IsFound passes (length numbers));
+pub search_begun : (passes : ℕ → Bool) (hashes : List ℕ) (IsLeft : ℕ → Type 0) → ((j : ℕ) → j < length hashes → passes j ≡ true → IsLeft (at hashes j)) → AreFoundBut passes hashes IsLeft []
+search_begun passes hashes IsLeft left = record {
+  sound = All-nil (IsFound passes (length hashes));
   each = λ j below pass. inr (left j below pass);
 }
 
--- one number more
-pub search_on : (passes : ℕ → Bool) (numbers : List ℕ) (IsLeft IsLeftThen : ℕ → Type 0) (number : ℕ) (old new : List ℕ) → AreFoundBut passes numbers IsLeft old → Finds passes numbers number (length numbers) old new →
-    ((k : ℕ) → IsLeft k → (k ≡ number) ⊎ IsLeftThen k) → AreFoundBut passes numbers IsLeftThen new
-search_on passes numbers IsLeft IsLeftThen number old new so_far more splits = record {
+-- one hash more
+pub search_on : (passes : ℕ → Bool) (hashes : List ℕ) (IsLeft IsLeftThen : ℕ → Type 0) (hash : ℕ) (old new : List ℕ) → AreFoundBut passes hashes IsLeft old → Finds passes hashes hash (length hashes) old new →
+    ((k : ℕ) → IsLeft k → (k ≡ hash) ⊎ IsLeftThen k) → AreFoundBut passes hashes IsLeftThen new
+search_on passes hashes IsLeft IsLeftThen hash old new so_far more splits = record {
   sound = more.sound so_far.sound;
   each = λ j below pass. elim (so_far.each j below pass) [
     | inl has ↦ inl (more.kept j has)
-    | inr left ↦ elim (splits (at numbers j) left) [
+    | inr left ↦ elim (splits (at hashes j) left) [
       | inl e ↦ inl (more.each j below below e pass)
       | inr later ↦ inr later
     ]
   ];
 }
 
--- the last number
-pub search_ended : (passes : ℕ → Bool) (numbers : List ℕ) (number : ℕ) (old new : List ℕ) → AreFoundBut passes numbers (λ k. k ≡ number) old → Finds passes numbers number (length numbers) old new → AreFound passes (length numbers) new
-search_ended passes numbers number old new so_far more = record {
+-- the last hash
+pub search_ended : (passes : ℕ → Bool) (hashes : List ℕ) (hash : ℕ) (old new : List ℕ) → AreFoundBut passes hashes (λ k. k ≡ hash) old → Finds passes hashes hash (length hashes) old new → AreFound passes (length hashes) new
+search_ended passes hashes hash old new so_far more = record {
   sound = more.sound so_far.sound;
   each = λ j below pass. elim (so_far.each j below pass) [
     | inl has ↦ more.kept j has
@@ -147,7 +147,7 @@ search_ended passes numbers number old new so_far more = record {
   ];
 }
 
--- a token more: what is left has the number so far, or one of the tokens behind
+-- a token more: what is left has the hash so far, or one of the tokens behind
 pub past_splits : (n : ℕ) (text : List ℕ) (m : ℕ) (behind : List Token) → IsPast n text m behind → (k : ℕ) → IsOfFront k n (tokens_of text) → (k ≡ n) ⊎ IsOfFront k m behind
 past_splits n text m behind past k left =
     let front : IsOfFront k n (past.0 ∷ behind) = subst (IsOfFront k n) past.1 left in

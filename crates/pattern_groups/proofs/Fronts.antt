@@ -1,12 +1,12 @@
--- Whoever has a subject has the number of some of its first tokens.
+-- Whoever has a subject has the hash of some of its first tokens.
 use Rattle.std.proofs.Common.{◌≡◌, ◌∙◌, ◌==◌, ◌&&◌, ◌||◌, inl, inr, ℕ, Bool, true, false, not, List, [], ◌∷◌, sym, subst, refl, arith}
 use Rattle.std.proofs.lemmas.Bool.{cases_Bool, and_parts}
 use Rattle.std.proofs.lemmas.Bool.Decides.{nat_tests}
 use Rattle.std.proofs.lemmas.Slice.Eq.{bytes_eq-Decides}
 use Rattle.std.proofs.lemmas.List.Splits.{slice_split-cons_yes, slice_split-cons_no}
 use Rattle.subjects.specs.Subject.{Token, is_star, is_tail, is_wildcard, same_token, in_set, tokens_of}
-use Rattle.subjects.specs.Mark.{with_byte, number_from}
-use Rattle.pattern_groups.specs.Numbers.{front_from, IsOfFront, IsPast}
+use Rattle.subjects.specs.Fingerprint.{with_byte, hash_from}
+use Rattle.pattern_groups.specs.Hashes.{front_from, IsOfFront, IsPast}
 
 -- some of the first tokens may be none
 at_front : (n : ℕ) (ts : List Token) → IsOfFront n n ts
@@ -29,15 +29,15 @@ no_tail q name = by (is_star q) (is_tail q) refl refl
     by false true es et = let e : true ≡ false = rw (es, et) at name in absurd (cc)
     by false false es et = et
 
-front_step : (n : ℕ) (q : Token) (qs : List Token) → is_wildcard q ≡ false → front_from n (q ∷ qs) ≡ front_from (number_from n q) qs
+front_step : (n : ℕ) (q : Token) (qs : List Token) → is_wildcard q ≡ false → front_from n (q ∷ qs) ≡ front_from (hash_from n q) qs
 front_step n q qs name = rw name refl
 
 -- the rest begins as the rest does
 one_more : (n : ℕ) (q s : Token) (qs ss : List Token) → is_wildcard q ≡ false → q ≡ s →
-    IsOfFront (front_from (number_from n q) qs) (number_from n q) ss → IsOfFront (front_from n (q ∷ qs)) n (s ∷ ss)
+    IsOfFront (front_from (hash_from n q) qs) (hash_from n q) ss → IsOfFront (front_from n (q ∷ qs)) n (s ∷ ss)
 one_more n q s qs ss name same rest =
     subst (λ k. IsOfFront k n (s ∷ ss)) (sym (front_step n q qs name))
-    (inr (subst (λ t. IsOfFront (front_from (number_from n q) qs) (number_from n t) ss) same rest))
+    (inr (subst (λ t. IsOfFront (front_from (hash_from n q) qs) (hash_from n t) ss) same rest))
 
 wild : (n : ℕ) (q : Token) (qs ss : List Token) → is_wildcard q ≡ true → IsOfFront (front_from n (q ∷ qs)) n ss
 wild n q qs ss is = rw is (at_front n ss)
@@ -50,7 +50,7 @@ in_set-front n (q ∷ qs) (s ∷ ss) has = elim (cases_Bool (is_wildcard q)) [
   | inr name ↦
       let both : ((is_star q || same_token q s) && in_set qs ss) ≡ true = rw (no_tail q name) at has in
       let parts = and_parts (is_star q || same_token q s) (in_set qs ss) both in
-      one_more n q s qs ss name (same_first q s name parts.0) (in_set-front (number_from n q) qs ss parts.1)
+      one_more n q s qs ss name (same_first q s name parts.0) (in_set-front (hash_from n q) qs ss parts.1)
 ]
 
 -- ---- past a token

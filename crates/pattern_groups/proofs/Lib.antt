@@ -3,4 +3,4 @@ pub mod Linked
 pub mod Search
 pub mod Found
 pub mod Literal
-pub mod Numbered
+pub mod Hashed

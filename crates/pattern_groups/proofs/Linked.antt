@@ -1,12 +1,12 @@
--- The places of numbers, put in from the last to the first, and the walk along a row.
+-- The places of hashes, put in from the last to the first, and the walk along a row.
 use Rattle.std.proofs.Common.{◌≡◌, ◌∙◌, ◌<◌, ◌≤◌, ℕ, List, length, replicate, ap, arith}
 use Rattle.std.proofs.lemmas.List.{get_or-replicate, length-replicate}
 use Rattle.pattern_groups.specs.Links.{at, AreLinksFrom}
 
 -- where no place is put in yet, each row ends behind the list
-pub none_linked : (numbers first next : List ℕ) (from : ℕ) → length numbers ≤ from → from ≤ length numbers → 0 < length first → length next ≡ length numbers →
-    ((row : ℕ) → row < length first → at first row ≡ length numbers) → AreLinksFrom numbers first next from
-none_linked numbers first next from last most some each ends = record {
+pub none_linked : (hashes first next : List ℕ) (from : ℕ) → length hashes ≤ from → from ≤ length hashes → 0 < length first → length next ≡ length hashes →
+    ((row : ℕ) → row < length first → at first row ≡ length hashes) → AreLinksFrom hashes first next from
+none_linked hashes first next from last most some each ends = record {
   some_row = some;
   one_each = each;
   firsts = λ row below. record {

@@ -1,4 +1,4 @@
--- The least pattern that passes, by the numbers of a text's fronts.
+-- The least pattern that passes, by the hashes of a text's fronts.
 use Rattle.std.proofs.Common.{◌<◌, ◌≤◌, ℕ, Bool, Some, None, arith}
 use Rattle.pattern_groups.specs.Links.{IsLeast, IsLeastBelow}
 

@@ -1,3 +1,3 @@
-pub mod Numbers
+pub mod Hashes
 pub mod Links
 pub mod Places

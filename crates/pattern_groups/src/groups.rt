@@ -4,17 +4,17 @@ ghost use Rattle.subjects.specs.Subject.{tokens_of};
 ghost use Rattle.pattern_groups.specs.Links.{AreFound, AreLinks, PassesBehind};
 
 use crate::links::{Links, links_of};
-use crate::number::{NONE, past_token, with_token};
+use crate::hash::{NONE, past_token, with_token};
 use crate::patterns::Patterns;
 use base::NoMemory;
 use std::alloc::Global;
 use std::marker::Model;
 
 /// A list of patterns, grouped by the literal tokens that they begin with, in which all that have a text are found. A clause sees
-/// the numbers of these tokens.
+/// the hashes of these tokens.
 #[derive(Debug, Drop)]
 pub struct Groups {
-    numbers: Vec<u32>,
+    hashes: Vec<u32>,
     // Where they stand, unless there is only one.
     links: Option<Links>,
 }
@@ -25,28 +25,28 @@ impl Model for Groups {
 
     ghost Value = { List ℕ };
 
-    ghost view = { λ g. g.numbers.items };
+    ghost view = { λ g. g.hashes.items };
 
-    ghost invariant = { λ g. IfSome g.links (λ links. AreLinks g.numbers.items links.first.items links.next.items) };
+    ghost invariant = { λ g. IfSome g.links (λ links. AreLinks g.hashes.items links.first.items links.next.items) };
 }
 
 impl Groups {
     ghost use Rattle.std.specs.Prelude.{◌≡◌, ◌≤◌, length, filter, IfOk};
     ghost use Rattle.std.specs.List.{range_with_len};
-    ghost use Rattle.subjects.specs.Mark.{number_from};
+    ghost use Rattle.subjects.specs.Fingerprint.{hash_from};
     ghost use Rattle.subjects.specs.Subject.{tokens_of};
     ghost use Rattle.pattern_groups.specs.Links.{PassesBehind};
 
-    /// Groups patterns by their numbers, those of `number_of`. `NoMemory` where memory could not be had.
-    pub fn of(alloc: Global, numbers: Vec<u32>) -> Result<Groups, NoMemory>
-        ensures { IfOk result (λ groups. groups ≡ numbers.items) }
+    /// Groups patterns by their hashes, those of `hash_of`. `NoMemory` where memory could not be had.
+    pub fn of(alloc: Global, hashes: Vec<u32>) -> Result<Groups, NoMemory>
+        ensures { IfOk result (λ groups. groups ≡ hashes.items) }
     {
-        let links = links_of(alloc, numbers.as_slice())?;
-        Ok(Groups { numbers, links })
+        let links = links_of(alloc, hashes.as_slice())?;
+        Ok(Groups { hashes, links })
     }
 
-    /// Returns the indexes of all patterns that pass, in rising order, where each pattern stands behind a token: its number
-    /// is that of `number_under`. Only those are asked that begin as this token and the text do. It takes no memory where
+    /// Returns the indexes of all patterns that pass, in rising order, where each pattern stands behind a token: its hash
+    /// is that of `hash_under`. Only those are asked that begin as this token and the text do. It takes no memory where
     /// none passes; `NoMemory` where it could not be had.
     pub fn all_under<P: Patterns>(
         &self,
@@ -56,18 +56,18 @@ impl Groups {
         patterns: &P,
     ) -> Result<Vec<usize>, NoMemory>
         requires count { length self.now ≤ P.count patterns.now }
-        requires front { PassesBehind (P.passes patterns.now) self.now (number_from 7 token.now) (tokens_of text.now) }
+        requires front { PassesBehind (P.passes patterns.now) self.now (hash_from 7 token.now) (tokens_of text.now) }
         ensures { IfOk result (λ all. all.items ≡ filter (P.passes patterns.now) (range_with_len 0 (length self.now))) }
     {
-        let numbers = self.numbers.as_slice();
+        let hashes = self.hashes.as_slice();
         match &self.links {
             None => {
-                let all = walk_all(alloc, numbers.len(), patterns)?;
+                let all = walk_all(alloc, hashes.len(), patterns)?;
                 Ok(all)
             }
             Some(links) => {
                 let first = with_token(NONE, token);
-                let mut all = found_by(alloc, links, numbers, first, text, patterns)?;
+                let mut all = found_by(alloc, links, hashes, first, text, patterns)?;
                 all.sort_unstable();
                 all.dedup();
                 Ok(all)
@@ -90,30 +90,30 @@ fn walk_all<P: Patterns>(alloc: Global, count: usize, patterns: &P) -> Result<Ve
     Ok(all)
 }
 
-/// All patterns that pass, of those that begin as the text does behind the tokens of a number, in any order, and some perhaps
-/// twice: two fronts may have one number.
+/// All patterns that pass, of those that begin as the text does behind the tokens of a hash, in any order, and some perhaps
+/// twice: two fronts may have one hash.
 fn found_by<P: Patterns>(
     alloc: Global,
     links: &Links,
-    numbers: &[u32],
+    hashes: &[u32],
     first: u32,
     text: &[u8],
     patterns: &P,
 ) -> Result<Vec<usize>, NoMemory>
-    requires links { AreLinks numbers.now links.now.first.items links.now.next.items }
-    requires count { length numbers.now ≤ P.count patterns.now }
-    requires front { PassesBehind (P.passes patterns.now) numbers.now first (tokens_of text.now) }
-    ensures { IfOk result (λ found. AreFound (P.passes patterns.now) (length numbers.now) found.items) }
+    requires links { AreLinks hashes.now links.now.first.items links.now.next.items }
+    requires count { length hashes.now ≤ P.count patterns.now }
+    requires front { PassesBehind (P.passes patterns.now) hashes.now first (tokens_of text.now) }
+    ensures { IfOk result (λ found. AreFound (P.passes patterns.now) (length hashes.now) found.items) }
 {
     let mut found = Vec::new(alloc);
-    let mut number = first;
+    let mut hash = first;
     let mut rest = Some(text);
     while let Some(text) = rest {
-        links.add_with(numbers, number, patterns, &mut found)?;
-        let (next, behind) = past_token(number, text);
-        number = next;
+        links.add_with(hashes, hash, patterns, &mut found)?;
+        let (next, behind) = past_token(hash, text);
+        hash = next;
         rest = behind;
     }
-    links.add_with(numbers, number, patterns, &mut found)?;
+    links.add_with(hashes, hash, patterns, &mut found)?;
     Ok(found)
 }

@@ -4,11 +4,11 @@
 mod groups;
 mod index;
 mod links;
-mod number;
+mod hash;
 mod patterns;
 mod places;
 
 pub use groups::Groups;
 pub use index::PatternIndex;
-pub use number::number_under;
+pub use hash::hash_under;
 pub use patterns::Patterns;

@@ -1,9 +1,9 @@
-//! At which places a pattern has literal tokens, and the number of a text's tokens at places.
+//! At which places a pattern has literal tokens, and the hash of a text's tokens at places.
 ghost use Rattle.std.specs.Prelude.{◌≡◌, ◌≤◌, ◌<◌, ◌^◌};
 ghost use Rattle.subjects.specs.Subject.{tokens_of};
-ghost use Rattle.pattern_groups.specs.Places.{AreLiteral, number_at};
+ghost use Rattle.pattern_groups.specs.Places.{AreLiteral, hash_at};
 
-use crate::number::past_token;
+use crate::hash::past_token;
 use base::Pieces;
 use subjects::{Pattern, is_star, is_tail};
 
@@ -53,34 +53,34 @@ impl Literals {
     }
 }
 
-/// The number of a text's tokens at places.
+/// The hash of a text's tokens at places.
 #[inline(always)]
 #[tactic(auto, using(crate::proofs::Literal::nothing, crate::proofs::Literal::past_one))]
-pub(crate) fn number_at(places: u32, text: &[u8]) -> u32
-    ensures { result ≡ number_at places (tokens_of text.now) }
+pub(crate) fn hash_at(places: u32, text: &[u8]) -> u32
+    ensures { result ≡ hash_at places (tokens_of text.now) }
 {
-    let mut number = places;
+    let mut hash = places;
     let mut left = places;
     let mut rest = Some(text);
     while let Some(text) = rest {
         if left == 0 {
-            return number;
+            return hash;
         }
-        let (more, behind) = past_token(number, text);
+        let (more, behind) = past_token(hash, text);
         if left % 2 == 1 {
-            number = more;
+            hash = more;
         }
         left /= 2;
         rest = behind;
     }
-    number
+    hash
 }
 
-/// The number of a pattern's tokens at places.
-pub(crate) fn number_of(places: u32, pattern: &Pattern) -> u32
-    ensures { result ≡ number_at places pattern.now }
+/// The hash of a pattern's tokens at places.
+pub(crate) fn hash_of(places: u32, pattern: &Pattern) -> u32
+    ensures { result ≡ hash_at places pattern.now }
 {
     // The tokens tell the prover that they are those of a pattern.
     let _ = pattern.tokens();
-    number_at(places, pattern.bytes())
+    hash_at(places, pattern.bytes())
 }

@@ -1,4 +1,4 @@
--- Entries found by the numbers of their patterns.
+-- Entries found by the hashes of their patterns.
 use Rattle.std.proofs.Common.{◌≡◌, ◌∙◌, ◌<◌, ◌≤◌, ◌&&◌, ℕ, Bool, true, false, nat_eq, refl, ◌||◌, ◌∷◌, List, [], length, map, ap, sym, subst, slice_index_or, arith}
 use Rattle.std.proofs.lemmas.Bool.{and_parts}
 use Rattle.std.proofs.lemmas.List.{get_or-map, get_or_default, length-map}
@@ -10,21 +10,21 @@ use Rattle.subjects.proofs.Same.{same_token-itself}
 use Rattle.subjects.proofs.Text.{pattern_again, again}
 use Rattle.permission_doc.specs.Entries.{entry_of}
 use Rattle.pattern_groups.specs.Links.{at}
-use Rattle.pattern_groups.specs.Places.{AreLiteral, Numbered, PassesByNumber, pattern_at, number_at}
-use Rattle.pattern_groups.proofs.Literal.{in_set-number, covers-number}
+use Rattle.pattern_groups.specs.Places.{AreLiteral, Hashed, PassesByHash, pattern_at, hash_at}
+use Rattle.pattern_groups.proofs.Literal.{in_set-hash, covers-hash}
 use Rattle.permissions.specs.Lists.{Entry, Queue}
 use Rattle.permissions.specs.declared.decision.Among.{Among}
 use Rattle.permissions.specs.Looked.{is_looked_at, has_whole}
-use Rattle.permissions.specs.Indexes.{HasNumbers, IsIndexOf, pattern_of}
+use Rattle.permissions.specs.Indexes.{HasHashes, IsIndexOf, pattern_of}
 
-pub as_many : (index : Numbered) (entries : List Entry) → IsIndexOf entries index → length index.numbers ≡ length entries
+pub as_many : (index : Hashed) (entries : List Entry) → IsIndexOf entries index → length index.hashes ≡ length entries
 as_many index entries is = is.as_many ∙ length-map entries pattern_of
 
--- whatever entry has the whole of what is asked has one of its numbers
-pub passes_by_number : {X : Type 0} (is_within : List Token → X → Bool) (among : Among) (queue : Queue) (asked : X) (entries : List Entry) (index : Numbered) (text : List ℕ) → IsIndexOf entries index →
-    ((entry : List Token) → is_within entry asked ≡ true → HasNumbers entry (tokens_of text)) →
-    PassesByNumber (λ i. has_whole is_within among queue asked (slice_index_or entries i (entry_of []))) index (tokens_of text)
-passes_by_number is_within among queue asked entries index text is numbers j below passes =
+-- whatever entry has the whole of what is asked has one of its hashes
+pub passes_by_hash : {X : Type 0} (is_within : List Token → X → Bool) (among : Among) (queue : Queue) (asked : X) (entries : List Entry) (index : Hashed) (text : List ℕ) → IsIndexOf entries index →
+    ((entry : List Token) → is_within entry asked ≡ true → HasHashes entry (tokens_of text)) →
+    PassesByHash (λ i. has_whole is_within among queue asked (slice_index_or entries i (entry_of []))) index (tokens_of text)
+passes_by_hash is_within among queue asked entries index text is hashes j below passes =
     let e = slice_index_or entries j (entry_of []) in
     let inside : j < length entries = omega (arith, below, as_many index entries is) in
     let within : j < length (map pattern_of entries) = omega (arith, below, is.as_many) in
@@ -32,21 +32,21 @@ passes_by_number is_within among queue asked entries index text is numbers j bel
     let its = is.each j within in
     let i = its.chosen.0 in
     let literal : AreLiteral its.places e.subject = subst (AreLiteral its.places) same its.literal in
-    let number : at index.numbers j ≡ number_at its.places (tokens_of text) =
-    its.number_is ∙ ap (number_at its.places) same ∙ numbers e.subject (and_parts (is_looked_at among queue e) (is_within e.subject asked) passes).1 its.places literal in (
+    let hash : at index.hashes j ≡ hash_at its.places (tokens_of text) =
+    its.hash_is ∙ ap (hash_at its.places) same ∙ hashes e.subject (and_parts (is_looked_at among queue e) (is_within e.subject asked) passes).1 its.places literal in (
       i,
       its.chosen.1,
       (λ before. absurd (omega (arith, before))),
-      number ∙ ap (λ places. number_at places (tokens_of text)) (sym its.chosen.2 ∙ get_or_default index.choices i its.places 0 its.chosen.1),
+      hash ∙ ap (λ places. hash_at places (tokens_of text)) (sym its.chosen.2 ∙ get_or_default index.choices i its.places 0 its.chosen.1),
     )
 
-pub subject_numbers : (s : List Token) (text : List ℕ) → IsSubject s → text ≡ text_of s → (entry : List Token) → in_set entry s ≡ true → HasNumbers entry (tokens_of text)
-subject_numbers s text subject is entry has places literal =
-    in_set-number places entry s literal has ∙ ap (number_at places) (sym (ap tokens_of is ∙ again s subject))
+pub subject_hashes : (s : List Token) (text : List ℕ) → IsSubject s → text ≡ text_of s → (entry : List Token) → in_set entry s ≡ true → HasHashes entry (tokens_of text)
+subject_hashes s text subject is entry has places literal =
+    in_set-hash places entry s literal has ∙ ap (hash_at places) (sym (ap tokens_of is ∙ again s subject))
 
-pub pattern_numbers : (p : List Token) (text : List ℕ) → IsPattern p → text ≡ text_of p → (entry : List Token) → covers entry p ≡ true → HasNumbers entry (tokens_of text)
-pattern_numbers p text pattern is entry has places literal =
-    covers-number places entry p literal has ∙ ap (number_at places) (sym (ap tokens_of is ∙ pattern_again p pattern))
+pub pattern_hashes : (p : List Token) (text : List ℕ) → IsPattern p → text ≡ text_of p → (entry : List Token) → covers entry p ≡ true → HasHashes entry (tokens_of text)
+pattern_hashes p text pattern is entry has places literal =
+    covers-hash places entry p literal has ∙ ap (hash_at places) (sym (ap tokens_of is ∙ pattern_again p pattern))
 
 -- each subject is one of the pattern with its own tokens
 itself : (s : List Token) → in_set s s ≡ true

@@ -1,7 +1,7 @@
 -- The indexes of a direction's lists.
 use Rattle.std.specs.Prelude.{◌≡◌, ℕ, List, map, IfSome}
 use Rattle.subjects.specs.Subject.{Token}
-use Rattle.pattern_groups.specs.Places.{Numbered, AreLiteral, number_at}
+use Rattle.pattern_groups.specs.Places.{Hashed, AreLiteral, hash_at}
 use Rattle.pattern_groups.specs.Places as patterns
 use Rattle.permissions.specs.Lists.{Entry, Rules}
 use Rattle.permissions.specs.declared.indexed.Indexes.{Indexes}
@@ -12,7 +12,7 @@ abbrev pub pattern_of : Entry → List Token
 pattern_of e = e.subject
 
 -- this is the index of the entries' patterns
-abbrev pub IsIndexOf : List Entry → Numbered → Type 0
+abbrev pub IsIndexOf : List Entry → Hashed → Type 0
 IsIndexOf entries index = patterns.IsIndexOf (map pattern_of entries) index
 
 -- these are the indexes of a direction's lists
@@ -25,6 +25,6 @@ pub record AreIndexed (indexed : Indexed) : Type 0 where
   pub publish : AreIndexesOf indexed.lists.publish indexed.publish
   pub subscribe : AreIndexesOf indexed.lists.subscribe indexed.subscribe
 
--- these tokens have the number of the pattern at each choice of its literal tokens
-abbrev pub HasNumbers : List Token → List Token → Type 0
-HasNumbers pattern tokens = (places : ℕ) → AreLiteral places pattern → number_at places pattern ≡ number_at places tokens
+-- these tokens have the hash of the pattern at each choice of its literal tokens
+abbrev pub HasHashes : List Token → List Token → Type 0
+HasHashes pattern tokens = (places : ℕ) → AreLiteral places pattern → hash_at places pattern ≡ hash_at places tokens

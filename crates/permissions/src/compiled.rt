@@ -20,7 +20,7 @@ use subjects::{Pattern, Subject, SubjectRef};
 /// ```
 ///
 /// A question takes no memory. Of each list it looks at the entries that have the literal tokens of what is asked, found by a
-/// number of these, and at few others. `of` copies the lists and reads each entry's tokens; a copy shares both.
+/// hash of these, and at few others. `of` copies the lists and reads each entry's tokens; a copy shares both.
 #[derive(Debug)]
 pub struct Compiled {
     indexed: Option<Arc<Indexed>>,

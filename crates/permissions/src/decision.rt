@@ -163,7 +163,7 @@ impl<'a, A: SubjectSet> Patterns for Asked<'a, A> {
 /// The index of the first entry that is looked at and has the whole of what is asked. Only those are asked that
 /// have its literal tokens.
 #[inline(always)]
-#[tactic(auto, using(crate::proofs::Found::as_many, crate::proofs::Found::passes_by_number, crate::proofs::Least::least_position))]
+#[tactic(auto, using(crate::proofs::Found::as_many, crate::proofs::Found::passes_by_hash, crate::proofs::Least::least_position))]
 fn first_entry<A: SubjectSet>(
     entries: &[PermEntry],
     index: &PatternIndex,

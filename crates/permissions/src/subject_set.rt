@@ -1,7 +1,7 @@
 ghost use Rattle.std.specs.Prelude.{◌≡◌, IsTrue, List, true};
 ghost use Rattle.std.specs.Bool.{OnTrue};
 ghost use Rattle.subjects.specs.Subject.{Token, in_set, covers, tokens_of};
-ghost use Rattle.permissions.specs.Indexes.{HasNumbers};
+ghost use Rattle.permissions.specs.Indexes.{HasHashes};
 
 use subjects::{Pattern, SubjectRef};
 
@@ -15,9 +15,9 @@ pub(crate) trait SubjectSet {
     fn is_in(&self, entry: &Pattern) -> bool
         ensures { result ≡ is_within entry.now self.now };
 
-    /// Its text. It has the numbers of each entry that has the whole of it.
+    /// Its text. It has the hashes of each entry that has the whole of it.
     fn text(&self) -> &[u8]
-        ensures { (entry : List Token) → is_within entry self.now ≡ true → HasNumbers entry (tokens_of result.now) };
+        ensures { (entry : List Token) → is_within entry self.now ≡ true → HasHashes entry (tokens_of result.now) };
 }
 
 impl SubjectSet for SubjectRef<'_> {
@@ -71,9 +71,9 @@ fn is_same(entry: &Pattern, subject: &SubjectRef<'_>) -> bool
 
 /// The text of a subject.
 #[inline(always)]
-#[tactic(auto, using(crate::proofs::Found::subject_numbers))]
+#[tactic(auto, using(crate::proofs::Found::subject_hashes))]
 fn text_of_subject<'a>(subject: &'a SubjectRef<'_>) -> &'a [u8]
-    ensures { (entry : List Token) → in_set entry subject.now ≡ true → HasNumbers entry (tokens_of result.now) }
+    ensures { (entry : List Token) → in_set entry subject.now ≡ true → HasHashes entry (tokens_of result.now) }
 {
     // The tokens tell the prover that they are those of a subject.
     let _ = subject.tokens();
@@ -83,9 +83,9 @@ fn text_of_subject<'a>(subject: &'a SubjectRef<'_>) -> &'a [u8]
 
 /// The text of a pattern.
 #[inline(always)]
-#[tactic(auto, using(crate::proofs::Found::pattern_numbers))]
+#[tactic(auto, using(crate::proofs::Found::pattern_hashes))]
 fn text_of_pattern(pattern: &Pattern) -> &[u8]
-    ensures { (entry : List Token) → covers entry pattern.now ≡ true → HasNumbers entry (tokens_of result.now) }
+    ensures { (entry : List Token) → covers entry pattern.now ≡ true → HasHashes entry (tokens_of result.now) }
 {
     // The tokens tell the prover that they are those of a pattern.
     let _ = pattern.tokens();

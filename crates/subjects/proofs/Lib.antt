@@ -7,5 +7,5 @@ pub mod Inclusion
 pub mod Sharing
 pub mod Exact
 pub mod Text
-pub mod Marks
+pub mod Fingerprints
 pub mod Missing

@@ -3,4 +3,4 @@ pub mod Fault
 pub mod Outside
 pub mod Shape
 pub mod Equal
-pub mod Mark
+pub mod Fingerprint

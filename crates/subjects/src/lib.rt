@@ -6,7 +6,7 @@ mod compare;
 mod equality;
 mod error;
 mod faults;
-mod mark;
+mod fingerprint;
 mod outside;
 mod pattern;
 mod subject;

@@ -1,6 +1,6 @@
 ghost use Rattle.std.specs.Prelude.{◌≡◌, ◌↔◌, IsTrue};
 
-use crate::mark::Mark;
+use crate::fingerprint::Fingerprint;
 use crate::outside::{Tail, sample_text};
 use crate::tokens::tokens_in;
 use crate::{SubjectError, SubjectRef, compare, faults};
@@ -19,18 +19,18 @@ use std::marker::Model;
 /// ```
 ///
 /// `matches`, `covers` and `overlaps` take no memory and look at each byte of both texts once at most. `covers` compares two
-/// numbers first, which settle most questions.
+/// fingerprints first, which settle most questions.
 #[derive(Debug)]
 pub struct Pattern {
     text: SharedBytes,
     // They tell of most patterns that they don't cover another.
-    mark: Mark,
+    fingerprint: Fingerprint,
 }
 
 impl Drop for Pattern {
     #[inline(always)]
     fn drop(self) {
-        let Self { text: _, mark: _ } = self;
+        let Self { text: _, fingerprint: _ } = self;
     }
 }
 
@@ -40,11 +40,11 @@ impl Model for Pattern {
     ghost Value = { List (List ℕ) };
 
     ghost use Rattle.subjects.specs.Subject.{tokens_of, IsPattern};
-    ghost use Rattle.subjects.specs.Mark.{IsMarkOf};
+    ghost use Rattle.subjects.specs.Fingerprint.{IsFingerprintOf};
 
     ghost view = { λ p. tokens_of p.text };
 
-    ghost invariant = { λ p. IsPattern (tokens_of p.text) × IsMarkOf (tokens_of p.text) p.mark };
+    ghost invariant = { λ p. IsPattern (tokens_of p.text) × IsFingerprintOf (tokens_of p.text) p.fingerprint };
 }
 
 impl Pattern {
@@ -64,7 +64,7 @@ impl Pattern {
             Some(fault) => Err(fault),
             None => Ok(Pattern {
                 text: SharedBytes::copy_from_slice(alloc, text)?,
-                mark: Mark::of(tokens_in(text)),
+                fingerprint: Fingerprint::of(tokens_in(text)),
             }),
         }
     }
@@ -102,14 +102,14 @@ impl Pattern {
         self.has_whole(other)
     }
 
-    /// The test of `covers`: by the numbers first, which tell of most, and then token by token.
+    /// The test of `covers`: by the fingerprints first, which tell of most, and then token by token.
     fn has_whole(&self, other: &Pattern) -> bool
         ensures { result ≡ covers self.now other.now }
     {
-        // The loans tell the prover what the type keeps of both: these are their numbers.
+        // The loans tell the prover what the type keeps of both: these are their fingerprints.
         let _ = &self.text;
         let _ = &other.text;
-        if !self.mark.may_cover(other.mark) {
+        if !self.fingerprint.may_cover(other.fingerprint) {
             return false;
         }
         let covers = compare::covers(self.tokens(), other.tokens());
@@ -160,7 +160,7 @@ impl Copying for Pattern {
     fn copy(&self, alloc: Global) -> Result<Pattern, NoMemory> {
         Ok(Pattern {
             text: self.text.again()?,
-            mark: self.mark,
+            fingerprint: self.fingerprint,
         })
     }
 }

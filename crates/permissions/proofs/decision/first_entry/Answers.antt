@@ -4,7 +4,7 @@ use Rattle.permission_doc.specs.Entries.{entry_of}
 use Rattle.pattern_groups.specs.Links.{IsLeast}
 use Rattle.permissions.specs.Lists.{Entry}
 use Rattle.permissions.specs.Looked.{has_whole}
-use Rattle.permissions.proofs.Found.{as_many, passes_by_number}
+use Rattle.permissions.proofs.Found.{as_many, passes_by_hash}
 use Rattle.permissions.proofs.Least.{least_position}
 use Rattle.permissions.proofs.decision.first_entry.Goals as goal
 
@@ -15,7 +15,7 @@ returns g c =
     (subst (λ n. IsLeast (λ i. test (slice_index_or c.args.entries.now i (entry_of []))) n c.least-least.result)
     (as_many c.args.index.now c.args.entries.now c.requires) c.least-least.ensures)
 
-pub least-least-requires-clause-number : goal.least-least-requires-clause-number
-least-least-requires-clause-number g c =
-    passes_by_number g.A.SubjectSet.is_within c.args.among (option_copied c.args.queue) c.args.asked.now c.args.entries.now c.args.index.now c.text-text.result.now
+pub least-least-requires-clause-hash : goal.least-least-requires-clause-hash
+least-least-requires-clause-hash g c =
+    passes_by_hash g.A.SubjectSet.is_within c.args.among (option_copied c.args.queue) c.args.asked.now c.args.entries.now c.args.index.now c.text-text.result.now
     c.requires c.text-text.ensures

@@ -12,7 +12,7 @@ use Rattle.pattern_groups.proofs.groups.Groups.all_under.Goals as goal
 pub returns-in_ok-all-in-Some : goal.returns-in_ok-all-in-Some
 returns-in_ok-all-in-Some g c =
     let passes = g.P.Patterns.passes c.args.patterns.now in
-    let count = length c.as_slice-numbers.result.now in
+    let count = length c.as_slice-hashes.result.now in
     let found : List ℕ = c.in_ok-all-in-Some.all.items in
     let sorted : List ℕ = c.sort_unstable.new.self.items in
     let are : AreFound passes count (dedup eqb sorted) = record {
@@ -21,4 +21,4 @@ returns-in_ok-all-in-Some g c =
     } in
     dedup_is eqb sorted c.dedup.new.self.items c.dedup.ensures.filtered
     ∙ all_in_order passes count (dedup eqb sorted) (IsStrictlyIncreasing-dedup sorted c.sort_unstable.ensures.sorted) are
-    ∙ ap (λ (numbers : List ℕ). filter passes (range_with_len 0 (length numbers))) (c.as_slice-numbers.ensures.value ∙ c.self.view_is)
+    ∙ ap (λ (hashes : List ℕ). filter passes (range_with_len 0 (length hashes))) (c.as_slice-hashes.ensures.value ∙ c.self.view_is)

@@ -6,15 +6,15 @@ use Rattle.std.proofs.lemmas.List.Sorted.{Contains-permutation}
 use lib.Dec.{eqb}
 use Rattle.subjects.specs.Subject.{Token}
 use Rattle.pattern_groups.specs.Places.{IsIndexOf}
-use Rattle.pattern_groups.proofs.Numbered.{numbered_by}
+use Rattle.pattern_groups.proofs.Hashed.{hashed_by}
 use Rattle.pattern_groups.proofs.index.PatternIndex.of.Goals as goal
 
 pub returns : goal.returns
 returns c =
     let patterns : List (List Token) = map (λ p. p.now) c.args.patterns.now in
-    let numbers : List ℕ = c.in_ok-numbers.numbers.items in
-    let made : List ℕ = c.in_ok-numbers.choices.items in
+    let hashes : List ℕ = c.in_ok-hashes.hashes.items in
+    let made : List ℕ = c.in_ok-hashes.choices.items in
     let sorted : List ℕ = c.sort_unstable.new.self.items in
-    subst (λ (kept : List ℕ). IsIndexOf patterns (record { numbers = numbers; choices = kept })) (sym (dedup_is eqb sorted c.dedup.new.self.items c.dedup.ensures.filtered))
-    (numbered_by patterns numbers made (dedup eqb sorted) c.in_ok-numbers.ensures
+    subst (λ (kept : List ℕ). IsIndexOf patterns (record { hashes = hashes; choices = kept })) (sym (dedup_is eqb sorted c.dedup.new.self.items c.dedup.ensures.filtered))
+    (hashed_by patterns hashes made (dedup eqb sorted) c.in_ok-hashes.ensures
     (λ places has. Contains-dedup_nat sorted places (Contains-permutation made sorted places c.sort_unstable.ensures.permutation has)))

@@ -5,40 +5,40 @@ use Rattle.std.proofs.lemmas.List.Elements.{All-push, Contains-append_left, Cont
 use Rattle.pattern_groups.specs.Links.{at, row_of, Finds, IsFound, IsNext}
 use Rattle.pattern_groups.proofs.Found.{walk_on}
 use Rattle.pattern_groups.proofs.links.Links.add_with.Goals as goal
-use Rattle.pattern_groups.proofs.links.Links.add_with.Goals.{then-numbers-at+then-passes+in_ok-push, else-numbers-at, else-numbers-at-via-then-numbers-at+else-passes, else-numbers-at-via-else-numbers-at}
+use Rattle.pattern_groups.proofs.links.Links.add_with.Goals.{then-hashes-at+then-passes+in_ok-push, else-hashes-at, else-hashes-at-via-then-hashes-at+else-passes, else-hashes-at-via-else-hashes-at}
 
 pub loop-at-preserved : goal.loop-at-preserved
 loop-at-preserved g c =
     let passes = g.P.Patterns.passes c.args.patterns.now in
-    let numbers : List ℕ = c.args.numbers.now in
+    let hashes : List ℕ = c.args.hashes.now in
     let rows = length c.args.self.now.first.items in
     let place = c.loop-at.at in
     let old : List ℕ = c.args.found.now.items in
     let new : List ℕ = c.loop-at.found.items in
     let next = c.index-in-loop-at.result.now in
-    let inside : place < length numbers = c.loop-at-test.true in
+    let inside : place < length hashes = c.loop-at-test.true in
     let within : place < length c.args.self.now.next.items = omega (arith, inside, c.requires.links.one_each) in
     let value : next ≡ at c.args.self.now.next.items place = c.index-in-loop-at.ensures ∙ get_or_default c.args.self.now.next.items place next 0 within in
-    let row : row_of (at numbers place) rows ≡ row_of c.args.number rows = c.loop-at.invariant.0 inside in
-    let following : IsNext numbers rows (place + 1) (row_of (at numbers place) rows) next =
-    subst (IsNext numbers rows (place + 1) (row_of (at numbers place) rows)) (sym value) (c.requires.links.nexts place (omega arith) inside) in (
+    let row : row_of (at hashes place) rows ≡ row_of c.args.hash rows = c.loop-at.invariant.0 inside in
+    let following : IsNext hashes rows (place + 1) (row_of (at hashes place) rows) next =
+    subst (IsNext hashes rows (place + 1) (row_of (at hashes place) rows)) (sym value) (c.requires.links.nexts place (omega arith) inside) in (
       (λ below. following.within below ∙ row),
-      elim c.if-numbers-at.branch [
-        | then-numbers-at+then-passes+in_ok-push w ↦
+      elim c.if-hashes-at.branch [
+        | then-hashes-at+then-passes+in_ok-push w ↦
             let passing : passes place ≡ true = sym w.passes.ensures ∙ w.if-passes.true in
-            subst (λ (l : List ℕ). Finds passes numbers c.args.number next old l) (sym (ap (λ v. v.items) w.found-is ∙ w.in_ok-push.ensures.items))
-            (walk_on passes numbers rows c.args.number place next old new (new ++ place ∷ []) c.loop-at.invariant.1 following row inside
+            subst (λ (l : List ℕ). Finds passes hashes c.args.hash next old l) (sym (ap (λ v. v.items) w.found-is ∙ w.in_ok-push.ensures.items))
+            (walk_on passes hashes rows c.args.hash place next old new (new ++ place ∷ []) c.loop-at.invariant.1 following row inside
             (λ j has. Contains-append_left new (place ∷ []) j has)
-            (λ all. All-push (IsFound passes (length numbers)) new place all (inside, passing))
+            (λ all. All-push (IsFound passes (length hashes)) new place all (inside, passing))
             (λ e pass. Contains-push new place))
-        | else-numbers-at w ↦
-            subst (λ (l : List ℕ). Finds passes numbers c.args.number next old l) (sym (ap (λ v. v.items) w.found-is))
-            (walk_on passes numbers rows c.args.number place next old new new c.loop-at.invariant.1 following row inside
+        | else-hashes-at w ↦
+            subst (λ (l : List ℕ). Finds passes hashes c.args.hash next old l) (sym (ap (λ v. v.items) w.found-is))
+            (walk_on passes hashes rows c.args.hash place next old new new c.loop-at.invariant.1 following row inside
             (λ j has. has)
             (λ all. all)
-            (λ e pass. elim w.else-numbers-at.branch [
-              | else-numbers-at-via-then-numbers-at+else-passes v ↦ absurd (true≢false (sym pass ∙ sym v.passes.ensures ∙ v.if-passes.false))
-              | else-numbers-at-via-else-numbers-at v ↦ absurd (grind (arith, nat_tests, e, v.if-numbers-at.false))
+            (λ e pass. elim w.else-hashes-at.branch [
+              | else-hashes-at-via-then-hashes-at+else-passes v ↦ absurd (true≢false (sym pass ∙ sym v.passes.ensures ∙ v.if-passes.false))
+              | else-hashes-at-via-else-hashes-at v ↦ absurd (grind (arith, nat_tests, e, v.if-hashes-at.false))
             ]))
       ],
     )

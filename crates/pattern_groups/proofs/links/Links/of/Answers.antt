@@ -8,8 +8,8 @@ loop-done-init c =
     let firsts = c.in_ok-first.ensures.items_if_clones_equal (λ y e. e) in
     let nexts = c.in_ok-next.ensures.items_if_clones_equal (λ y e. e) in
     let many : length c.in_ok-first.first.items ≡ rows = length_of _ rows _ firsts in
-    let each : length c.in_ok-next.next.items ≡ length c.args.numbers.now = length_of _ _ _ nexts in (
-      none_linked c.args.numbers.now c.in_ok-first.first.items c.in_ok-next.next.items _ (omega arith) (omega arith)
+    let each : length c.in_ok-next.next.items ≡ length c.args.hashes.now = length_of _ _ _ nexts in (
+      none_linked c.args.hashes.now c.in_ok-first.first.items c.in_ok-next.next.items _ (omega arith) (omega arith)
           (omega (arith, many, c.requires.some, c.next_power_of_two-rows.ensures.lower_bound))
           each (λ row below. ends_of _ rows _ firsts row (omega (arith, many, below))),
       many,

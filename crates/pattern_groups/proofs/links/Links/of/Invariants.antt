@@ -4,4 +4,4 @@ use Rattle.pattern_groups.specs.Links.{AreLinksFrom}
 use Rattle.pattern_groups.proofs.links.Links.of.Given as goal
 
 abbrev pub invariant-loop-done : goal.invariant-loop-done
-invariant-loop-done l = AreLinksFrom l.numbers l.first.items l.next.items (length l.numbers - l.done) × (length l.first.items ≡ l.rows)
+invariant-loop-done l = AreLinksFrom l.hashes l.first.items l.next.items (length l.hashes - l.done) × (length l.first.items ≡ l.rows)

@@ -1,4 +1,4 @@
--- where the numbers differ it isn't covered
+-- where the fingerprints differ it isn't covered
 use Rattle.std.proofs.Common.{sym}
 use Rattle.subjects.proofs.pattern.Pattern.has_whole.Goals as goal
 

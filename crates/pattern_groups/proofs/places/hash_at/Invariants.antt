@@ -1,12 +1,12 @@
--- the tokens that are left lead to the number of all
+-- the tokens that are left lead to the hash of all
 use Rattle.std.proofs.Common.{◌≡◌, length, option_copied}
 use Rattle.base.specs.Pieces.{pieces_left}
 use Rattle.subjects.specs.Subject.{tokens_of}
-use Rattle.pattern_groups.specs.Places.{number_at, number_with}
-use Rattle.pattern_groups.proofs.places.number_at.Given as goal
+use Rattle.pattern_groups.specs.Places.{hash_at, hash_with}
+use Rattle.pattern_groups.proofs.places.hash_at.Given as goal
 
 abbrev pub invariant-loop-rest : goal.invariant-loop-rest
-invariant-loop-rest l = number_with l.left l.number (pieces_left 46 (option_copied l.rest)) ≡ number_at l.fn.places (tokens_of l.fn.text)
+invariant-loop-rest l = hash_with l.left l.hash (pieces_left 46 (option_copied l.rest)) ≡ hash_at l.fn.places (tokens_of l.fn.text)
 
 abbrev pub decreases-loop-rest : goal.decreases-loop-rest
 decreases-loop-rest l = length (pieces_left 46 (option_copied l.rest))

@@ -1,8 +1,8 @@
 use Rattle.std.proofs.Common.{◌+◌, sym, subst, drop, slice_index_or}
 use Rattle.std.proofs.lemmas.List.{at_drop_more}
-use Rattle.pattern_groups.specs.Numbers.{IsPast}
+use Rattle.pattern_groups.specs.Hashes.{IsPast}
 use Rattle.pattern_groups.proofs.Fronts.{past_more}
-use Rattle.pattern_groups.proofs.number.past_token.Goals as goal
+use Rattle.pattern_groups.proofs.hash.past_token.Goals as goal
 
 pub loop-at-preserved : goal.loop-at-preserved
 loop-at-preserved c m behind past =
