@@ -6,7 +6,7 @@ use Rattle.std.specs.Cmp.Lexicographic.{pointwise_decides, bytes_decides}
 use Rattle.std.proofs.lemmas.Bool.{cases_Bool}
 use Rattle.subjects.specs.Subject.{Token}
 use Rattle.subjects.specs.Equal.{same_subject, same_subject-equiv}
-use Rattle.reply_grants.specs.declared.marks.Mark.{Mark}
+use Rattle.reply_grants.specs.declared.grant_table.Granted.{Granted}
 use Rattle.permission_doc.specs.declared.document.Terms.{Terms}
 use Rattle.reply_grants.specs.Grants.{Grant, after_answer, answered, has_live, without}
 use Rattle.reply_grants.specs.Window.{Entry, grant_of, window}
@@ -57,16 +57,16 @@ pub none_after : (s : List Token) (e : Entry) (es : List Entry) → s ≡ e.0 �
 none_after s e es q h = subst (λ t. NoneHas t es) (sym q) h
 
 -- one answer more at the first is one answer more at all
-pub answered_first : (s : List Token) (m w : Mark) (es : List Entry) (gone : ℕ) → lookup (same_subject s) es ≡ Some m → IsDistinct same_subject (keys_of es)
+pub answered_first : (s : List Token) (m w : Granted) (es : List Entry) (gone : ℕ) → lookup (same_subject s) es ≡ Some m → IsDistinct same_subject (keys_of es)
     → ((k : List Token) → grant_of (k, w) ≡ answered (grant_of (k, m))) → window gone (set_value (same_subject s) es w) ≡ after_answer s (window gone es)
 unfolding IsDistinct
 answered_first s m w [] gone h d more = absurd (cc)
 answered_first s m w (e ∷ es) gone h d more = elim (cases_Bool (same_subject s e.0)) [
   | inl y ↦
       let here : Some e.1 ≡ Some m = rw y at h in
-      let mark : e.1 ≡ m = cc in
+      let granted : e.1 ≡ m = cc in
       let none = none_after s e es (equal s e.0 y) d.0 in
-      rw y (first gone none (more e.0 ∙ ap (λ n. answered (grant_of (e.0, n))) (sym mark)) y)
+      rw y (first gone none (more e.0 ∙ ap (λ n. answered (grant_of (e.0, n))) (sym granted)) y)
   | inr n ↦ rw n (later gone (λ g. answered_first s m w es g (rw n at h) d.1 more) n)
 ]
   where

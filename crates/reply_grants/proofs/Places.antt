@@ -8,35 +8,35 @@ use Rattle.std.proofs.lemmas.Option.{slice_get_within}
 use Rattle.indexmap.specs.IndexMap.{move_index, set_value_at}
 use Rattle.subjects.specs.Subject.{Token}
 use Rattle.subjects.specs.Equal.{same_subject}
-use Rattle.reply_grants.specs.declared.marks.Mark.{Mark}
+use Rattle.reply_grants.specs.declared.grant_table.Granted.{Granted}
 use Rattle.permission_doc.specs.declared.document.Terms.{Terms}
 use Rattle.reply_grants.specs.Grants.{Grant, has_live, is_live, without}
 use Rattle.reply_grants.specs.Window.{Entry, grant_of, window}
 use Rattle.reply_grants.proofs.Entries.{NoneHas, equal, itself, turned, none_after, none_dropped, none_live, none_without}
 
-has_mark : (s : List Token) (es : List Entry) (p : ℕ) → p < length (keys_of es) → ((d : List Token) → same_subject s (get_or (keys_of es) p d) ≡ true) → (m : Mark) × (slice_get es p ≡ Some (s, m))
-has_mark s [] p inside here = absurd (omega arith)
-has_mark s (e ∷ es) zero inside here = (e.1, ap (λ k. Some (k, e.1)) (sym (equal s e.0 (here []))))
-has_mark s (e ∷ es) (suc p) inside here = has_mark s es p (omega (arith, inside)) here
+has_grant : (s : List Token) (es : List Entry) (p : ℕ) → p < length (keys_of es) → ((d : List Token) → same_subject s (get_or (keys_of es) p d) ≡ true) → (m : Granted) × (slice_get es p ≡ Some (s, m))
+has_grant s [] p inside here = absurd (omega arith)
+has_grant s (e ∷ es) zero inside here = (e.1, ap (λ k. Some (k, e.1)) (sym (equal s e.0 (here []))))
+has_grant s (e ∷ es) (suc p) inside here = has_grant s es p (omega (arith, inside)) here
 
 -- a place that was found has an entry of the subject
-pub placed : (s : List Token) (es : List Entry) (p : ℕ) → Some p ≡ position (same_subject s) (keys_of es) → (m : Mark) × (slice_get es p ≡ Some (s, m))
+pub placed : (s : List Token) (es : List Entry) (p : ℕ) → Some p ≡ position (same_subject s) (keys_of es) → (m : Granted) × (slice_get es p ≡ Some (s, m))
 placed s es p e =
-    has_mark s es p (position-Some (same_subject s) (keys_of es) p [] (sym e)).0 (λ d. (position-Some (same_subject s) (keys_of es) p d (sym e)).1)
+    has_grant s es p (position-Some (same_subject s) (keys_of es) p [] (sym e)).0 (λ d. (position-Some (same_subject s) (keys_of es) p d (sym e)).1)
 
--- and its mark is the one at the place
-pub same_mark : (s : List Token) (m n : Mark) (es : List Entry) (p : ℕ) → slice_get es p ≡ Some (s, m) → slice_get (values_of es) p ≡ Some n → n ≡ m
-same_mark s m n [] p h v = absurd (cc)
-same_mark s m n (e ∷ es) zero h v = cc
-same_mark s m n (e ∷ es) (suc p) h v = same_mark s m n es p h v
+-- and it is the one at the place
+pub same_grant : (s : List Token) (m n : Granted) (es : List Entry) (p : ℕ) → slice_get es p ≡ Some (s, m) → slice_get (values_of es) p ≡ Some n → n ≡ m
+same_grant s m n [] p h v = absurd (cc)
+same_grant s m n (e ∷ es) zero h v = cc
+same_grant s m n (e ∷ es) (suc p) h v = same_grant s m n es p h v
 
 -- what holds of all keys holds of the one there
-at_key : (P : List Token → Type 0) (s : List Token) (m : Mark) (es : List Entry) (p : ℕ) → slice_get es p ≡ Some (s, m) → AllByRecursion P (keys_of es) → P s
+at_key : (P : List Token → Type 0) (s : List Token) (m : Granted) (es : List Entry) (p : ℕ) → slice_get es p ≡ Some (s, m) → AllByRecursion P (keys_of es) → P s
 at_key P s m [] p h all = absurd (cc)
 at_key P s m (e ∷ es) zero h all = let key : e.0 ≡ s = cc in subst P key all.0
 at_key P s m (e ∷ es) (suc p) h all = at_key P s m es p h all.1
 
-module _ (s : List Token) (m : Mark) where
+module _ (s : List Token) (m : Granted) where
   -- none behind the place has the subject
   past : (es : List Entry) (p gone : ℕ) → slice_get es p ≡ Some (s, m) → IsDistinct same_subject (keys_of es) → p < gone → NoneHas s (drop gone es)
   unfolding IsDistinct
@@ -99,14 +99,14 @@ length_removed [] p e h = absurd (cc)
 length_removed (f ∷ es) zero e h = refl
 length_removed (f ∷ es) (suc p) e h = ap suc (length_removed es p e h)
 
-written_last : (es : List Entry) (last : ℕ) (e : Entry) (m : Mark) → last ≡ length es → set_value_at (insert es last e) last m ≡ es ++ (e.0, m) ∷ []
+written_last : (es : List Entry) (last : ℕ) (e : Entry) (m : Granted) → last ≡ length es → set_value_at (insert es last e) last m ≡ es ++ (e.0, m) ∷ []
 written_last [] zero e m q = refl
 written_last [] (suc n) e m q = absurd (omega (arith, q))
 written_last (f ∷ es) zero e m q = absurd (omega (arith, q))
 written_last (f ∷ es) (suc n) e m q = ap (λ (fs : List Entry). f ∷ fs) (written_last es n e m (omega (arith, q)))
 
 -- an entry that is moved behind all, and written
-pub renewed : (es : List Entry) (p last : ℕ) (e : Entry) (m : Mark) → slice_get es p ≡ Some e → suc last ≡ length es
+pub renewed : (es : List Entry) (p last : ℕ) (e : Entry) (m : Granted) → slice_get es p ≡ Some e → suc last ≡ length es
     → set_value_at (move_index es p last) last m ≡ remove es p ++ (e.0, m) ∷ []
 renewed es p last e m h q = rw h (written_last (remove es p) last e m (omega (arith, q, length_removed es p e h)))
 
@@ -116,7 +116,7 @@ window_added [] (suc g) e le = absurd (omega (arith, le))
 window_added (f ∷ es) zero e le = ap (λ (gs : List Grant). grant_of f ∷ gs) (window_added es 0 e (omega arith))
 window_added (f ∷ es) (suc g) e le = window_added es g e (omega (arith, le))
 
-module _ (s : List Token) (m n : Mark) (es : List Entry) (p gone : ℕ) (h : slice_get es p ≡ Some (s, m)) (d : IsDistinct same_subject (keys_of es)) where
+module _ (s : List Token) (m n : Granted) (es : List Entry) (p gone : ℕ) (h : slice_get es p ≡ Some (s, m)) (d : IsDistinct same_subject (keys_of es)) where
   -- the subject's entry is behind all, where it stood
   pub renewed_at : gone ≤ p → window gone (remove es p ++ (s, n) ∷ []) ≡ without s (window gone es) ++ grant_of (s, n) ∷ []
   renewed_at le =
@@ -133,7 +133,7 @@ module _ (s : List Token) (m n : Mark) (es : List Entry) (p gone : ℕ) (h : sli
       (ap (λ (fs : List Entry). map grant_of fs) (removed_before es p (gone - 1) before ∙ ap (λ g. drop g es) again) ∙ sym (without_before s m es p gone h d lt))
 
 -- where none has the subject it comes behind all
-pub added : (s : List Token) (n : Mark) (es fs : List Entry) (gone left : ℕ) → NoneHas s es → fs ≡ drop (gone - left) es → left ≤ gone → left ≤ length fs
+pub added : (s : List Token) (n : Granted) (es fs : List Entry) (gone left : ℕ) → NoneHas s es → fs ≡ drop (gone - left) es → left ≤ gone → left ≤ length fs
     → window left (fs ++ (s, n) ∷ []) ≡ without s (window gone es) ++ grant_of (s, n) ∷ []
 added s n es fs gone left none q le within =
     let whole : gone - left + left ≡ gone = omega (arith, le) in
@@ -143,9 +143,9 @@ added s n es fs gone left none q le within =
     ∙ sym (none_without s (drop gone es) (none_dropped s gone es none)))
 
 -- the entry of a value
-pub with_key : (es : List Entry) (p : ℕ) (m : Mark) → slice_get (values_of es) p ≡ Some m → (k : List Token) × (slice_get es p ≡ Some (k, m))
+pub with_key : (es : List Entry) (p : ℕ) (m : Granted) → slice_get (values_of es) p ≡ Some m → (k : List Token) × (slice_get es p ≡ Some (k, m))
 with_key [] p m v = absurd (cc)
-with_key (e ∷ es) zero m v = let mark : e.1 ≡ m = cc in (e.0, ap (λ n. Some (e.0, n)) mark)
+with_key (e ∷ es) zero m v = let granted : e.1 ≡ m = cc in (e.0, ap (λ n. Some (e.0, n)) granted)
 with_key (e ∷ es) (suc p) m v = with_key es p m v
 
 put_before : (fs : List Entry) (g : ℕ) (e : Entry) → g ≤ length fs → drop (suc g) (insert fs g e) ≡ drop g fs
@@ -155,7 +155,7 @@ put_before (f ∷ fs) zero e le = refl
 put_before (f ∷ fs) (suc g) e le = put_before fs g e (omega (arith, le))
 
 -- the subject's entry is moved in front of those that stand
-pub moved_away : (s : List Token) (m : Mark) (es : List Entry) (p gone : ℕ) → slice_get es p ≡ Some (s, m) → IsDistinct same_subject (keys_of es) → gone ≤ p
+pub moved_away : (s : List Token) (m : Granted) (es : List Entry) (p gone : ℕ) → slice_get es p ≡ Some (s, m) → IsDistinct same_subject (keys_of es) → gone ≤ p
     → window (gone + 1) (move_index es p gone) ≡ without s (window gone es)
 moved_away s m es p gone h d le =
     let more : gone + 1 ≡ suc gone = omega arith in

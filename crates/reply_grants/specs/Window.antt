@@ -1,11 +1,11 @@
 -- How the table keeps the grants: behind some that were dropped, in a map with room for twice as many as may stand.
 use Rattle.std.specs.Prelude.{◌≤◌, ◌+◌, ◌-◌, ◌++◌, ℕ, Bool, List, map, filter, drop, take}
 use Rattle.subjects.specs.Subject.{Token}
-use Rattle.reply_grants.specs.declared.marks.Mark.{Mark}
+use Rattle.reply_grants.specs.declared.grant_table.Granted.{Granted}
 use Rattle.reply_grants.specs.Grants.{Grant}
 
 abbrev pub Entry : Type 0
-Entry = List Token × Mark
+Entry = List Token × Granted
 
 abbrev pub grant_of : Entry → Grant
 grant_of e = record { subject = e.0; noted = e.1.noted; count = e.1.count }

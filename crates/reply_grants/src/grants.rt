@@ -1,4 +1,4 @@
-use crate::marks::{MOST, Mark, Marks, count_answer, drop_dead, drop_one, dropped, is_live, put};
+use crate::grant_table::{MOST, Granted, GrantTable, count_answer, drop_dead, drop_one, dropped, is_live, put};
 use crate::plain::{PlainGrant, plain_grants};
 use base::{Items, NoMemory};
 use indexmap::IndexMap;
@@ -10,7 +10,7 @@ use subjects::{Subject, SubjectRef};
 
 /// The reply subjects that a user may answer on, at most 1,024. A clause sees the grants from the oldest to the youngest.
 pub struct Grants {
-    marks: Marks,
+    table: GrantTable,
     /// How many of them, the oldest, were dropped.
     gone: usize,
 }
@@ -18,7 +18,7 @@ pub struct Grants {
 impl Drop for Grants {
     #[inline(always)]
     fn drop(self) {
-        let Self { marks: _, gone: _ } = self;
+        let Self { table: _, gone: _ } = self;
     }
 }
 
@@ -30,9 +30,9 @@ impl Model for Grants {
 
     ghost Value = { List Grant };
 
-    ghost view = { λ g. window g.gone g.marks.entries };
+    ghost view = { λ g. window g.gone g.table.entries };
 
-    ghost invariant = { λ g. IsKept 1024 g.gone (length g.marks.entries) (spare g.marks) };
+    ghost invariant = { λ g. IsKept 1024 g.gone (length g.table.entries) (spare g.table) };
 }
 
 impl Grants {
@@ -46,7 +46,7 @@ impl Grants {
         ensures { IfOk result (λ all. all ≡ []) }
     {
         Ok(Grants {
-            marks: IndexMap::with_capacity_and_hasher(alloc, 2 * MOST, keys)?,
+            table: IndexMap::with_capacity_and_hasher(alloc, 2 * MOST, keys)?,
             gone: 0,
         })
     }
@@ -55,7 +55,7 @@ impl Grants {
     pub fn known(&self)
         ensures { length self.now ≤ 1024 }
     {
-        let _ = &self.marks;
+        let _ = &self.table;
     }
 
     /// Notes a grant for a reply subject, the youngest of all, in the place of the one that it has. Where 1,024 others
@@ -63,22 +63,22 @@ impl Grants {
     pub fn note(&mut self, subject: Subject, now: u64)
         ensures { self.new ≡ after_note subject now self.old }
     {
-        let gone = put(&mut self.marks, self.gone, subject, Mark::new(now));
-        self.gone = dropped(gone, self.marks.len());
+        let gone = put(&mut self.table, self.gone, subject, Granted::new(now));
+        self.gone = dropped(gone, self.table.len());
     }
 
     /// Whether a grant for the subject is live under these terms. Without terms none is.
     pub fn live(&self, subject: &SubjectRef<'_>, now: u64, terms: Option<Terms>) -> bool
         ensures { result ≡ has_live subject.now now terms self.now }
     {
-        is_live(&self.marks, self.gone, subject, now, terms)
+        is_live(&self.table, self.gone, subject, now, terms)
     }
 
     /// Counts an answer on the subject's grant, if it has one.
     pub fn spend(&mut self, subject: &SubjectRef<'_>)
         ensures { self.new ≡ after_answer subject.now self.old }
     {
-        count_answer(&mut self.marks, subject);
+        count_answer(&mut self.table, subject);
     }
 
     /// Drops the subject's grant, if it has one, where as many answers have passed on it as these terms allow, however
@@ -87,7 +87,7 @@ impl Grants {
         ensures { self.new ≡ after_end subject.now terms self.old }
     {
         if !self.live(subject, 0, terms) {
-            self.gone = drop_one(&mut self.marks, self.gone, subject);
+            self.gone = drop_one(&mut self.table, self.gone, subject);
         }
     }
 
@@ -95,14 +95,14 @@ impl Grants {
     pub fn prune(&mut self, now: u64, terms: Option<Terms>)
         ensures { self.new ≡ filter (grants.is_live now terms) self.old }
     {
-        self.gone = drop_dead(&mut self.marks, self.gone, now, terms);
+        self.gone = drop_dead(&mut self.table, self.gone, now, terms);
     }
 
     /// The grants as they are, oldest first, to be kept. `NoMemory` where memory could not be had.
     pub fn plain(&self, alloc: Global) -> Result<Items<PlainGrant>, NoMemory>
         ensures { IfOk result (λ all. all ≡ self.now) }
     {
-        let all = plain_grants(alloc, &self.marks, self.gone)?;
+        let all = plain_grants(alloc, &self.table, self.gone)?;
         Ok(all)
     }
 }

@@ -2,7 +2,7 @@
 #![tactic(auto)]
 
 mod grants;
-mod marks;
+mod grant_table;
 mod plain;
 mod replies;
 mod subject_key;

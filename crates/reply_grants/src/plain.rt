@@ -2,7 +2,7 @@
 ghost use Rattle.std.specs.Prelude.{◌≡◌, ◌+◌, ◌++◌, IfOk, OnOk};
 ghost use Rattle.reply_grants.specs.Window.{window};
 
-use crate::marks::Marks;
+use crate::grant_table::GrantTable;
 use base::{Alike, Copying, Items, NoMemory};
 use std::alloc::Global;
 use std::marker::Model;
@@ -48,20 +48,20 @@ impl Alike for PlainGrant {
 /// Adds the grant at a place, if there is one.
 fn add_plain(
     alloc: Global,
-    marks: &Marks,
+    table: &GrantTable,
     place: usize,
     all: &mut Vec<PlainGrant>,
 ) -> Result<(), NoMemory>
-    ensures { OnOk result (all.new.items ++ window (place + 1) marks.now.entries ≡ all.old.items ++ window place marks.now.entries) }
+    ensures { OnOk result (all.new.items ++ window (place + 1) table.now.entries ≡ all.old.items ++ window place table.now.entries) }
 {
-    match marks.get_index(place) {
+    match table.get_index(place) {
         None => Ok(()),
-        Some((subject, mark)) => {
+        Some((subject, granted)) => {
             let subject = subject.copy(alloc)?;
             all.push(PlainGrant {
                 subject,
-                noted: mark.noted,
-                count: mark.count,
+                noted: granted.noted,
+                count: granted.count,
             })?;
             Ok(())
         }
@@ -71,14 +71,14 @@ fn add_plain(
 /// The grants behind the first so many, oldest first. `NoMemory` where memory could not be had.
 pub(crate) fn plain_grants(
     alloc: Global,
-    marks: &Marks,
+    table: &GrantTable,
     gone: usize,
 ) -> Result<Items<PlainGrant>, NoMemory>
-    ensures { IfOk result (λ all. all ≡ window gone marks.now.entries) }
+    ensures { IfOk result (λ all. all ≡ window gone table.now.entries) }
 {
     let mut all = Vec::new(alloc);
-    for place in gone..marks.len() {
-        add_plain(alloc, marks, place, &mut all)?;
+    for place in gone..table.len() {
+        add_plain(alloc, table, place, &mut all)?;
     }
     Ok(Items::from_vec(all))
 }

@@ -1,4 +1,4 @@
--- those that the subject's mark was put behind, but for the oldest where they are too many
+-- those that the subject's grant was put behind, but for the oldest where they are too many
 use Rattle.std.proofs.Common.{◌≡◌, ◌∙◌, ◌+◌, ◌-◌, ◌++◌, ◌∷◌, [], List, ap}
 use Rattle.reply_grants.specs.Grants.{Grant, without, youngest}
 use Rattle.reply_grants.specs.Window.{grant_of, window}
@@ -8,7 +8,7 @@ use Rattle.reply_grants.proofs.grants.Grants.note.Goals as goal
 pub returns : goal.returns
 returns c =
     let s = c.args.subject in
-    let es = c.put-gone.new.marks.entries in
+    let es = c.put-gone.new.table.entries in
     let g = c.put-gone.result in
     let fresh : grant_of (s, c.new.result) ≡ record { subject = s; noted = c.args.now; count = 0 } =
     λ i. record { subject = s; noted = c.new.ensures.0 i; count = c.new.ensures.1 i } in
