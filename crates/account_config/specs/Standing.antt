@@ -37,7 +37,7 @@ direction_keys side = optional (codes "allow") (entries_faults side) ∷ optiona
 abbrev pub direction_faults : Side → Path → Data → Faults
 direction_faults side path d = if is_some (as_object d) then object_faults (direction_keys side) path d else entries_faults side path d
 
--- a number is a bound on answers, or -1
+-- a number is a bound on responses, or -1
 abbrev pub max_fault : Path → Option Num → Option ConfigFault
 max_fault path (Some (unsigned n)) = if is_bound n then None else Some (BadMax path)
 max_fault path (Some (negative z)) = if int_eq z (negsuc 0) then None else Some (BadMax path)

@@ -55,7 +55,7 @@ direction_in side (Some d) = lists_in side d
 abbrev pub bound_in : Data → Option ℕ
 bound_in d = option_and_then as_u64 (as_number d)
 
--- without a bound that is given, one answer may pass
+-- without a bound that is given, one response may pass
 abbrev pub max_in : Option Data → Option ℕ
 max_in None = Some 1
 max_in (Some d) = bound_in d
@@ -66,7 +66,7 @@ duration_in d = unwrap_or (duration_of (text_in d)) 0
 abbrev pub terms_in : Data → Terms
 terms_in d = record { max = max_in (get (codes "max") d); expires = option_map duration_in (get (codes "expires") d) }
 
--- true is one answer at any time, and false none
+-- true is one response at any time, and false none
 abbrev pub responses_by : Data → Option Bool → Option Terms
 responses_by d (Some true) = Some record { max = Some 1; expires = None }
 responses_by d (Some false) = None

@@ -11,7 +11,7 @@ use Rattle.subjects.specs.Subject.{Token}
 use Rattle.permission_doc.specs.declared.document.Terms.{Terms}
 use Rattle.permissions.specs.declared.verdict.By.{By}
 use Rattle.permissions.specs.declared.verdict.By.TheVariants.{All as AllowsAll, Index, Grant}
-use Rattle.reply_grants.specs.Replies.{Table, noted, answered_in, ended_in}
+use Rattle.reply_grants.specs.Replies.{Table, noted, responded_in, ended_in}
 use Rattle.reply_grants.specs.declared.replies.Note.{Note}
 use Rattle.events.specs.declared.answer.Addressed.{Addressed}
 use Rattle.events.specs.declared.answer.Delivery.{Delivery}
@@ -19,7 +19,7 @@ use Rattle.events.specs.declared.answer.Item.{Item}
 use Rattle.events.specs.declared.answer.Item.TheVariants.{Entered, Full}
 use Rattle.world_deliveries.specs.Sessions.{session_of, with_session}
 use Rattle.world_deliveries.specs.Delivered.{noting, offered, after_offer, item_of, delivered, has_room}
-use Rattle.world_deliveries.specs.Replying.{terms_of, note_of, note_for, noted_for, answering, ending}
+use Rattle.world_deliveries.specs.Replying.{terms_of, note_of, note_for, noted_for, responding, ending}
 use Rattle.world_deliveries.specs.declared.session.Session.{Session}
 use Rattle.world_rows.specs.declared.subscription.Subscription.{Subscription}
 use Rattle.world_subscriptions.specs.Addressing.{addressed_to}
@@ -202,7 +202,7 @@ there-itself : (table : Table) → IsThere table table
 there-itself None = refl
 there-itself (Some gs) = tt
 
-there-answered : (s : List Token) (table : Table) → IsThere (answered_in s table) table
+there-answered : (s : List Token) (table : Table) → IsThere (responded_in s table) table
 there-answered s None = refl
 there-answered s (Some gs) = tt
 
@@ -262,29 +262,29 @@ module _ (now conn : ℕ) (s : List Token) (ss : List Sending) (zs : List Sessio
 
   -- an answer
   answer-is : (z : Session) → IsFound zs z →
-      ending s (gets zs now ss (answering s z)) ≡ holding z (waiting z) (missed z) (ended_in s (terms_of z) (noted_by z (answered_in s z.replies)))
+      ending s (gets zs now ss (responding s z)) ≡ holding z (waiting z) (missed z) (ended_in s (terms_of z) (noted_by z (responded_in s z.replies)))
   answer-is z at =
       ap (λ t. holding z (waiting z) (missed z) (ended_in s (terms_of z) t))
-      (each-is zs now (room_in (Some z)) z (sent_to z.conn ss) (answered_in s z.replies) (own-is z at) (there-answered s z.replies))
+      (each-is zs now (room_in (Some z)) z (sent_to z.conn ss) (responded_in s z.replies) (own-is z at) (there-answered s z.replies))
 
   by_grant : (z : Session) → IsFound zs z →
-      only (ending s) conn (gets zs now ss (only (answering s) conn z)) ≡ receives_of now Grant conn s ss z
+      only (ending s) conn (gets zs now ss (only (responding s) conn z)) ≡ receives_of now Grant conn s ss z
   by_grant z at = here (z.conn == conn) refl
     where
       plain : Table
       plain = noted_by z z.replies
 
       answer : Table
-      answer = ended_in s (terms_of z) (noted_by z (answered_in s z.replies))
+      answer = ended_in s (terms_of z) (noted_by z (responded_in s z.replies))
 
-      here : (b : Bool) → (z.conn == conn) ≡ b → only (ending s) conn (gets zs now ss (only (answering s) conn z)) ≡ receives_of now Grant conn s ss z
+      here : (b : Bool) → (z.conn == conn) ≡ b → only (ending s) conn (gets zs now ss (only (responding s) conn z)) ≡ receives_of now Grant conn s ss z
       here true is =
-          ap (λ c. only (ending s) conn (gets zs now ss (cond c (answering s z) z))) is
-          ∙ ap (λ c. cond c (ending s (gets zs now ss (answering s z))) (gets zs now ss (answering s z))) is
+          ap (λ c. only (ending s) conn (gets zs now ss (cond c (responding s z) z))) is
+          ∙ ap (λ c. cond c (ending s (gets zs now ss (responding s z))) (gets zs now ss (responding s z))) is
           ∙ answer-is z at
           ∙ sym (ap (λ c. holding z (waiting z) (missed z) (cond c answer plain)) is)
       here false is =
-          ap (λ c. only (ending s) conn (gets zs now ss (cond c (answering s z) z))) is
+          ap (λ c. only (ending s) conn (gets zs now ss (cond c (responding s z) z))) is
           ∙ ap (λ c. cond c (ending s (gets zs now ss z)) (gets zs now ss z)) is
           ∙ plain-is z at
           ∙ sym (ap (λ c. holding z (waiting z) (missed z) (cond c answer plain)) is)
@@ -300,7 +300,7 @@ module _ (now conn : ℕ) (s : List Token) (ss : List Sending) (zs : List Sessio
   outboxes AllowsAll apart = all_plain apart
   outboxes (Index i) apart = all_plain apart
   outboxes Grant apart =
-      let count : Session → Session = answering s in
+      let count : Session → Session = responding s in
       let end : Session → Session = ending s in
       let get : Session → Session = gets zs now ss in
       let counted = with_session-map count conn zs apart in

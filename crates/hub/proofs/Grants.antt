@@ -11,8 +11,8 @@ use Rattle.std.proofs.lemmas.List.Quantifiers.{all_pairs_push}
 use Rattle.subjects.specs.Subject.{Token}
 use Rattle.subjects.specs.Equal.{same_subject, same_subject-equiv}
 use Rattle.permission_doc.specs.declared.document.Terms.{Terms}
-use Rattle.reply_grants.specs.Grants.{Grant, is_below, is_within, is_live, is_for, has_live, without, after_note, answered, after_end, after_answer}
-use Rattle.reply_grants.specs.Replies.{Table, grants_of, noted, answered_in, ended_in, judged}
+use Rattle.reply_grants.specs.Grants.{Grant, is_below, is_within, is_live, is_for, has_live, without, after_note, answered, after_end, after_response}
+use Rattle.reply_grants.specs.Replies.{Table, grants_of, noted, responded_in, ended_in, judged}
 use Rattle.reply_grants.specs.declared.replies.Note.{Note}
 use Rattle.events.specs.declared.answer.Delivery.{Delivery}
 use Rattle.hub.specs.Kept.{is_open, has_response_left, IsAfter, AreApart, AreKept, IsKeptTable}
@@ -92,7 +92,7 @@ same_but_count s g = here (is_for s g)
     here true = (refl, refl)
     here false = (refl, refl)
 
-pub order_answer : (now : ℕ) (s : List Token) (gs : List Grant) → AreInOrder now gs → AreInOrder now (after_answer s gs)
+pub order_answer : (now : ℕ) (s : List Token) (gs : List Grant) → AreInOrder now gs → AreInOrder now (after_response s gs)
 order_answer now s gs is = record {
   few = omega (arith, length-map gs counted, is.few);
   apart = AllPairs-map AreApart counted gs (λ g h apart. ap (λ t. same_subject t (counted h).subject) (same_but_count s g).0 ∙ ap (λ t. same_subject g.subject t) (same_but_count s h).0 ∙ apart) is.apart;
@@ -156,7 +156,7 @@ or-right false b h = h
 spared : (terms : Terms) (s : List Token) (gs : List Grant) → All (HasLeft terms) gs → All (Spares terms s) gs
 spared terms s gs all k d h = or-right (is_for s (get_or gs k d)) _ (all k d h)
 
-spared_answer : (terms : Terms) (s : List Token) (gs : List Grant) → All (Spares terms s) gs → All (Spares terms s) (after_answer s gs)
+spared_answer : (terms : Terms) (s : List Token) (gs : List Grant) → All (Spares terms s) gs → All (Spares terms s) (after_response s gs)
 spared_answer terms s gs all = All-map (Spares terms s) (λ (g : Grant). cond (is_for s g) (answered g) g) gs (λ k d h. here (get_or gs k d) (is_for s (get_or gs k d)) refl (all k d h))
   where
     here : (g : Grant) (b : Bool) → is_for s g ≡ b → Spares terms s g → Spares terms s (cond b (answered g) g)
@@ -277,7 +277,7 @@ record AreSpared (now : ℕ) (terms : Terms) (s : List Token) (gs : List Grant) 
   pub order : AreInOrder now gs
   pub left : All (Spares terms s) gs
 
-spared_begin : (now : ℕ) (terms : Terms) (s : List Token) (table : Table) → IsKeptTable now (Some terms) table → AreSpared now terms s (grants_of (answered_in s table))
+spared_begin : (now : ℕ) (terms : Terms) (s : List Token) (table : Table) → IsKeptTable now (Some terms) table → AreSpared now terms s (grants_of (responded_in s table))
 spared_begin now terms s None is = record { order = order_none now; left = All-nil (Spares terms s) }
 spared_begin now terms s (Some gs) is =
     record { order = order_answer now s gs (in_order now terms gs is); left = spared_answer terms s gs (spared terms s gs is.unspent) }
@@ -298,11 +298,11 @@ spared_end now terms s (Some gs) is =
 
 -- what a publish leaves, be it an answer or not
 pub kept_after : (now : ℕ) (answer : Bool) (s : List Token) (ds : List Delivery) (terms : Option Terms) (table : Table) → IsKeptTable now terms table →
-    IsKeptTable now terms (cond answer (ended_in s terms (noted_each now terms ds (answered_in s table))) (noted_each now terms ds table))
-kept_after now true s ds None table is = ap (ended_in s None) (none_each now ds (answered_in s table)) ∙ ap (λ (t : Table). ended_in s None (answered_in s t)) is
+    IsKeptTable now terms (cond answer (ended_in s terms (noted_each now terms ds (responded_in s table))) (noted_each now terms ds table))
+kept_after now true s ds None table is = ap (ended_in s None) (none_each now ds (responded_in s table)) ∙ ap (λ (t : Table). ended_in s None (responded_in s t)) is
 kept_after now false s ds None table is = kept_each now None ds table is
 kept_after now true s ds (Some terms) table is =
-    spared_end now terms s (noted_each now (Some terms) ds (answered_in s table)) (spared_each now terms s ds (answered_in s table) (spared_begin now terms s table is))
+    spared_end now terms s (noted_each now (Some terms) ds (responded_in s table)) (spared_each now terms s ds (responded_in s table) (spared_begin now terms s table is))
 kept_after now false s ds (Some terms) table is = kept_each now (Some terms) ds table is
 
 -- other terms come into force

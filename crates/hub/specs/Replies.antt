@@ -8,7 +8,7 @@ use Rattle.permission_doc.specs.declared.document.Terms.{Terms}
 use Rattle.permissions.specs.declared.verdict.By.{By}
 use Rattle.permissions.specs.declared.verdict.By.TheVariants.{All as AllowsAll, Index, Grant as ByGrant}
 use Rattle.reply_grants.specs.Grants.{Grant}
-use Rattle.reply_grants.specs.Replies.{Table, grants_of, noted, answered_in, ended_in}
+use Rattle.reply_grants.specs.Replies.{Table, grants_of, noted, responded_in, ended_in}
 use Rattle.policy_ready.specs.declared.ready.User.{User}
 use Rattle.events.specs.declared.answer.Delivery.{Delivery}
 use Rattle.world_deliveries.specs.Sessions.{session_of}
@@ -74,5 +74,5 @@ noted_each now terms (d ∷ ds) table = noted_each now terms ds (noted_at now te
 abbrev pub replies_after : ℕ → By → ℕ → List Token → List Delivery → Session → Table
 replies_after now by conn s entered z =
     if is_response by conn z
-    then ended_in s z.user.rules.allow_responses (noted_each now z.user.rules.allow_responses entered (answered_in s z.replies))
+    then ended_in s z.user.rules.allow_responses (noted_each now z.user.rules.allow_responses entered (responded_in s z.replies))
     else noted_each now z.user.rules.allow_responses entered z.replies

@@ -9,7 +9,7 @@ use Rattle.subjects.specs.Subject.{Token}
 use Rattle.subjects.specs.Equal.{same_subject, same_subject-equiv}
 use Rattle.permission_doc.specs.declared.document.Terms.{Terms}
 use Rattle.reply_grants.specs.Grants.{Grant, is_live, is_for, has_live, without, answered, after_note}
-use Rattle.reply_grants.specs.Replies.{Table, grants_of, answered_in, ended_in, judged}
+use Rattle.reply_grants.specs.Replies.{Table, grants_of, responded_in, ended_in, judged}
 use Rattle.events.specs.declared.answer.Delivery.{Delivery}
 use Rattle.hub.specs.Replies.{noted_at, noted_each}
 use Rattle.hub.proofs.Grants.{not-false}
@@ -95,7 +95,7 @@ module _ (steps : List Step) (a : Step) (conn : ℕ) (lasts : is_end conn a ≡ 
       here true own = counted steps a conn g lasts (tells g.subject ∙ own) is
       here false own = unanswered steps a conn g lasts (tells g.subject ∙ own) is
 
-  answered-table : (s : List Token) (table : Table) → ((t : List Token) → is_response conn t a ≡ same_subject s t) → All (IsNoted steps conn) (grants_of table) → All (IsNotedUnless steps a conn) (grants_of (answered_in s table))
+  answered-table : (s : List Token) (table : Table) → ((t : List Token) → is_response conn t a ≡ same_subject s t) → All (IsNoted steps conn) (grants_of table) → All (IsNotedUnless steps a conn) (grants_of (responded_in s table))
   answered-table s None tells all = All-nil (IsNotedUnless steps a conn)
   answered-table s (Some gs) tells all =
       All-map (IsNotedUnless steps a conn) (λ (g : Grant). cond (is_for s g) (answered g) g) gs (λ k d h. answered-one s (get_or gs k d) tells (all k d h))
@@ -167,10 +167,10 @@ module _ (steps : List Step) (a : Step) (conn : ℕ) (lasts : is_end conn a ≡ 
   pub after-publish : (now : ℕ) (answer : Bool) (s : List Token) (ds : List Delivery) (terms : Option Terms) (table : Table) →
       ((t : List Token) → is_response conn t a ≡ (answer && same_subject s t)) → ((t : List Token) → is_request conn t a ≡ list_any (asks_on t) ds) → (terms ≡ None → table ≡ None) →
       now ≡ latest (steps ++ a ∷ []) → All (IsNoted steps conn) (grants_of table) →
-      All (IsNoted (steps ++ a ∷ []) conn) (grants_of (cond answer (ended_in s terms (noted_each now terms ds (answered_in s table))) (noted_each now terms ds table)))
+      All (IsNoted (steps ++ a ∷ []) conn) (grants_of (cond answer (ended_in s terms (noted_each now terms ds (responded_in s table))) (noted_each now terms ds table)))
   after-publish now true s ds terms table answers requests bare is all =
-      ended-table s terms (noted_each now terms ds (answered_in s table))
-      (noted-table now ds terms (answered_in s table) requests (λ e. ap (answered_in s) (bare e)) is (answered-table s table answers all))
+      ended-table s terms (noted_each now terms ds (responded_in s table))
+      (noted-table now ds terms (responded_in s table) requests (λ e. ap (responded_in s) (bare e)) is (answered-table s table answers all))
     where
       ended-table : (s : List Token) (terms : Option Terms) (t : Table) → All (IsNoted (steps ++ a ∷ []) conn) (grants_of t) → All (IsNoted (steps ++ a ∷ []) conn) (grants_of (ended_in s terms t))
       ended-table s terms None all = all

@@ -7,8 +7,8 @@ use Rattle.std.proofs.lemmas.List.{length-append, drop-append-le}
 use Rattle.std.proofs.lemmas.List.Elements.{All-nil, All-cons, All-head, All-tail, filter-append, filter_agree, filter_passes, All-filter}
 use Rattle.subjects.specs.Subject.{Token}
 use Rattle.permission_doc.specs.declared.document.Terms.{Terms}
-use Rattle.reply_grants.specs.Grants.{Grant, is_below, is_within, is_live, is_for, has_live, youngest, without, after_note, answered, after_end, after_answer}
-use Rattle.reply_grants.specs.Replies.{Table, grants_of, answered_in, ended_in, judged}
+use Rattle.reply_grants.specs.Grants.{Grant, is_below, is_within, is_live, is_for, has_live, youngest, without, after_note, answered, after_end, after_response}
+use Rattle.reply_grants.specs.Replies.{Table, grants_of, responded_in, ended_in, judged}
 use Rattle.events.specs.declared.answer.Delivery.{Delivery}
 use Rattle.hub.specs.Kept.{is_open, has_response_left, IsAfter, AreKept, IsKeptTable}
 use Rattle.hub.specs.Replies.{noted_at, noted_each}
@@ -128,7 +128,7 @@ module _ (now : ℕ) (terms : Terms) where
       here false is = filter-among (is_live now (Some terms)) (λ (g : Grant). not (is_for s g)) gs (other gs is)
 
   -- a count doesn't change an age
-  answer_same : (s : List Token) (gs : List Grant) → filter young (after_answer s gs) ≡ after_answer s (filter young gs)
+  answer_same : (s : List Token) (gs : List Grant) → filter young (after_response s gs) ≡ after_response s (filter young gs)
   unfolding young
   answer_same s gs = filter-map young (λ (g : Grant). cond (is_for s g) (answered g) g) gs (λ g. here g (is_for s g))
     where
@@ -297,16 +297,16 @@ module _ (now : ℕ) (terms : Terms) where
   noted_same ds gs kept = same_live (notes ds) (notes_same ds) gs kept
 
   answered_same : (s : List Token) (ds : List Delivery) (gs : List Grant) → AreKept now terms gs →
-      filter (is_live now (Some terms)) (after_end s (Some terms) (notes ds (after_answer s gs)))
-      ≡ filter (is_live now (Some terms)) (after_end s (Some terms) (notes ds (after_answer s (filter (is_live now (Some terms)) gs))))
+      filter (is_live now (Some terms)) (after_end s (Some terms) (notes ds (after_response s gs)))
+      ≡ filter (is_live now (Some terms)) (after_end s (Some terms) (notes ds (after_response s (filter (is_live now (Some terms)) gs))))
   answered_same s ds gs kept =
-      end_same s (notes ds (after_answer s gs))
-      ∙ same_live (λ xs. notes ds (after_answer s xs)) (λ xs order. notes_same ds (after_answer s xs) (order_answer now s xs order) ∙ ap (notes ds) (answer_same s xs)) gs kept
-      ∙ sym (end_same s (notes ds (after_answer s (filter (is_live now (Some terms)) gs))))
+      end_same s (notes ds (after_response s gs))
+      ∙ same_live (λ xs. notes ds (after_response s xs)) (λ xs order. notes_same ds (after_response s xs) (order_answer now s xs order) ∙ ap (notes ds) (answer_same s xs)) gs kept
+      ∙ sym (end_same s (notes ds (after_response s (filter (is_live now (Some terms)) gs))))
 
 -- a table after a publish, be it an answer or not
 abbrev pub left_by : ℕ → Bool → List Token → List Delivery → Option Terms → Table → Table
-left_by now answer s ds terms table = cond answer (ended_in s terms (noted_each now terms ds (answered_in s table))) (noted_each now terms ds table)
+left_by now answer s ds terms table = cond answer (ended_in s terms (noted_each now terms ds (responded_in s table))) (noted_each now terms ds table)
 
 pub after_same : (now : ℕ) (answer : Bool) (s : List Token) (ds : List Delivery) (terms : Option Terms) (table : Table) → IsKeptTable now terms table →
     live_in now terms (left_by now answer s ds terms table) ≡ live_in now terms (left_by now answer s ds terms (live_in now terms table))
@@ -314,9 +314,9 @@ after_same now answer s ds None table is =
     subst (λ (t : Table). live_in now None (left_by now answer s ds None t) ≡ live_in now None (left_by now answer s ds None (live_in now None t))) (sym is) refl
 after_same now answer s ds (Some terms) None is = refl
 after_same now true s ds (Some terms) (Some gs) is =
-    ap (λ (t : Table). live_in now (Some terms) (ended_in s (Some terms) t)) (as_notes now terms ds (after_answer s gs))
+    ap (λ (t : Table). live_in now (Some terms) (ended_in s (Some terms) t)) (as_notes now terms ds (after_response s gs))
     ∙ ap (λ xs. Some xs) (answered_same now terms s ds gs is)
-    ∙ sym (ap (λ (t : Table). live_in now (Some terms) (ended_in s (Some terms) t)) (as_notes now terms ds (after_answer s (filter (is_live now (Some terms)) gs))))
+    ∙ sym (ap (λ (t : Table). live_in now (Some terms) (ended_in s (Some terms) t)) (as_notes now terms ds (after_response s (filter (is_live now (Some terms)) gs))))
 after_same now false s ds (Some terms) (Some gs) is =
     ap (live_in now (Some terms)) (as_notes now terms ds gs)
     ∙ ap (λ xs. Some xs) (noted_same now terms ds gs is)

@@ -2,14 +2,14 @@ use base::{Copying, Items, NoMemory};
 use std::alloc::Global;
 use subjects::Pattern;
 
-/// What a user may publish, what it may subscribe to, and on what terms it may answer requests.
+/// What a user may publish, what it may subscribe to, and on what terms it may respond to requests.
 #[derive(Debug)]
 pub struct PermDoc {
     /// What decides a publish.
     pub publish: Direction,
     /// What decides a subscription, and the messages that are sent to it.
     pub subscribe: Direction,
-    /// On what terms it may answer requests, or none. Where no publish allow list is given, terms bring the empty one.
+    /// On what terms it may respond to requests, or none. Where no publish allow list is given, terms bring the empty one.
     pub allow_responses: Option<Terms>,
 }
 
@@ -23,10 +23,10 @@ impl Drop for PermDoc {
     }
 }
 
-/// On what terms a user may answer requests, that is on the reply subjects of messages that it was sent.
+/// On what terms a user may respond to requests, that is on the reply subjects of messages that it was sent.
 #[derive(Clone, Copy, Debug, PartialEq, Eq)]
 pub struct Terms {
-    /// How many answers may pass for one request. Without it there is no bound.
+    /// How many responses may pass for one request. Without it there is no bound.
     pub max: Option<u64>,
     /// For how many milliseconds they may pass. Without it there is no limit.
     pub expires: Option<u64>,

@@ -1,4 +1,4 @@
-//! What a user may do, as a policy writes it down: its permission lists, and its terms for answers.
+//! What a user may do, as a policy writes it down: its permission lists, and its terms for responses.
 #![tactic(auto)]
 
 mod document;

@@ -107,9 +107,9 @@ spelled_from side long short (Some d) (Some e) = Err (WrongType short)
 abbrev pub spelled_at : Side → List ℕ → List ℕ → Path → Data → Read Direction
 spelled_at side long short path d = spelled_from side (at_key path long) (at_key path short) (get long d) (get short d)
 
--- ---- terms to answer on
+-- ---- terms to respond on
 
--- at most so many answers
+-- at most so many responses
 abbrev pub is_bound : ℕ → Bool
 is_bound n = nat_le 1 n && nat_le n 2147483647
 
@@ -123,7 +123,7 @@ max_from path None (Some z) = if int_eq z (negsuc 0) then Ok None else Err (BadM
 abbrev pub max_at : Path → Data → Read (Option ℕ)
 max_at path d = max_from path (option_and_then as_u64 (as_number d)) (option_and_then as_i64 (as_number d))
 
--- without a bound that is given, one answer may pass
+-- without a bound that is given, one response may pass
 abbrev pub max_under : Path → Option Data → Read (Option ℕ)
 max_under path None = Ok (Some 1)
 max_under path (Some d) = max_at path d
@@ -150,11 +150,11 @@ terms_at path d = do
   expires ← expires_under (at_key path (codes "expires")) (get (codes "expires") d)
   Ok (record { max = max; expires = expires })
 
--- one answer, at any time
+-- one response, at any time
 abbrev pub one_answer : Terms
 one_answer = record { max = Some 1; expires = None }
 
--- true is one answer, false none, and an object has terms
+-- true is one response, false none, and an object has terms
 abbrev pub responses_from : Path → Data → Option Bool → Read (Option Terms)
 responses_from path d (Some true) = Ok (Some one_answer)
 responses_from path d (Some false) = Ok None

@@ -1,4 +1,4 @@
-//! The terms on which a user may answer.
+//! The terms on which a user may respond.
 ghost use Rattle.std.specs.Prelude.{◌≡◌, option_map};
 ghost use Rattle.serde_json.specs.View.{view};
 ghost use Rattle.policy_walk.specs.Fault.{Gives};
@@ -9,7 +9,7 @@ use policy_walk::{ConfigFault, Path, judge, read_duration, text_of};
 use serde_json::Value;
 use std::alloc::Global;
 
-/// The most answers that a bound may name.
+/// The most responses that a bound may name.
 const MOST_ANSWERS: u64 = 2_147_483_647;
 
 /// What is under `allow_responses`, if it is there.
@@ -25,7 +25,7 @@ pub(crate) fn allow_responses_of(
     Ok(responses_under(alloc, &below, value.get("allow_responses"))?)
 }
 
-/// The terms on which a user may answer, if they are there.
+/// The terms on which a user may respond, if they are there.
 fn responses_under(
     alloc: Global,
     path: &Path,
@@ -39,7 +39,7 @@ fn responses_under(
     }
 }
 
-/// The terms of true, which is one answer at any time, of false, which is none, or of an object.
+/// The terms of true, which is one response at any time, of false, which is none, or of an object.
 fn responses_of(alloc: Global, path: &Path, value: &Value) -> Result<Option<Terms>, ConfigFault>
     ensures { Gives (λ x. x) result (responses_at path.now (view value.now)) }
 {
@@ -66,7 +66,7 @@ fn terms_of(alloc: Global, path: &Path, value: &Value) -> Result<Terms, ConfigFa
     Ok(Terms { max, expires })
 }
 
-/// The bound on answers; without it one may pass.
+/// The bound on responses; without it one may pass.
 fn max_under(alloc: Global, path: &Path, found: Option<&Value>) -> Result<Option<u64>, ConfigFault>
     ensures { Gives (λ x. x) result (max_under path.now (option_map (λ v. view v.now) found.entry)) }
 {
@@ -101,7 +101,7 @@ fn max_of(alloc: Global, path: &Path, value: &Value) -> Result<Option<u64>, Conf
     }
 }
 
-/// Whether so many answers may be a bound.
+/// Whether so many responses may be a bound.
 fn is_bound(max: u64) -> bool
     ensures { result ≡ is_bound max }
 {

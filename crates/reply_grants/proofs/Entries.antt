@@ -8,7 +8,7 @@ use Rattle.subjects.specs.Subject.{Token}
 use Rattle.subjects.specs.Equal.{same_subject, same_subject-equiv}
 use Rattle.reply_grants.specs.declared.grant_table.Granted.{Granted}
 use Rattle.permission_doc.specs.declared.document.Terms.{Terms}
-use Rattle.reply_grants.specs.Grants.{Grant, after_answer, answered, has_live, without}
+use Rattle.reply_grants.specs.Grants.{Grant, after_response, answered, has_live, without}
 use Rattle.reply_grants.specs.Window.{Entry, grant_of, window}
 
 pub itself : (s : List Token) → same_subject s s ≡ true
@@ -48,7 +48,7 @@ pub none_without : (s : List Token) (es : List Entry) → NoneHas s es → witho
 none_without s [] h = refl
 none_without s (e ∷ es) h = rw h.0 (ap (λ (gs : List Grant). grant_of e ∷ gs) (none_without s es h.1))
 
-pub none_answered : (s : List Token) (es : List Entry) → NoneHas s es → after_answer s (map grant_of es) ≡ map grant_of es
+pub none_answered : (s : List Token) (es : List Entry) → NoneHas s es → after_response s (map grant_of es) ≡ map grant_of es
 none_answered s [] h = refl
 none_answered s (e ∷ es) h = rw h.0 (ap (λ (gs : List Grant). grant_of e ∷ gs) (none_answered s es h.1))
 
@@ -58,7 +58,7 @@ none_after s e es q h = subst (λ t. NoneHas t es) (sym q) h
 
 -- one answer more at the first is one answer more at all
 pub answered_first : (s : List Token) (m w : Granted) (es : List Entry) (gone : ℕ) → lookup (same_subject s) es ≡ Some m → IsDistinct same_subject (keys_of es)
-    → ((k : List Token) → grant_of (k, w) ≡ answered (grant_of (k, m))) → window gone (set_value (same_subject s) es w) ≡ after_answer s (window gone es)
+    → ((k : List Token) → grant_of (k, w) ≡ answered (grant_of (k, m))) → window gone (set_value (same_subject s) es w) ≡ after_response s (window gone es)
 unfolding IsDistinct
 answered_first s m w [] gone h d more = absurd (cc)
 answered_first s m w (e ∷ es) gone h d more = elim (cases_Bool (same_subject s e.0)) [
@@ -70,10 +70,10 @@ answered_first s m w (e ∷ es) gone h d more = elim (cases_Bool (same_subject s
   | inr n ↦ rw n (later gone (λ g. answered_first s m w es g (rw n at h) d.1 more) n)
 ]
   where
-    first : (gone : ℕ) → NoneHas s es → grant_of (e.0, w) ≡ answered (grant_of e) → same_subject s e.0 ≡ true → window gone ((e.0, w) ∷ es) ≡ after_answer s (window gone (e ∷ es))
+    first : (gone : ℕ) → NoneHas s es → grant_of (e.0, w) ≡ answered (grant_of e) → same_subject s e.0 ≡ true → window gone ((e.0, w) ∷ es) ≡ after_response s (window gone (e ∷ es))
     first zero none one y = rw y (ap (λ (g : Grant). g ∷ map grant_of es) one ∙ ap (λ (gs : List Grant). answered (grant_of e) ∷ gs) (sym (none_answered s es none)))
     first (suc g) none one y = sym (none_answered s (drop g es) (none_dropped s g es none))
 
-    later : (gone : ℕ) → ((g : ℕ) → window g (set_value (same_subject s) es w) ≡ after_answer s (window g es)) → same_subject s e.0 ≡ false → window gone (e ∷ set_value (same_subject s) es w) ≡ after_answer s (window gone (e ∷ es))
+    later : (gone : ℕ) → ((g : ℕ) → window g (set_value (same_subject s) es w) ≡ after_response s (window g es)) → same_subject s e.0 ≡ false → window gone (e ∷ set_value (same_subject s) es w) ≡ after_response s (window gone (e ∷ es))
     later zero rest n = rw n (ap (λ (gs : List Grant). grant_of e ∷ gs) (rest 0))
     later (suc g) rest n = rest g

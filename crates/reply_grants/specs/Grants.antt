@@ -1,4 +1,4 @@
--- The grants to answer on reply subjects, from the oldest to the youngest, and what changes them
+-- The grants to respond on reply subjects, from the oldest to the youngest, and what changes them
 -- (docs/GUARANTEE.md, "Reply grants: the table").
 use Rattle.std.specs.Prelude.{◌+◌, ◌-◌, ◌^◌, ◌++◌, ◌∷◌, [], ℕ, Bool, true, false, not, ◌&&◌, cond, List, Option, Some, None, length, map, filter, drop, min, nat_lt, nat_le, if◌then◌else◌}
 use Rattle.std.specs.List.{list_any}
@@ -6,7 +6,7 @@ use Rattle.subjects.specs.Subject.{Token}
 use Rattle.subjects.specs.Equal.{same_subject}
 use Rattle.permission_doc.specs.declared.document.Terms.{Terms}
 
--- a subject to answer on, the moment when it was noted, and how many answers have passed on it since
+-- a subject to respond on, the moment when it was noted, and how many responses have passed on it since
 pub record Grant : Type 0 where
   pub subject : List Token
   pub noted : ℕ
@@ -45,17 +45,17 @@ youngest grants = drop (length grants - 1024) grants
 abbrev pub without : List Token → List Grant → List Grant
 without subject grants = filter (λ (grant : Grant). not (is_for subject grant)) grants
 
--- the subject's grant becomes the youngest, with no answers
+-- the subject's grant becomes the youngest, with no responses
 abbrev pub after_note : List Token → ℕ → List Grant → List Grant
 after_note subject now grants = youngest (without subject grants ++ record { subject = subject; noted = now; count = 0 } ∷ [])
 
--- one answer more, as far as a count goes
+-- one response more, as far as a count goes
 abbrev pub answered : Grant → Grant
 answered grant = record grant { count = min (grant.count + 1) (2 ^ 64 - 1) }
 
--- the subject's grant goes where as many answers have passed on it as may, however old it is: at the moment 0 each age is 0
+-- the subject's grant goes where as many responses have passed on it as may, however old it is: at the moment 0 each age is 0
 abbrev pub after_end : List Token → Option Terms → List Grant → List Grant
 after_end subject terms grants = if has_live subject 0 terms grants then grants else without subject grants
 
-abbrev pub after_answer : List Token → List Grant → List Grant
-after_answer subject grants = map (λ (grant : Grant). cond (is_for subject grant) (answered grant) grant) grants
+abbrev pub after_response : List Token → List Grant → List Grant
+after_response subject grants = map (λ (grant : Grant). cond (is_for subject grant) (answered grant) grant) grants

@@ -5,7 +5,7 @@ use Rattle.std.specs.Option.{option_map, option_or}
 use Rattle.subjects.specs.Subject.{Token}
 use Rattle.permission_doc.specs.declared.document.Terms.{Terms}
 use Rattle.reply_grants.specs.declared.replies.Note.{Note}
-use Rattle.reply_grants.specs.Grants.{Grant, is_live, after_note, after_answer, after_end}
+use Rattle.reply_grants.specs.Grants.{Grant, is_live, after_note, after_response, after_end}
 
 abbrev pub Table : Type 0
 Table = Option (List Grant)
@@ -18,8 +18,8 @@ grants_of (Some grants) = grants
 abbrev pub noted : Note → ℕ → Table → Table
 noted note now table = option_map (after_note note.subject now) (option_or table note.table)
 
-abbrev pub answered_in : List Token → Table → Table
-answered_in subject table = option_map (after_answer subject) table
+abbrev pub responded_in : List Token → Table → Table
+responded_in subject table = option_map (after_response subject) table
 
 abbrev pub ended_in : List Token → Option Terms → Table → Table
 ended_in subject terms table = option_map (after_end subject terms) table

@@ -6,7 +6,7 @@ ghost use Rattle.indexmap.specs.IndexMap.{spare, get, index_of_by, IsUnique};
 ghost use Rattle.subjects.specs.Subject.{Token};
 ghost use Rattle.subjects.specs.Equal.{same_subject};
 ghost use Rattle.reply_grants.specs.Grants as grants;
-ghost use Rattle.reply_grants.specs.Grants.{after_answer, has_live, without};
+ghost use Rattle.reply_grants.specs.Grants.{after_response, has_live, without};
 ghost use Rattle.reply_grants.specs.Window.{Entry, IsKept, grant_of, so_far, window};
 
 use crate::subject_key::SubjectKey;
@@ -86,8 +86,8 @@ pub(crate) fn is_live(
 }
 
 /// Counts one response more on the subject, if it has a grant.
-pub(crate) fn count_answer(table: &mut GrantTable, subject: &SubjectRef<'_>)
-    ensures window { (gone : ℕ) → window gone table.new.entries ≡ after_answer subject.now (window gone table.old.entries) }
+pub(crate) fn count_response(table: &mut GrantTable, subject: &SubjectRef<'_>)
+    ensures window { (gone : ℕ) → window gone table.new.entries ≡ after_response subject.now (window gone table.old.entries) }
     ensures held { length table.new.entries ≡ length table.old.entries }
     ensures free { spare table.new ≡ spare table.old }
 {

@@ -1,4 +1,4 @@
-use crate::grant_table::{MOST, Granted, GrantTable, count_answer, drop_dead, drop_one, dropped, is_live, put};
+use crate::grant_table::{MOST, Granted, GrantTable, count_response, drop_dead, drop_one, dropped, is_live, put};
 use crate::plain::{PlainGrant, plain_grants};
 use base::{Items, NoMemory};
 use indexmap::IndexMap;
@@ -8,7 +8,7 @@ use std::hash::RandomState;
 use std::marker::Model;
 use subjects::{Subject, SubjectRef};
 
-/// The reply subjects that a user may answer on, at most 1,024. A clause sees the grants from the oldest to the youngest.
+/// The reply subjects on which a user may respond, at most 1,024. A clause sees the grants from the oldest to the youngest.
 pub struct Grants {
     table: GrantTable,
     /// How many of them, the oldest, were dropped.
@@ -37,7 +37,7 @@ impl Model for Grants {
 
 impl Grants {
     ghost use Rattle.std.specs.Prelude.{◌≡◌, ◌≤◌, [], IfOk, length, filter};
-    ghost use Rattle.reply_grants.specs.Grants.{has_live, after_note, after_answer, after_end};
+    ghost use Rattle.reply_grants.specs.Grants.{has_live, after_note, after_response, after_end};
     ghost use Rattle.reply_grants.specs.Grants as grants;
 
     /// No grants, with room for as many as may stand: nothing takes memory from here on. Others choose the reply
@@ -74,14 +74,14 @@ impl Grants {
         is_live(&self.table, self.gone, subject, now, terms)
     }
 
-    /// Counts an answer on the subject's grant, if it has one.
+    /// Counts a response on the subject's grant, if it has one.
     pub fn spend(&mut self, subject: &SubjectRef<'_>)
-        ensures { self.new ≡ after_answer subject.now self.old }
+        ensures { self.new ≡ after_response subject.now self.old }
     {
-        count_answer(&mut self.table, subject);
+        count_response(&mut self.table, subject);
     }
 
-    /// Drops the subject's grant, if it has one, where as many answers have passed on it as these terms allow, however
+    /// Drops the subject's grant, if it has one, where as many responses have passed on it as these terms allow, however
     /// old it is.
     pub fn end(&mut self, subject: &SubjectRef<'_>, terms: Option<Terms>)
         ensures { self.new ≡ after_end subject.now terms self.old }

@@ -1,4 +1,4 @@
-//! The reply subjects that a user may answer on: since when, and how many answers have passed.
+//! The reply subjects on which a user may respond: since when, and how many responses have passed.
 #![tactic(auto)]
 
 mod grants;

@@ -10,11 +10,11 @@ use subjects::Subject;
 
 /// A grant as it was at a moment. A clause sees the grant.
 pub struct PlainGrant {
-    /// The subject to answer on.
+    /// The subject of its responses.
     pub subject: Subject,
     /// The moment when it was noted.
     pub noted: u64,
-    /// How many answers have passed on it since.
+    /// How many responses have passed on it since.
     pub count: u64,
 }
 

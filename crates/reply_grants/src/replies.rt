@@ -13,10 +13,10 @@ pub struct Replies {
     table: Option<Box<Grants>>,
 }
 
-/// What is noted where a request is handed over: the subject to answer on, and an empty table for whoever has none.
+/// What is noted where a request is handed over: the subject of its responses, and an empty table for whoever has none.
 #[derive(Drop)]
 pub struct Note {
-    /// The subject to answer on.
+    /// The subject of its responses.
     pub subject: Subject,
     /// The table, which is dropped where there is one already.
     pub table: Replies,
@@ -35,7 +35,7 @@ impl Model for Replies {
 
 impl Replies {
     ghost use Rattle.std.specs.Prelude.{◌≡◌, [], None, Some, IfOk, is_some};
-    ghost use Rattle.reply_grants.specs.Replies.{grants_of, noted, answered_in, ended_in, judged};
+    ghost use Rattle.reply_grants.specs.Replies.{grants_of, noted, responded_in, ended_in, judged};
     ghost use Rattle.reply_grants.specs.Grants.{has_live};
 
     /// No table.
@@ -85,9 +85,9 @@ impl Replies {
         }
     }
 
-    /// Counts an answer on the subject's grant, if it has one.
-    pub fn answer(&mut self, subject: &SubjectRef<'_>)
-        ensures { self.new ≡ answered_in subject.now self.old }
+    /// Counts a response on the subject's grant, if it has one.
+    pub fn count_response(&mut self, subject: &SubjectRef<'_>)
+        ensures { self.new ≡ responded_in subject.now self.old }
     {
         match &mut self.table {
             None => {}
@@ -95,7 +95,7 @@ impl Replies {
         }
     }
 
-    /// Drops the subject's grant, if it has one, where as many answers have passed on it as these terms allow.
+    /// Drops the subject's grant, if it has one, where as many responses have passed on it as these terms allow.
     pub fn end(&mut self, subject: &SubjectRef<'_>, terms: Option<Terms>)
         ensures { self.new ≡ ended_in subject.now terms self.old }
     {

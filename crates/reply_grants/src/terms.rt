@@ -3,7 +3,7 @@ ghost use Rattle.reply_grants.specs.Grants as grants;
 
 use permission_doc::Terms;
 
-/// Whether one answer more may pass on these terms, after so many answers and so many milliseconds.
+/// Whether one response more may pass on these terms, after so many responses and so many milliseconds.
 pub(crate) fn allow(terms: Terms, count: u64, age: u64) -> bool
     ensures { result ≡ grants.allow terms count age }
 {

@@ -34,7 +34,7 @@ use Rattle.events.specs.Messages.{Message}
 use Rattle.events.specs.declared.answer.Item.{Item}
 use Rattle.events.specs.declared.answer.Outcome.{Outcome}
 use Rattle.events.specs.declared.answer.Outcome.TheVariants.{Published}
-use Rattle.world_deliveries.specs.Replying.{answering, ending}
+use Rattle.world_deliveries.specs.Replying.{responding, ending}
 use Rattle.world_deliveries.specs.declared.session.Session.{Session}
 use Rattle.world_routing.specs.World.{World}
 use Rattle.world_routing.specs.Granting.{counted_on, ended_on}
@@ -167,12 +167,12 @@ module _ (t : Tenants) where
   counted_own : (by : By) (conn : ℕ) (s : List Token) (zs : List Session) → t.connections conn ≡ true → sessions_of t (counted_on by conn s zs) ≡ counted_on by conn s (sessions_of t zs)
   counted_own AllowsAll conn s zs is = refl
   counted_own (Index i) conn s zs is = refl
-  counted_own Grant conn s zs is = changed_kept t (answering s) (λ z. refl) conn zs is
+  counted_own Grant conn s zs is = changed_kept t (responding s) (λ z. refl) conn zs is
 
   counted_others : (by : By) (conn : ℕ) (s : List Token) (zs : List Session) → t.connections conn ≡ false → sessions_of t (counted_on by conn s zs) ≡ sessions_of t zs
   counted_others AllowsAll conn s zs out = refl
   counted_others (Index i) conn s zs out = refl
-  counted_others Grant conn s zs out = others_kept t (answering s) (λ z. refl) conn zs out
+  counted_others Grant conn s zs out = others_kept t (responding s) (λ z. refl) conn zs out
 
   ended_own : (by : By) (conn : ℕ) (s : List Token) (zs : List Session) → t.connections conn ≡ true → sessions_of t (ended_on by conn s zs) ≡ ended_on by conn s (sessions_of t zs)
   ended_own AllowsAll conn s zs is = refl

@@ -31,7 +31,7 @@ use Rattle.events.specs.declared.event.Command.{Command}
 use Rattle.events.specs.declared.event.Command.TheVariants.{Connect, Sub, Unsub, Pub, Take, Close, Reload}
 use Rattle.world_deliveries.specs.Sessions.{session_of, with_session, new_session, drained}
 use Rattle.world_deliveries.specs.Delivered.{after_offer, delivered, noting, offered}
-use Rattle.world_deliveries.specs.Replying.{answering, ending}
+use Rattle.world_deliveries.specs.Replying.{responding, ending}
 use Rattle.world_deliveries.specs.declared.session.Session.{Session}
 use Rattle.world_sessions.specs.Renewal.{renewed, stays, user_again_of, with_user}
 use Rattle.world_subscriptions.specs.Subscriptions.{has_all, stands, subscription_of}
@@ -78,7 +78,7 @@ module _ (t : Tenants) where
   counted_all : (by : By) (conn : ℕ) (s : List Token) (zs : List Session) → All (IsOwnSession t) zs → All (IsOwnSession t) (counted_on by conn s zs)
   counted_all AllowsAll conn s zs all = all
   counted_all (Index i) conn s zs all = all
-  counted_all Grant conn s zs all = changed_all (answering s) (λ z is. is) conn zs all
+  counted_all Grant conn s zs all = changed_all (responding s) (λ z is. is) conn zs all
 
   ended_all : (by : By) (conn : ℕ) (s : List Token) (zs : List Session) → All (IsOwnSession t) zs → All (IsOwnSession t) (ended_on by conn s zs)
   ended_all AllowsAll conn s zs all = all

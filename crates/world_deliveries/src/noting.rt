@@ -47,7 +47,7 @@ fn note_of(
     Ok(note)
 }
 
-/// Returns what is to be noted where a message with this reply enters for a session: the reply, if the user may answer.
+/// Returns what is to be noted where a message with this reply enters for a session: the reply, if the user may respond.
 #[inline(always)]
 pub(crate) fn note_for(
     alloc: Global,

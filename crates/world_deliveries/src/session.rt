@@ -20,7 +20,7 @@ pub struct Session {
     pub missed: bool,
     /// What waits for the client.
     pub outbox: Outbox<Delivery>,
-    /// What it may answer on.
+    /// On what it may respond.
     pub replies: Replies,
 }
 
@@ -28,7 +28,7 @@ impl Session {
     ghost use Rattle.std.specs.Prelude.{◌≡◌, ◌≤◌, IfOk, take};
     ghost use Rattle.world_deliveries.specs.Sessions.{new_session, drained};
     ghost use Rattle.world_deliveries.specs.Delivered.{offered};
-    ghost use Rattle.world_deliveries.specs.Replying.{is_granted, answering, ending};
+    ghost use Rattle.world_deliveries.specs.Replying.{is_granted, responding, ending};
 
     /// Returns a session of a user, with nothing in its outbox. The outbox takes its memory here, so that no delivery
     /// takes any later. `NoMemory` where it could not be had.
@@ -64,20 +64,20 @@ impl Session {
     }
 
     /// Returns whether a live grant lets the user publish on a subject, whatever its lists say.
-    pub fn may_answer(&self, subject: &SubjectRef<'_>, now: u64) -> bool
+    pub fn is_granted(&self, subject: &SubjectRef<'_>, now: u64) -> bool
         ensures { result ≡ is_granted now subject.now self.now }
     {
         self.replies.live(subject, now, self.user.rules.terms())
     }
 
-    /// Counts an answer on the grant for a subject, if there is one.
-    pub fn answer(&mut self, subject: &SubjectRef<'_>)
-        ensures { self.new ≡ answering subject.now self.old }
+    /// Counts a response on the grant for a subject, if there is one.
+    pub fn count_response(&mut self, subject: &SubjectRef<'_>)
+        ensures { self.new ≡ responding subject.now self.old }
     {
-        self.replies.answer(subject);
+        self.replies.count_response(subject);
     }
 
-    /// Drops the grant for a subject, if there is one, where as many answers have passed on it as may.
+    /// Drops the grant for a subject, if there is one, where as many responses have passed on it as may.
     pub fn end(&mut self, subject: &SubjectRef<'_>)
         ensures { self.new ≡ ending subject.now self.old }
     {

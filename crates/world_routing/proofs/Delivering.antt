@@ -6,7 +6,7 @@ use Rattle.events.specs.declared.answer.Item.{Item}
 use Rattle.events.specs.declared.answer.Item.TheVariants.{Entered, Full, RouteFull, MapTooLong, Unmapped, MappedTooLong}
 use Rattle.world_deliveries.specs.Sessions.{session_of, with_session}
 use Rattle.world_deliveries.specs.Delivered.{delivered, after_offer, item_of, has_room}
-use Rattle.world_deliveries.specs.Replying.{noted_for, answering, ending}
+use Rattle.world_deliveries.specs.Replying.{noted_for, responding, ending}
 use Rattle.world_deliveries.specs.declared.session.Session.{Session}
 use Rattle.world_subscriptions.specs.Addressing.{addressed_to}
 use Rattle.world_subscriptions.specs.Changes.{only, bumped}
@@ -115,10 +115,10 @@ counted_left zs m p items subs apart going tell =
 pub seated_handed : (now : ℕ) (answered : Option Answered) (all : List Addressed) (zs : List Session) → AreSeated zs (handed_over now answered all zs)
 seated_handed now None all zs = seats_delivered now all zs
 seated_handed now (Some a) all zs =
-    let counting : List Session = with_session (answering a.message.subject) a.conn zs in
+    let counting : List Session = with_session (responding a.message.subject) a.conn zs in
     let after : List Session = (delivered now all counting).0 in
     seats_after zs counting (with_session (ending a.message.subject) a.conn after)
-    (seats_with (answering a.message.subject) a.conn (λ z. refl) zs)
+    (seats_with (responding a.message.subject) a.conn (λ z. refl) zs)
     (seats_after counting after (with_session (ending a.message.subject) a.conn after)
     (seats_delivered now all counting)
     (seats_with (ending a.message.subject) a.conn (λ z. refl) after))

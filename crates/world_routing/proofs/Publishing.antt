@@ -18,7 +18,7 @@ use Rattle.imports.specs.declared.view.ViewItem.{ViewItem}
 use Rattle.world_deliveries.specs.Sessions.{session_of, with_session}
 use Rattle.world_deliveries.specs.Delivered.{delivered, room_in}
 use Rattle.world_deliveries.specs.Planned.{rooms_of, planned}
-use Rattle.world_deliveries.specs.Replying.{noted_for, answering}
+use Rattle.world_deliveries.specs.Replying.{noted_for, responding}
 use Rattle.world_deliveries.specs.declared.session.Session.{Session}
 use Rattle.world_deliveries.proofs.Plans.{planned-delivered}
 use Rattle.world_subscriptions.specs.Limit.{unended}
@@ -53,21 +53,21 @@ use Rattle.world_routing.proofs.Views.{sent}
 -- ---- an answer that is counted
 
 -- an answer takes no room
-same_rooms : (s : List Token) (conn other : ℕ) (zs : List Session) → rooms_of (with_session (answering s) conn zs) other ≡ rooms_of zs other
+same_rooms : (s : List Token) (conn other : ℕ) (zs : List Session) → rooms_of (with_session (responding s) conn zs) other ≡ rooms_of zs other
 same_rooms s conn other [] = refl
 same_rooms s conn other (z ∷ zs) = here (z.conn == conn) (same_rooms s conn other zs)
   where
-    own : (b : Bool) → room_in (cond b (Some (answering s z)) (session_of zs other)) ≡ room_in (cond b (Some z) (session_of zs other))
+    own : (b : Bool) → room_in (cond b (Some (responding s z)) (session_of zs other)) ≡ room_in (cond b (Some z) (session_of zs other))
     own true = refl
     own false = refl
 
-    later : (b : Bool) → rooms_of (with_session (answering s) conn zs) other ≡ rooms_of zs other →
-        room_in (cond b (Some z) (session_of (with_session (answering s) conn zs) other)) ≡ room_in (cond b (Some z) (session_of zs other))
+    later : (b : Bool) → rooms_of (with_session (responding s) conn zs) other ≡ rooms_of zs other →
+        room_in (cond b (Some z) (session_of (with_session (responding s) conn zs) other)) ≡ room_in (cond b (Some z) (session_of zs other))
     later true e = refl
     later false e = e
 
-    here : (b : Bool) → rooms_of (with_session (answering s) conn zs) other ≡ rooms_of zs other →
-        rooms_of (cond b (answering s z ∷ zs) (z ∷ with_session (answering s) conn zs)) other ≡ rooms_of (z ∷ zs) other
+    here : (b : Bool) → rooms_of (with_session (responding s) conn zs) other ≡ rooms_of zs other →
+        rooms_of (cond b (responding s z ∷ zs) (z ∷ with_session (responding s) conn zs)) other ≡ rooms_of (z ∷ zs) other
     here true e = own (z.conn == other)
     here false e = later (z.conn == other) e
 
@@ -76,7 +76,7 @@ pub same_met : (by : By) (conn : ℕ) (s : List Token) (now : ℕ) (all : List A
 same_met AllowsAll conn s now all zs = refl
 same_met (Index i) conn s now all zs = refl
 same_met Grant conn s now all zs =
-    sym (planned-delivered now all (with_session (answering s) conn zs))
+    sym (planned-delivered now all (with_session (responding s) conn zs))
     ∙ ap (planned all) (λ i other. same_rooms s conn other zs i)
     ∙ planned-delivered now all zs
 

@@ -7,7 +7,7 @@ use Rattle.permissions.specs.declared.verdict.By.TheVariants.{All as AllowsAll, 
 use Rattle.permissions.specs.declared.verdict.Verdict.{Verdict}
 use Rattle.permissions.specs.declared.verdict.Verdict.TheVariants.{Allowed}
 use Rattle.world_deliveries.specs.Sessions.{with_session}
-use Rattle.world_deliveries.specs.Replying.{is_granted, answering, ending}
+use Rattle.world_deliveries.specs.Replying.{is_granted, responding, ending}
 use Rattle.world_deliveries.specs.declared.session.Session.{Session}
 
 -- what the lists refuse, a deny entry included, a live grant allows
@@ -22,7 +22,7 @@ verdict_on now z s = or_granted (is_granted now s z) (publish_verdict z.user.rul
 abbrev pub counted_on : By → ℕ → List Token → List Session → List Session
 counted_on AllowsAll conn s zs = zs
 counted_on (Index i) conn s zs = zs
-counted_on Grant conn s zs = with_session (answering s) conn zs
+counted_on Grant conn s zs = with_session (responding s) conn zs
 
 -- and after that the grant goes, where as many answers have passed on it as may
 abbrev pub ended_on : By → ℕ → List Token → List Session → List Session

@@ -8,7 +8,7 @@ use Rattle.events.specs.declared.answer.Item.{Item}
 use Rattle.events.specs.declared.answer.Item.TheVariants.{Entered, Full, RouteFull, MapTooLong, Unmapped, MappedTooLong}
 use Rattle.world_deliveries.specs.Sessions.{with_session}
 use Rattle.world_deliveries.specs.Delivered.{delivered}
-use Rattle.world_deliveries.specs.Replying.{answering, ending}
+use Rattle.world_deliveries.specs.Replying.{responding, ending}
 use Rattle.world_deliveries.specs.declared.session.Session.{Session}
 use Rattle.world_subscriptions.specs.Counting.{entered_ids, in_turn}
 use Rattle.world_rows.specs.declared.subscription.Subscription.{Subscription}
@@ -44,7 +44,7 @@ answered_by Grant conn m = Some record { conn = conn; message = m }
 -- deliveries are handed over; an answer is counted on its grant before, and may end it after
 abbrev pub handed_over : ℕ → Option Answered → List Addressed → List Session → List Session
 handed_over now None all zs = (delivered now all zs).0
-handed_over now (Some a) all zs = with_session (ending a.message.subject) a.conn (delivered now all (with_session (answering a.message.subject) a.conn zs)).0
+handed_over now (Some a) all zs = with_session (ending a.message.subject) a.conn (delivered now all (with_session (responding a.message.subject) a.conn zs)).0
 
 -- the world once deliveries are handed over, and counted where these items tell that they have entered
 abbrev pub carried : World → Option Answered → List Addressed → List Item → World

@@ -1,4 +1,4 @@
-//! A publish that is an answer.
+//! A publish that is a response.
 ghost use Rattle.std.specs.Prelude.{◌≡◌, IfOk};
 ghost use Rattle.world_routing.specs.Handing.{answered_by};
 

@@ -65,8 +65,8 @@ pub fn carry_publish(
     receivers.keep_memory(all);
 }
 
-/// Hands deliveries over in turn, of a message that may be an answer: that is counted before, and its grant goes after
-/// where as many answers have passed on it as may.
+/// Hands deliveries over in turn, of a message that may be a response: that is counted before, and its grant goes after
+/// where as many responses have passed on it as may.
 #[inline(always)]
 fn hand_over(
     sessions: &mut Sessions,
@@ -80,7 +80,7 @@ fn hand_over(
         None => sessions.hand_over_all(all, now),
         Some(answered) => {
             let subject = answered.message.subject();
-            sessions.answer(answered.conn, &subject);
+            sessions.count_response(answered.conn, &subject);
             sessions.hand_over_all(all, now);
             sessions.end(answered.conn, &subject);
         }

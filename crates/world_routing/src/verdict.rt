@@ -29,7 +29,7 @@ pub(crate) fn on_publish(
 {
     let user = &session.user;
     let verdict = verdicts.on_publish(user.user.as_slice(), &user.rules, subject);
-    if !verdict.is_allowed() && session.may_answer(subject, now) {
+    if !verdict.is_allowed() && session.is_granted(subject, now) {
         Verdict::Allowed(By::Grant)
     } else {
         verdict

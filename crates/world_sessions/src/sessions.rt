@@ -42,7 +42,7 @@ impl Sessions {
     ghost use Rattle.std.specs.Option.{option_copied};
     ghost use Rattle.world_deliveries.specs.Sessions.{session_of, with_session, drained, front_of, IsApart, IsNowhere, IsPlace};
     ghost use Rattle.world_deliveries.specs.Delivered.{delivered, after_offer};
-    ghost use Rattle.world_deliveries.specs.Replying.{noted_for, answering, ending};
+    ghost use Rattle.world_deliveries.specs.Replying.{noted_for, responding, ending};
     ghost use Rattle.world_sessions.specs.Renewal.{user_again_of, closed_conns, remaining, HasSameLists, HaveOneUser, AreSameLists};
     ghost use Rattle.policy_doc.specs.declared.document.PolicyDoc.{PolicyDoc};
 
@@ -204,17 +204,17 @@ impl Sessions {
         }
     }
 
-    /// Counts an answer on the grant that a connection's session has for a subject, if it has one.
-    pub fn answer(&mut self, conn: u64, subject: &SubjectRef<'_>)
-        ensures { self.new ≡ with_session (answering subject.now) conn self.old }
+    /// Counts a response on the grant that a connection's session has for a subject, if it has one.
+    pub fn count_response(&mut self, conn: u64, subject: &SubjectRef<'_>)
+        ensures { self.new ≡ with_session (responding subject.now) conn self.old }
     {
         match self.place_of(conn) {
             None => {}
-            Some(place) => self.list[place].answer(subject),
+            Some(place) => self.list[place].count_response(subject),
         }
     }
 
-    /// Drops that grant where as many answers have passed on it as may.
+    /// Drops that grant where as many responses have passed on it as may.
     pub fn end(&mut self, conn: u64, subject: &SubjectRef<'_>)
         ensures { self.new ≡ with_session (ending subject.now) conn self.old }
     {
