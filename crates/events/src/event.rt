@@ -29,7 +29,7 @@ impl Drop for Event {
 /// A command: of one connection, which the caller names by a number of its own, or a reload, which is nobody's.
 #[derive(Debug, Drop)]
 pub enum Command {
-    /// A client has shown who it is (NATS documentation, "Client Protocol", CONNECT). Without a user it is answered
+    /// A client names its user (NATS documentation, "Client Protocol", CONNECT). Without a user it is answered
     /// AuthViolation. Without `echo` the client's own messages don't come to its own subscriptions.
     Connect {
         conn: u64,

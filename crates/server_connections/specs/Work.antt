@@ -3,7 +3,7 @@ use Rattle.std.specs.Option.{unwrap_or}
 use Rattle.std.specs.Prelude.{◌≡◌, ◌&&◌, ◌||◌, ℕ, List, length, Bool, true, false, not, Option, None, Some, is_some, min, nat_eq}
 use Rattle.server_socket.specs.Connections.{is_stuck, may_read}
 use Rattle.server_socket.specs.Queues.{IsPut}
-use Rattle.server_socket.specs.Unknown.{is_unknown}
+use Rattle.server_socket.specs.Fresh.{is_fresh}
 use Rattle.server_socket.specs.declared.connection.Connection.{Connection}
 use Rattle.server_socket.specs.declared.connection.Queued.{Queued}
 use Rattle.server_pacing.specs.Due.{barred, may_wait}
@@ -104,7 +104,7 @@ abbrev pub is_lingering : Lingering → Option Connection → Bool
 is_lingering entry None = false
 is_lingering entry (Some it) = it.lingers && nat_eq it.client.conn.conn entry.conn
 
--- an entry is that of a connection that still hasn't shown who it is
-abbrev pub is_fresh : Fresh → Option Connection → Bool
-is_fresh entry None = false
-is_fresh entry (Some it) = nat_eq it.client.conn.conn entry.conn && is_unknown it.client.conn.stage
+-- an entry is that of a connection that is still fresh
+abbrev pub is_still_fresh : Fresh → Option Connection → Bool
+is_still_fresh entry None = false
+is_still_fresh entry (Some it) = nat_eq it.client.conn.conn entry.conn && is_fresh it.client.conn.stage

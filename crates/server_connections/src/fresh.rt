@@ -2,7 +2,7 @@
 ghost use Rattle.std.specs.Prelude.{◌≡◌, false};
 
 use crate::connections::Connections;
-use server_socket::is_unknown;
+use server_socket::is_fresh;
 use server_turns::Turn;
 
 /// By how many the entries of `fresh` may be more than twice the connections.
@@ -19,8 +19,8 @@ impl Connections {
     ghost use Rattle.std.specs.Prelude.{IfSome, true};
     ghost use Rattle.slab.specs.Slab.{get};
     ghost use Rattle.server_turns.specs.Turns.{is_over};
-    ghost use Rattle.server_socket.specs.Unknown.{IsBounded};
-    ghost use Rattle.server_connections.specs.Work.{is_fresh};
+    ghost use Rattle.server_socket.specs.Fresh.{IsBounded};
+    ghost use Rattle.server_connections.specs.Work.{is_still_fresh};
 
     /// Returns a connection's turn. Where too much is kept of a client without an accepted CONNECT, it writes the client an
     /// error and returns `Closed`.
@@ -47,29 +47,29 @@ impl Connections {
             let Some(it) = self.fresh.pop_front() else {
                 return;
             };
-            if self.is_fresh(it) {
+            if self.is_still_fresh(it) {
                 drop(self.fresh.push_back(it));
             }
         }
     }
 
     /// Returns whether an entry's connection still stands, isn't closed, and has no accepted CONNECT.
-    fn is_fresh(&self, entry: Fresh) -> bool
-        ensures { result ≡ is_fresh entry (get self.now.slab entry.key) }
+    fn is_still_fresh(&self, entry: Fresh) -> bool
+        ensures { result ≡ is_still_fresh entry (get self.now.slab entry.key) }
     {
         match self.slab.get(entry.key) {
             None => false,
-            Some(it) => it.number() == entry.conn && is_unknown(it.client.conn()),
+            Some(it) => it.number() == entry.conn && is_fresh(it.client.conn()),
         }
     }
 
     /// Returns the one that has waited longest without an accepted CONNECT, if there is one. Others before it are dropped.
     pub fn first_fresh(&mut self) -> Option<Fresh>
-        ensures { IfSome result (λ entry. is_fresh entry (get self.new.slab entry.key) ≡ true) }
+        ensures { IfSome result (λ entry. is_still_fresh entry (get self.new.slab entry.key) ≡ true) }
     {
         for _ in 0..self.fresh.len() {
             let first = self.fresh.front().copied()?;
-            if self.is_fresh(first) {
+            if self.is_still_fresh(first) {
                 return Some(first);
             }
             drop(self.fresh.pop_front());

@@ -1,4 +1,4 @@
 pub mod Blocked
 pub mod Connections
 pub mod Queues
-pub mod Unknown
+pub mod Fresh

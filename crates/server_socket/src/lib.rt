@@ -9,7 +9,7 @@ mod counted;
 mod heard;
 mod queue;
 mod reading;
-mod unknown;
+mod fresh;
 mod writing;
 
 pub use blocked::Blocked;
@@ -17,5 +17,5 @@ pub use closing::Input;
 pub use connection::{Connection, Queued};
 pub use queue::Queue;
 pub use reading::ConnectionTurn;
-pub use unknown::is_unknown;
+pub use fresh::is_fresh;
 pub use writing::Written;

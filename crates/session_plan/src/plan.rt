@@ -59,7 +59,7 @@ fn own_text(alloc: Global, text: &SharedBytes) -> Result<SharedText, NoMemory>
     Ok(own)
 }
 
-/// A CONNECT of a client that has not shown who it is.
+/// A CONNECT of a fresh client.
 fn plan_connect(alloc: Global, conn: u64, text: &[u8]) -> Result<Plan, NoMemory>
     ensures { IfOk result (λ plan. plan ≡ connect_plan conn (opts_of text.now)) }
 {
@@ -149,7 +149,7 @@ fn plan_subscribe(
     }
 }
 
-/// A frame of a client that has not shown who it is.
+/// A frame of a fresh client.
 fn plan_fresh(alloc: Global, conn: u64, frame: &Frame) -> Result<Plan, NoMemory>
     ensures { IfOk result (λ plan. plan ≡ fresh_plan conn frame.now) }
 {

@@ -6,7 +6,7 @@ use wire_write::ServerError;
 /// Where a connection is in its life (docs/PROTOCOL.md, "A connection's life").
 #[derive(Clone, Copy, Debug, PartialEq, Eq)]
 pub enum Stage {
-    /// The client has not shown who it is.
+    /// No CONNECT of the client was accepted yet.
     Fresh,
     /// Its CONNECT was accepted. A verbose client has each accepted message answered by `+OK`; one that declared
     /// headers may send header blocks, and is sent them.

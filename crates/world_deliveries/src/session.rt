@@ -7,7 +7,7 @@ use std::alloc::Global;
 use subjects::SubjectRef;
 use world_connections::Connected;
 
-/// A client that has shown who it is.
+/// A client whose CONNECT was accepted.
 #[derive(Drop)]
 pub struct Session {
     /// The connection.

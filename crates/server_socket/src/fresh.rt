@@ -1,7 +1,7 @@
-// Connections whose CONNECT wasn't accepted yet: how much of theirs is kept.
+//! Fresh clients, of which no CONNECT was accepted: how much of theirs is kept.
 ghost use Rattle.std.specs.Prelude.{◌≡◌, false};
 ghost use Rattle.server_turns.specs.Turns.{is_over};
-ghost use Rattle.server_socket.specs.Unknown.{IsBounded, is_unknown};
+ghost use Rattle.server_socket.specs.Fresh.{IsBounded, is_fresh};
 
 use crate::connection::Connection;
 use server_turns::Turn;
@@ -12,23 +12,23 @@ use wire_write::ServerError;
 /// How many bytes of such a client are kept at most.
 const MOST: usize = 8192;
 
-/// Returns whether a client hasn't shown who it is, and may still do so.
-pub fn is_unknown(conn: &Conn) -> bool
-    ensures { result ≡ is_unknown conn.now.stage }
+/// Returns whether a client is fresh: no CONNECT of it was accepted, and one may still come.
+pub fn is_fresh(conn: &Conn) -> bool
+    ensures { result ≡ is_fresh conn.now.stage }
 {
     let stage = conn.stage();
     !stage.is_connected() && !stage.is_closed()
 }
 
-/// Returns whether too much may be kept of a client that hasn't shown who it is.
+/// Returns whether too much may be kept of a fresh client.
 fn is_beyond(conn: &Conn) -> bool
     ensures { result ≡ false → IsBounded conn.now }
 {
-    is_unknown(conn) && conn.holds() > MOST
+    is_fresh(conn) && conn.holds() > MOST
 }
 
 impl Connection {
-    /// Returns its turn. Where too much is kept of a client that hasn't shown who it is, it writes the client an error and
+    /// Returns its turn. Where too much is kept of a fresh client, it writes the client an error and
     /// returns `Closed`.
     pub fn close_if_beyond(&self, alloc: Global, turn: Turn) -> Turn
         ensures { is_over result ≡ false → IsBounded self.now.client.conn }
@@ -36,7 +36,6 @@ impl Connection {
         if turn.is_over() || !is_beyond(self.client.conn()) {
             return turn;
         }
-        // (since it hasn't shown who it is)
         self.tell_last(alloc, ServerError::Authorization);
         Turn::Closed
     }
