@@ -132,7 +132,7 @@ impl Hub {
     /// which a hub opens: in it nothing has happened, its policy is valid, and its outboxes hold 1 to 65,536. With number
     /// 0 it is such a world. Whatever entries led to it: each standing subscription has its SUB among those and the
     /// hub's, and has received as many messages as have entered for it since.
-    pub fn known(&self)
+    pub fn use_invariant(&self)
         ensures sound { IsSound self.now.world }
         ensures reached { IsReached self.now.opening }
         ensures opening { self.now.opening.number ≡ 0 → IsOpening self.now.opening }

@@ -74,7 +74,7 @@ impl Rows {
     }
 
     /// Tells what holds of the rows of every policy. It does nothing when it runs.
-    pub fn known(&self)
+    pub fn use_invariant(&self)
         ensures { All IsRow self.now }
     {
         let _ = &self.rows;

@@ -181,7 +181,7 @@ impl Mapping {
     }
 
     /// Tells what holds of every mapping. It does nothing when it runs.
-    pub fn known(&self)
+    pub fn use_invariant(&self)
         ensures { IsRowMap self.now }
     {
         let _ = &self.outer;

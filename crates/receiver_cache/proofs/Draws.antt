@@ -9,10 +9,10 @@ use Rattle.imports.specs.declared.rows.ImportRow.{ImportRow}
 use Rattle.events.specs.Messages.{Message}
 use Rattle.world_deliveries.specs.declared.session.Session.{Session}
 use Rattle.world_rows.specs.declared.subscription.Subscription.{Subscription}
-use Rattle.receiver_views.specs.Known.{IsSeen, AreSeen, others_in}
+use Rattle.receiver_views.specs.CachedViews.{IsSeen, AreSeen, others_in}
 use Rattle.receiver_cache.specs.Drawn.{IsCached, IsSent}
 use Rattle.receiver_cache.specs.declared.drawn.Drawn.{Drawn}
-use Rattle.receiver_views.specs.declared.known.KnownView.{KnownView}
+use Rattle.receiver_views.specs.declared.cached_view.CachedView.{CachedView}
 
 -- where a message is sent on goes by the draw of its word alone
 pub same_draw : (maps : List SourceMap) (subject : List Token) (word other : ℕ) → draw_of word ≡ draw_of other → mapped_by maps subject word ≡ mapped_by maps subject other
@@ -42,7 +42,7 @@ cached_beside (o ∷ all) (suc draw) (suc other) drawn known is = behind (cached
     behind (inr (at, same)) = inr (ap suc at, same)
 
 -- what is known of the publisher's account and of the views behind it under a subject says what messages are sent as under it
-pub sent_under : (rows : List ImportRow) (zs : List Session) (subs : List Subscription) (z : Session) (own : KnownView) (others : Vec KnownView) (s : List Token) → is_route s ≡ false →
+pub sent_under : (rows : List ImportRow) (zs : List Session) (subs : List Subscription) (z : Session) (own : CachedView) (others : Vec CachedView) (s : List Token) → is_route s ≡ false →
     IsSeen zs subs z own z.user.account s → AreSeen zs subs z others.items (others_in rows z.user.account s) →
     IsSent rows zs subs z (record { own = own; others = others }) × (own.names.subject ≡ s)
 sent_under rows zs subs z own others s unrouted seen known =

@@ -31,13 +31,13 @@ use Rattle.world_subscriptions.specs.Limit.{unended, has_ended}
 use Rattle.world_rows.specs.declared.subscription.Subscription.{Subscription}
 use Rattle.receiver_views.specs.Open.{lets_through, may_hear, is_open, open_among}
 use Rattle.receiver_views.specs.Receivers.{receiver_of}
-use Rattle.receiver_views.specs.Known.{IsWhom, IsSeen, AreSeen, has_limit, others_in}
+use Rattle.receiver_views.specs.CachedViews.{IsWhom, IsSeen, AreSeen, has_limit, others_in}
 use Rattle.receiver_cache.specs.Drawn.{subject_of, IsDrawn, KnowsDrawn}
 use Rattle.receiver_cache.specs.Cached.{IsAlone, IsAloneFor, IsWhomFor, KnowsOthersFor, IsSo, IsCurrent}
 use Rattle.receiver_cache.specs.declared.cache.ReceiverCache.{ReceiverCache}
 use Rattle.receiver_cache.specs.declared.cached.CachedReceivers.{CachedReceivers}
 use Rattle.receiver_cache.specs.declared.drawn.Drawn.{Drawn}
-use Rattle.receiver_views.specs.declared.known.KnownView.{KnownView}
+use Rattle.receiver_views.specs.declared.cached_view.CachedView.{CachedView}
 use Rattle.receiver_views.specs.declared.whom.Whom.{Whom}
 
 -- ---- sessions
@@ -168,7 +168,7 @@ module _ (f : Subscription → Subscription) (same : (s : Subscription) → made
       unlimited-map [] = refl
       unlimited-map (x ∷ xs) = ap (λ (o : Option ℕ). is_some o || list_any has_limit (map f xs)) (most_same x) ∙ ap (λ b. has_limit x || b) (unlimited-map xs)
 
-      view-stays : (z y : Session) → seat y ≡ seat z → (known : KnownView) (account : List ℕ) (s : List Token) → IsSeen zs subs z known account s → IsSeen after (map f subs) y known account s
+      view-stays : (z y : Session) → seat y ≡ seat z → (known : CachedView) (account : List ℕ) (s : List Token) → IsSeen zs subs z known account s → IsSeen after (map f subs) y known account s
       view-stays z y own known account s is = record {
         names = is.names;
         unlimited = ap (list_any has_limit) (open-map z y own account s) ∙ unlimited-map (open_among zs subs z account s) ∙ is.unlimited;
@@ -176,7 +176,7 @@ module _ (f : Subscription → Subscription) (same : (s : Subscription) → made
         whom = subst (IsWhom known.whom) (sym (open-map z y own account s)) (whom-map known.whom (open_among zs subs z account s) is.whom);
       }
 
-      views-stay : (z y : Session) → seat y ≡ seat z → (known : List KnownView) (vs : List ViewItem) → AreSeen zs subs z known vs → AreSeen after (map f subs) y known vs
+      views-stay : (z y : Session) → seat y ≡ seat z → (known : List CachedView) (vs : List ViewItem) → AreSeen zs subs z known vs → AreSeen after (map f subs) y known vs
       views-stay z y own [] [] is = tt
       views-stay z y own [] (v ∷ vs) is = absurd is
       views-stay z y own (k ∷ known) [] is = absurd is
@@ -186,7 +186,7 @@ module _ (f : Subscription → Subscription) (same : (s : Subscription) → made
       views-stay z y own (k ∷ known) (At account s (Response row) ∷ vs) is = absurd is
       views-stay z y own (k ∷ known) (At account s (Stream row) ∷ vs) is = (view-stays z y own k account s is.0, views-stay z y own known vs is.1)
 
-      others-stay : (o : Option (Vec KnownView)) (rows : List ImportRow) (conn : ℕ) (text : List ℕ) → KnowsOthersFor o rows conn text zs subs → KnowsOthersFor o rows conn text after (map f subs)
+      others-stay : (o : Option (Vec CachedView)) (rows : List ImportRow) (conn : ℕ) (text : List ℕ) → KnowsOthersFor o rows conn text zs subs → KnowsOthersFor o rows conn text after (map f subs)
       others-stay None rows conn text is = tt
       others-stay (Some known) rows conn text is = before_it conn (λ y. AreSeen after (map f subs) y known.items (others_in rows y.user.account (tokens_of text)))
           (λ z y there own. views-stay z y own known.items (others_in rows y.user.account (tokens_of text))

@@ -19,14 +19,14 @@ use Rattle.world_rows.specs.declared.subscription.Subscription.{Subscription}
 use Rattle.receiver_views.specs.Open.{open_among}
 use Rattle.receiver_cache.specs.Key.{IsOf}
 use Rattle.receiver_views.specs.Receivers.{receiver_of, addressed_at, addressed_among}
-use Rattle.receiver_views.specs.Known.{AreSeen, IsWhom, others_in, KnowsOthers}
+use Rattle.receiver_views.specs.CachedViews.{AreSeen, IsWhom, others_in, KnowsOthers}
 use Rattle.receiver_cache.specs.Drawn.{IsCached, IsDrawn, IsSentOn, KnowsDrawn, TellsDrawn}
 use Rattle.receiver_cache.specs.Cached.{AreNone, Has, IsAllowed, IsAlone, IsAloneAt, IsAloneFor, IsAloneOf, IsBlank, IsCurrent, IsEmpty, IsFound, IsSo, KnowsOthersFor, Tells, if_last}
 use Rattle.receiver_cache.specs.declared.cache.ReceiverCache.{ReceiverCache}
 use Rattle.receiver_cache.specs.declared.cached.CachedReceivers.{CachedReceivers}
 use Rattle.receiver_cache.specs.declared.drawn.Drawn.{Drawn}
 use Rattle.receiver_cache.specs.declared.drawn.DrawnCache.{DrawnCache}
-use Rattle.receiver_views.specs.declared.known.KnownView.{KnownView}
+use Rattle.receiver_views.specs.declared.cached_view.CachedView.{CachedView}
 use Rattle.receiver_cache.specs.declared.key.CacheKey.{CacheKey}
 use Rattle.receiver_views.specs.declared.whom.Whom.{Whom}
 
@@ -50,7 +50,7 @@ pub others_are : (cached : CachedReceivers) (rows : List ImportRow) (zs : List S
     IsSo rows zs subs cached → IsOf cached.key conn text → session_of zs conn ≡ Some z → tokens_of text ≡ s → KnowsOthers cached.others rows zs subs z s
 others_are cached rows zs subs z conn text s so of there same = here cached.others so.1
   where
-    here : (o : Option (Vec KnownView)) → KnowsOthersFor o rows cached.key.conn cached.key.subject.items zs subs → KnowsOthers o rows zs subs z s
+    here : (o : Option (Vec CachedView)) → KnowsOthersFor o rows cached.key.conn cached.key.subject.items zs subs → KnowsOthers o rows zs subs z s
     here None is = tt
     here (Some known) is =
         subst (λ (t : List Token). KnowsOthers (Some known) rows zs subs z t) (ap tokens_of of.1 ∙ same) (is z (ap (session_of zs) of.0 ∙ there))
@@ -59,7 +59,7 @@ others_are cached rows zs subs z conn text s so of there same = here cached.othe
 pub blank_so : (cached : CachedReceivers) (rows : List ImportRow) (zs : List Session) (subs : List Subscription) → IsBlank cached → IsSo rows zs subs cached
 blank_so cached rows zs subs blank = (
   λ z there. subst (λ (w : Whom). IsWhom w (open_among zs subs z z.user.account (tokens_of cached.key.subject.items))) (sym blank.0) (λ says. absurd says),
-  subst (λ (o : Option (Vec KnownView)). KnowsOthersFor o rows cached.key.conn cached.key.subject.items zs subs) (sym blank.1) tt,
+  subst (λ (o : Option (Vec CachedView)). KnowsOthersFor o rows cached.key.conn cached.key.subject.items zs subs) (sym blank.1) tt,
   subst (λ (o : Option By). IsAloneFor o rows cached.key.conn cached.key.subject.items zs) (sym blank.2) tt,
 )
 
@@ -97,18 +97,18 @@ still_current old new rows zs subs less same current = record {
 -- ---- messages that are seen in their publisher's account alone
 
 -- where none is known, there is no view behind the publisher's own
-none_others : (others : Option (Vec KnownView)) (rows : List ImportRow) (zs : List Session) (subs : List Subscription) (z : Session) (s : List Token) →
+none_others : (others : Option (Vec CachedView)) (rows : List ImportRow) (zs : List Session) (subs : List Subscription) (z : Session) (s : List Token) →
     AreNone others → KnowsOthers others rows zs subs z s → others_in rows z.user.account s ≡ []
 none_others None rows zs subs z s none is = absurd none
 none_others (Some known) rows zs subs z s none is =
-    nothing (others_in rows z.user.account s) (subst (λ (all : List KnownView). AreSeen zs subs z all (others_in rows z.user.account s)) none is)
+    nothing (others_in rows z.user.account s) (subst (λ (all : List CachedView). AreSeen zs subs z all (others_in rows z.user.account s)) none is)
   where
     nothing : (vs : List ViewItem) → AreSeen zs subs z [] vs → vs ≡ []
     nothing [] seen = refl
     nothing (v ∷ vs) seen = absurd seen
 
 -- then what lists allow is seen there alone
-pub alone_filled : (alone allowed : Option By) (others : Option (Vec KnownView)) (rows : List ImportRow) (zs : List Session) (subs : List Subscription) (z : Session) (s : List Token) (conn : ℕ) (text : List ℕ) →
+pub alone_filled : (alone allowed : Option By) (others : Option (Vec CachedView)) (rows : List ImportRow) (zs : List Session) (subs : List Subscription) (z : Session) (s : List Token) (conn : ℕ) (text : List ℕ) →
     IfSome alone (λ by. (allowed ≡ Some by) × AreNone others) → IfSome allowed (IsAllowed z.user s) → KnowsOthers others rows zs subs z s →
     session_of zs conn ≡ Some z → tokens_of text ≡ s → IsAloneFor alone rows conn text zs
 alone_filled None allowed others rows zs subs z s conn text filled lists known there same = tt
@@ -122,7 +122,7 @@ alone_filled (Some by) allowed others rows zs subs z s conn text filled lists kn
 }
 
 -- what was found of those that the publisher's message may be sent to is so
-pub found_so : (cached : CachedReceivers) (key : CacheKey) (others : Option (Vec KnownView)) (allowed : Option By) (conn : ℕ) (text : List ℕ) (rows : List ImportRow) (zs : List Session) (subs found : List Subscription) (z : Session) (s : List Token) →
+pub found_so : (cached : CachedReceivers) (key : CacheKey) (others : Option (Vec CachedView)) (allowed : Option By) (conn : ℕ) (text : List ℕ) (rows : List ImportRow) (zs : List Session) (subs found : List Subscription) (z : Session) (s : List Token) →
     IsFound cached key found others allowed → IsOf key conn text → tokens_of text ≡ s → session_of zs conn ≡ Some z → found ≡ open_among zs subs z z.user.account s →
     KnowsOthers others rows zs subs z s → IfSome allowed (IsAllowed z.user s) → IsSo rows zs subs cached
 found_so cached key others allowed conn text rows zs subs found z s is of same there are known lists = (
@@ -130,7 +130,7 @@ found_so cached key others allowed conn text rows zs subs found z s is of same t
       subst (λ (x : Session). IsWhom cached.whom (open_among zs subs x x.user.account (tokens_of cached.key.subject.items))) (sym (one y seated))
       (subst (λ (t : List Token). IsWhom cached.whom (open_among zs subs z z.user.account t)) (sym texts)
       (subst (IsWhom cached.whom) are is.whom)),
-  apart cached.others (subst (λ (o : Option (Vec KnownView)). KnowsOthers o rows zs subs z s) (sym is.others_are) known),
+  apart cached.others (subst (λ (o : Option (Vec CachedView)). KnowsOthers o rows zs subs z s) (sym is.others_are) known),
   alone_filled cached.alone allowed others rows zs subs z s cached.key.conn cached.key.subject.items is.alone lists known seat texts,
 )
   where
@@ -147,17 +147,17 @@ found_so cached key others allowed conn text rows zs subs found z s is of same t
     one : (y : Session) → session_of zs cached.key.conn ≡ Some y → y ≡ z
     one y seated = ap (λ (o : Option Session). or_else o y) (sym seated ∙ seat)
 
-    apart : (o : Option (Vec KnownView)) → KnowsOthers o rows zs subs z s → KnowsOthersFor o rows cached.key.conn cached.key.subject.items zs subs
+    apart : (o : Option (Vec CachedView)) → KnowsOthers o rows zs subs z s → KnowsOthersFor o rows cached.key.conn cached.key.subject.items zs subs
     apart None known = tt
     apart (Some views) known = λ y seated.
         subst (λ (x : Session). KnowsOthers (Some views) rows zs subs x (tokens_of cached.key.subject.items)) (sym (one y seated))
         (subst (λ (t : List Token). KnowsOthers (Some views) rows zs subs z t) (sym texts) known)
 
 -- where the message that was addressed last isn't cached, nothing is known of its views
-pub if_last_known : (is_last : Bool) (others : Option (Vec KnownView)) (rows : List ImportRow) (zs : List Session) (subs : List Subscription) (z : Session) (s : List Token) →
+pub if_last_cached : (is_last : Bool) (others : Option (Vec CachedView)) (rows : List ImportRow) (zs : List Session) (subs : List Subscription) (z : Session) (s : List Token) →
     (is_last ≡ true → KnowsOthers others rows zs subs z s) → KnowsOthers (if_last is_last others) rows zs subs z s
-if_last_known true others rows zs subs z s known = known refl
-if_last_known false others rows zs subs z s known = tt
+if_last_cached true others rows zs subs z s known = known refl
+if_last_cached false others rows zs subs z s known = tt
 
 -- what is cached of a message's publisher and subject is so
 alone_of : (by : By) (cached : CachedReceivers) (conn : ℕ) (text : List ℕ) (s : List Token) (rows : List ImportRow) (zs : List Session) (subs : List Subscription) →

@@ -17,11 +17,11 @@ use Rattle.world_deliveries.specs.declared.session.Session.{Session}
 use Rattle.world_rows.specs.declared.subscription.Subscription.{Subscription}
 use Rattle.receiver_views.specs.Open.{open_among}
 use Rattle.receiver_views.specs.Receivers.{addressed_among, addressed_at}
-use Rattle.receiver_views.specs.Known.{KnowsOthers, picked, Says, IsWhom, others_in, AreSeen, addressed_in_each}
+use Rattle.receiver_views.specs.CachedViews.{KnowsOthers, picked, Says, IsWhom, others_in, AreSeen, addressed_in_each}
 use Rattle.receiver_cache.specs.Drawn.{KnowsDrawn}
 use Rattle.receiver_cache.specs.declared.cache.ReceiverCache.{ReceiverCache}
 use Rattle.receiver_cache.specs.declared.cached.CachedReceivers.{CachedReceivers}
-use Rattle.receiver_views.specs.declared.known.KnownView.{KnownView}
+use Rattle.receiver_views.specs.declared.cached_view.CachedView.{CachedView}
 use Rattle.receiver_cache.specs.declared.key.CacheKey.{CacheKey}
 use Rattle.receiver_views.specs.declared.whom.Whom.{Whom}
 use Rattle.receiver_views.specs.declared.whom.Whom.TheVariants.{Various}
@@ -31,7 +31,7 @@ abbrev pub IsWhomFor : Whom → ℕ → List ℕ → List Session → List Subsc
 IsWhomFor whom conn text zs subs = (z : Session) → session_of zs conn ≡ Some z → IsWhom whom (open_among zs subs z z.user.account (tokens_of text))
 
 -- where they are said to be known of the messages of a connection on a subject, they are
-abbrev pub KnowsOthersFor : Option (Vec KnownView) → List ImportRow → ℕ → List ℕ → List Session → List Subscription → Type 0
+abbrev pub KnowsOthersFor : Option (Vec CachedView) → List ImportRow → ℕ → List ℕ → List Session → List Subscription → Type 0
 KnowsOthersFor None rows conn text zs subs = Unit {0}
 KnowsOthersFor (Some known) rows conn text zs subs = (z : Session) → session_of zs conn ≡ Some z → KnowsOthers (Some known) rows zs subs z (tokens_of text)
 
@@ -77,13 +77,13 @@ abbrev pub IsBlank : CachedReceivers → Type 0
 IsBlank cached = (cached.whom ≡ Various) × (cached.others ≡ None) × (cached.alone ≡ None)
 
 -- it is known that there is no view behind the publisher's own
-abbrev pub AreNone : Option (Vec KnownView) → Type 0
+abbrev pub AreNone : Option (Vec CachedView) → Type 0
 AreNone None = ⊥
 AreNone (Some known) = known.items ≡ []
 
 -- it is what was found of these messages: those that may be sent them, the views behind the publisher's own, and by what lists allow
 -- them, if there are no such views
-pub record IsFound (cached : CachedReceivers) (key : CacheKey) (found : List Subscription) (others : Option (Vec KnownView)) (allowed : Option By) : Type 0 where
+pub record IsFound (cached : CachedReceivers) (key : CacheKey) (found : List Subscription) (others : Option (Vec CachedView)) (allowed : Option By) : Type 0 where
   pub key_is : cached.key ≡ key
   pub whom : IsWhom cached.whom found
   pub others_are : cached.others ≡ others
@@ -103,19 +103,19 @@ abbrev pub IsEmpty : ReceiverCache → Type 0
 IsEmpty cache = IsBlank cache.last × ((place : ℕ) → value_at cache.slots place ≡ None) × (cache.drawn.by_draw.items ≡ [])
 
 -- the views of the message that was addressed last behind its publisher's own, if they are known
-abbrev pub if_last : Bool → Option (Vec KnownView) → Option (Vec KnownView)
+abbrev pub if_last : Bool → Option (Vec CachedView) → Option (Vec CachedView)
 if_last true others = others
 if_last false others = None
 
-unfoldable pub known_others : ReceiverCache → Option (Vec KnownView)
-known_others cache = if_last cache.is_last cache.last.others
+unfoldable pub cached_others : ReceiverCache → Option (Vec CachedView)
+cached_others cache = if_last cache.is_last cache.last.others
 
 -- whom a message is for is cached, and these are its deliveries
 abbrev pub Tells : CachedReceivers → Message → ℕ → List Addressed → Type 0
 Tells cached m word all = Says cached.whom × (all ≡ map (addressed_at m) (picked word cached.whom))
 
 -- the views behind the publisher's own are known, and these are the deliveries in them behind others
-abbrev pub TellsOthers : Option (Vec KnownView) → Message → ℕ → List Addressed → List Addressed → Type 0
+abbrev pub TellsOthers : Option (Vec CachedView) → Message → ℕ → List Addressed → List Addressed → Type 0
 TellsOthers None m word before all = ⊥
 TellsOthers (Some known) m word before all = all ≡ addressed_in_each m word before known.items
 

@@ -10,7 +10,7 @@ use Rattle.events.specs.declared.answer.Addressed.{Addressed}
 use Rattle.world_deliveries.specs.Sessions.{session_of}
 use Rattle.world_deliveries.specs.declared.session.Session.{Session}
 use Rattle.world_rows.specs.declared.subscription.Subscription.{Subscription}
-use Rattle.receiver_views.specs.Known.{IsSeen, AreSeen, others_in, addressed_in, addressed_in_each}
+use Rattle.receiver_views.specs.CachedViews.{IsSeen, AreSeen, others_in, addressed_in, addressed_in_each}
 use Rattle.receiver_cache.specs.Key.{IsOf}
 use Rattle.receiver_cache.specs.declared.drawn.Drawn.{Drawn}
 use Rattle.receiver_cache.specs.declared.drawn.DrawnCache.{DrawnCache}

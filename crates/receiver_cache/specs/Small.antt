@@ -2,16 +2,16 @@
 use Rattle.std.specs.Prelude.{◌≤◌, ◌+◌, ℕ, Option, Some, None, length}
 use Rattle.std.specs.Global.{Vec}
 use Rattle.std.specs.List.{sum_by}
-use Rattle.receiver_views.specs.Known.{count_of}
-use Rattle.receiver_views.specs.declared.known.KnownView.{KnownView}
+use Rattle.receiver_views.specs.CachedViews.{count_of}
+use Rattle.receiver_views.specs.declared.cached_view.CachedView.{CachedView}
 use Rattle.receiver_cache.specs.declared.cached.CachedReceivers.{CachedReceivers}
 
 -- how many receivers a view keeps, and the view itself
-abbrev pub count_with : KnownView → ℕ
+abbrev pub count_with : CachedView → ℕ
 count_with known = count_of known.whom + 1
 
 -- how many receivers are kept of the views behind the publisher's own, each view counted as one more
-abbrev pub count_of_others : Option (Vec KnownView) → ℕ
+abbrev pub count_of_others : Option (Vec CachedView) → ℕ
 count_of_others None = 0
 count_of_others (Some known) = sum_by count_with known.items
 

@@ -6,7 +6,7 @@ use crate::key::CacheKey;
 use base::NoMemory;
 use events::{Addressed, Message};
 use permissions::By;
-use receiver_views::KnownView;
+use receiver_views::CachedView;
 use slot_cache::{SlotCache, hash_of_number};
 use std::alloc::Global;
 use std::mem;
@@ -61,9 +61,9 @@ impl ReceiverCache {
     ghost use Rattle.receiver_views.specs.Open.{open_among};
     ghost use Rattle.receiver_cache.specs.Key.{IsOf};
     ghost use Rattle.receiver_views.specs.Receivers.{addressed_among};
-    ghost use Rattle.receiver_cache.specs.Cached.{IsAllowed, IsAloneAt, IsAloneOf, IsBlank, IsCurrent, IsEmpty, TellsOthers, known_others};
+    ghost use Rattle.receiver_cache.specs.Cached.{IsAllowed, IsAloneAt, IsAloneOf, IsBlank, IsCurrent, IsEmpty, TellsOthers, cached_others};
     ghost use Rattle.receiver_cache.specs.Small.{IsSmall};
-    ghost use Rattle.receiver_views.specs.Known.{KnowsOthers};
+    ghost use Rattle.receiver_views.specs.CachedViews.{KnowsOthers};
 
     /// Returns an empty cache. It takes no memory.
     pub fn new(alloc: Global) -> ReceiverCache
@@ -167,7 +167,7 @@ impl ReceiverCache {
     /// Puts the deliveries of a publisher's message in the place of what was in `all`, if its receivers are cached. Returns whether
     /// it did: not where they are found for each message. `NoMemory` where memory could not be had: then `all` no longer has what it
     /// had.
-    #[tactic(auto, unfolding(crate::specs::Cached::known_others))]
+    #[tactic(auto, unfolding(crate::specs::Cached::cached_others))]
     #[inline(always)]
     pub fn address(
         &mut self,
@@ -179,7 +179,7 @@ impl ReceiverCache {
         ensures tells { IfOk result (λ done. done ≡ true → (rows : List ImportRow) (zs : List Session) (subs : List Subscription) (z : Session) →
             IsCurrent rows zs subs self.old → session_of zs conn ≡ Some z → all.new.items ≡ addressed_among zs subs z message.now word) }
         ensures others { (rows : List ImportRow) (zs : List Session) (subs : List Subscription) (z : Session) →
-            IsCurrent rows zs subs self.old → session_of zs conn ≡ Some z → KnowsOthers (known_others self.new) rows zs subs z message.now.subject }
+            IsCurrent rows zs subs self.old → session_of zs conn ≡ Some z → KnowsOthers (cached_others self.new) rows zs subs z message.now.subject }
         ensures cached { (rows : List ImportRow) (zs : List Session) (subs : List Subscription) → IsCurrent rows zs subs self.old → IsCurrent rows zs subs self.new }
     {
         let subject = message.subject();
@@ -224,7 +224,7 @@ impl ReceiverCache {
 
     /// Appends the deliveries of the message that was addressed last in the views behind the publisher's own, if these are
     /// known. Returns whether they are. `NoMemory` where memory could not be had: then some may be appended.
-    #[tactic(auto, unfolding(crate::specs::Cached::known_others))]
+    #[tactic(auto, unfolding(crate::specs::Cached::cached_others))]
     #[inline(always)]
     pub fn address_others(
         &self,
@@ -232,7 +232,7 @@ impl ReceiverCache {
         word: u64,
         all: &mut Vec<Addressed>,
     ) -> Result<bool, NoMemory>
-        ensures tells { IfOk result (λ done. done ≡ true → TellsOthers (known_others self.now) message.now word all.old.items all.new.items) }
+        ensures tells { IfOk result (λ done. done ≡ true → TellsOthers (cached_others self.now) message.now word all.old.items all.new.items) }
         ensures same { IfOk result (λ done. done ≡ false → all.new.items ≡ all.old.items) }
     {
         if !self.is_last {
@@ -244,9 +244,9 @@ impl ReceiverCache {
 
     /// Notes the message that was addressed last, if its receivers aren't cached. Returns whether they are to be found and put here:
     /// the message that was noted before at its place had the same publisher and subject, as far as half of their hash tells.
-    #[tactic(auto, unfolding(crate::specs::Cached::known_others))]
+    #[tactic(auto, unfolding(crate::specs::Cached::cached_others))]
     pub fn note_asked(&mut self) -> bool
-        ensures others { known_others self.new ≡ known_others self.old }
+        ensures others { cached_others self.new ≡ cached_others self.old }
         ensures cached { (rows : List ImportRow) (zs : List Session) (subs : List Subscription) → IsCurrent rows zs subs self.old → IsCurrent rows zs subs self.new }
     {
         if self.is_last {
@@ -258,20 +258,20 @@ impl ReceiverCache {
     /// Caches that the publisher's messages on the subject of the message that was addressed last may be sent to these, what is known
     /// of their views behind the publisher's own, and by what lists allow them, if there are no such views. Without memory it
     /// caches nothing.
-    #[tactic(auto, unfolding(crate::specs::Cached::known_others))]
+    #[tactic(auto, unfolding(crate::specs::Cached::cached_others))]
     pub fn put(
         &mut self,
         conn: u64,
         subject: &SubjectRef<'_>,
         found: &[&SharedSubscription],
-        others: Option<Vec<KnownView>>,
+        others: Option<Vec<CachedView>>,
         allowed: Option<By>,
     )
         requires { Rising (map (λ s. s.now) found.now) }
         ensures { (rows : List ImportRow) (zs : List Session) (subs : List Subscription) (z : Session) →
             IsCurrent rows zs subs self.old → session_of zs conn ≡ Some z → map (λ s. s.now) found.now ≡ open_among zs subs z z.user.account subject.now →
             KnowsOthers others rows zs subs z subject.now → IfSome allowed (IsAllowed z.user subject.now) →
-            IsCurrent rows zs subs self.new × KnowsOthers (known_others self.new) rows zs subs z subject.now }
+            IsCurrent rows zs subs self.new × KnowsOthers (cached_others self.new) rows zs subs z subject.now }
     {
         self.is_last = false;
         let _ = subject.tokens();

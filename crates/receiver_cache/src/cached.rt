@@ -4,7 +4,7 @@ ghost use Rattle.permissions.specs.declared.verdict.By.{By as ByModel};
 ghost use Rattle.world_groups.specs.Chosen.{Rising};
 ghost use Rattle.receiver_cache.specs.Cached.{AreNone, IsBlank, IsFound, Tells, TellsOthers};
 ghost use Rattle.receiver_cache.specs.Small.{IsSmall, count_of_others, count_with};
-ghost use Rattle.receiver_views.specs.Known.{count_of};
+ghost use Rattle.receiver_views.specs.CachedViews.{count_of};
 ghost use Rattle.std.specs.List.{sum_by};
 ghost use Rattle.receiver_cache.specs.Key.{IsOf};
 
@@ -12,7 +12,7 @@ use crate::key::CacheKey;
 use base::NoMemory;
 use events::{Addressed, Message};
 use permissions::By;
-use receiver_views::{KnownView, Whom, address_chosen, address_each, address_known, whom_of};
+use receiver_views::{CachedView, Whom, address_chosen, address_each, address_cached, whom_of};
 use std::alloc::Global;
 use world_subscriptions::SharedSubscription;
 
@@ -29,7 +29,7 @@ pub(crate) struct CachedReceivers {
     key: CacheKey,
     whom: Whom,
     // The views of these messages behind the publisher's own, where they are known.
-    others: Option<Vec<KnownView>>,
+    others: Option<Vec<CachedView>>,
     // By what lists allow them, where it is known that they are seen in the publisher's account alone.
     alone: Option<By>,
 }
@@ -45,7 +45,7 @@ pub(crate) fn clear(all: &mut Vec<Addressed>)
 }
 
 /// Returns whether it is known that there is no view behind the publisher's own.
-fn are_none(others: &Option<Vec<KnownView>>) -> bool
+fn are_none(others: &Option<Vec<CachedView>>) -> bool
     ensures { result ≡ true → AreNone others.now }
 {
     match others {
@@ -73,7 +73,7 @@ impl CachedReceivers {
         alloc: Global,
         key: CacheKey,
         found: &[&SharedSubscription],
-        others: Option<Vec<KnownView>>,
+        others: Option<Vec<CachedView>>,
         allowed: Option<By>,
     ) -> CachedReceivers
         requires { Rising (map (λ s. s.now) found.now) }
@@ -190,7 +190,7 @@ impl CachedReceivers {
         match &self.others {
             None => Ok(false),
             Some(views) => {
-                address_known(message, word, views.as_slice(), all)?;
+                address_cached(message, word, views.as_slice(), all)?;
                 Ok(true)
             }
         }
@@ -198,7 +198,7 @@ impl CachedReceivers {
 }
 
 /// Returns how much of a number is left behind the receivers in these views, with one for each view: `None` where they are more.
-fn left_behind(most: usize, views: &[KnownView]) -> Option<usize>
+fn left_behind(most: usize, views: &[CachedView]) -> Option<usize>
     ensures { IfSome result (λ left. left + sum_by count_with views.now ≡ most) }
 {
     let mut left = most;

@@ -1,7 +1,7 @@
 //! What a publisher's messages on a subject are sent as, where its account's mappings send them on.
 ghost use Rattle.std.specs.Prelude.{◌≡◌, ◌++◌, ◌⊎◌, ℕ, [], OnOk};
 ghost use Rattle.receiver_cache.specs.Drawn.{IsCached};
-ghost use Rattle.receiver_views.specs.Known.{addressed_in, addressed_in_each};
+ghost use Rattle.receiver_views.specs.CachedViews.{addressed_in, addressed_in_each};
 ghost use Rattle.receiver_cache.specs.declared.drawn.Drawn.{Drawn as DrawnModel};
 
 use crate::cached::clear;
@@ -9,7 +9,7 @@ use crate::key::CacheKey;
 use account_mappings::draw_of;
 use base::{NoMemory, Shared};
 use events::{Addressed, Message};
-use receiver_views::{KnownView, address_known};
+use receiver_views::{CachedView, address_cached};
 use std::alloc::Global;
 use subjects::Subject;
 
@@ -19,8 +19,8 @@ const DRAWS: usize = 100;
 /// What messages are sent as under one subject: whom they are for in their publisher's account, and in the views behind it.
 #[derive(Drop)]
 pub struct Drawn {
-    pub own: KnownView,
-    pub others: Vec<KnownView>,
+    pub own: CachedView,
+    pub others: Vec<CachedView>,
 }
 
 impl Drawn {
@@ -34,7 +34,7 @@ impl Drawn {
         ensures { OnOk result (all.new.items ≡ addressed_in_each message.now word (addressed_in message.now word all.old.items self.now.own) self.now.others.items) }
     {
         self.own.address(message, word, all)?;
-        address_known(message, word, self.others.as_slice(), all)?;
+        address_cached(message, word, self.others.as_slice(), all)?;
         Ok(())
     }
 }

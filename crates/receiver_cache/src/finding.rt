@@ -3,13 +3,13 @@ ghost use Rattle.std.specs.Prelude.{◌≡◌, ℕ, false, List, Some, IfOk, IfS
 ghost use Rattle.imports.specs.Views.{is_route};
 ghost use Rattle.world_deliveries.specs.Sessions.{session_of};
 ghost use Rattle.receiver_views.specs.Marked.{AreMarked};
-ghost use Rattle.receiver_views.specs.Known.{KnowsOthers};
+ghost use Rattle.receiver_views.specs.CachedViews.{KnowsOthers};
 ghost use Rattle.receiver_cache.specs.Drawn.{IsSent, KnowsDrawn, subject_of};
 
 use crate::drawn::{Drawn, DrawnCache};
 use base::{NoMemory, Shared};
 use imports::Rows;
-use receiver_views::{KnownView, ReceiverSearch, known_at, known_views};
+use receiver_views::{CachedView, ReceiverSearch, cached_view_at, cached_views};
 use std::alloc::Global;
 use subjects::{Subject, SubjectRef};
 
@@ -21,13 +21,13 @@ fn find_others(
     rows: &Rows,
     subject: &SubjectRef<'_>,
     ids: &mut Vec<u64>,
-) -> Result<Option<Vec<KnownView>>, NoMemory>
+) -> Result<Option<Vec<CachedView>>, NoMemory>
     requires marked { AreMarked search.sessions.now search.subscriptions.now search.marks.now }
     ensures { IfOk result (λ others. KnowsOthers others rows.now search.entry.sessions.now search.entry.subscriptions.now search.entry.publisher.now subject.now) }
 {
     let account = search.publisher.user.account.as_slice();
     let others = rows.crossings(alloc, account, subject)?;
-    let known = known_views(alloc, search, others.as_slice(), ids)?;
+    let known = cached_views(alloc, search, others.as_slice(), ids)?;
     Ok(known)
 }
 
@@ -38,7 +38,7 @@ pub fn others_of(
     rows: &Rows,
     subject: &SubjectRef<'_>,
     ids: &mut Vec<u64>,
-) -> Option<Vec<KnownView>>
+) -> Option<Vec<CachedView>>
     requires marked { AreMarked search.sessions.now search.subscriptions.now search.marks.now }
     ensures { KnowsOthers result rows.now search.entry.sessions.now search.entry.subscriptions.now search.entry.publisher.now subject.now }
 {
@@ -62,7 +62,7 @@ fn find_drawn(
     ensures { IfOk result (λ found. IfSome found (λ drawn. IsSent rows.now search.entry.sessions.now search.entry.subscriptions.now search.entry.publisher.now drawn × (subject_of drawn ≡ subject.now))) }
 {
     let account = search.publisher.user.account.as_slice();
-    match known_at(alloc, search, account, subject, ids)? {
+    match cached_view_at(alloc, search, account, subject, ids)? {
         None => Ok(None),
         Some(own) => match find_others(alloc, search, rows, &subject.lend(), ids)? {
             None => Ok(None),

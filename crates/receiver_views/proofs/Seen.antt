@@ -9,11 +9,11 @@ use Rattle.imports.specs.declared.view.ViewItem.TheVariants.{At, TooLong}
 use Rattle.imports.specs.declared.view.Way.TheVariants.{Own, Stream, Service, Response}
 use Rattle.world_deliveries.specs.declared.session.Session.{Session}
 use Rattle.world_rows.specs.declared.subscription.Subscription.{Subscription}
-use Rattle.receiver_views.specs.Known.{AreSeen, others_in, KnowsOthers}
-use Rattle.receiver_views.specs.declared.known.KnownView.{KnownView}
+use Rattle.receiver_views.specs.CachedViews.{AreSeen, others_in, KnowsOthers}
+use Rattle.receiver_views.specs.declared.cached_view.CachedView.{CachedView}
 
 -- one known view more
-pub seen_more : (zs : List Session) (subs : List Subscription) (z : Session) (known : List KnownView) (vs : List ViewItem) (k : KnownView) (v : ViewItem) →
+pub seen_more : (zs : List Session) (subs : List Subscription) (z : Session) (known : List CachedView) (vs : List ViewItem) (k : CachedView) (v : ViewItem) →
     AreSeen zs subs z known vs → AreSeen zs subs z (k ∷ []) (v ∷ []) → AreSeen zs subs z (known ++ k ∷ []) (vs ++ v ∷ [])
 seen_more zs subs z [] [] k v all one = one
 seen_more zs subs z [] (u ∷ vs) k v all one = absurd all
@@ -33,7 +33,7 @@ tail_of {v} {u} {vs} {us} e = ap (λ (all : List ViewItem). rest all) e
     rest (x ∷ xs) = xs
 
 -- views that are known are the others of a publisher's message, where these are its others
-pub known_if : (zs : List Session) (subs : List Subscription) (z : Session) (rows : List ImportRow) (s : List Token) (o : Option (Vec KnownView)) (vs : List ViewItem) →
-    vs ≡ others_in rows z.user.account s → IfSome o (λ (known : Vec KnownView). AreSeen zs subs z known.items vs) → KnowsOthers o rows zs subs z s
+pub known_if : (zs : List Session) (subs : List Subscription) (z : Session) (rows : List ImportRow) (s : List Token) (o : Option (Vec CachedView)) (vs : List ViewItem) →
+    vs ≡ others_in rows z.user.account s → IfSome o (λ (known : Vec CachedView). AreSeen zs subs z known.items vs) → KnowsOthers o rows zs subs z s
 known_if zs subs z rows s None vs same is = tt
 known_if zs subs z rows s (Some known) vs same is = subst (λ (us : List ViewItem). AreSeen zs subs z known.items us) same is

@@ -1,4 +1,4 @@
 pub mod Open
 pub mod Marked
 pub mod Receivers
-pub mod Known
+pub mod CachedViews

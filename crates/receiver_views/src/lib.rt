@@ -1,13 +1,13 @@
 //! The subscriptions that may be sent a message, and the receivers that a view has for it.
 #![tactic(auto)]
 
-mod known;
+mod cached_view;
 mod names;
 mod open;
 mod receiver;
 mod whom;
 
-pub use known::{KnownView, ReceiverSearch, address_known, known_at, known_views};
+pub use cached_view::{CachedView, ReceiverSearch, address_cached, cached_view_at, cached_views};
 pub use names::names_of;
 pub use open::Open;
 pub use receiver::{Receiver, address_each};

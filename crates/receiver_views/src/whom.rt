@@ -5,7 +5,7 @@ ghost use Rattle.events.specs.Sendings.{named};
 ghost use Rattle.queue_choice.specs.Choices.{chosen};
 ghost use Rattle.world_groups.specs.Chosen.{Rising};
 ghost use Rattle.world_groups.specs.Grouped.{if_any};
-ghost use Rattle.receiver_views.specs.Known.{IsWhom, count_of};
+ghost use Rattle.receiver_views.specs.CachedViews.{IsWhom, count_of};
 ghost use Rattle.receiver_views.specs.Receivers.{addressed_at};
 
 use crate::receiver::{Receiver, receivers_of};

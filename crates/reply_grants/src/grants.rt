@@ -52,7 +52,7 @@ impl Grants {
     }
 
     /// Tells what holds of all: at most 1,024 stand. It does nothing when it runs.
-    pub fn known(&self)
+    pub fn use_invariant(&self)
         ensures { length self.now ≤ 1024 }
     {
         let _ = &self.table;

@@ -136,13 +136,13 @@ impl<L: Run> Desk<L> {
     /// Tells what holds of every desk, so whenever the lock is free (docs/GUARANTEE.md, "Threads"): its hub keeps what
     /// every hub keeps, what it holds of its history is legal, and the book counts the entries since the run opened. As long
     /// as it counts none, the hub's world is that with which the run opened.
-    pub fn known(&self)
+    pub fn use_invariant(&self)
         ensures sound { IsSound self.now.hub.world }
         ensures legal { IsLegalRun self.now.hub.opening self.now.hub.entries self.now.hub.world }
         ensures counted { self.now.hub.world.number ≡ L.opening + self.now.book.total }
         ensures begun { self.now.book.total ≡ 0 → self.now.hub.world ≡ L.first.world }
     {
-        self.hub.known();
+        self.hub.use_invariant();
     }
 
     /// Ends the run: brings the parts of all seats together, which count what the book has.
@@ -313,7 +313,7 @@ impl<L: Run> Desk<L> {
     {
         if told.freed.reserve(self.waits.len()).is_err() {
             let refusal = self.hub.refusal(&event);
-            self.hub.known();
+            self.hub.use_invariant();
             return Err((event, refusal));
         }
         let answer = match self.step_counted(seat, event) {
@@ -468,7 +468,7 @@ impl<L: Run> Desk<L> {
         ensures hub { self.new.hub ≡ self.old.hub }
         ensures held { self.new.held.items ≡ self.old.held.items }
     {
-        self.hub.known();
+        self.hub.use_invariant();
         let Some(publisher) = publisher_of(&event.what) else {
             return PublishRefusal::Held;
         };

@@ -43,7 +43,7 @@ use Rattle.world_views.specs.Requests.{response_by, responses_on}
 use Rattle.account_mappings.specs.Drawing.{mapped_by}
 use Rattle.account_mappings.specs.declared.drawing.Mapped.{Mapped}
 use Rattle.account_mappings.specs.declared.drawing.Mapped.TheVariants.{Same, To, Unmapped, TooLong}
-use Rattle.receiver_views.specs.Known.{under_subject}
+use Rattle.receiver_views.specs.CachedViews.{under_subject}
 use Rattle.world_routing.specs.Publishing.{mapped_to, published, seen_as, seen_nowhere}
 use Rattle.tenant_parts.specs.Laws.{IsViewWithin}
 use Rattle.tenant_parts.specs.Least.{all_on_least, exporter_on_least, exporters_on_least, on_least}

@@ -42,7 +42,7 @@ use Rattle.world_views.specs.Requests.{next_subject, responses_on, route_for}
 use Rattle.account_mappings.specs.Drawing.{mapped_by}
 use Rattle.account_mappings.specs.declared.drawing.Mapped.{Mapped}
 use Rattle.account_mappings.specs.declared.drawing.Mapped.TheVariants.{Same, To, Unmapped, TooLong}
-use Rattle.receiver_views.specs.Known.{under_subject}
+use Rattle.receiver_views.specs.CachedViews.{under_subject}
 use Rattle.world_routing.specs.Publishing.{in_session, mapped_to, published, seen_as, seen_nowhere}
 use Rattle.world.specs.Transition.{closed, connected, in_new_session, moved, subscribed, taken, unsubscribed}
 use Rattle.tenant_worlds.specs.Tenants.{Tenants}

@@ -13,7 +13,7 @@ use Rattle.std.proofs.lemmas.List.Elements.{All-head}
 use Rattle.lru.specs.LruCache.{LruCache, promoted, put_entries}
 use Rattle.lru.proofs.CallerLemmas.{Contains-lookup, Contains-promoted, Contains-put_entries}
 use Rattle.verdict_cache.specs.declared.asked.Asked.{Asked}
-use Rattle.verdict_cache.specs.declared.cache.Known.{Known}
+use Rattle.verdict_cache.specs.declared.cache.Remembered.{Remembered}
 use Rattle.verdict_cache.specs.declared.asked.Action.{Action}
 use Rattle.verdict_cache.specs.declared.asked.Action.TheVariants.{Publish, Subscribe, Deliver}
 use Rattle.verdict_cache.specs.contracts.asked.ActionPartialEq.TheImpl.{eq-value as action_eq}
@@ -21,7 +21,7 @@ use Rattle.verdict_cache.specs.contracts.asked.AskedPartialEq.TheImpl.{eq-value 
 use Rattle.verdict_cache.specs.Verdicts.{Judgement, IsCurrent, Question, asked_of}
 
 abbrev Entry : Type 0
-Entry = Asked × Known
+Entry = Asked × Remembered
 
 -- what holds of all holds of one among them
 one_of : (P : Entry → Type 0) (es : List Entry) (e : Entry) → All P es → Contains es e → P e
@@ -65,14 +65,14 @@ pub on_ok : {X E : Type 0} (r : Result X E) (A : Type 0) → is_err r ≡ false 
 on_ok (Ok x) A good holds = holds
 on_ok (Err e) A bad holds = absurd (cc)
 
-pub found : (verdict_of : Judgement) (epoch : ℕ) (test : Asked → Bool) (es : List Entry) (asked : Asked) (known : Known) → ((other : Asked) → test other ≡ true → asked_of asked ≡ asked_of other) →
+pub found : (verdict_of : Judgement) (epoch : ℕ) (test : Asked → Bool) (es : List Entry) (asked : Asked) (known : Remembered) → ((other : Asked) → test other ≡ true → asked_of asked ≡ asked_of other) →
     All (IsCurrent verdict_of epoch) es → lookup test es ≡ Some known → known.epoch ≡ epoch → known.verdict ≡ verdict_of (asked_of asked)
 found verdict_of epoch test es asked known same current is now =
     let it = Contains-lookup test es known is in
     (one_of (IsCurrent verdict_of epoch) es (it.0, known) current it.1).same now ∙ ap verdict_of (sym (same it.0 it.2))
 
 -- what stands first is current, whatever stands behind it
-pub first_current : (verdict_of : Judgement) (epoch : ℕ) (es : List Entry) (key asked : Asked) (known : Known) → asked_of key ≡ asked_of asked → Some (key, known) ≡ slice_get es 0 →
+pub first_current : (verdict_of : Judgement) (epoch : ℕ) (es : List Entry) (key asked : Asked) (known : Remembered) → asked_of key ≡ asked_of asked → Some (key, known) ≡ slice_get es 0 →
     All (IsCurrent verdict_of epoch) es → known.epoch ≡ epoch → known.verdict ≡ verdict_of (asked_of asked)
 first_current verdict_of epoch [] key asked known same is current now = absurd (cc)
 first_current verdict_of epoch (e ∷ es) key asked known same is current now =
@@ -87,7 +87,7 @@ pub promoted_current : (verdict_of : Judgement) (epoch : ℕ) (test : Asked → 
 promoted_current verdict_of epoch test es current =
     each_of (IsCurrent verdict_of epoch) (promoted test es) (λ e has. one_of (IsCurrent verdict_of epoch) es e current (Contains-promoted test es e has))
 
-pub put_current : (verdict_of : Judgement) (epoch : ℕ) (eq : Asked → Asked → Bool) (cache : LruCache Asked Known) (asked : Asked) (known : Known) →
+pub put_current : (verdict_of : Judgement) (epoch : ℕ) (eq : Asked → Asked → Bool) (cache : LruCache Asked Remembered) (asked : Asked) (known : Remembered) →
     ((other : Asked) → eq asked other ≡ true → asked_of asked ≡ asked_of other) → All (IsCurrent verdict_of epoch) cache.entries →
     known.epoch ≡ epoch → known.verdict ≡ verdict_of (asked_of asked) → All (IsCurrent verdict_of epoch) (put_entries eq cache asked known)
 put_current verdict_of epoch eq cache asked known same current now is =
@@ -96,7 +96,7 @@ put_current verdict_of epoch eq cache asked known same current now is =
       | inr new ↦ put e (asked_is e new.1) new.0
     ])
   where
-    asked_is : (e : Entry) → ((e.0 ≡ asked) ⊎ ((w : Known) × Contains cache.entries (e.0, w) × (eq asked e.0 ≡ true))) → asked_of asked ≡ asked_of e.0
+    asked_is : (e : Entry) → ((e.0 ≡ asked) ⊎ ((w : Remembered) × Contains cache.entries (e.0, w) × (eq asked e.0 ≡ true))) → asked_of asked ≡ asked_of e.0
     asked_is e (inl here) = ap asked_of (sym here)
     asked_is e (inr alike) = same e.0 alike.2
 

@@ -9,7 +9,7 @@ use Rattle.verdict_cache.specs.declared.asked.Action.{Action}
 use Rattle.verdict_cache.specs.declared.asked.Action.TheVariants.{Publish}
 use Rattle.verdict_cache.specs.declared.asked.Asked.{Asked}
 use Rattle.verdict_cache.specs.declared.asked.Asking.{Asking}
-use Rattle.verdict_cache.specs.declared.cache.Known.{Known}
+use Rattle.verdict_cache.specs.declared.cache.Remembered.{Remembered}
 use Rattle.verdict_cache.specs.declared.cache.VerdictCache.{VerdictCache}
 use Rattle.verdict_cache.specs.declared.verdicts.Verdicts.{Verdicts}
 
@@ -31,19 +31,19 @@ abbrev pub Judgement : Type 0
 Judgement = Question → Verdict
 
 -- a verdict that is kept isn't of a later epoch, and if it is of this one, its question has it
-pub record IsCurrent (verdict_of : Judgement) (epoch : ℕ) (entry : Asked × Known) : Type 0 where
+pub record IsCurrent (verdict_of : Judgement) (epoch : ℕ) (entry : Asked × Remembered) : Type 0 where
   pub no_later : entry.1.epoch ≤ epoch
   pub same : entry.1.epoch ≡ epoch → entry.1.verdict ≡ verdict_of (asked_of entry.0)
 
 -- so is each that is kept
 abbrev pub AreCurrent : Judgement → ℕ → VerdictCache → Type 0
-AreCurrent verdict_of epoch cache = All (IsCurrent verdict_of epoch) cache.known.entries
+AreCurrent verdict_of epoch cache = All (IsCurrent verdict_of epoch) cache.verdicts.entries
 
 -- ---- the verdicts under the policy in force
 
 -- each verdict that is remembered under this policy is its question's
-abbrev pub AreKnown : Judgement → Verdicts → Type 0
-AreKnown verdict_of verdicts = IfSome verdicts.cache (AreCurrent verdict_of verdicts.epoch)
+abbrev pub AreRemembered : Judgement → Verdicts → Type 0
+AreRemembered verdict_of verdicts = IfSome verdicts.cache (AreCurrent verdict_of verdicts.epoch)
 
 -- the question of a user's publish
 abbrev pub publish_question : List ℕ → List Token → Question

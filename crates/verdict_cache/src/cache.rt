@@ -8,12 +8,12 @@ use std::num::NonZeroUsize;
 
 /// A verdict, and the policy under which it was given, by its epoch.
 #[derive(Clone, Copy, Debug, Drop)]
-pub struct Known {
+pub struct Remembered {
     epoch: u64,
     verdict: Verdict,
 }
 
-impl Known {
+impl Remembered {
     ghost use Rattle.std.specs.Prelude.{◌≡◌, IfSome};
 
     /// Returns the verdict if it was given in this epoch.
@@ -39,7 +39,7 @@ impl Known {
 #[derive(Drop)]
 pub struct VerdictCache {
     alloc: Global,
-    known: LruCache<Asked, Known, RandomState>,
+    verdicts: LruCache<Asked, Remembered, RandomState>,
     // What is looked up, in memory that each look-up uses again.
     asked: Asked,
 }
@@ -61,10 +61,10 @@ impl VerdictCache {
     pub fn new(alloc: Global, keys: RandomState) -> Result<VerdictCache, NoMemory>
         ensures { IfOk result (λ cache. (verdict_of : Judgement) (epoch : ℕ) → AreCurrent verdict_of epoch cache) }
     {
-        let known = LruCache::with_hasher(alloc, most(), keys)?;
+        let verdicts = LruCache::with_hasher(alloc, most(), keys)?;
         Ok(VerdictCache {
             alloc,
-            known,
+            verdicts,
             asked: Asked::nothing(alloc),
         })
     }
@@ -82,17 +82,17 @@ impl VerdictCache {
         if let Some(known) = self.first() {
             return known.verdict_in(epoch);
         }
-        match self.known.get(&self.asked) {
+        match self.verdicts.get(&self.asked) {
             Some(known) => known.verdict_in(epoch),
             None => None,
         }
     }
 
     /// Returns the verdict that was used last, if its question is the one that is looked up. It is found without a hash.
-    fn first(&self) -> Option<&Known>
+    fn first(&self) -> Option<&Remembered>
         ensures { IfSome result (λ known. (verdict_of : Judgement) (epoch : ℕ) → AreCurrent verdict_of epoch self.now → known.now.epoch ≡ epoch → known.now.verdict ≡ verdict_of (asked_of self.now.asked)) }
     {
-        match self.known.peek_mru() {
+        match self.verdicts.peek_mru() {
             None => None,
             Some((asked, known)) => {
                 if *asked == self.asked {
@@ -110,7 +110,7 @@ impl VerdictCache {
         ensures { (verdict_of : Judgement) → AreCurrent verdict_of epoch self.old → verdict ≡ verdict_of (asked_by asking.entry) → AreCurrent verdict_of epoch self.new }
     {
         let asked = Asked::of(self.alloc, asking)?;
-        self.known.put(asked, Known { epoch, verdict })?;
+        self.verdicts.put(asked, Remembered { epoch, verdict })?;
         Ok(())
     }
 

@@ -143,7 +143,7 @@ impl World {
         ensures { (told : Outcome) → self.new ≡ done self.old (change.Leave conn) told }
     {
         self.caches.receivers.clear_cache();
-        self.sessions.known();
+        self.sessions.use_invariant();
         self.sessions.remove(conn);
         self.subscriptions.remove(conn);
         trim_marks(&mut self.caches.marks, &self.subscriptions);

@@ -156,6 +156,6 @@ pub(crate) fn remove_lost(subscriptions: &mut Subscriptions, ids: &[u64])
     ensures { (doc : PolicyDoc) (zs : List Session) → ids.now ≡ filter_map (lost_id doc zs) subscriptions.old
         → subscriptions.new ≡ filter (stands_on doc zs) subscriptions.old }
 {
-    subscriptions.known();
+    subscriptions.use_invariant();
     subscriptions.remove_each(ids);
 }

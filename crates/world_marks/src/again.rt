@@ -81,8 +81,8 @@ pub fn marks_again(
     requires marked { AreMarked renewing.sessions.now subscriptions.now renewing.marks.now }
     ensures { IfOk result (λ marks. (now : ℕ) → AreMarked (remaining now renewing.entry.ready.now renewing.entry.sessions.now) subscriptions.now marks) }
 {
-    renewing.sessions.known();
-    subscriptions.known();
+    renewing.sessions.use_invariant();
+    subscriptions.use_invariant();
     let mut marks = DenyMarks::new(alloc);
     for subscription in subscriptions.values() {
         mark_again(&mut marks, renewing, subscription)?;

@@ -15,8 +15,8 @@ use Rattle.world_rows.specs.declared.subscription.Subscription.{Subscription}
 use Rattle.receiver_views.specs.Open.{is_open, open_among}
 use Rattle.receiver_views.specs.Receivers.{addressed_at}
 use Rattle.world_receivers.specs.Standing.{times_entering, stands_behind, standing_among, addressed_behind_in}
-use Rattle.receiver_views.specs.Known.{under_subject, picked, has_limit, IsSeen, addressed_in}
-use Rattle.receiver_views.specs.declared.known.KnownView.{KnownView}
+use Rattle.receiver_views.specs.CachedViews.{under_subject, picked, has_limit, IsSeen, addressed_in}
+use Rattle.receiver_views.specs.declared.cached_view.CachedView.{CachedView}
 use Rattle.world_receivers.proofs.Left.{never_ends}
 use Rattle.receiver_cache.proofs.Told.{addressed_each}
 
@@ -56,7 +56,7 @@ module _ (zs : List Session) (before : List Addressed) (z : Session) (account : 
       here false c later none = later none
 
   -- so a known view says what the deliveries in it are
-  pub view_told : (subs : List Subscription) (known : KnownView) (m : Message) (word : ℕ) → IsSeen zs subs z known account s →
+  pub view_told : (subs : List Subscription) (known : CachedView) (m : Message) (word : ℕ) → IsSeen zs subs z known account s →
       addressed_in m word before known ≡ before ++ addressed_behind_in zs subs before z (under_subject s m) word account
   view_told subs known m word is =
       ap (λ (x : Message). before ++ map (addressed_at x) (picked word known.whom)) (is.names m)

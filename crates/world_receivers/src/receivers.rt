@@ -8,8 +8,8 @@ ghost use Rattle.permissions.specs.declared.verdict.By.{By as ByModel};
 ghost use Rattle.world_deliveries.specs.Sessions.{session_of};
 ghost use Rattle.world_deliveries.specs.declared.session.Session.{Session as SessionModel};
 ghost use Rattle.world_rows.specs.declared.subscription.Subscription.{Subscription};
-ghost use Rattle.receiver_cache.specs.Cached.{IsAllowed, IsAloneAt, IsAloneOf, IsCurrent, TellsOthers, IsEmpty, known_others};
-ghost use Rattle.receiver_views.specs.Known.{KnowsOthers};
+ghost use Rattle.receiver_cache.specs.Cached.{IsAllowed, IsAloneAt, IsAloneOf, IsCurrent, TellsOthers, IsEmpty, cached_others};
+ghost use Rattle.receiver_views.specs.CachedViews.{KnowsOthers};
 ghost use Rattle.receiver_views.specs.Marked.{AreMarked};
 ghost use Rattle.receiver_cache.specs.Drawn.{IsSent, IsSentOn, KnowsDrawn, subject_of};
 ghost use Rattle.receiver_views.specs.Receivers.{addressed_among};
@@ -172,7 +172,7 @@ impl Receivers {
         requires allowed { IfSome sending.allowed (IsAllowed sending.publisher.now.user sending.message.now.subject) }
         requires marked { AreMarked sessions.now subscriptions.old marks.now }
         ensures all { OnOk result (self.new.deliveries.items ≡ addressed_among sessions.now subscriptions.old sending.entry.publisher.now sending.entry.message.now sending.entry.word) }
-        ensures others { OnOk result (KnowsOthers (known_others self.new.cache) rows.now sessions.now subscriptions.old sending.entry.publisher.now sending.entry.message.now.subject) }
+        ensures others { OnOk result (KnowsOthers (cached_others self.new.cache) rows.now sessions.now subscriptions.old sending.entry.publisher.now sending.entry.message.now.subject) }
         ensures same { subscriptions.new ≡ subscriptions.old }
         ensures cached { IsCurrent rows.now sessions.now subscriptions.old self.new.cache }
     {
@@ -261,7 +261,7 @@ impl Receivers {
     /// without rows doesn't need its locals.
     #[inline(never)]
     pub fn address_others(&mut self, message: &Message, word: u64) -> Result<bool, NoMemory>
-        ensures tells { IfOk result (λ done. done ≡ true → TellsOthers (known_others self.old.cache) message.now word self.old.deliveries.items self.new.deliveries.items) }
+        ensures tells { IfOk result (λ done. done ≡ true → TellsOthers (cached_others self.old.cache) message.now word self.old.deliveries.items self.new.deliveries.items) }
         ensures same { IfOk result (λ done. done ≡ false → self.new.deliveries.items ≡ self.old.deliveries.items) }
         ensures cached { self.new.cache ≡ self.old.cache }
     {
@@ -390,9 +390,9 @@ impl Receivers {
         requires cached { IsCurrent rows.now search.sessions.now search.subscriptions.now self.old.cache }
         requires allowed { IfSome allowed (IsAllowed search.publisher.now.user subject.now) }
         requires marked { AreMarked search.sessions.now search.subscriptions.now search.marks.now }
-        requires others { KnowsOthers (known_others self.old.cache) rows.now search.sessions.now search.subscriptions.now search.publisher.now subject.now }
+        requires others { KnowsOthers (cached_others self.old.cache) rows.now search.sessions.now search.subscriptions.now search.publisher.now subject.now }
         ensures cached { IsCurrent rows.now search.entry.sessions.now search.entry.subscriptions.now self.new.cache }
-        ensures others { KnowsOthers (known_others self.new.cache) rows.now search.entry.sessions.now search.entry.subscriptions.now search.entry.publisher.now subject.now }
+        ensures others { KnowsOthers (cached_others self.new.cache) rows.now search.entry.sessions.now search.entry.subscriptions.now search.entry.publisher.now subject.now }
     {
         let ReceiverSearch {
             sessions,

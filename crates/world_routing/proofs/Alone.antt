@@ -23,7 +23,7 @@ use Rattle.world_subscriptions.specs.Limit.{unended}
 use Rattle.world_subscriptions.specs.Kept.{Apart}
 use Rattle.world_rows.specs.declared.subscription.Subscription.{Subscription}
 use Rattle.receiver_cache.specs.Cached.{IsAllowed, IsAloneAt, IsAloneOf, IsOfLists}
-use Rattle.receiver_views.specs.Known.{others_with}
+use Rattle.receiver_views.specs.CachedViews.{others_with}
 use Rattle.world_receivers.specs.Standing.{addressed_behind_in}
 use Rattle.world_routing.specs.World.{World}
 use Rattle.world_views.specs.Changing.{opened_each}

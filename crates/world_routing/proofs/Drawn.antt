@@ -14,7 +14,7 @@ use Rattle.service_routes.specs.Routes.{Name, spent}
 use Rattle.world_deliveries.specs.declared.session.Session.{Session}
 use Rattle.world_rows.specs.declared.subscription.Subscription.{Subscription}
 use Rattle.receiver_cache.specs.Drawn.{IsSentOn, subject_of}
-use Rattle.receiver_views.specs.Known.{addressed_in_each, others_in, others_with, under_subject}
+use Rattle.receiver_views.specs.CachedViews.{addressed_in_each, others_in, others_with, under_subject}
 use Rattle.world_receivers.specs.Standing.{addressed_behind_in}
 use Rattle.world_receivers.proofs.Behind.{view_told}
 use Rattle.world_views.specs.Changing.{opened_each}

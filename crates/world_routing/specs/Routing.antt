@@ -22,7 +22,7 @@ use Rattle.world_rows.specs.declared.subscription.Subscription.{Subscription}
 use Rattle.world_groups.specs.Served.{served}
 pub use Rattle.receiver_views.specs.Open.{lets_through, may_hear, is_open_to, is_open}
 pub use Rattle.world_receivers.specs.Standing.{is_nil}
-pub use Rattle.receiver_views.specs.Known.{under_subject}
+pub use Rattle.receiver_views.specs.CachedViews.{under_subject}
 use Rattle.world_views.specs.Requests.{next_subject, route_for}
 use Rattle.world_routing.specs.World.{World}
 

@@ -286,7 +286,7 @@ fn plan_under<'p>(
 {
     let SentOn { permitted, subject } = sent_on;
     let Permitted { publish, by, marks } = permitted;
-    subscriptions.known();
+    subscriptions.use_invariant();
     let (answered, told) = match sessions.find(publish.conn) {
         None => return Err(HubRefusal::NoSession),
         Some(session) => {
@@ -333,7 +333,7 @@ fn plan_own<'p>(
     ensures kept { IsKept (rows_of ready.now) sessions.old subscriptions.old routes.old.exporters sessions.new subscriptions.new routes.new.exporters receivers.new.cache }
 {
     let Permitted { publish, by, marks } = permitted;
-    subscriptions.known();
+    subscriptions.use_invariant();
     let (answered, told) = match sessions.find(publish.conn) {
         None => return Err(HubRefusal::NoSession),
         Some(session) => (
@@ -463,7 +463,7 @@ fn plan_mapped<'p>(
         by,
         marks: _,
     } = permitted;
-    subscriptions.known();
+    subscriptions.use_invariant();
     let answered = match sessions.find(publish.conn) {
         None => return Err(HubRefusal::NoSession),
         Some(session) => {
@@ -540,7 +540,7 @@ fn plan_judged<'p>(
     ensures verdicts { AreRemembered ready.now caches.new.verdicts }
     ensures marked { caches.new.marks ≡ caches.old.marks }
 {
-    subscriptions.known();
+    subscriptions.use_invariant();
     let message = publish.message;
     let subject = message.subject();
     let receivers = &mut caches.receivers;
@@ -606,7 +606,7 @@ pub fn plan_publish<'p>(
     ensures marked { caches.new.marks ≡ caches.old.marks }
     ensures cached { IsCurrent (rows_of ready.now) sessions.new subscriptions.new caches.new.receivers.cache }
 {
-    subscriptions.known();
+    subscriptions.use_invariant();
     let receivers = &mut caches.receivers;
     match receivers.address_alone(publish.conn, publish.message, publish.word)? {
         Some(by) => plan_alone(sessions, receivers, publish.message, by),

@@ -73,10 +73,10 @@ impl Sessions {
     }
 
     /// Tells the prover what always holds: no two sessions have one connection. It does nothing when it runs.
-    pub fn known(&self)
+    pub fn use_invariant(&self)
         ensures { AllPairs IsApart self.now }
     {
-        self.conns.known();
+        self.conns.use_invariant();
     }
 
     /// Returns the place of the session of a connection.
@@ -298,7 +298,7 @@ impl Sessions {
         requires { users.items ≡ filter_map (user_again_of ready.now) self.old }
         ensures { self.new ≡ remaining now ready.now self.old }
     {
-        self.conns.known();
+        self.conns.use_invariant();
         renewal::renew_list(ready, &mut self.list, users, now);
         self.conns.note_all(self.list.as_slice());
     }

@@ -14,9 +14,9 @@ use Rattle.imports.specs.declared.view.Way.TheVariants.{Own, Stream, Service, Re
 use Rattle.world_subscriptions.specs.Addressing.{addressed_to}
 use Rattle.world_rows.specs.declared.subscription.Subscription.{Subscription}
 use Rattle.world_groups.specs.Served.{served}
-use Rattle.receiver_views.specs.Known.{IsSeen, AreSeen, addressed_in, addressed_in_each, others_in, under_subject, KnowsOthers}
+use Rattle.receiver_views.specs.CachedViews.{IsSeen, AreSeen, addressed_in, addressed_in_each, others_in, under_subject, KnowsOthers}
 use Rattle.receiver_cache.specs.Cached.{TellsOthers}
-use Rattle.receiver_views.specs.declared.known.KnownView.{KnownView}
+use Rattle.receiver_views.specs.declared.cached_view.CachedView.{CachedView}
 use Rattle.world_receivers.specs.Standing.{standing_among, addressed_behind_in}
 use Rattle.world_receivers.proofs.Behind.{view_told}
 use Rattle.world_views.specs.Viewing.{Tables, Publication, Addressing, addressing, seen, seen_with, request_in, effect_of, with_effect, addressed_after, reports_after}
@@ -59,13 +59,13 @@ unsaid_after t p a (v ∷ vs) none all = unsaid_after t p (with_effect t p a (ef
 -- ---- known views
 
 -- in views that are known the deliveries are those of the views, no row is reported, and no route is opened
-known_step : (t : Tables) (p : Publication) (a : Addressing) (k : KnownView) (account : List ℕ) (s : List Token) → IsSeen t.sessions t.subscriptions p.publisher k account s →
+known_step : (t : Tables) (p : Publication) (a : Addressing) (k : CachedView) (account : List ℕ) (s : List Token) → IsSeen t.sessions t.subscriptions p.publisher k account s →
     addressing (addressed_in p.message p.word a.deliveries k) a.openings ≡ with_effect t p a (seen account (under_subject s p.message) [])
 known_step t p a k account s is =
     ap (λ (ds : List Addressed). addressing ds a.openings) (view_told t.sessions a.deliveries p.publisher account s t.subscriptions k p.message p.word is)
     ∙ ap (λ (os : List Opening). addressing (a.deliveries ++ addressed_behind_in t.sessions t.subscriptions a.deliveries p.publisher (under_subject s p.message) p.word account) os) (sym (append-nil a.openings))
 
-pub known_after : (t : Tables) (p : Publication) (a : Addressing) (known : List KnownView) (vs : List ViewItem) → AreSeen t.sessions t.subscriptions p.publisher known vs →
+pub known_after : (t : Tables) (p : Publication) (a : Addressing) (known : List CachedView) (vs : List ViewItem) → AreSeen t.sessions t.subscriptions p.publisher known vs →
     addressing (addressed_in_each p.message p.word a.deliveries known) a.openings ≡ addressed_after t p a vs
 known_after t p a [] [] is = refl
 known_after t p a [] (v ∷ vs) is = absurd is
@@ -78,7 +78,7 @@ known_after t p a (k ∷ known) (At account s (Stream row) ∷ vs) is =
     known_after t p (addressing (addressed_in p.message p.word a.deliveries k) a.openings) known vs is.1
     ∙ ap (λ (b : Addressing). addressed_after t p b vs) (known_step t p a k account s is.0)
 
-pub known_reports : (t : Tables) (p : Publication) (a : Addressing) (known : List KnownView) (vs : List ViewItem) → AreSeen t.sessions t.subscriptions p.publisher known vs →
+pub known_reports : (t : Tables) (p : Publication) (a : Addressing) (known : List CachedView) (vs : List ViewItem) → AreSeen t.sessions t.subscriptions p.publisher known vs →
     reports_after t p a vs ≡ []
 known_reports t p a [] [] is = refl
 known_reports t p a [] (v ∷ vs) is = absurd is
@@ -91,13 +91,13 @@ known_reports t p a (k ∷ known) (At account s (Stream row) ∷ vs) is = known_
 
 -- so it is with what the cache tells of the views behind the publisher's own
 module _ (rows : List ImportRow) (t : Tables) (p : Publication) (a : Addressing) where
-  pub others_told : (o : Option (Vec KnownView)) (all : List Addressed) → KnowsOthers o rows t.sessions t.subscriptions p.publisher p.message.subject → TellsOthers o p.message p.word a.deliveries all →
+  pub others_told : (o : Option (Vec CachedView)) (all : List Addressed) → KnowsOthers o rows t.sessions t.subscriptions p.publisher p.message.subject → TellsOthers o p.message p.word a.deliveries all →
       addressing all a.openings ≡ addressed_after t p a (others_in rows p.publisher.user.account p.message.subject)
   others_told None all known tells = absurd tells
   others_told (Some views) all known tells =
       ap (λ (ds : List Addressed). addressing ds a.openings) tells ∙ known_after t p a views.items (others_in rows p.publisher.user.account p.message.subject) known
 
-  pub others_unreported : (o : Option (Vec KnownView)) (all : List Addressed) → KnowsOthers o rows t.sessions t.subscriptions p.publisher p.message.subject → TellsOthers o p.message p.word a.deliveries all →
+  pub others_unreported : (o : Option (Vec CachedView)) (all : List Addressed) → KnowsOthers o rows t.sessions t.subscriptions p.publisher p.message.subject → TellsOthers o p.message p.word a.deliveries all →
       reports_after t p a (others_in rows p.publisher.user.account p.message.subject) ≡ []
   others_unreported None all known tells = absurd tells
   others_unreported (Some views) all known tells = known_reports t p a views.items (others_in rows p.publisher.user.account p.message.subject) known

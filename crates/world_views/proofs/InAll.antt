@@ -8,7 +8,7 @@ use Rattle.imports.specs.declared.rows.ImportRow.{ImportRow}
 use Rattle.imports.specs.declared.view.ViewItem.{ViewItem}
 use Rattle.service_exporter.specs.Routes.{Exporter, route_on}
 use Rattle.service_routes.specs.Routes.{Name, exporter_of, pruned, spent}
-use Rattle.receiver_views.specs.Known.{others_in, others_with}
+use Rattle.receiver_views.specs.CachedViews.{others_in, others_with}
 use Rattle.world_receivers.specs.Standing.{addressed_behind_in}
 use Rattle.world_views.specs.Changing.{opened_each}
 use Rattle.world_views.specs.Requests.{responses_on}

@@ -14,7 +14,7 @@ use Rattle.imports.specs.declared.view.Way.TheVariants.{Own, Stream, Service, Re
 use Rattle.service_exporter.specs.Routes.{Exporter, route_on}
 use Rattle.service_exporter.specs.declared.route.Route.{Route}
 use Rattle.service_routes.specs.Routes.{Name, exporter_of}
-use Rattle.receiver_views.specs.Known.{others_in, others_with}
+use Rattle.receiver_views.specs.CachedViews.{others_in, others_with}
 use Rattle.world_receivers.specs.Standing.{addressed_behind_in}
 use Rattle.world_views.specs.Requests.{response_by, responses_on}
 use Rattle.world_views.specs.Viewing.{Tables, Publication, Addressing, addressing, addressed_after, reports_after, seen_with}

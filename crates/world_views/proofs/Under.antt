@@ -9,7 +9,7 @@ use Rattle.imports.specs.declared.view.Way.TheVariants.{Own, Stream, Service, Re
 use Rattle.service_exporter.specs.Routes.{Exporter}
 use Rattle.service_routes.specs.Routes.{Name}
 use Rattle.world_deliveries.specs.declared.session.Session.{Session}
-use Rattle.receiver_views.specs.Known.{under_subject}
+use Rattle.receiver_views.specs.CachedViews.{under_subject}
 use Rattle.world_views.specs.Viewing.{Tables, Publication, Addressing, Effect, seen, reports, nothing, addressed_after, effect_of, publication, reports_after, reports_by, request_in, requested_if, with_effect}
 use Rattle.world_views.specs.declared.viewing.Report.{Report}
 

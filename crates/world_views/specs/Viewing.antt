@@ -17,9 +17,9 @@ use Rattle.service_exporter.specs.Routes.{Exporter}
 use Rattle.service_routes.specs.Routes.{Name, exporter_of, pruned}
 use Rattle.world_deliveries.specs.declared.session.Session.{Session}
 use Rattle.world_rows.specs.declared.subscription.Subscription.{Subscription}
-pub use Rattle.receiver_views.specs.Known.{others_in, others_with}
+pub use Rattle.receiver_views.specs.CachedViews.{others_in, others_with}
 use Rattle.world_receivers.specs.Standing.{addressed_behind_in, is_for_nobody}
-use Rattle.receiver_views.specs.Known.{under_subject}
+use Rattle.receiver_views.specs.CachedViews.{under_subject}
 use Rattle.world_views.specs.Changing.{changed_by, opened_each, AreNoted}
 use Rattle.world_views.specs.Requests.{route_for, next_subject}
 use Rattle.world_views.specs.declared.across.Told.{Told}

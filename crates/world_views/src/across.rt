@@ -10,7 +10,7 @@ ghost use Rattle.world_deliveries.specs.Sessions.{session_of};
 ghost use Rattle.receiver_views.specs.Marked.{AreMarked};
 ghost use Rattle.receiver_cache.specs.Cached.{IsAllowed, IsCurrent};
 ghost use Rattle.world_receivers.specs.Standing.{addressed_behind_in};
-ghost use Rattle.receiver_views.specs.Known.{under_subject};
+ghost use Rattle.receiver_views.specs.CachedViews.{under_subject};
 ghost use Rattle.world_views.specs.Changing.{changed_by, opened_each, AreNoted, IsNotedAt};
 ghost use Rattle.world_views.specs.Requests.{response_by, responses_on};
 ghost use Rattle.world_views.specs.Viewing.{addressed_after, addressing, others_in, others_with, publication, reports_after, reports_in, routes_after, seen_with, tables_at, AreNotedIn};
@@ -278,7 +278,7 @@ pub fn address_all<'p>(
         now,
         marks,
     } = publishing;
-    subscriptions.known();
+    subscriptions.use_invariant();
     receivers.address(sessions, subscriptions, ready.rows(), marks, sending)?;
     if is_own_alone(ready.rows(), routes) {
         return Ok(None);

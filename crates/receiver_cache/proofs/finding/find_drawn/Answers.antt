@@ -2,10 +2,10 @@
 use Rattle.std.proofs.Common.{◌≡◌, List, ℕ, Option, Some, subst, sym}
 use Rattle.std.specs.Global.{Vec}
 use Rattle.subjects.specs.Subject.{Token}
-use Rattle.receiver_views.specs.Known.{IsKnown, IsSeen, KnowsOthers}
+use Rattle.receiver_views.specs.CachedViews.{IsCachedView, IsSeen, KnowsOthers}
 use Rattle.receiver_cache.specs.Drawn.{IsSent, subject_of}
 use Rattle.receiver_cache.specs.declared.drawn.Drawn.{Drawn}
-use Rattle.receiver_views.specs.declared.known.KnownView.{KnownView}
+use Rattle.receiver_views.specs.declared.cached_view.CachedView.{CachedView}
 use Rattle.receiver_cache.proofs.Draws.{sent_under}
 use Rattle.receiver_cache.proofs.finding.find_drawn.Goals as goal
 
@@ -18,6 +18,6 @@ returns-in_ok-new-in-Some-2 c =
     subst (λ (d : Drawn). IsSent c.args.rows.now zs subs z d × (subject_of d ≡ s)) (sym c.in_ok-new-in-Some-2.ensures)
     (sent_under c.args.rows.now zs subs z c.in-Some.own c.in-Some-2.others s c.requires.unrouted
     (subst (λ (account : List ℕ). IsSeen zs subs z c.in-Some.own account s) c.as_slice-account.ensures
-    (subst (λ (o : Option KnownView). IsKnown o zs subs z c.as_slice-account.result.now s) c.in-Some.is c.in_ok-known_at.ensures))
+    (subst (λ (o : Option CachedView). IsCachedView o zs subs z c.as_slice-account.result.now s) c.in-Some.is c.in_ok-cached_view_at.ensures))
     (subst (λ (t : List Token). KnowsOthers (Some c.in-Some-2.others) c.args.rows.now zs subs z t) c.lend.ensures
-    (subst (λ (o : Option (Vec KnownView)). KnowsOthers o c.args.rows.now zs subs z c.lend.result) c.in-Some-2.is c.in_ok-find_others-in-Some.ensures)))
+    (subst (λ (o : Option (Vec CachedView)). KnowsOthers o c.args.rows.now zs subs z c.lend.result) c.in-Some-2.is c.in_ok-find_others-in-Some.ensures)))

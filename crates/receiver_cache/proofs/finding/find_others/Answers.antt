@@ -1,6 +1,6 @@
 -- the views behind the publisher's own are the others
 use Rattle.std.proofs.Common.{◌∙◌, ℕ, List, ap}
-use Rattle.receiver_views.specs.Known.{others_in}
+use Rattle.receiver_views.specs.CachedViews.{others_in}
 use Rattle.receiver_views.proofs.Seen.{known_if, tail_of}
 use Rattle.receiver_cache.proofs.finding.find_others.Goals as goal
 

@@ -9,7 +9,7 @@ use Rattle.imports.specs.Views.{rows_of}
 use Rattle.imports.specs.declared.view.ViewItem.{ViewItem}
 use Rattle.world_deliveries.specs.Sessions.{session_of}
 use Rattle.receiver_cache.specs.Drawn.{IsSentOn, subject_of}
-use Rattle.receiver_views.specs.Known.{under_subject}
+use Rattle.receiver_views.specs.CachedViews.{under_subject}
 use Rattle.world_routing.specs.Publishing.{IsElsewhere}
 use Rattle.world_views.specs.Requests.{responses_on}
 use Rattle.world_views.specs.Viewing.{Tables, addressing, publication, tables_at}
@@ -56,6 +56,6 @@ returns-clause-planned c = λ w of.
     let t : Tables = tables_at doc now zs subs routes in
     planned_elsewhere conn z w (c.in-Some.ensures ∙ ap (λ (x : Tables). session_of x.sessions conn) (sym of)) (Ok c.in_ok-plan.plan) by m word (Under s)
     (subst (λ (x : Mapped). IsElsewhere x (Ok (Some (Under s)))) (sym sent.mapped) refl)
-    (planned_told t conn (under_subject s m) word z m c.in-Some.ensures by c.known.ensures.apart c.known.ensures.going
+    (planned_told t conn (under_subject s m) word z m c.in-Some.ensures by c.use_invariant.ensures.apart c.use_invariant.ensures.going
     _ c.in_ok-answered-in-Some.ensures None (drawn_unreported doc now zs subs routes z m word all sent) (drawn_unchanged doc now zs subs routes z m word all sent) tt
     _ (drawn_addressed doc now zs subs routes z m word all sent) _ c.in_ok-plan.ensures.planned w of)

@@ -4,7 +4,7 @@ use Rattle.std.proofs.lemmas.List.Elements.{All-nil}
 use Rattle.events.specs.declared.answer.Addressed.{Addressed}
 use Rattle.imports.specs.Across.{views}
 use Rattle.imports.specs.declared.view.ViewItem.{ViewItem}
-use Rattle.receiver_views.specs.Known.{under_subject}
+use Rattle.receiver_views.specs.CachedViews.{under_subject}
 use Rattle.world_views.specs.Requests.{responses_on}
 use Rattle.world_views.specs.Viewing.{Tables, addressing, publication, tables_at}
 use Rattle.world_views.proofs.Addressed.{unsaid_after}
@@ -30,6 +30,6 @@ returns-clause-planned c = λ w of.
     let m = publish.message.now in
     let s = c.args.sent_on.subject in
     let t : Tables = tables_at c.args.ready.now publish.now c.args.sessions.now c.args.subscriptions.now c.args.routes.now.exporters in
-    planned_told t publish.conn (under_subject s m) publish.word z m c.in-Some.ensures c.args.sent_on.permitted.by c.known.ensures.apart c.known.ensures.going
+    planned_told t publish.conn (under_subject s m) publish.word z m c.in-Some.ensures c.args.sent_on.permitted.by c.use_invariant.ensures.apart c.use_invariant.ensures.going
     _ c.in_ok-answered-in-Some.ensures _ c.in_ok-told-in-Some.ensures.reports c.in_ok-told-in-Some.ensures.changed c.in_ok-told-in-Some.ensures.noted
     _ c.in_ok-told-in-Some.ensures.all _ c.in_ok-plan.ensures.planned w of

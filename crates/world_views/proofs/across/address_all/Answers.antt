@@ -5,8 +5,8 @@ use Rattle.events.specs.declared.answer.Addressed.{Addressed}
 use Rattle.imports.specs.Views.{is_route, rows_of}
 use Rattle.imports.specs.declared.rows.ImportRow.{ImportRow}
 use Rattle.world_rows.specs.declared.subscription.Subscription.{Subscription}
-use Rattle.receiver_cache.specs.Cached.{known_others}
-use Rattle.receiver_views.specs.Known.{KnowsOthers, others_in}
+use Rattle.receiver_cache.specs.Cached.{cached_others}
+use Rattle.receiver_views.specs.CachedViews.{KnowsOthers, others_in}
 use Rattle.world_receivers.proofs.Left.{own_first}
 use Rattle.world_views.specs.Changing.{opened_each}
 use Rattle.world_views.specs.Viewing.{Tables, Publication, Addressing, addressing, addressed_after, publication, reports_after, tables_at}
@@ -18,7 +18,7 @@ pub returns-then-is_own_alone-clause-all : goal.returns-then-is_own_alone-clause
 returns-then-is_own_alone-clause-all c =
     let t : Tables = tables_at c.args.publishing.ready.now c.args.publishing.now c.args.sessions.now c.args.subscriptions.now c.args.routes.now.exporters in
     let p : Publication = publication c.args.publishing.sending.publisher.now c.args.publishing.sending.message.now c.args.publishing.sending.word in
-    let is : c.address.new.self.deliveries.items ≡ own t p = c.in_ok-address.ensures.all ∙ own_first t.sessions t.subscriptions p.publisher p.message p.word c.known.ensures.going in
+    let is : c.address.new.self.deliveries.items ≡ own t p = c.in_ok-address.ensures.all ∙ own_first t.sessions t.subscriptions p.publisher p.message p.word c.use_invariant.ensures.going in
     alone_all t p _ c.args.routes.now.exporters c.rows-2.ensures refl (c.is_own_alone.ensures c.if-is_own_alone.true) c.address.new.self.deliveries.items is
 
 pub returns-then-is_own_alone-clause-reports : goal.returns-then-is_own_alone-clause-reports
@@ -37,12 +37,12 @@ pub returns-then-branch-clause-all : goal.returns-then-branch-clause-all
 returns-then-branch-clause-all c =
     let t : Tables = tables_at c.args.publishing.ready.now c.args.publishing.now c.args.sessions.now c.args.subscriptions.now c.args.routes.now.exporters in
     let p : Publication = publication c.args.publishing.sending.publisher.now c.args.publishing.sending.message.now c.args.publishing.sending.word in
-    let is : c.address.new.self.deliveries.items ≡ own t p = c.in_ok-address.ensures.all ∙ own_first t.sessions t.subscriptions p.publisher p.message p.word c.known.ensures.going in
+    let is : c.address.new.self.deliveries.items ≡ own t p = c.in_ok-address.ensures.all ∙ own_first t.sessions t.subscriptions p.publisher p.message p.word c.use_invariant.ensures.going in
     let elsewhere : is_route p.message.subject ≡ false = sym (c.is_route.ensures ∙ ap is_route c.subject-subject.ensures) ∙ c.if-is_route.false in
-    let knows = subst (λ (rows : List ImportRow). KnowsOthers (known_others c.address.new.self.cache) rows t.sessions t.subscriptions p.publisher p.message.subject) c.rows.ensures c.in_ok-address.ensures.others in
+    let knows = subst (λ (rows : List ImportRow). KnowsOthers (cached_others c.address.new.self.cache) rows t.sessions t.subscriptions p.publisher p.message.subject) c.rows.ensures c.in_ok-address.ensures.others in
     let tells = c.in_ok-address_others.ensures.tells c.if-branch.true in
     let before : Addressing = addressing c.address.new.self.deliveries.items [] in
-    let told = others_told (rows_of t.policy) t p before (known_others c.address.new.self.cache) c.address_others.new.self.deliveries.items knows tells in
+    let told = others_told (rows_of t.policy) t p before (cached_others c.address.new.self.cache) c.address_others.new.self.deliveries.items knows tells in
     let by_before : List Addressed → Addressing = λ ds. addressed_after t p (addressing ds []) (importers t p elsewhere) in
     across_all t p elsewhere c.address_others.new.self.deliveries.items (ap (λ (a : Addressing). a.deliveries) (told ∙ ap by_before is))
 
@@ -50,25 +50,25 @@ pub returns-then-branch-clause-reports : goal.returns-then-branch-clause-reports
 returns-then-branch-clause-reports c =
     let t : Tables = tables_at c.args.publishing.ready.now c.args.publishing.now c.args.sessions.now c.args.subscriptions.now c.args.routes.now.exporters in
     let p : Publication = publication c.args.publishing.sending.publisher.now c.args.publishing.sending.message.now c.args.publishing.sending.word in
-    let is : c.address.new.self.deliveries.items ≡ own t p = c.in_ok-address.ensures.all ∙ own_first t.sessions t.subscriptions p.publisher p.message p.word c.known.ensures.going in
+    let is : c.address.new.self.deliveries.items ≡ own t p = c.in_ok-address.ensures.all ∙ own_first t.sessions t.subscriptions p.publisher p.message p.word c.use_invariant.ensures.going in
     let elsewhere : is_route p.message.subject ≡ false = sym (c.is_route.ensures ∙ ap is_route c.subject-subject.ensures) ∙ c.if-is_route.false in
-    let knows = subst (λ (rows : List ImportRow). KnowsOthers (known_others c.address.new.self.cache) rows t.sessions t.subscriptions p.publisher p.message.subject) c.rows.ensures c.in_ok-address.ensures.others in
+    let knows = subst (λ (rows : List ImportRow). KnowsOthers (cached_others c.address.new.self.cache) rows t.sessions t.subscriptions p.publisher p.message.subject) c.rows.ensures c.in_ok-address.ensures.others in
     let tells = c.in_ok-address_others.ensures.tells c.if-branch.true in
     let before : Addressing = addressing c.address.new.self.deliveries.items [] in
     across_reports t p elsewhere []
-    (sym (others_unreported (rows_of t.policy) t p before (known_others c.address.new.self.cache) c.address_others.new.self.deliveries.items knows tells)
+    (sym (others_unreported (rows_of t.policy) t p before (cached_others c.address.new.self.cache) c.address_others.new.self.deliveries.items knows tells)
     ∙ ap (λ (ds : List Addressed). reports_after t p (addressing ds []) (importers t p elsewhere)) is)
 
 pub returns-then-branch-clause-changed : goal.returns-then-branch-clause-changed
 returns-then-branch-clause-changed c =
     let t : Tables = tables_at c.args.publishing.ready.now c.args.publishing.now c.args.sessions.now c.args.subscriptions.now c.args.routes.now.exporters in
     let p : Publication = publication c.args.publishing.sending.publisher.now c.args.publishing.sending.message.now c.args.publishing.sending.word in
-    let is : c.address.new.self.deliveries.items ≡ own t p = c.in_ok-address.ensures.all ∙ own_first t.sessions t.subscriptions p.publisher p.message p.word c.known.ensures.going in
+    let is : c.address.new.self.deliveries.items ≡ own t p = c.in_ok-address.ensures.all ∙ own_first t.sessions t.subscriptions p.publisher p.message p.word c.use_invariant.ensures.going in
     let elsewhere : is_route p.message.subject ≡ false = sym (c.is_route.ensures ∙ ap is_route c.subject-subject.ensures) ∙ c.if-is_route.false in
-    let knows = subst (λ (rows : List ImportRow). KnowsOthers (known_others c.address.new.self.cache) rows t.sessions t.subscriptions p.publisher p.message.subject) c.rows.ensures c.in_ok-address.ensures.others in
+    let knows = subst (λ (rows : List ImportRow). KnowsOthers (cached_others c.address.new.self.cache) rows t.sessions t.subscriptions p.publisher p.message.subject) c.rows.ensures c.in_ok-address.ensures.others in
     let tells = c.in_ok-address_others.ensures.tells c.if-branch.true in
     let before : Addressing = addressing c.address.new.self.deliveries.items [] in
-    let told = others_told (rows_of t.policy) t p before (known_others c.address.new.self.cache) c.address_others.new.self.deliveries.items knows tells in
+    let told = others_told (rows_of t.policy) t p before (cached_others c.address.new.self.cache) c.address_others.new.self.deliveries.items knows tells in
     let by_before : List Addressed → Addressing = λ ds. addressed_after t p (addressing ds []) (importers t p elsewhere) in
     across_changed t p elsewhere t.routes (ap (λ (a : Addressing). opened_each a.openings t.routes) (told ∙ ap by_before is))
 
@@ -76,7 +76,7 @@ pub returns-clause-all : goal.returns-clause-all
 returns-clause-all c =
     let t : Tables = tables_at c.args.publishing.ready.now c.args.publishing.now c.args.sessions.now c.args.subscriptions.now c.args.routes.now.exporters in
     let p : Publication = publication c.args.publishing.sending.publisher.now c.args.publishing.sending.message.now c.args.publishing.sending.word in
-    let is : c.address.new.self.deliveries.items ≡ own t p = c.in_ok-address.ensures.all ∙ own_first t.sessions t.subscriptions p.publisher p.message p.word c.known.ensures.going in
+    let is : c.address.new.self.deliveries.items ≡ own t p = c.in_ok-address.ensures.all ∙ own_first t.sessions t.subscriptions p.publisher p.message p.word c.use_invariant.ensures.going in
     let elsewhere : is_route p.message.subject ≡ false = sym (c.is_route.ensures ∙ ap is_route c.subject-subject.ensures) ∙ c.if-is_route.false in
     let same : c.address_others.new.self.deliveries.items ≡ own t p = c.in_ok-address_others.ensures.same c.if-branch.false ∙ is in
     let by_subs : List Subscription → Addressing = λ ss.
@@ -90,7 +90,7 @@ pub returns-clause-reports : goal.returns-clause-reports
 returns-clause-reports c =
     let t : Tables = tables_at c.args.publishing.ready.now c.args.publishing.now c.args.sessions.now c.args.subscriptions.now c.args.routes.now.exporters in
     let p : Publication = publication c.args.publishing.sending.publisher.now c.args.publishing.sending.message.now c.args.publishing.sending.word in
-    let is : c.address.new.self.deliveries.items ≡ own t p = c.in_ok-address.ensures.all ∙ own_first t.sessions t.subscriptions p.publisher p.message p.word c.known.ensures.going in
+    let is : c.address.new.self.deliveries.items ≡ own t p = c.in_ok-address.ensures.all ∙ own_first t.sessions t.subscriptions p.publisher p.message p.word c.use_invariant.ensures.going in
     let elsewhere : is_route p.message.subject ≡ false = sym (c.is_route.ensures ∙ ap is_route c.subject-subject.ensures) ∙ c.if-is_route.false in
     let same : c.address_others.new.self.deliveries.items ≡ own t p = c.in_ok-address_others.ensures.same c.if-branch.false ∙ is in
     across_reports t p elsewhere _
@@ -103,7 +103,7 @@ pub returns-clause-changed : goal.returns-clause-changed
 returns-clause-changed c =
     let t : Tables = tables_at c.args.publishing.ready.now c.args.publishing.now c.args.sessions.now c.args.subscriptions.now c.args.routes.now.exporters in
     let p : Publication = publication c.args.publishing.sending.publisher.now c.args.publishing.sending.message.now c.args.publishing.sending.word in
-    let is : c.address.new.self.deliveries.items ≡ own t p = c.in_ok-address.ensures.all ∙ own_first t.sessions t.subscriptions p.publisher p.message p.word c.known.ensures.going in
+    let is : c.address.new.self.deliveries.items ≡ own t p = c.in_ok-address.ensures.all ∙ own_first t.sessions t.subscriptions p.publisher p.message p.word c.use_invariant.ensures.going in
     let elsewhere : is_route p.message.subject ≡ false = sym (c.is_route.ensures ∙ ap is_route c.subject-subject.ensures) ∙ c.if-is_route.false in
     let same : c.address_others.new.self.deliveries.items ≡ own t p = c.in_ok-address_others.ensures.same c.if-branch.false ∙ is in
     let by_subs : List Subscription → Addressing = λ ss.
@@ -117,7 +117,7 @@ pub returns-then-is_route-clause-all : goal.returns-then-is_route-clause-all
 returns-then-is_route-clause-all c =
     let t : Tables = tables_at c.args.publishing.ready.now c.args.publishing.now c.args.sessions.now c.args.subscriptions.now c.args.routes.now.exporters in
     let p : Publication = publication c.args.publishing.sending.publisher.now c.args.publishing.sending.message.now c.args.publishing.sending.word in
-    let is : c.address.new.self.deliveries.items ≡ own t p = c.in_ok-address.ensures.all ∙ own_first t.sessions t.subscriptions p.publisher p.message p.word c.known.ensures.going in
+    let is : c.address.new.self.deliveries.items ≡ own t p = c.in_ok-address.ensures.all ∙ own_first t.sessions t.subscriptions p.publisher p.message p.word c.use_invariant.ensures.going in
     let is_on : is_route p.message.subject ≡ true = sym (c.is_route.ensures ∙ ap is_route c.subject-subject.ensures) ∙ c.if-is_route.true in
     let by_subs : List Subscription → Addressing = λ ss. addressed_after (record t { subscriptions = ss }) p (addressing c.address.new.self.deliveries.items []) (asker t p is_on) in
     let by_own : List Addressed → Addressing = λ ds. addressed_after t p (addressing ds []) (asker t p is_on) in

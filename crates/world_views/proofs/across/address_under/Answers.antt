@@ -3,7 +3,7 @@ use Rattle.std.proofs.Common.{◌≡◌, ◌∙◌, ◌++◌, List, [], true, fa
 use Rattle.subjects.specs.Subject.{Token}
 use Rattle.events.specs.declared.answer.Addressed.{Addressed}
 use Rattle.imports.specs.Views.{is_route, rows_of}
-use Rattle.receiver_views.specs.Known.{others_in, under_subject}
+use Rattle.receiver_views.specs.CachedViews.{others_in, under_subject}
 use Rattle.world_receivers.specs.Standing.{addressed_behind_in}
 use Rattle.world_views.specs.Changing.{opened_each}
 use Rattle.world_views.specs.Viewing.{Tables, Publication, Addressing, addressing, addressed_after, publication, reports_after, tables_at}

@@ -2,8 +2,8 @@
 use Rattle.std.proofs.Common.{◌∙◌, ap, refl, inl}
 use Rattle.subjects.specs.Subject.{tokens_of}
 use Rattle.subjects.proofs.Text.{again}
-use Rattle.receiver_cache.specs.Cached.{known_others}
-use Rattle.receiver_cache.proofs.Told.{if_last_known, others_are, told_are}
+use Rattle.receiver_cache.specs.Cached.{cached_others}
+use Rattle.receiver_cache.proofs.Told.{if_last_cached, others_are, told_are}
 use Rattle.receiver_cache.proofs.cache.ReceiverCache.address.Goals as goal
 
 pub returns-clause-tells : goal.returns-clause-tells
@@ -13,17 +13,17 @@ returns-clause-tells c = λ done rows zs subs z current there.
     (c.select.ensures.of c.if-not-self.false) there (ap tokens_of c.bytes.ensures ∙ again c.subject-subject.result c.tokens.ensures.grammar ∙ c.subject-subject.ensures)
 
 pub returns-clause-others : goal.returns-clause-others
-unfolding known_others
+unfolding cached_others
 returns-clause-others c = λ rows zs subs z current there.
     let last = c.select.new.self.last in
-    if_last_known c.select.new.self.is_last last.others rows zs subs z c.args.message.now.subject (λ is.
+    if_last_cached c.select.new.self.is_last last.others rows zs subs z c.args.message.now.subject (λ is.
     others_are last rows zs subs z c.args.conn _ c.args.message.now.subject ((c.select.ensures.cached rows zs subs current).each last (inl refl)) (c.select.ensures.of is) there
     (ap tokens_of c.bytes.ensures ∙ again c.subject-subject.result c.tokens.ensures.grammar ∙ c.subject-subject.ensures))
 
 pub returns-in_err-done-clause-others : goal.returns-in_err-done-clause-others
-unfolding known_others
+unfolding cached_others
 returns-in_err-done-clause-others c = λ rows zs subs z current there.
     let last = c.select.new.self.last in
-    if_last_known c.select.new.self.is_last last.others rows zs subs z c.args.message.now.subject (λ is.
+    if_last_cached c.select.new.self.is_last last.others rows zs subs z c.args.message.now.subject (λ is.
     others_are last rows zs subs z c.args.conn _ c.args.message.now.subject ((c.select.ensures.cached rows zs subs current).each last (inl refl)) (c.select.ensures.of is) there
     (ap tokens_of c.bytes.ensures ∙ again c.subject-subject.result c.tokens.ensures.grammar ∙ c.subject-subject.ensures))

@@ -5,16 +5,16 @@ use Rattle.std.specs.Option.{unwrap_or}
 use Rattle.subjects.specs.Subject.{tokens_of}
 use Rattle.subjects.proofs.Text.{again}
 use Rattle.slot_cache.specs.Slots.{value_at}
-use Rattle.receiver_cache.specs.Cached.{Has, IsSo, known_others}
-use Rattle.receiver_views.specs.Known.{KnowsOthers}
+use Rattle.receiver_cache.specs.Cached.{Has, IsSo, cached_others}
+use Rattle.receiver_views.specs.CachedViews.{KnowsOthers}
 use Rattle.receiver_cache.specs.declared.cache.ReceiverCache.{ReceiverCache}
 use Rattle.receiver_cache.specs.declared.cached.CachedReceivers.{CachedReceivers}
-use Rattle.receiver_views.specs.declared.known.KnownView.{KnownView}
+use Rattle.receiver_views.specs.declared.cached_view.CachedView.{CachedView}
 use Rattle.receiver_cache.proofs.Told.{found_so, still_current}
 use Rattle.receiver_cache.proofs.cache.ReceiverCache.put.Goals as goal
 
 pub returns-in-Ok : goal.returns-in-Ok
-unfolding known_others
+unfolding cached_others
 returns-in-Ok c = λ rows zs subs z current there are known lists.
     let old : ReceiverCache = c.args.self.now in
     let new : ReceiverCache = record c.put_back.new.self { last = c.of-in-Ok.result; place = c.place_for-self.result; is_last = true } in
@@ -25,7 +25,7 @@ returns-in-Ok c = λ rows zs subs z current there are known lists.
         | inl last ↦ inr (inr (subst (IsSo rows zs subs) (sym last) so))
         | inr at ↦ inl (had cached at.0 at.1)
       ]) c.put_back.ensures.drawn current,
-      subst (λ (o : Option (Vec KnownView)). KnowsOthers o rows zs subs z c.args.subject.now) (sym c.of-in-Ok.ensures.others_are) known,
+      subst (λ (o : Option (Vec CachedView)). KnowsOthers o rows zs subs z c.args.subject.now) (sym c.of-in-Ok.ensures.others_are) known,
     )
   where
     same : (x y : CachedReceivers) → Some x ≡ Some y → y ≡ x

@@ -2,7 +2,7 @@
 use Rattle.std.proofs.Common.{◌∙◌, List, ap, subst}
 use Rattle.events.specs.declared.answer.Addressed.{Addressed}
 use Rattle.receiver_cache.specs.Drawn.{IsCached}
-use Rattle.receiver_views.specs.Known.{addressed_in, addressed_in_each}
+use Rattle.receiver_views.specs.CachedViews.{addressed_in, addressed_in_each}
 use Rattle.receiver_cache.proofs.drawn.DrawnCache.address.Goals as goal
 
 pub returns-in_ok-address-in-Some : goal.returns-in_ok-address-in-Some

@@ -4,7 +4,7 @@ use Rattle.std.specs.Option.{option_copied}
 use Rattle.lru.specs.LruCache.{LruCache}
 use Rattle.permissions.specs.declared.verdict.Verdict.{Verdict}
 use Rattle.verdict_cache.specs.declared.asked.Asked.{Asked}
-use Rattle.verdict_cache.specs.declared.cache.Known.{Known}
+use Rattle.verdict_cache.specs.declared.cache.Remembered.{Remembered}
 use Rattle.verdict_cache.specs.Verdicts.{IsCurrent}
 use Rattle.verdict_cache.proofs.Kept.{found, on_ok, promoted_current, same_asked}
 use Rattle.verdict_cache.proofs.cache.VerdictCache.find.Goals as goal
@@ -24,16 +24,16 @@ returns-in-Some-clause-found c verdict_of current =
 pub returns-in-Some-get-clause-found : goal.returns-in-Some-get-clause-found
 returns-in-Some-get-clause-found c verdict_of current =
     each_answer _ _ c.verdict_in-in-Some-get.result (λ verdict its. its.1
-    ∙ found verdict_of c.args.epoch _ c.args.self.now.known.entries c.set.new.self c.in-Some-get.known.now (λ other. same_asked c.set.new.self other) current
+    ∙ found verdict_of c.args.epoch _ c.args.self.now.verdicts.entries c.set.new.self c.in-Some-get.known.now (λ other. same_asked c.set.new.self other) current
     (sym c.get.ensures.value ∙ ap option_copied c.in-Some-get.is) its.0
     ∙ ap verdict_of (on_ok c.set.result _ (sym c.if-is_err.ensures.value) c.set.ensures)) c.verdict_in-in-Some-get.ensures
 
 pub returns-in-Some-get-clause-kept : goal.returns-in-Some-get-clause-kept
 returns-in-Some-get-clause-kept c verdict_of current =
-    subst (λ (cache : LruCache Asked Known). All (IsCurrent verdict_of c.args.epoch) cache.entries) (sym c.get.follows.holds-at-none)
-    (promoted_current verdict_of c.args.epoch _ c.args.self.now.known.entries current)
+    subst (λ (cache : LruCache Asked Remembered). All (IsCurrent verdict_of c.args.epoch) cache.entries) (sym c.get.follows.holds-at-none)
+    (promoted_current verdict_of c.args.epoch _ c.args.self.now.verdicts.entries current)
 
 pub returns-in-None-clause-kept : goal.returns-in-None-clause-kept
 returns-in-None-clause-kept c verdict_of current =
-    subst (λ (cache : LruCache Asked Known). All (IsCurrent verdict_of c.args.epoch) cache.entries) (sym c.get.follows.holds-at-none)
-    (promoted_current verdict_of c.args.epoch _ c.args.self.now.known.entries current)
+    subst (λ (cache : LruCache Asked Remembered). All (IsCurrent verdict_of c.args.epoch) cache.entries) (sym c.get.follows.holds-at-none)
+    (promoted_current verdict_of c.args.epoch _ c.args.self.now.verdicts.entries current)

@@ -6,5 +6,5 @@ use Rattle.verdict_cache.proofs.cache.VerdictCache.first.Goals as goal
 
 pub returns-then-eq : goal.returns-then-eq
 returns-then-eq c = λ verdict_of epoch current now.
-    first_current verdict_of epoch c.args.self.now.known.entries c.in-Some.asked.now c.args.self.now.asked c.in-Some.known.now
+    first_current verdict_of epoch c.args.self.now.verdicts.entries c.in-Some.asked.now c.args.self.now.asked c.in-Some.known.now
     (same_asked c.in-Some.asked.now c.args.self.now.asked (sym c.eq.ensures ∙ c.if-eq.true)) (ap (option_map deref_pair) (sym c.in-Some.is) ∙ c.peek_mru.ensures) current now

@@ -2,8 +2,8 @@
 use Rattle.std.proofs.Common.{List, sym, subst}
 use Rattle.subjects.specs.Subject.{Token}
 use Rattle.world_rows.specs.declared.subscription.Subscription.{Subscription}
-use Rattle.receiver_cache.specs.Cached.{IsCurrent, known_others}
-use Rattle.receiver_views.specs.Known.{KnowsOthers}
+use Rattle.receiver_cache.specs.Cached.{IsCurrent, cached_others}
+use Rattle.receiver_views.specs.CachedViews.{KnowsOthers}
 use Rattle.receiver_cache.specs.declared.cache.ReceiverCache.{ReceiverCache}
 use Rattle.world_receivers.proofs.receivers.Receivers.address.Goals as goal
 
@@ -25,8 +25,8 @@ fill_cache-requires-clause-cached c =
 pub fill_cache-requires-clause-others : goal.fill_cache-requires-clause-others
 fill_cache-requires-clause-others c =
     let z = c.args.sending.publisher.now in
-    subst (λ (subs : List Subscription). KnowsOthers (known_others c.address.new.self) c.args.rows.now c.args.sessions.now subs z c.subject-subject.result) (sym c.remember.ensures)
-    (subst (λ (s : List Token). KnowsOthers (known_others c.address.new.self) c.args.rows.now c.args.sessions.now c.args.subscriptions.now z s) (sym c.subject-subject.ensures)
+    subst (λ (subs : List Subscription). KnowsOthers (cached_others c.address.new.self) c.args.rows.now c.args.sessions.now subs z c.subject-subject.result) (sym c.remember.ensures)
+    (subst (λ (s : List Token). KnowsOthers (cached_others c.address.new.self) c.args.rows.now c.args.sessions.now c.args.subscriptions.now z s) (sym c.subject-subject.ensures)
     (c.address.ensures.others c.args.rows.now c.args.sessions.now c.args.subscriptions.now z c.requires.cached c.requires.publisher))
 
 pub returns-in_err-address_found-clause-cached : goal.returns-in_err-address_found-clause-cached

@@ -4,8 +4,8 @@ use Rattle.std.specs.Global.{Vec}
 use Rattle.world_subscriptions.specs.Subscriptions.{has_subject, having}
 use Rattle.receiver_views.specs.Open.{is_open}
 use Rattle.receiver_views.specs.Marked.{is_marked_open}
-use Rattle.receiver_views.specs.Known.{KnowsOthers}
-use Rattle.receiver_views.specs.declared.known.KnownView.{KnownView}
+use Rattle.receiver_views.specs.CachedViews.{KnowsOthers}
+use Rattle.receiver_views.specs.declared.cached_view.CachedView.{CachedView}
 use Rattle.receiver_views.proofs.Marked.{open_marked}
 use Rattle.receiver_views.proofs.Tests.{both}
 use Rattle.world_receivers.proofs.receivers.Receivers.fill_cache.Goals as goal
@@ -29,13 +29,13 @@ returns-in-Ok c =
 pub returns-then-not-note_asked : goal.returns-then-not-note_asked
 returns-then-not-note_asked c = record {
   cached = c.note_asked.ensures.cached c.args.rows.now c.args.search.sessions.now c.args.search.subscriptions.now c.requires.cached;
-  others = subst (λ (o : Option (Vec KnownView)). KnowsOthers o c.args.rows.now c.args.search.sessions.now c.args.search.subscriptions.now c.args.search.publisher.now c.args.subject.now)
+  others = subst (λ (o : Option (Vec CachedView)). KnowsOthers o c.args.rows.now c.args.search.sessions.now c.args.search.subscriptions.now c.args.search.publisher.now c.args.subject.now)
       (sym c.note_asked.ensures.others) c.requires.others;
 }
 
 pub returns-in_default : goal.returns-in_default
 returns-in_default c = record {
   cached = c.note_asked.ensures.cached c.args.rows.now c.args.search.sessions.now c.args.search.subscriptions.now c.requires.cached;
-  others = subst (λ (o : Option (Vec KnownView)). KnowsOthers o c.args.rows.now c.args.search.sessions.now c.args.search.subscriptions.now c.args.search.publisher.now c.args.subject.now)
+  others = subst (λ (o : Option (Vec CachedView)). KnowsOthers o c.args.rows.now c.args.search.sessions.now c.args.search.subscriptions.now c.args.search.publisher.now c.args.subject.now)
       (sym c.note_asked.ensures.others) c.requires.others;
 }

@@ -1,8 +1,8 @@
-//! The views of a message behind its publisher's own, known for the next message of that publisher on that subject.
+//! The views of a message behind its publisher's own, cached for the next message of that publisher on that subject.
 ghost use Rattle.std.specs.Prelude.{◌≡◌, ◌∷◌, [], IfOk, IfSome, OnOk, true, map};
 ghost use Rattle.std.specs.List.{list_any};
 ghost use Rattle.receiver_views.specs.Marked.{AreMarked};
-ghost use Rattle.receiver_views.specs.Known.{AreSeen, IsKnown, Says, addressed_in, addressed_in_each, count_of, has_limit};
+ghost use Rattle.receiver_views.specs.CachedViews.{AreSeen, IsCachedView, Says, addressed_in, addressed_in_each, count_of, has_limit};
 
 use crate::names::names_of;
 use crate::open::Open;
@@ -21,7 +21,7 @@ use world_subscriptions::{SharedSubscription, Subscriptions};
 /// Whom messages are for in a view, and the names under which they are sent there. It says so of each message: it is made only
 /// where none of these subscriptions has a limit, so that none can end by a delivery in an earlier view.
 #[derive(Drop)]
-pub struct KnownView {
+pub struct CachedView {
     names: Shared<Names>,
     whom: Whom,
 }
@@ -68,15 +68,15 @@ fn says(whom: &Whom) -> bool
 /// Returns whom a publisher's messages are for in an account under a subject, if each of them is for the same: `None` where one of
 /// the subscriptions has a limit, or they are found for each message. `ids` is a list to work in. `NoMemory` where memory could not
 /// be had.
-pub fn known_at(
+pub fn cached_view_at(
     alloc: Global,
     search: ReceiverSearch<'_>,
     account: &[u8],
     subject: &Subject,
     ids: &mut Vec<u64>,
-) -> Result<Option<KnownView>, NoMemory>
+) -> Result<Option<CachedView>, NoMemory>
     requires marked { AreMarked search.sessions.now search.subscriptions.now search.marks.now }
-    ensures { IfOk result (λ known. IsKnown known search.entry.sessions.now search.entry.subscriptions.now search.entry.publisher.now account.now subject.now) }
+    ensures { IfOk result (λ known. IsCachedView known search.entry.sessions.now search.entry.subscriptions.now search.entry.publisher.now account.now subject.now) }
 {
     let local = subject.lend();
     let open = Open {
@@ -94,16 +94,16 @@ pub fn known_at(
         return Ok(None);
     }
     let names = names_of(alloc, subject, Said::AsPublished)?;
-    Ok(Some(KnownView { names, whom }))
+    Ok(Some(CachedView { names, whom }))
 }
 
 /// Returns whom a publisher's messages are for in a view of a stream, if each of them is for the same.
-fn known_view(
+fn cached_view(
     alloc: Global,
     search: ReceiverSearch<'_>,
     view: &ViewItem,
     ids: &mut Vec<u64>,
-) -> Result<Option<KnownView>, NoMemory>
+) -> Result<Option<CachedView>, NoMemory>
     requires marked { AreMarked search.sessions.now search.subscriptions.now search.marks.now }
     ensures { IfOk result (λ known. IfSome known (λ known. AreSeen search.entry.sessions.now search.entry.subscriptions.now search.entry.publisher.now (known ∷ []) (view.now ∷ []))) }
 {
@@ -115,7 +115,7 @@ fn known_view(
             way,
         } => match way {
             Way::Stream(_) => {
-                let known = known_at(alloc, search, account.as_slice(), subject, ids)?;
+                let known = cached_view_at(alloc, search, account.as_slice(), subject, ids)?;
                 Ok(known)
             }
             Way::Own => Ok(None),
@@ -127,18 +127,18 @@ fn known_view(
 
 /// Returns whom a publisher's messages are for in each of these views, if all are of streams and each message is for the same.
 /// `NoMemory` where memory could not be had.
-pub fn known_views(
+pub fn cached_views(
     alloc: Global,
     search: ReceiverSearch<'_>,
     views: &[ViewItem],
     ids: &mut Vec<u64>,
-) -> Result<Option<Vec<KnownView>>, NoMemory>
+) -> Result<Option<Vec<CachedView>>, NoMemory>
     requires marked { AreMarked search.sessions.now search.subscriptions.now search.marks.now }
     ensures { IfOk result (λ all. IfSome all (λ known. AreSeen search.entry.sessions.now search.entry.subscriptions.now search.entry.publisher.now known.items views.now)) }
 {
     let mut all = Vec::with_capacity(alloc, views.len())?;
     for view in views {
-        match known_view(alloc, search, view, ids)? {
+        match cached_view(alloc, search, view, ids)? {
             None => return Ok(None),
             Some(known) => all.push(known)?,
         }
@@ -146,7 +146,7 @@ pub fn known_views(
     Ok(Some(all))
 }
 
-impl KnownView {
+impl CachedView {
     /// Returns whether the messages have this subject there.
     pub fn is_under(&self, subject: &Subject) -> bool
         ensures { result ≡ true → self.now.names.subject ≡ subject.now }
@@ -187,10 +187,10 @@ impl KnownView {
 
 /// Appends the deliveries of a message in views. `NoMemory` where memory could not be had: then some may be appended.
 #[inline(always)]
-pub fn address_known(
+pub fn address_cached(
     message: &Message,
     word: u64,
-    views: &[KnownView],
+    views: &[CachedView],
     all: &mut Vec<Addressed>,
 ) -> Result<(), NoMemory>
     ensures { OnOk result (all.new.items ≡ addressed_in_each message.now word all.old.items views.now) }

@@ -20,7 +20,7 @@ use Rattle.world_rows.specs.declared.subscription.Subscription.{Subscription}
 use Rattle.receiver_views.specs.Open.{open_among}
 use Rattle.receiver_views.specs.Receivers.{receiver_of, addressed_at}
 use Rattle.receiver_views.specs.declared.receiver.Receiver.{Receiver}
-use Rattle.receiver_views.specs.declared.known.KnownView.{KnownView}
+use Rattle.receiver_views.specs.declared.cached_view.CachedView.{CachedView}
 use Rattle.receiver_views.specs.declared.whom.Whom.{Whom}
 use Rattle.receiver_views.specs.declared.whom.Whom.TheVariants.{Each, One, Various}
 
@@ -65,19 +65,19 @@ under_subject s m = record m { subject = s }
 
 -- A known view says whom a publisher's messages are for in an account under a subject: none of these subscriptions has a limit, so
 -- they stand behind all deliveries of the same message.
-pub record IsSeen (zs : List Session) (subs : List Subscription) (publisher : Session) (known : KnownView) (account : List ℕ) (s : List Token) : Type 0 where
+pub record IsSeen (zs : List Session) (subs : List Subscription) (publisher : Session) (known : CachedView) (account : List ℕ) (s : List Token) : Type 0 where
   pub names : (m : Message) → named known.names m ≡ under_subject s m
   pub unlimited : list_any has_limit (open_among zs subs publisher account s) ≡ false
   pub says : Says known.whom
   pub whom : IsWhom known.whom (open_among zs subs publisher account s)
 
 -- so it does, if it is known
-abbrev pub IsKnown : Option KnownView → List Session → List Subscription → Session → List ℕ → List Token → Type 0
-IsKnown None zs subs publisher account s = Unit {0}
-IsKnown (Some known) zs subs publisher account s = IsSeen zs subs publisher known account s
+abbrev pub IsCachedView : Option CachedView → List Session → List Subscription → Session → List ℕ → List Token → Type 0
+IsCachedView None zs subs publisher account s = Unit {0}
+IsCachedView (Some known) zs subs publisher account s = IsSeen zs subs publisher known account s
 
 -- So it is with views in turn, each of a stream: a request has another reply each time, and a row that isn't crossed is told.
-abbrev pub AreSeen : List Session → List Subscription → Session → List KnownView → List ViewItem → Type 0
+abbrev pub AreSeen : List Session → List Subscription → Session → List CachedView → List ViewItem → Type 0
 AreSeen zs subs publisher [] [] = Unit {0}
 AreSeen zs subs publisher [] (v ∷ vs) = ⊥
 AreSeen zs subs publisher (k ∷ known) [] = ⊥
@@ -88,14 +88,14 @@ AreSeen zs subs publisher (k ∷ known) (At account s (Response row) ∷ vs) = �
 AreSeen zs subs publisher (k ∷ known) (At account s (Stream row) ∷ vs) = IsSeen zs subs publisher k account s × AreSeen zs subs publisher known vs
 
 -- the views of a publisher's message behind its own are known, where they are said to be
-abbrev pub KnowsOthers : Option (Vec KnownView) → List ImportRow → List Session → List Subscription → Session → List Token → Type 0
+abbrev pub KnowsOthers : Option (Vec CachedView) → List ImportRow → List Session → List Subscription → Session → List Token → Type 0
 KnowsOthers None rows zs subs z s = Unit {0}
 KnowsOthers (Some known) rows zs subs z s = AreSeen zs subs z known.items (others_in rows z.user.account s)
 
 -- the deliveries of a message in a known view, and in several, behind others
-abbrev pub addressed_in : Message → ℕ → List Addressed → KnownView → List Addressed
+abbrev pub addressed_in : Message → ℕ → List Addressed → CachedView → List Addressed
 addressed_in m word before known = before ++ map (addressed_at (named known.names m)) (picked word known.whom)
 
-abbrev pub addressed_in_each : Message → ℕ → List Addressed → List KnownView → List Addressed
+abbrev pub addressed_in_each : Message → ℕ → List Addressed → List CachedView → List Addressed
 addressed_in_each m word before [] = before
 addressed_in_each m word before (k ∷ known) = addressed_in_each m word (addressed_in m word before k) known

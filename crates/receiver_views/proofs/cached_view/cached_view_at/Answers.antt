@@ -7,10 +7,10 @@ use Rattle.events.specs.declared.sent.Names.{Names}
 use Rattle.world_subscriptions.specs.Subscriptions.{has_subject, having}
 use Rattle.receiver_views.specs.Open.{is_open, open_among}
 use Rattle.receiver_views.specs.Marked.{is_marked_open}
-use Rattle.receiver_views.specs.Known.{IsWhom, has_limit}
+use Rattle.receiver_views.specs.CachedViews.{IsWhom, has_limit}
 use Rattle.receiver_views.proofs.Marked.{open_marked}
 use Rattle.receiver_views.proofs.Tests.{both}
-use Rattle.receiver_views.proofs.known.known_at.Goals as goal
+use Rattle.receiver_views.proofs.cached_view.cached_view_at.Goals as goal
 
 pub returns : goal.returns
 returns c =

@@ -3,10 +3,10 @@ use Rattle.std.proofs.Common.{◌≡◌, ◌+◌, ◌∙◌, ◌++◌, ◌∷◌
 use Rattle.std.specs.Prelude.{IfSome}
 use Rattle.std.proofs.lemmas.List.{take_all, take_more}
 use Rattle.imports.specs.declared.view.ViewItem.{ViewItem}
-use Rattle.receiver_views.specs.Known.{AreSeen}
-use Rattle.receiver_views.specs.declared.known.KnownView.{KnownView}
+use Rattle.receiver_views.specs.CachedViews.{AreSeen}
+use Rattle.receiver_views.specs.declared.cached_view.CachedView.{CachedView}
 use Rattle.receiver_views.proofs.Seen.{seen_more}
-use Rattle.receiver_views.proofs.known.known_views.Goals as goal
+use Rattle.receiver_views.proofs.cached_view.cached_views.Goals as goal
 
 pub loop-view-preserved : goal.loop-view-preserved
 loop-view-preserved c =
@@ -15,14 +15,14 @@ loop-view-preserved c =
     let z = c.args.search.publisher.now in
     let views : List ViewItem = c.args.views.now in
     let i = c.loop-view.view-index in
-    let all : List KnownView = c.loop-view.all.items in
-    let k : KnownView = c.in-Some.known in
+    let all : List CachedView = c.loop-view.all.items in
+    let k : CachedView = c.in-Some.known in
     let v : ViewItem = c.view-item.result in
     let more : take (i + 1) views ≡ take i views ++ v ∷ [] = take_more views i v c.loop-view-test.true ∙ ap (λ (u : ViewItem). take i views ++ u ∷ []) (sym c.view-item.is) in
     subst (λ (vs : List ViewItem). AreSeen zs subs z c.push.new.self.items vs) (sym more)
-    (subst (λ (ks : List KnownView). AreSeen zs subs z ks (take i views ++ v ∷ [])) (sym c.in_ok-push-in-Some.ensures.items)
+    (subst (λ (ks : List CachedView). AreSeen zs subs z ks (take i views ++ v ∷ [])) (sym c.in_ok-push-in-Some.ensures.items)
     (seen_more zs subs z all (take i views) k v c.loop-view.invariant
-    (subst (λ (o : Option KnownView). IfSome o (λ known. AreSeen zs subs z (known ∷ []) (v ∷ []))) c.in-Some.is c.in_ok-known_view.ensures)))
+    (subst (λ (o : Option CachedView). IfSome o (λ known. AreSeen zs subs z (known ∷ []) (v ∷ []))) c.in-Some.is c.in_ok-cached_view.ensures)))
 
 pub returns : goal.returns
 returns c =

@@ -1,7 +1,7 @@
 -- what is left to address, behind what has been
 use Rattle.std.proofs.Common.{◌≡◌, drop}
-use Rattle.receiver_views.specs.Known.{addressed_in_each}
-use Rattle.receiver_views.proofs.known.address_known.Given as goal
+use Rattle.receiver_views.specs.CachedViews.{addressed_in_each}
+use Rattle.receiver_views.proofs.cached_view.address_cached.Given as goal
 
 abbrev pub invariant-loop-view : goal.invariant-loop-view
 invariant-loop-view l =
