@@ -32,7 +32,7 @@ pub fn read_policy(alloc: Global, text: &[u8]) -> Result<PolicyDoc, ConfigFault>
     Ok(document_of(alloc, &Path::whole(alloc), &value)?)
 }
 
-/// The JSON value of a text that isn't too large.
+/// The JSON value of a text. `TooLarge` above `MOST_BYTES`, and what `read_json` says of another.
 fn json_of(alloc: Global, text: &[u8]) -> Result<Value, ConfigFault>
     ensures { Gives (λ value. view value) result (json_from text.now) }
 {

@@ -46,7 +46,7 @@ pub struct Addressed {
     pub conn: u64,
     /// What is sent.
     pub delivery: Delivery,
-    /// What its session notes where it enters: the subject to answer on, where the user may answer.
+    /// What its session notes where it enters: the reply subject, where the user may respond.
     pub noted: Option<Boxed<Note>>,
 }
 

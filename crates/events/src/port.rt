@@ -9,7 +9,7 @@ use crate::run::was_published;
 use crate::{Answer, Command, Event, HubRefusal, Message, PublishRefusal, RunEnd, Words};
 use std::collections::VecDeque;
 
-/// A frame of which nothing is submitted, since its subject is none, or its queue or reply: its client is answered
+/// A frame of which nothing is submitted, since its subject isn't a valid one, or its queue or reply: its client is answered
 /// `Invalid Subject`.
 #[derive(Clone, Copy, Debug)]
 pub struct InvalidFrame<'a> {

@@ -14,7 +14,7 @@ use subjects::{Subject, SubjectRef};
 pub struct Names {
     /// The subject that the subscriber sees.
     pub subject: Subject,
-    /// The subject to answer on that it sees.
+    /// The reply subject that it sees.
     pub reply: Said,
 }
 
@@ -28,7 +28,7 @@ impl Drop for Names {
     }
 }
 
-/// What a view's subscribers see as the subject to answer on.
+/// What a view's subscribers see as the reply subject.
 #[derive(Debug, Drop)]
 pub enum Said {
     /// That of the published message, if it has one.
@@ -113,7 +113,7 @@ impl Sent {
         }
     }
 
-    /// The subject to answer on that it sees, if there is one.
+    /// The reply subject that it sees, if there is one.
     #[inline(always)]
     pub fn reply(&self) -> Option<SubjectRef<'_>>
         ensures { result ≡ self.now.reply }
@@ -159,7 +159,7 @@ impl Sent {
     }
 }
 
-/// The subject to answer on that names say.
+/// The reply subject that names say.
 #[inline(never)]
 fn said_of<'a>(names: &'a Names, message: &'a Message) -> Option<SubjectRef<'a>>
     ensures { result ≡ said names.now.reply message.now.reply }

@@ -31,7 +31,8 @@ pub fn deciding_place(
     }
 }
 
-/// Returns the path of the entry that decides a question.
+/// Returns the path of the entry that decides a question, in the text, which is read once more. `None` where no user has the name or no
+/// entry decides. `NoMemory` also of a text that isn't JSON, which that of a policy never is.
 fn deciding_path(
     alloc: Global,
     text: &str,

@@ -53,7 +53,7 @@ fn is_subject_if(text: Option<&[u8]>) -> bool
     }
 }
 
-/// Whether the subject of a message is one, and the subject to answer on, if it names one.
+/// Whether the subject of a message is one, and the reply subject, if it names one.
 fn has_subjects(text: &MessageText) -> bool
     ensures tokens { result ≡ has_subjects text.now }
     ensures grammar { IsTrue result ↔ HasSubjects text.now }
@@ -83,7 +83,7 @@ impl Message {
         SubjectRef::from_valid(self.text.subject())
     }
 
-    /// The subject to answer on, if it has one.
+    /// The reply subject, if it has one.
     #[inline(always)]
     pub fn reply(&self) -> Option<SubjectRef<'_>>
         ensures { result ≡ self.now.reply }

@@ -122,7 +122,7 @@ fn tell_fault<W: Sink, E: Sink>(alloc: Global, fault: &SplitFault, sink: &mut W,
     drop(told);
 }
 
-/// Prints the line of a policy's fault, or tells that it can't be written.
+/// Prints the line of a policy's fault on the sink. Where it can't be made or written, `errors` is told why.
 fn print_fault<W: Sink, E: Sink>(alloc: Global, fault: &ReloadFault, sink: &mut W, errors: &mut E) {
     let told = match fault_line(alloc, fault) {
         Ok(line) => match write_all(sink, line.as_slice()) {

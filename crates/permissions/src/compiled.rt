@@ -55,7 +55,7 @@ impl Compiled {
     ghost use Rattle.permissions.specs.Verdicts.{publish_verdict, subscribe_verdict, delivery_verdict, IsJustifiedPublish, IsJustifiedSubscribe, IsJustifiedDelivery};
 
     /// The lists of a user's permissions, or of the default ones, which hold for whoever has none of its own. Without both the user
-    /// may do everything. Terms to answer on bring the empty publish allow list where none is given. `NoMemory` where memory could not
+    /// may do everything. Response terms bring the empty publish allow list where none is given. `NoMemory` where memory could not
     /// be had.
     pub fn of(
         alloc: Global,
@@ -70,7 +70,7 @@ impl Compiled {
         }
     }
 
-    /// The lists of permissions; without them everything is allowed. Terms to answer on bring the empty publish allow list where
+    /// The lists of permissions; without them everything is allowed. Response terms bring the empty publish allow list where
     /// none is given. `NoMemory` where memory could not be had.
     pub fn of_permissions(
         alloc: Global,
@@ -102,7 +102,7 @@ impl Compiled {
         }
     }
 
-    /// On what terms the user may answer on the reply subjects of messages that it was sent, or none.
+    /// On what terms the user may respond on the reply subjects of messages that it was sent, or none.
     pub fn terms(&self) -> Option<Terms>
         ensures { result ≡ self.now.allow_responses }
     {
@@ -217,7 +217,7 @@ impl Compiled {
 ghost use Rattle.std.specs.Prelude.{◌≡◌};
 ghost use Rattle.permissions.specs.Lists.{with_allow_list};
 
-/// Gives whoever has terms to answer on the empty publish allow list, where none is given.
+/// Gives whoever has response terms the empty publish allow list, where none is given.
 fn bring_allow_list(alloc: Global, permissions: &mut PermDoc)
     ensures { permissions.new ≡ with_allow_list permissions.old }
 {

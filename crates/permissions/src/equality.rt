@@ -7,7 +7,7 @@ use crate::Compiled;
 use base::Alike;
 use permission_doc::{Direction, PermDoc};
 
-// No permissions, and permissions that neither allow nor deny by a list and have no terms to answer on, are the same.
+// No permissions, and permissions that neither allow nor deny by a list and have no response terms, are the same.
 impl Alike for Compiled {
     fn is_like(&self, other: &Compiled) -> bool {
         match self.permissions() {
@@ -27,7 +27,7 @@ impl Alike for Compiled {
     }
 }
 
-/// Whether neither direction has a list, and the user has no terms to answer on.
+/// Whether neither direction has a list, and the user has no response terms.
 fn is_open(permissions: &PermDoc) -> bool
     ensures { Decides result ((permissions.now.publish ≡ open_rules) × (permissions.now.subscribe ≡ open_rules) × (permissions.now.allow_responses ≡ None)) }
 {

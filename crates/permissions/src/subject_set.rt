@@ -11,11 +11,11 @@ pub(crate) trait SubjectSet {
 
     ghost is_within: { List Token → Self → Bool };
 
-    /// Whether the entry has the whole of it.
+    /// Whether the entry's pattern matches the subject, or covers the pattern.
     fn is_in(&self, entry: &Pattern) -> bool
         ensures { result ≡ is_within entry.now self.now };
 
-    /// Its text. It has the hashes of each entry that has the whole of it.
+    /// Its text. It has the hashes of each entry that it is in.
     fn text(&self) -> &[u8]
         ensures { (entry : List Token) → is_within entry self.now ≡ true → HasHashes entry (tokens_of result.now) };
 }

@@ -22,7 +22,7 @@ pub enum PolicyFault {
     SelfImport(Place),
     /// The import in this row has both a prefix and a template.
     PrefixAndTo(Place),
-    /// The template of the import in this row is none for its subject, or the mapped pattern has more than 512 tokens.
+    /// The template of the import in this row isn't one for its subject, or the mapped pattern has more than 512 tokens.
     BadMapping(Place),
     /// No export of the account that the import in this row names is of its kind, open to the importer, and has all
     /// of its subjects.

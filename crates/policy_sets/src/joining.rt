@@ -93,6 +93,7 @@ fn exchange(places: &mut [usize], old: usize, new: usize)
     }
 }
 
+/// Returns the new place for the old one; any other stays.
 fn exchanged_place(old: usize, new: usize, place: usize) -> usize
     ensures { result ≡ exchanged_place old new place }
 {

@@ -97,7 +97,8 @@ pub fn cached_view_at(
     Ok(Some(CachedView { names, whom }))
 }
 
-/// Returns whom a publisher's messages are for in a view of a stream, if each of them is for the same.
+/// Returns whom a publisher's messages are for in a view. `None` for a view that isn't across a stream's row, where one of the receivers
+/// has a limit, or where they are found for each message.
 fn cached_view(
     alloc: Global,
     search: ReceiverSearch<'_>,

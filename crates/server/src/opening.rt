@@ -52,7 +52,7 @@ pub(crate) fn first_policy<R: Wait + Clock + AllocGlobal, P: Policies>(
     }
 }
 
-/// Listens at an address with its port. It fails where the text is none, or can't be listened at; the log tells why.
+/// Listens at an address with its port. It fails where the text is no address, or can't be listened at; the log tells why.
 pub(crate) fn listen<R: Net + Wait + Clock>(
     rt: &R,
     address: &str,

@@ -15,7 +15,7 @@ pub enum Fault {
     BadFrame,
     /// The first policy is refused, as this line says.
     Refused(Vec<u8>),
-    /// The address is none, or can't be listened at.
+    /// The text is no address, or can't be listened at.
     ListenFailed,
     /// The system gives no way to wait for sockets.
     PollFailed,

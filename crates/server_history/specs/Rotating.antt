@@ -12,11 +12,11 @@ pub record Rotating : Type 0 where
   pub spent : List Entry
   pub at_hand : ℕ
   pub uncounted : ℕ
-  pub part : ℕ
+  pub rotations : ℕ
   pub tries : ℕ
 
 abbrev pub fresh : ℕ → Rotating
-fresh history = record { half = history / 2; due = 0; spent = []; at_hand = 0; uncounted = 0; part = 0; tries = 0 }
+fresh history = record { half = history / 2; due = 0; spent = []; at_hand = 0; uncounted = 0; rotations = 0; tries = 0 }
 
 -- all but the last so many
 abbrev pub but_last : ℕ → List Entry → List Entry
@@ -30,7 +30,7 @@ dropped r =
 
 -- a port takes over what was handed out, and tried once more
 abbrev pub taken_over : List Entry → ℕ → Rotating → Rotating
-taken_over entries part r = record r { spent = entries; part = part; tries = u64_saturate (r.tries + 1) }
+taken_over entries rotations r = record r { spent = entries; rotations = rotations; tries = u64_saturate (r.tries + 1) }
 
 -- it tried, and could not
 abbrev pub failed : Rotating → Rotating
@@ -50,4 +50,4 @@ looked number r = record r { due = next_due r.half number }
 
 -- whether the history was not handed out between two looks, by how often it was
 abbrev pub is_same : ℕ → ℕ → Bool
-is_same parts before = nat_eq parts before
+is_same rotations before = nat_eq rotations before

@@ -4,13 +4,14 @@ ghost use Rattle.server_history.specs.Rotating.{is_same};
 
 use std::sync::atomic::{AtomicU64, Ordering};
 
-/// What the entries keep that the history holds, in bytes, as far as it was told; and how often it was handed out.
+/// What the entries keep that the history holds, in bytes, as far as it was told; and how often it was
+/// rotated: a rotation hands its entries out, and it begins anew.
 #[derive(Drop)]
 pub struct Kept {
     half: u64,
     bytes: AtomicU64,
-    parts: AtomicU64,
-    /// How often it had been handed out once the latest look at it was over.
+    rotations: AtomicU64,
+    /// How often it had been rotated once the latest look at it was over.
     looked: AtomicU64,
 }
 
@@ -29,7 +30,7 @@ pub struct Telling {
 }
 
 impl Telling {
-    /// Returns whether the teller is to hand the history out: half of what may be kept is passed, and nobody else took it away.
+    /// Returns whether the teller is to rotate the history: half of what may be kept is passed, and nobody else took it away.
     pub fn is_passed(&self) -> bool
         ensures { result ≡ is_passed self.now.half self.now.before self.now.bytes self.now.taken }
     {
@@ -37,39 +38,39 @@ impl Telling {
     }
 }
 
-/// How often the history had been handed out when a port looked, and once the look before was over. `Kept::look` alone makes
+/// How often the history had been rotated when a port looked, and once the look before was over. `Kept::look` alone makes
 /// it; no clause says that the atomics gave what stood there.
 #[derive(Clone, Copy, Debug)]
 pub struct Look {
-    parts: u64,
+    rotations: u64,
     before: u64,
 }
 
 impl Look {
-    /// Returns whether it was not handed out between the two looks.
+    /// Returns whether it was not rotated between the two looks.
     pub fn is_same(&self) -> bool
-        ensures { result ≡ is_same self.now.parts self.now.before }
+        ensures { result ≡ is_same self.now.rotations self.now.before }
     {
-        self.parts == self.before
+        self.rotations == self.before
     }
 }
 
 impl Kept {
     /// Returns the count of a history that keeps nothing. It may keep `most` bytes: those of the entries that it holds, and
-    /// those of the part that was handed out last.
+    /// those that the last rotation handed out.
     pub fn new(most: u64) -> Kept
         ensures { result.half ≡ most / 2 }
     {
         Kept {
             half: most / 2,
             bytes: AtomicU64::new(0),
-            parts: AtomicU64::new(0),
+            rotations: AtomicU64::new(0),
             looked: AtomicU64::new(0),
         }
     }
 
-    /// Counts bytes more. Where half of what may be kept is passed it counts from none, so that one teller alone is to hand
-    /// the history out.
+    /// Counts bytes more. Where half of what may be kept is passed it counts from none, so that one teller alone is to
+    /// rotate the history.
     pub(crate) fn tell(&self, bytes: u64) -> Telling
         ensures bytes { result.bytes ≡ bytes }
         ensures half { result.half ≡ self.now.half }
@@ -88,31 +89,31 @@ impl Kept {
         }
     }
 
-    /// Counts half of what may be kept once more, where the history could not be handed out: whoever tells of bytes next is
+    /// Counts half of what may be kept once more, where the history could not be rotated: whoever tells of bytes next is
     /// to try it.
     pub fn restore(&self) {
         let _ = self.bytes.fetch_add(self.half, Ordering::SeqCst);
     }
 
-    /// Notes that the history was handed out, and returns how often it was.
-    pub(crate) fn note_part(&self) -> u64 {
+    /// Notes that the history was rotated, and returns how often it was.
+    pub(crate) fn note_rotation(&self) -> u64 {
         self.bytes.store(0, Ordering::SeqCst);
-        self.parts.fetch_add(1, Ordering::SeqCst).saturating_add(1)
+        self.rotations.fetch_add(1, Ordering::SeqCst).saturating_add(1)
     }
 
-    /// Looks whether the history was handed out since the look before. If it wasn't, whoever looks hands it out, and the next
-    /// look is after that.
+    /// Looks whether the history was rotated since the look before. If it wasn't, whoever looks rotates it, and the next look is
+    /// after that.
     pub(crate) fn look(&self) -> Look {
-        let parts = self.parts.load(Ordering::SeqCst);
-        let before = self.looked.swap(parts, Ordering::SeqCst);
-        if parts == before {
-            self.looked.store(parts.saturating_add(1), Ordering::SeqCst);
+        let rotations = self.rotations.load(Ordering::SeqCst);
+        let before = self.looked.swap(rotations, Ordering::SeqCst);
+        if rotations == before {
+            self.looked.store(rotations.saturating_add(1), Ordering::SeqCst);
         }
-        Look { parts, before }
+        Look { rotations, before }
     }
 
-    /// Returns how often the history was handed out.
-    pub(crate) fn parts(&self) -> u64 {
-        self.parts.load(Ordering::SeqCst)
+    /// Returns how often the history was rotated.
+    pub(crate) fn rotations(&self) -> u64 {
+        self.rotations.load(Ordering::SeqCst)
     }
 }

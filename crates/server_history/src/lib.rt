@@ -1,4 +1,4 @@
-//! How many bytes the history's entries are counted for, and when the history is handed out.
+//! How many bytes the history's entries are counted for, and when the history is rotated.
 #![tactic(auto)]
 
 mod kept;

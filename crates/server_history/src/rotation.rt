@@ -24,12 +24,12 @@ fn read_each(entries: &[Answer]) -> u64 {
     read
 }
 
-/// When the history is handed out, and what of it is still to be dropped. What it has counted and not told of is below 64 KiB.
+/// When the history is rotated, and which of its entries are still to be dropped. What it has counted and not told of is below 64 KiB.
 pub struct Rotation {
     half: u64,
     /// The next number at which the history is due; 0 before the first look.
     due: u64,
-    /// What was handed out and is still to be dropped.
+    /// What a rotation handed out and is still to be dropped.
     spent: Vec<Answer>,
     /// How many of the blocks that were dropped last no new entry has yet.
     at_hand: usize,
@@ -37,9 +37,9 @@ pub struct Rotation {
     read: u64,
     /// What was counted since others were told.
     uncounted: u64,
-    /// How often the history had been handed out once this port did so last.
-    part: u64,
-    /// How often this port has handed it out, or tried to.
+    /// How often the history had been rotated once this port did so last.
+    rotations: u64,
+    /// How often this port has rotated it, or tried to.
     tries: u64,
 }
 
@@ -52,7 +52,7 @@ impl Drop for Rotation {
             at_hand: _,
             read: _,
             uncounted: _,
-            part: _,
+            rotations: _,
             tries: _,
         } = self;
     }
@@ -64,7 +64,7 @@ impl Model for Rotation {
 
     ghost Value = { Rotating };
 
-    ghost view = { λ r. record { half = r.half; due = r.due; spent = r.spent.items; at_hand = r.at_hand; uncounted = r.uncounted; part = r.part; tries = r.tries } };
+    ghost view = { λ r. record { half = r.half; due = r.due; spent = r.spent.items; at_hand = r.at_hand; uncounted = r.uncounted; rotations = r.rotations; tries = r.tries } };
 
     ghost invariant = { λ r. r.uncounted < 65536 };
 }
@@ -85,7 +85,7 @@ impl Rotation {
             at_hand: 0,
             read: 0,
             uncounted: 0,
-            part: 0,
+            rotations: 0,
             tries: 0,
         }
     }
@@ -114,12 +114,12 @@ impl Rotation {
         Some(kept.tell(all))
     }
 
-    /// Drops what is left of a part once the next but one was handed out, so that two parts stand at most.
+    /// Drops what is left of a rotation once the history was rotated twice since, so that the entries of two stand at most.
     #[inline(always)]
     pub fn drop_old(&mut self, kept: &Kept)
-        ensures { (parts : ℕ) × (self.new ≡ record self.old { spent = cond (nat_lt (self.old.part + 1) parts) [] self.old.spent }) }
+        ensures { (rotations : ℕ) × (self.new ≡ record self.old { spent = cond (nat_lt (self.old.rotations + 1) rotations) [] self.old.spent }) }
     {
-        if kept.parts() > self.part.saturating_add(1) {
+        if kept.rotations() > self.rotations.saturating_add(1) {
             self.spent.clear();
         }
     }
@@ -134,16 +134,16 @@ impl Rotation {
         left > 0
     }
 
-    /// Takes over the entries that were handed out, and drops what is left of those that were handed out before.
+    /// Takes over the entries that a rotation handed out, and drops what is left of those of the rotation before.
     pub fn take_over(&mut self, entries: Vec<Answer>, kept: &Kept)
-        ensures { (part : ℕ) × (self.new ≡ taken_over entries.items part self.old) }
+        ensures { (rotations : ℕ) × (self.new ≡ taken_over entries.items rotations self.old) }
     {
         self.spent = entries;
-        self.part = kept.note_part();
+        self.rotations = kept.note_rotation();
         self.tries = self.tries.saturating_add(1);
     }
 
-    /// Notes that the history could not be handed out.
+    /// Notes that the history could not be rotated.
     pub fn fail(&mut self)
         ensures { self.new ≡ failed self.old }
     {

@@ -137,7 +137,7 @@ fn reason_of(why: Slowness) -> &'static str
     }
 }
 
-/// Writes a frame whose subject is none, or its queue or reply.
+/// Writes the fields of a notice `Invalid Subject`: that text, the command, and the subject, queue and reply as the client wrote them.
 fn put_invalid(alloc: Global, out: &mut Writer, frame: &Invalid<'_>) -> Result<(), NoMemory>
     ensures { OnOk result (IsWritten out.old out.new (invalid frame.now)) }
 {

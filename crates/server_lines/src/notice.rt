@@ -92,7 +92,7 @@ pub enum Slowness {
     ReadsNothing,
 }
 
-/// A frame whose subject is none, or its queue or reply.
+/// A frame whose subject isn't a valid one, or its queue or reply.
 #[derive(Clone, Copy)]
 pub struct Invalid<'a> {
     /// The operation: `PUB`, `HPUB` or `SUB`.

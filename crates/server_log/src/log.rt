@@ -128,7 +128,7 @@ fn command_of(frame: &InvalidTexts) -> &[u8] {
     frame.command.as_bytes()
 }
 
-/// Returns what is told of a frame whose subject is none.
+/// Returns what is told of an invalid frame.
 fn invalid_of(frame: &InvalidTexts) -> Invalid<'_> {
     Invalid {
         command: command_of(frame),
@@ -361,7 +361,8 @@ impl<'a> ServerLog<'a> {
         has_failed
     }
 
-    /// Tells the frames of a connection for which its client was sent `Invalid Subject`.
+    /// Tells the frames of a connection for which its client was sent `Invalid Subject`. `None` is a list that can't be taken: it
+    /// tells nothing.
     fn tell_invalid<R: Wait + Clock>(
         &self,
         rt: &R,

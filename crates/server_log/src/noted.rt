@@ -12,7 +12,7 @@ use std::mem;
 /// How many answers of a turn are noted, at most, and how many frames that were none.
 const MOST: usize = 16;
 
-/// The texts of a frame whose subject is none, or its queue or reply.
+/// The texts of a frame whose subject isn't a valid one, or its queue or reply.
 #[derive(Drop)]
 pub(crate) struct InvalidTexts {
     pub command: &'static str,
@@ -21,7 +21,7 @@ pub(crate) struct InvalidTexts {
     pub reply: Option<Vec<u8>>,
 }
 
-/// What a connection's turn had that is to be told. A frame that was none goes with an error that its client was sent.
+/// What a connection's turn had that is to be told. An invalid frame goes with an error that its client was sent.
 pub struct Noted {
     alloc: Global,
     level: LogLevel,
@@ -127,7 +127,7 @@ impl Noted {
         }
     }
 
-    /// Notes a frame that was none, if that is to be told.
+    /// Notes an invalid frame, if that is to be told.
     pub fn note_invalid(&self, frame: &InvalidFrame<'_>) {
         if self.level != LogLevel::None && !self.keeps(frame) {
             self.frames_left_out
@@ -191,7 +191,7 @@ fn copy_of(alloc: Global, text: Option<&[u8]>) -> Result<Option<Vec<u8>>, NoMemo
     }
 }
 
-/// Returns whether an outcome is to be told, or says who a client is.
+/// Returns whether an outcome is noted: at this level it is told, or says who a client is. At level `None` nothing is.
 #[inline(always)]
 fn is_told(level: LogLevel, outcome: &Outcome) -> bool
     ensures { result ≡ is_told level outcome.now }

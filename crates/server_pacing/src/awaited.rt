@@ -37,7 +37,7 @@ impl Awaited {
         }
     }
 
-    /// Returns how many bytes a message has, by the mean.
+    /// Returns the mean size of the messages that wait; 0 where none does.
     fn mean(self) -> usize
         ensures { result ≡ mean self }
     {

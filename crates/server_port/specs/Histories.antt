@@ -7,9 +7,9 @@ use Rattle.server_history.specs.declared.kept.Telling.{Telling}
 use Rattle.server_history.specs.Bytes.{is_passed}
 use Rattle.server_history.specs.Rotating.{Rotating, failed, is_due, is_same, taken_over}
 
--- It was handed out: what was handed out, a part of a history, is all that is still to be dropped. Or it could not be.
+-- It was rotated: what was handed out, a part of a history, is all that is still to be dropped. Or it could not be.
 abbrev pub IsHandedOut : Bool → Rotating → Rotating → Type 0
-IsHandedOut true before after = (p : HistoryPart) × (part : ℕ) × IsHistoryPart p × (after ≡ taken_over p.entries part before)
+IsHandedOut true before after = (p : HistoryPart) × (rotations : ℕ) × IsHistoryPart p × (after ≡ taken_over p.entries rotations before)
 IsHandedOut false before after = after ≡ failed before
 
 -- how often it was tried, once more if it was to be
@@ -29,7 +29,7 @@ falls_due r number = nat_le r.due number && is_due r.half number
 -- whether the port that looked is to hand it out: nobody has since the look before
 abbrev pub was_same : Option Look → Bool
 was_same None = false
-was_same (Some look) = is_same look.parts look.before
+was_same (Some look) = is_same look.rotations look.before
 
 -- what a try leaves of what else a port counts
 abbrev pub IsTried : Bool → Rotating → Rotating → Type 0

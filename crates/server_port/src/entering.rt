@@ -142,7 +142,7 @@ impl<L: Run, R: Wait, G: Gate + Drop> ServerPort<'_, L, R, G> {
         }
     }
 
-    /// Offers a message's event once the history was handed out, or that was tried.
+    /// Offers a message's event once the history was rotated, or that was tried.
     #[inline(never)]
     #[tactic(auto, using(crate::proofs::Handed::once_within))]
     pub(crate) fn offer_again(&mut self, event: Event) -> Result<Answer, (Event, PublishRefusal)>

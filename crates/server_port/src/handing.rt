@@ -17,7 +17,7 @@ impl<L: Run, R: Wait, G: Gate + Drop> ServerPort<'_, L, R, G> {
 
     /// Takes over a segment that was handed out: its entries are all that is still to be dropped.
     fn take_over(&mut self, segment: Segment)
-        ensures taken { (part : ℕ) × (self.new.rotation ≡ taken_over segment.entries part self.old.rotation) }
+        ensures taken { (rotations : ℕ) × (self.new.rotation ≡ taken_over segment.entries rotations self.old.rotation) }
         ensures seat { self.new.seat ≡ self.old.seat }
         ensures course { self.new.course ≡ self.old.course }
         ensures kept { (self.new.gate ≡ self.old.gate) × (self.new.is_spent ≡ self.old.is_spent) × (self.new.noted ≡ self.old.noted) }

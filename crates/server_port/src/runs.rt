@@ -225,7 +225,7 @@ impl<L: Run, R: Wait, G: Gate + Drop> ServerPort<'_, L, R, G> {
         }
     }
 
-    /// Ends a run with a message that met a full history: it is offered once more, once that was handed out.
+    /// Ends a run with a message that met a full history: it is offered once more, once that was rotated.
     fn end_again(&mut self, event: Event) -> RunEnd
         ensures end { IsOfferedAgain L.opening event self.old.seat.count result self.new.seat.count }
         ensures rotations { self.new.seat.rotations ≤ self.old.seat.rotations + 3 }

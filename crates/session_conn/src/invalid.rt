@@ -1,11 +1,11 @@
-//! What a port hears of frames whose subject is none.
+//! What a port hears of invalid frames.
 use events::{InvalidFrame, Port};
 use session_plan::Text;
 use wire_message::MessageText;
 use wire_read::Frame;
 use wire_write::ServerError;
 
-/// Has the port hear of a frame, if its client is told of it that a subject is none.
+/// Has the port hear of a frame, if its client is answered `Invalid Subject`.
 #[inline(always)]
 pub fn hear_if_invalid<P: Port>(port: &P, text: &Text<'_>, frame: &Frame) {
     if matches!(text, Text::Error(ServerError::InvalidSubject)) {
@@ -31,7 +31,7 @@ fn hear<P: Port>(port: &P, frame: &Frame) {
     }
 }
 
-/// Returns what is told of a message whose subject is none, or its reply.
+/// Returns what is told of a message whose subject isn't a valid one, or its reply.
 fn invalid_message<'a>(command: &'static str, text: &'a MessageText) -> InvalidFrame<'a> {
     InvalidFrame {
         command,

@@ -9,7 +9,7 @@ use events::{Delivery, Message, Sid};
 use subjects::SubjectRef;
 use wire_write::{write_hmsg, write_msg, write_msg_apart};
 
-/// The text of the subject to answer on, if there is one.
+/// The text of the reply subject, if there is one.
 #[inline(always)]
 fn reply_subject_text(reply: Option<SubjectRef<'_>>) -> Option<&[u8]>
     ensures { option_copied result ≡ reply_subject_text reply.entry }

@@ -6,12 +6,12 @@ ghost use Rattle.subjects.specs.Fingerprint.{with_byte, hash_of, joined, IsFinge
 use crate::tokens::{is_star, is_tail};
 use base::Pieces;
 
-/// The hashes of a pattern. A wildcard has none: what begins with it is 0, and a second one counts as none.
+/// The hashes of a pattern's first tokens.
 #[derive(Clone, Copy, Debug)]
 pub(crate) struct Fingerprint {
-    /// That of the first token.
+    /// The hash of the first token; 0 if that is a wildcard.
     front: u32,
-    /// That of the first two.
+    /// The hash of the first two tokens; `front` where the second is a wildcard or missing.
     whole: u32,
 }
 
@@ -81,7 +81,7 @@ impl Fingerprint {
         }
     }
 
-    /// Whether the pattern may cover one of these other hashes. Where not, it doesn't.
+    /// Whether a pattern with this fingerprint may cover one with the other. `false` is certain.
     #[tactic(auto, using(crate::proofs::Fingerprints::misses))]
     pub fn may_cover(self, other: Fingerprint) -> bool
         ensures { (q p : List Token) → IsFingerprintOf q self → IsFingerprintOf p other → result ≡ false → covers q p ≡ false }

@@ -60,7 +60,7 @@ pub fn publish(alloc: Global, conn: u64, subject: &str) -> Option<Command> {
     })
 }
 
-/// A message whose payload is its subject, with a subject to answer on.
+/// A message whose payload is its subject, with a reply subject.
 pub fn request(alloc: Global, conn: u64, subject: &str, reply: &str) -> Option<Command> {
     let text = format!(in alloc; "{subject} {reply}{subject}").ok()?;
     Some(Command::Pub {

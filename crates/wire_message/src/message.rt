@@ -63,7 +63,7 @@ impl MessageText {
         &self.text.as_slice()[..self.sizes.subject()]
     }
 
-    /// The subject to answer on, if it has one.
+    /// The reply subject, if it has one.
     #[inline(always)]
     pub fn reply(&self) -> Option<&[u8]>
         ensures { option_copied result ≡ self.now.reply }

@@ -10,7 +10,7 @@ pub struct Span {
 pub struct TextsAt {
     /// The bytes of the subject, which stand in front.
     pub subject: usize,
-    /// Where the subject to answer on stands, if there is one: behind the blanks behind the subject.
+    /// Where the reply subject stands, if there is one: behind the blanks behind the subject.
     pub reply: Option<Span>,
     /// The bytes of the header block, which stands right before the payload; 0 where there is none.
     pub head: usize,

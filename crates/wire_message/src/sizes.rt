@@ -3,7 +3,7 @@ ghost use Rattle.wire_message.specs.Stored.{stored};
 
 use std::marker::Model;
 
-/// The bytes of a subject, of a subject to answer on, and of all that stands before a header block are fewer than these.
+/// The bytes of a subject, of a reply subject, and of all that stands before a header block are fewer than these.
 pub const MAX_FRONT: usize = 8_192;
 
 /// The bytes of a header block are fewer than these.
@@ -24,7 +24,7 @@ impl Model for Sizes {
 }
 
 impl Sizes {
-    /// The bytes of the subject, of the subject to answer on, or 0 where there is none, of all that stands before the
+    /// The bytes of the subject, of the reply subject, or 0 where there is none, of all that stands before the
     /// header block, and of that.
     #[tactic(auto, using(crate::proofs::StoredLemmas::all_stored))]
     pub fn new(subject: usize, reply: usize, front: usize, head: usize) -> Sizes
@@ -47,7 +47,7 @@ impl Sizes {
         (self.number % 8_192) as usize
     }
 
-    /// The bytes of the subject to answer on, or 0 where there is none.
+    /// The bytes of the reply subject, or 0 where there is none.
     pub fn reply(&self) -> usize
         ensures { result ≡ self.now.reply }
     {

@@ -74,7 +74,8 @@ fn removed_by(
     })
 }
 
-/// Adds a subscription, if it doesn't stand on. Where its session has the same lists beside it, it does.
+/// Adds a subscription to `lost` if it doesn't stand on: its id, and if its session stays, what is reported of it. It stands on where
+/// `same` says that its session's lists are the same.
 fn add_if_lost(
     alloc: Global,
     lost: &mut Lost,

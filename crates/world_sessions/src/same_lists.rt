@@ -9,7 +9,7 @@ use policy_ready::{Ready, User};
 use std::alloc::Global;
 use std::mem;
 
-/// How many guesses there are. Two users whose names have one sum modulo it share one.
+/// How many guesses there are. Two users whose names have one hash modulo it share one.
 const GUESSES: usize = 1_024;
 
 /// Returns for each session whether the policy has its user again with the subscribe lists that it has now.
@@ -34,11 +34,11 @@ pub(crate) fn same_lists(
 /// Returns where an earlier session of the user may stand, and guesses this place from now on. Whoever asks looks
 /// there.
 fn guess_again(guesses: &mut Vec<usize>, user: &User, place: usize) -> usize {
-    let mut sum: u64 = 0;
+    let mut hash: u64 = 0;
     for byte in user.user.as_slice() {
-        sum = sum.wrapping_mul(31).wrapping_add(*byte as u64);
+        hash = hash.wrapping_mul(31).wrapping_add(*byte as u64);
     }
-    let slot = (sum % GUESSES as u64) as usize;
+    let slot = (hash % GUESSES as u64) as usize;
     if slot < guesses.len() {
         mem::replace(&mut guesses[slot], place)
     } else {

@@ -129,7 +129,8 @@ fn opening(occasion: Occasion<'_>, request: Request<'_>) -> Result<Opening, NoMe
     })
 }
 
-/// Reports the row of a request whose exporter has as many routes as it may have, if anybody may be sent the request.
+/// Reports the row of a request whose exporter has as many routes as it may have, if anybody may be sent the request. To find that out
+/// it addresses the request, and takes the deliveries back.
 fn report_full(
     occasion: Occasion<'_>,
     receivers: &mut Receivers,

@@ -208,7 +208,7 @@ fn reported(report: &Report) -> Result<Item, NoMemory>
     }
 }
 
-/// Appends items.
+/// Appends copies of items. `NoMemory` where memory could not be had: then some may be appended.
 fn add_items(items: &[Item], all: &mut Vec<Item>) -> Result<(), NoMemory>
     ensures { OnOk result (all.new.items ≡ all.old.items ++ items.now) }
 {
@@ -218,7 +218,7 @@ fn add_items(items: &[Item], all: &mut Vec<Item>) -> Result<(), NoMemory>
     Ok(())
 }
 
-/// Appends the items between two places. What is behind the last item is none.
+/// Appends the items between two places. There are no items behind the last one.
 fn add_between(items: &[Item], from: usize, to: usize, all: &mut Vec<Item>) -> Result<(), NoMemory>
     ensures { OnOk result (all.new.items ≡ all.old.items ++ take (to - from) (drop from items.now)) }
 {
