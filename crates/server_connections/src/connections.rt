@@ -141,8 +141,9 @@ impl Connections {
         drop(self.keys.remove(&conn));
     }
 
-    /// Returns whether something waits for a client.
-    pub fn owe(&self) -> bool {
+    /// Returns whether some client is still to be written to: bytes of an earlier call wait for its socket, or it is in the queue
+    /// `flush`.
+    pub fn has_unwritten(&self) -> bool {
         self.slab
             .iter()
             .any(|(_, it)| it.client.waits() || it.queued.flush)

@@ -5,14 +5,14 @@ use Rattle.std.proofs.Common.{arith, ◌∙◌}
 use Rattle.std.proofs.Math.Nat.{min-eq_left}
 use Rattle.std.proofs.lemmas.List.Sums.{sum_by-cons}
 use Rattle.events.specs.declared.answer.Entry.{Entry}
-use Rattle.server_history.specs.declared.kept.Telling.{Telling}
+use Rattle.server_history.specs.declared.kept.Added.{Added}
 use Rattle.server_history.specs.Bytes.{AreCounted, IsCounted, IsTold, own, told}
 
 -- one entry more: nothing is lost, and what is not told of stays below 64 KiB
-one_counted : (before : ℕ) (entry : Entry) (t : Option Telling) (after : ℕ) → IsTold entry → before < 65536
+one_counted : (before : ℕ) (entry : Entry) (t : Option Added) (after : ℕ) → IsTold entry → before < 65536
     → IsCounted before (own entry) t after → (before + own entry ≡ told t + after) × (after < 65536)
 one_counted before entry None after fits below h = (omega (arith, h.0), h.1)
-one_counted before entry (Some telling) after fits below h =
+one_counted before entry (Some added) after fits below h =
     (omega (arith, h.1 ∙ min-eq_left (omega (arith, fits, below)), h.2), omega (arith, h.2))
 
 -- all of them, in turn

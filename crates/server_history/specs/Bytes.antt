@@ -4,7 +4,7 @@ use Rattle.std.specs.Io.Iter.{u64_saturate}
 use Rattle.events.specs.declared.answer.Entry.{Entry}
 use Rattle.events.specs.declared.answer.Outcome.{Outcome}
 use Rattle.events.specs.declared.answer.Outcome.TheVariants.{Published, Taken, Reloaded}
-use Rattle.server_history.specs.declared.kept.Telling.{Telling}
+use Rattle.server_history.specs.declared.kept.Added.{Added}
 
 -- for each item of a message, for each delivery that a Take gave, and for each session that a reload ended and each
 -- subscription that it removed
@@ -20,9 +20,9 @@ own entry = 250 + listed entry.outcome
 
 -- A port has counted bytes more than what it had not told of before. Below 64 KiB nothing is told, else all of it, and
 -- nothing is left.
-abbrev pub IsCounted : ℕ → ℕ → Option Telling → ℕ → Type 0
+abbrev pub IsCounted : ℕ → ℕ → Option Added → ℕ → Type 0
 IsCounted before bytes None after = (after ≡ before + bytes) × (after < 65536)
-IsCounted before bytes (Some telling) after = (65536 ≤ before + bytes) × (telling.bytes ≡ u64_saturate (before + bytes)) × (after ≡ 0)
+IsCounted before bytes (Some added) after = (65536 ≤ before + bytes) × (added.bytes ≡ u64_saturate (before + bytes)) × (after ≡ 0)
 
 -- Whether the teller of bytes is to hand the history out: with what was counted before they are half of what may be kept, and
 -- so is what it has taken away itself.
@@ -30,16 +30,16 @@ abbrev pub is_passed : ℕ → ℕ → ℕ → ℕ → Bool
 is_passed half before bytes taken = nat_le half (u64_saturate (before + bytes)) && nat_le half taken
 
 -- how many bytes were told of
-abbrev pub told : Option Telling → ℕ
+abbrev pub told : Option Added → ℕ
 told None = 0
-told (Some telling) = telling.bytes
+told (Some added) = added.bytes
 
 -- Entries that a port has counted one after the other: what it had not told of before, what it has told of them, and what it
 -- has not told of since.
 abbrev pub AreCounted : ℕ → List Entry → ℕ → ℕ → Type 0
 AreCounted before [] all after = (all ≡ 0) × (after ≡ before)
 AreCounted before (entry ∷ entries) all after =
-    (t : Option Telling) × (between : ℕ) × (rest : ℕ) × IsCounted before (own entry) t between
+    (t : Option Added) × (between : ℕ) × (rest : ℕ) × IsCounted before (own entry) t between
     × AreCounted between entries rest after × (all ≡ told t + rest)
 
 -- an entry whose size is told as it is

@@ -4,8 +4,8 @@ ghost use Rattle.server_history.specs.Rotating.{is_same};
 
 use std::sync::atomic::{AtomicU64, Ordering};
 
-/// What the entries keep that the history holds, in bytes, as far as it was told; and how often it was
-/// rotated: a rotation hands its entries out, and it begins anew.
+/// What the entries keep that the history holds, in bytes, as far as it was added; and how often the history was rotated: a
+/// rotation hands its entries out, and it begins anew.
 #[derive(Drop)]
 pub struct Kept {
     half: u64,
@@ -15,22 +15,22 @@ pub struct Kept {
     looked: AtomicU64,
 }
 
-/// That bytes were told of. `Kept::tell` alone makes it, so who has one has told of its bytes. What else stood there when
-/// they were added is what the atomics gave; no clause says that they gave it.
+/// That bytes were added to those that are kept. `Kept::add` alone makes it, so who has one has added its bytes. What else stood
+/// there when they were added is what the atomics gave; no clause says that they gave it.
 #[derive(Clone, Copy, Debug)]
-pub struct Telling {
-    /// How many bytes were told of.
+pub struct Added {
+    /// How many bytes were added.
     bytes: u64,
     /// Half of what may be kept.
     half: u64,
     /// What was counted before.
     before: u64,
-    /// What was counted once the teller took it away, 0 where it didn't: others may have taken it away before.
+    /// What was counted once whoever added took it away, 0 where it didn't: others may have taken it away before.
     taken: u64,
 }
 
-impl Telling {
-    /// Returns whether the teller is to rotate the history: half of what may be kept is passed, and nobody else took it away.
+impl Added {
+    /// Returns whether whoever added is to rotate the history: half of what may be kept is passed, and nobody else took it away.
     pub fn is_passed(&self) -> bool
         ensures { result ≡ is_passed self.now.half self.now.before self.now.bytes self.now.taken }
     {
@@ -69,9 +69,9 @@ impl Kept {
         }
     }
 
-    /// Counts bytes more. Where half of what may be kept is passed it counts from none, so that one teller alone is to
+    /// Counts bytes more. Where half of what may be kept is passed it counts from none, so that one who adds alone is to
     /// rotate the history.
-    pub(crate) fn tell(&self, bytes: u64) -> Telling
+    pub(crate) fn add(&self, bytes: u64) -> Added
         ensures bytes { result.bytes ≡ bytes }
         ensures half { result.half ≡ self.now.half }
     {
@@ -81,7 +81,7 @@ impl Kept {
         } else {
             0
         };
-        Telling {
+        Added {
             bytes,
             half: self.half,
             before,
@@ -89,7 +89,7 @@ impl Kept {
         }
     }
 
-    /// Counts half of what may be kept once more, where the history could not be rotated: whoever tells of bytes next is
+    /// Counts half of what may be kept once more, where the history could not be rotated: whoever adds bytes next is
     /// to try it.
     pub fn restore(&self) {
         let _ = self.bytes.fetch_add(self.half, Ordering::SeqCst);

@@ -5,5 +5,5 @@ mod kept;
 mod own;
 mod rotation;
 
-pub use kept::{Kept, Look, Telling};
+pub use kept::{Kept, Look, Added};
 pub use rotation::Rotation;

@@ -1,6 +1,6 @@
 ghost use Rattle.std.specs.Prelude.{◌≡◌};
 
-use crate::kept::{Kept, Look, Telling};
+use crate::kept::{Kept, Look, Added};
 use crate::own::own_of;
 use events::{Answer, Outcome};
 use std::alloc::Global;
@@ -92,7 +92,7 @@ impl Rotation {
 
     /// Counts what the entry of an answer keeps of its own. From 64 KiB on others are told of what was counted.
     #[inline(always)]
-    pub fn count(&mut self, answer: &Answer, kept: &Kept) -> Option<Telling>
+    pub fn count(&mut self, answer: &Answer, kept: &Kept) -> Option<Added>
         ensures counted { IsCounted self.old.uncounted (own answer.now) result self.new.uncounted }
         ensures same { self.new ≡ record self.old { uncounted = self.new.uncounted } }
     {
@@ -101,7 +101,7 @@ impl Rotation {
 
     /// Counts bytes that entries keep. From 64 KiB on others are told of what was counted.
     #[inline(always)]
-    pub fn count_bytes(&mut self, bytes: u64, kept: &Kept) -> Option<Telling>
+    pub fn count_bytes(&mut self, bytes: u64, kept: &Kept) -> Option<Added>
         ensures counted { IsCounted self.old.uncounted bytes result self.new.uncounted }
         ensures same { self.new ≡ record self.old { uncounted = self.new.uncounted } }
     {
@@ -111,7 +111,7 @@ impl Rotation {
             return None;
         }
         self.uncounted = 0;
-        Some(kept.tell(all))
+        Some(kept.add(all))
     }
 
     /// Drops what is left of a rotation once the history was rotated twice since, so that the entries of two stand at most.

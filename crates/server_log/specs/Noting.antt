@@ -35,14 +35,14 @@ is_full (RouteFull row) = true
 is_full _ = false
 
 -- what is refused, who was too slow, who a client is, and, where all is told, that it has closed
-abbrev pub is_told : LogLevel → Outcome → Bool
-is_told l Connected = tells l
-is_told l AuthViolation = tells l
-is_told l (Denied verdict) = tells l
-is_told l (Taken deliveries missed) = missed && tells l
-is_told l (Published rule met) = tells l && list_any is_full met
-is_told l Closed = tells_all l
-is_told l _ = false
+abbrev pub is_noted : LogLevel → Outcome → Bool
+is_noted l Connected = tells l
+is_noted l AuthViolation = tells l
+is_noted l (Denied verdict) = tells l
+is_noted l (Taken deliveries missed) = missed && tells l
+is_noted l (Published rule met) = tells l && list_any is_full met
+is_noted l Closed = tells_all l
+is_noted l _ = false
 
 -- a reload has ended the session
 abbrev pub is_gone : HubRefusal → Bool
@@ -62,8 +62,8 @@ IsAdded entry before after =
 abbrev pub IsAnswerNoted : Entry → Noted → Noted → Type 0
 IsAnswerNoted entry before after =
     (after.level ≡ before.level)
-    × (is_told before.level entry.outcome ≡ true → IsAdded entry before after)
-    × (is_told before.level entry.outcome ≡ false → after ≡ before)
+    × (is_noted before.level entry.outcome ≡ true → IsAdded entry before after)
+    × (is_noted before.level entry.outcome ≡ false → after ≡ before)
 
 -- of a refusal it is noted that the session has gone, if it says so
 abbrev pub noted_refusal : HubRefusal → Noted → Noted

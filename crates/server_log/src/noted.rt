@@ -1,6 +1,6 @@
 ghost use Rattle.std.specs.Prelude.{◌≡◌};
 ghost use Rattle.std.specs.List.{list_any};
-ghost use Rattle.server_log.specs.Noting.{is_full, is_told, noted_refusal, noted_stop, IsAdded, IsAnswerNoted, IsNoted, IsOfferNoted};
+ghost use Rattle.server_log.specs.Noting.{is_full, is_noted, noted_refusal, noted_stop, IsAdded, IsAnswerNoted, IsNoted, IsOfferNoted};
 
 use base::NoMemory;
 use events::{Answer, Event, HubRefusal, InvalidFrame, Item, Outcome, PublishRefusal};
@@ -113,7 +113,7 @@ impl Noted {
     pub fn note_answer(&mut self, answer: &Answer)
         ensures { IsAnswerNoted answer.now self.old self.new }
     {
-        if is_told(self.level, &answer.get().outcome) {
+        if is_noted(self.level, &answer.get().outcome) {
             self.add(answer);
         }
     }
@@ -193,8 +193,8 @@ fn copy_of(alloc: Global, text: Option<&[u8]>) -> Result<Option<Vec<u8>>, NoMemo
 
 /// Returns whether an outcome is noted: at this level it is told, or says who a client is. At level `None` nothing is.
 #[inline(always)]
-fn is_told(level: LogLevel, outcome: &Outcome) -> bool
-    ensures { result ≡ is_told level outcome.now }
+fn is_noted(level: LogLevel, outcome: &Outcome) -> bool
+    ensures { result ≡ is_noted level outcome.now }
 {
     match outcome {
         Outcome::Connected | Outcome::AuthViolation => level != LogLevel::None,

@@ -111,7 +111,7 @@ impl<'a, L: Run, R: Wait + Clock, G: Gate + Drop, W: Words + Drop> Worker<'a, L,
             self.take_in();
             self.slice = Slice::whole();
             self.drain_queued();
-            if have_finished && !self.connections.owe() {
+            if have_finished && !self.connections.has_unwritten() {
                 return;
             }
             if millis(self.rt).saturating_sub(begin) > GRACE {

@@ -27,7 +27,7 @@ const LEAST: usize = 1024;
 const CLOSING: u64 = 100;
 
 /// What a client is told that sends too much before its CONNECT.
-const UNKNOWN: &[u8] = b"Authorization Violation";
+const TOO_MUCH: &[u8] = b"Authorization Violation";
 
 /// After how long a turn that could not be ended is tried again, in milliseconds.
 const RETRY: u64 = 10;
@@ -105,7 +105,7 @@ impl<'a, L: Run, R: Wait + Clock, G: Gate + Drop, W: Words + Drop> Worker<'a, L,
         self.tell_turn(key);
         let turn = self.connections.close_if_beyond(key, served.turn);
         if turn != served.turn {
-            self.tell_of(key, What::Limit(UNKNOWN));
+            self.tell_of(key, What::Limit(TOO_MUCH));
         }
         match turn {
             Turn::Stalled(Stall::Held) => self.follow_held(key),

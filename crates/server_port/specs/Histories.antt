@@ -3,7 +3,7 @@ use Rattle.std.specs.Prelude.{ℕ, ◌+◌, ◌≡◌, ◌&&◌, Bool, true, fal
 use Rattle.std.specs.Io.Iter.{u64_saturate}
 use Rattle.hub.specs.Segments.{HistoryPart, IsHistoryPart}
 use Rattle.server_history.specs.declared.kept.Look.{Look}
-use Rattle.server_history.specs.declared.kept.Telling.{Telling}
+use Rattle.server_history.specs.declared.kept.Added.{Added}
 use Rattle.server_history.specs.Bytes.{is_passed}
 use Rattle.server_history.specs.Rotating.{Rotating, failed, is_due, is_same, taken_over}
 
@@ -18,7 +18,7 @@ tried true n = u64_saturate (n + 1)
 tried false n = n
 
 -- whether the port that told is to hand it out
-abbrev pub passed : Option Telling → Bool
+abbrev pub passed : Option Added → Bool
 passed None = false
 passed (Some t) = is_passed t.half t.before t.bytes t.taken
 

@@ -8,7 +8,7 @@ use events::{
     Answer, Event, HubRefusal, InvalidFrame, Message, Port, PublishRefusal, RunEnd, Words,
 };
 use server_gates::{Gate, Point};
-use server_history::{Look, Telling};
+use server_history::{Look, Added};
 use shared_hub::Run;
 use shared_runs::Posts;
 use std::collections::VecDeque;
@@ -24,10 +24,10 @@ impl<L: Run, R: Wait, G: Gate + Drop> ServerPort<'_, L, R, G> {
     ghost use Rattle.server_port.specs.Histories.{falls_due, once, passed, tried, was_same};
     ghost use Rattle.shared_hub.specs.Entering.{IsAnswered, IsPostedBy};
 
-    /// Notes what an answer makes pending, with the size of its message, counts what its entry keeps, and hands the history out if
+    /// Notes what an answer makes pending, with the size of its message, counts what its entry keeps, and rotates the history if
     /// that is due. Answers what others were told, and what it saw where the history is due.
     #[inline(always)]
-    pub(crate) fn follow(&mut self, answer: &Answer, size: usize) -> (Option<Telling>, Option<Look>)
+    pub(crate) fn follow(&mut self, answer: &Answer, size: usize) -> (Option<Added>, Option<Look>)
         ensures counted { IsCounted self.old.rotation.uncounted (own answer.now) result.0 self.new.rotation.uncounted }
         ensures looked { is_some result.1 ≡ falls_due self.old.rotation answer.now.number }
         ensures tried { self.new.rotation.tries ≡ tried (was_same result.1) (tried (passed result.0) self.old.rotation.tries) }

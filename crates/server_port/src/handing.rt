@@ -1,11 +1,11 @@
-//! How a port counts what entries keep, and hands the history out.
+//! How a port counts what entries keep, and rotates the history.
 ghost use Rattle.std.specs.Prelude.{◌≡◌};
 
 use crate::port::ServerPort;
 use events::Answer;
 use hub::Segment;
 use server_gates::Gate;
-use server_history::{Look, Telling};
+use server_history::{Look, Added};
 use shared_hub::Run;
 use std::sync::Wait;
 
@@ -25,7 +25,7 @@ impl<L: Run, R: Wait, G: Gate + Drop> ServerPort<'_, L, R, G> {
         self.rotation.take_over(segment.into_entries(), self.kept);
     }
 
-    /// Hands the history out, and answers whether it could. Without memory nothing changes, and the next that meets a full
+    /// Rotates the history, and returns whether it could. Without memory nothing changes, and the next that meets a full
     /// history tries it again.
     #[inline(never)]
     pub(crate) fn rotate(&mut self) -> bool
@@ -49,25 +49,25 @@ impl<L: Run, R: Wait, G: Gate + Drop> ServerPort<'_, L, R, G> {
         }
     }
 
-    /// Hands the history out if what was told of is too much.
+    /// Rotates the history if what was told of is too much.
     #[inline(never)]
-    fn heed(&mut self, telling: &Telling)
-        ensures tried { IsTried (is_passed telling.now.half telling.now.before telling.now.bytes telling.now.taken) self.old.rotation self.new.rotation }
+    fn heed(&mut self, added: &Added)
+        ensures tried { IsTried (is_passed added.now.half added.now.before added.now.bytes added.now.taken) self.old.rotation self.new.rotation }
         ensures count { self.new.seat.count ≡ self.old.seat.count }
-        ensures rotations { self.new.seat.rotations ≤ self.old.seat.rotations + once (is_passed telling.now.half telling.now.before telling.now.bytes telling.now.taken) }
+        ensures rotations { self.new.seat.rotations ≤ self.old.seat.rotations + once (is_passed added.now.half added.now.before added.now.bytes added.now.taken) }
         ensures course { self.new.course ≡ self.old.course }
         ensures kept { (self.new.gate ≡ self.old.gate) × (self.new.is_spent ≡ self.old.is_spent) × (self.new.noted ≡ self.old.noted) }
     {
-        if telling.is_passed() {
+        if added.is_passed() {
             if !self.rotate() {
                 self.kept.restore();
             }
         }
     }
 
-    /// Hands the history out if others were told of something, and it is too much.
+    /// Rotates the history if others were told of something, and it is too much.
     #[inline(always)]
-    fn heed_told(&mut self, told: &Option<Telling>)
+    fn heed_told(&mut self, told: &Option<Added>)
         ensures tried { IsTried (passed told.now) self.old.rotation self.new.rotation }
         ensures count { self.new.seat.count ≡ self.old.seat.count }
         ensures rotations { self.new.seat.rotations ≤ self.old.seat.rotations + once (passed told.now) }
@@ -76,12 +76,12 @@ impl<L: Run, R: Wait, G: Gate + Drop> ServerPort<'_, L, R, G> {
     {
         match told {
             None => {}
-            Some(telling) => self.heed(telling),
+            Some(added) => self.heed(added),
         }
     }
 
-    /// Counts bytes that entries keep, and hands the history out where they are too many. Answers what others were told.
-    pub(crate) fn count_bytes(&mut self, bytes: u64) -> Option<Telling>
+    /// Counts bytes that entries keep, and rotates the history where they are too many. Returns what was added to the count of others.
+    pub(crate) fn count_bytes(&mut self, bytes: u64) -> Option<Added>
         ensures counted { IsCounted self.old.rotation.uncounted bytes result self.new.rotation.uncounted }
         ensures tried { self.new.rotation.tries ≡ tried (passed result) self.old.rotation.tries }
         ensures count { self.new.seat.count ≡ self.old.seat.count }
@@ -94,10 +94,10 @@ impl<L: Run, R: Wait, G: Gate + Drop> ServerPort<'_, L, R, G> {
         told
     }
 
-    /// Counts what the entry of an answer keeps of its own, and hands the history out where that is due at its number or they
+    /// Counts what the entry of an answer keeps of its own, and rotates the history where that is due at its number or they
     /// keep too much. Answers what others were told, and what it saw where the history is due.
     #[inline(always)]
-    pub(crate) fn count_and_rotate(&mut self, answer: &Answer) -> (Option<Telling>, Option<Look>)
+    pub(crate) fn count_and_rotate(&mut self, answer: &Answer) -> (Option<Added>, Option<Look>)
         ensures counted { IsCounted self.old.rotation.uncounted (own answer.now) result.0 self.new.rotation.uncounted }
         ensures looked { is_some result.1 ≡ falls_due self.old.rotation answer.now.number }
         ensures tried { self.new.rotation.tries ≡ tried (was_same result.1) (tried (passed result.0) self.old.rotation.tries) }
@@ -117,7 +117,7 @@ impl<L: Run, R: Wait, G: Gate + Drop> ServerPort<'_, L, R, G> {
         (told, seen)
     }
 
-    /// Hands the history out where it is due at a number, unless somebody has done so since it was due before.
+    /// Rotates the history where it is due at a number, unless somebody has done so since it was due before.
     #[inline(never)]
     fn rotate_at(&mut self, number: u64) -> Option<Look>
         ensures looked { is_some result ≡ is_due self.old.rotation.half number }

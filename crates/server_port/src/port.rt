@@ -60,7 +60,7 @@ impl<L: Run, R: Wait, G: Gate + Drop> Drop for ServerPort<'_, L, R, G> {
 
 impl<'a, L: Run, R: Wait, G: Gate + Drop> ServerPort<'a, L, R, G> {
     ghost use Rattle.std.specs.Prelude.{◌≡◌, ◌||◌, ◌<◌, ◌≤◌, ◌+◌, Bool, None, Option, false, max, nat_eq, not};
-    ghost use Rattle.server_history.specs.declared.kept.Telling.{Telling};
+    ghost use Rattle.server_history.specs.declared.kept.Added.{Added};
     ghost use Rattle.server_history.specs.Bytes.{IsCounted};
     ghost use Rattle.server_history.specs.Rotating.{but_last, fresh};
     ghost use Rattle.server_port.specs.Histories.{once, passed, tried};
@@ -153,9 +153,9 @@ impl<'a, L: Run, R: Wait, G: Gate + Drop> ServerPort<'a, L, R, G> {
         self.course.has_entered
     }
 
-    /// Counts bytes that entries keep beside their own, and hands the history out where they are too many.
+    /// Counts bytes that entries keep beside their own, and rotates the history where they are too many.
     pub fn keep(&mut self, bytes: usize)
-        ensures counted { (told : Option Telling) × IsCounted self.old.rotation.uncounted bytes told self.new.rotation.uncounted × (self.new.rotation.tries ≡ tried (passed told) self.old.rotation.tries) × (self.new.seat.rotations ≤ self.old.seat.rotations + once (passed told)) }
+        ensures counted { (told : Option Added) × IsCounted self.old.rotation.uncounted bytes told self.new.rotation.uncounted × (self.new.rotation.tries ≡ tried (passed told) self.old.rotation.tries) × (self.new.seat.rotations ≤ self.old.seat.rotations + once (passed told)) }
         ensures course { self.new.course ≡ self.old.course }
         ensures count { self.new.seat.count ≡ self.old.seat.count }
     {

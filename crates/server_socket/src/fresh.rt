@@ -24,7 +24,7 @@ pub fn is_fresh(conn: &Conn) -> bool
 fn is_beyond(conn: &Conn) -> bool
     ensures { result ≡ false → IsBounded conn.now }
 {
-    is_fresh(conn) && conn.holds() > MOST
+    is_fresh(conn) && conn.buffered() > MOST
 }
 
 impl Connection {

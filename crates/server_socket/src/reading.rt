@@ -34,7 +34,7 @@ impl Connection {
         requires { 0 < length buf.old }
         ensures { P.place port.new ≡ P.place port.old }
     {
-        let buffered = self.client.conn().holds();
+        let buffered = self.client.conn().buffered();
         let mut reader = Counted::new(NonBlocking::new(&self.socket));
         let writes = NonBlocking::new(&self.socket);
         let mut writer = Heard::new(writes, self.client.waits(), errors);

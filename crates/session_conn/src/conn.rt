@@ -133,10 +133,10 @@ impl Conn {
     }
 
     /// How many bytes are kept of a frame that isn't whole, or how many there is room for, if that is more.
-    pub fn holds(&self) -> usize
+    pub fn buffered(&self) -> usize
         ensures { length self.now.reader.rest ≤ result }
     {
-        self.reader.holds()
+        self.reader.buffered()
     }
 
     /// What stopped the frames that wait for their turn; none waits where nothing did.

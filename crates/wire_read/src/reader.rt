@@ -59,7 +59,7 @@ impl FrameReader {
     }
 
     /// How many bytes are kept of a frame that isn't whole, or how many there is room for, if that is more.
-    pub fn holds(&self) -> usize
+    pub fn buffered(&self) -> usize
         ensures { length self.now.rest ≤ result }
     {
         let len = self.kept.len();

@@ -32,34 +32,34 @@ impl World {
     ghost use Rattle.world.specs.Changes.{done, lost_id, pruned_world, IsFit};
     ghost use Rattle.world.specs.declared.change.Change.TheVariants as change;
 
-    /// Carries out a decided command; `told` is its outcome. Where memory could not be had for a new session or
+    /// Carries out a decided command with its outcome. Where memory could not be had for a new session or
     /// subscription, nothing has changed.
     #[inline(always)]
-    pub(crate) fn carry_out(&mut self, change: Change, told: &Outcome) -> Result<(), NoMemory>
-        requires fit { IsFit (pruned_world self.old) change told.now }
+    pub(crate) fn carry_out(&mut self, change: Change, outcome: &Outcome) -> Result<(), NoMemory>
+        requires fit { IsFit (pruned_world self.old) change outcome.now }
         requires fresh { self.old.number < 18446744073709551615 }
         requires epoch { self.old.epoch ≤ self.old.number + 1 }
         requires ids { All (λ (s : Subscription). s.id ≤ self.old.number) self.old.subscriptions }
         requires sound { AllMayStand self.old.sessions self.old.subscriptions }
-        ensures ok { OnOk result (pruned_world self.new ≡ done (pruned_world self.old) change told.now) }
+        ensures ok { OnOk result (pruned_world self.new ≡ done (pruned_world self.old) change outcome.now) }
         ensures err { OnErr result (self.new ≡ self.old) }
     {
         match change {
             Change::Nothing => Ok(()),
-            Change::Open(session) => self.open(session, told),
-            Change::Stand(wanted) => self.stand(wanted, told),
+            Change::Open(session) => self.open(session, outcome),
+            Change::Stand(wanted) => self.stand(wanted, outcome),
             Change::Limit { conn, sid, most } => {
                 self.limit(conn, &sid, most);
                 Ok(())
             }
             Change::Deliver(deliveries) => {
-                self.deliver(deliveries, told);
+                self.deliver(deliveries, outcome);
                 Ok(())
             }
             Change::Route(routing) => {
                 let Routing { deliveries, routes } = routing.into_inner();
                 change_routes(&mut self.routes, routes, self.moment)?;
-                self.deliver(deliveries, told);
+                self.deliver(deliveries, outcome);
                 Ok(())
             }
             Change::Drain { conn, most } => {
@@ -82,27 +82,27 @@ impl World {
         }
     }
 
-    /// Hands deliveries over that an outcome tells of.
+    /// Hands the deliveries of an outcome over.
     #[inline(always)]
-    fn deliver(&mut self, deliveries: Deliveries, told: &Outcome)
-        ensures { self.new ≡ done self.old (change.Deliver deliveries) told.now }
+    fn deliver(&mut self, deliveries: Deliveries, outcome: &Outcome)
+        ensures { self.new ≡ done self.old (change.Deliver deliveries) outcome.now }
     {
         carry_publish(
             &mut self.sessions,
             &mut self.subscriptions,
             &mut self.caches.receivers,
             deliveries,
-            items_in(told),
+            items_in(outcome),
             self.moment,
         );
     }
 
     /// Opens a session. On `NoMemory` nothing has changed.
     #[inline(never)]
-    fn open(&mut self, session: Boxed<Session>, told: &Outcome) -> Result<(), NoMemory>
-        requires fit { IsFit (pruned_world self.old) (change.Open session) told.now }
+    fn open(&mut self, session: Boxed<Session>, outcome: &Outcome) -> Result<(), NoMemory>
+        requires fit { IsFit (pruned_world self.old) (change.Open session) outcome.now }
         requires sound { AllMayStand self.old.sessions self.old.subscriptions }
-        ensures ok { OnOk result (pruned_world self.new ≡ done (pruned_world self.old) (change.Open session) told.now) }
+        ensures ok { OnOk result (pruned_world self.new ≡ done (pruned_world self.old) (change.Open session) outcome.now) }
         ensures err { OnErr result (self.new ≡ self.old) }
     {
         self.caches.receivers.clear_cache();
@@ -113,11 +113,11 @@ impl World {
     /// Adds a subscription, with its marks. On `NoMemory` nothing that is shown has changed. Apart, so that a message pays
     /// nothing for it.
     #[inline(never)]
-    fn stand(&mut self, wanted: Boxed<NewSubscription>, told: &Outcome) -> Result<(), NoMemory>
-        requires fit { IsFit (pruned_world self.old) (change.Stand wanted) told.now }
+    fn stand(&mut self, wanted: Boxed<NewSubscription>, outcome: &Outcome) -> Result<(), NoMemory>
+        requires fit { IsFit (pruned_world self.old) (change.Stand wanted) outcome.now }
         requires fresh { self.old.number < 18446744073709551615 }
         requires ids { All (λ (s : Subscription). s.id ≤ self.old.number) self.old.subscriptions }
-        ensures ok { OnOk result (pruned_world self.new ≡ done (pruned_world self.old) (change.Stand wanted) told.now) }
+        ensures ok { OnOk result (pruned_world self.new ≡ done (pruned_world self.old) (change.Stand wanted) outcome.now) }
         ensures err { OnErr result (self.new ≡ self.old) }
     {
         self.caches.receivers.clear_cache();
@@ -132,7 +132,7 @@ impl World {
     /// Ends a subscription, at once or once it has received so many messages.
     #[inline(never)]
     fn limit(&mut self, conn: u64, sid: &Sid, most: Option<u64>)
-        ensures { (told : Outcome) → self.new ≡ done self.old (change.Limit conn sid.now most) told }
+        ensures { (outcome : Outcome) → self.new ≡ done self.old (change.Limit conn sid.now most) outcome }
     {
         self.caches.receivers.clear_cache();
         self.subscriptions.limit(conn, sid, most);
@@ -140,7 +140,7 @@ impl World {
 
     /// Removes a session with its subscriptions.
     fn leave(&mut self, conn: u64)
-        ensures { (told : Outcome) → self.new ≡ done self.old (change.Leave conn) told }
+        ensures { (outcome : Outcome) → self.new ≡ done self.old (change.Leave conn) outcome }
     {
         self.caches.receivers.clear_cache();
         self.sessions.use_invariant();
@@ -156,7 +156,7 @@ impl World {
         requires lost { lost.items ≡ filter_map (lost_id ready self.old.sessions) self.old.subscriptions }
         requires marks { AreMarked (remaining self.old.moment ready self.old.sessions) self.old.subscriptions marks }
         requires epoch { self.old.epoch < 340282366920938463463374607431768211455 }
-        ensures { (told : Outcome) → pruned_world self.new ≡ done (pruned_world self.old) (change.Install ready users lost marks) told }
+        ensures { (outcome : Outcome) → pruned_world self.new ≡ done (pruned_world self.old) (change.Install ready users lost marks) outcome }
     {
         // What is cached goes with the policy under which it was so.
         self.caches.receivers = Receivers::new(self.alloc, self.keys);

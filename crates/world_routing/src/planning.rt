@@ -147,7 +147,7 @@ fn on_routes(
 }
 
 /// Returns the plan of a publish that is allowed, by the deliveries of the receivers and by what is told between them. All memory is
-/// taken that handing over needs. `NoMemory` where it could not be had. `plan_judged` takes the plan by `?`: a result that it returns
+/// taken that handing over needs. `NoMemory` where it could not be had. `plan_uncached` takes the plan by `?`: a result that it returns
 /// as it is costs each message up to 75 instructions.
 #[inline(always)]
 fn plan_told(
@@ -518,9 +518,10 @@ fn plan_alone(
     Ok(Plan::ToSome(by, met, deliveries))
 }
 
-/// Judges a publish, and returns its plan as `plan_publish` does. It caches what the next one needs.
+/// Returns the plan of a publish for which no deliveries are cached: it judges it, addresses it in all views, and caches what the next
+/// one needs.
 #[inline(always)]
-fn plan_judged<'p>(
+fn plan_uncached<'p>(
     sessions: &mut Sessions,
     subscriptions: &mut Subscriptions,
     caches: &mut Caches,
@@ -610,6 +611,6 @@ pub fn plan_publish<'p>(
     let receivers = &mut caches.receivers;
     match receivers.address_alone(publish.conn, publish.message, publish.word)? {
         Some(by) => plan_alone(sessions, receivers, publish.message, by),
-        None => plan_judged(sessions, subscriptions, caches, routes, ready, publish),
+        None => plan_uncached(sessions, subscriptions, caches, routes, ready, publish),
     }
 }

@@ -28,23 +28,23 @@ invariant_of-self-in-Drain c =
     )
 
 pub returns-in-Leave-clause-ok : goal.returns-in-Leave-clause-ok
-returns-in-Leave-clause-ok c = ap pruned_world (c.leave.ensures c.args.told.now) ∙ ap (λ (change : Change). done (pruned_world c.args.self.now) change c.args.told.now) (sym c.in-Leave.is)
+returns-in-Leave-clause-ok c = ap pruned_world (c.leave.ensures c.args.outcome.now) ∙ ap (λ (change : Change). done (pruned_world c.args.self.now) change c.args.outcome.now) (sym c.in-Leave.is)
 
 pub returns-in-Limit-clause-ok : goal.returns-in-Limit-clause-ok
-returns-in-Limit-clause-ok c = ap pruned_world (c.limit.ensures c.args.told.now) ∙ ap (λ (change : Change). done (pruned_world c.args.self.now) change c.args.told.now) (sym c.in-Limit.is)
+returns-in-Limit-clause-ok c = ap pruned_world (c.limit.ensures c.args.outcome.now) ∙ ap (λ (change : Change). done (pruned_world c.args.self.now) change c.args.outcome.now) (sym c.in-Limit.is)
 
 pub returns-in-Install-clause-ok : goal.returns-in-Install-clause-ok
-returns-in-Install-clause-ok c = c.install.ensures c.args.told.now ∙ ap (λ (change : Change). done (pruned_world c.args.self.now) change c.args.told.now) (sym c.in-Install.is)
+returns-in-Install-clause-ok c = c.install.ensures c.args.outcome.now ∙ ap (λ (change : Change). done (pruned_world c.args.self.now) change c.args.outcome.now) (sym c.in-Install.is)
 
 pub returns-in-Deliver-clause-ok : goal.returns-in-Deliver-clause-ok
-returns-in-Deliver-clause-ok c = ap pruned_world c.deliver.ensures ∙ ap (λ (change : Change). done (pruned_world c.args.self.now) change c.args.told.now) (sym c.in-Deliver.is)
+returns-in-Deliver-clause-ok c = ap pruned_world c.deliver.ensures ∙ ap (λ (change : Change). done (pruned_world c.args.self.now) change c.args.outcome.now) (sym c.in-Deliver.is)
 
 -- deliveries are handed over, and routes have changed
 pub returns-in_ok-change_routes-in-Route-clause-ok : goal.returns-in_ok-change_routes-in-Route-clause-ok
 returns-in_ok-change_routes-in-Route-clause-ok c =
     let h = c.self.inside in
     let all = h.routes.exporters in
-    let told = c.args.told.now in
+    let told = c.args.outcome.now in
     let r : Routing = c.into_inner-deliveries.result in
     let gone : (all : List (Name × Exporter)) → pruned h.moment (pruned h.routes_at all) ≡ pruned h.moment all = λ all. dead h.routes_at h.moment all c.self.invariant.1 in
     let routes : pruned h.moment (pruned h.routes_at c.change_routes.new.routes.exporters) ≡ changed_by r.routes (pruned h.moment (pruned h.routes_at all)) =

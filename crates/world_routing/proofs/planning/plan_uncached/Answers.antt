@@ -18,7 +18,7 @@ use Rattle.world_routing.proofs.Remembered.{named}
 use Rattle.world_views.proofs.Addressed.{unsaid_after}
 use Rattle.world_routing.specs.Granting.{verdict_on}
 use Rattle.world_routing.proofs.Publishing.{planned_publish, planned_told, planned_unmapped, publish_reason}
-use Rattle.world_routing.proofs.planning.plan_judged.Goals as goal
+use Rattle.world_routing.proofs.planning.plan_uncached.Goals as goal
 
 pub on_publish-requires-clause-user : goal.on_publish-requires-clause-user
 on_publish-requires-clause-user c = named c.args.ready.now c.args.sessions.now c.args.publish.conn c.in-Some.session.now c.requires.users (sym c.in-Some.ensures)
