@@ -181,10 +181,10 @@ fn is_connect(
     command: &Command,
     number: u64,
     name: &Option<SharedText>,
-    word: &SharedText,
+    secret: &SharedText,
     own: bool,
 ) -> bool
-    ensures { Decides result (command.now ≡ Connect number name.now word.now own) }
+    ensures { Decides result (command.now ≡ Connect number name.now secret.now own) }
 {
     match command {
         Command::Connect {
@@ -192,7 +192,7 @@ fn is_connect(
             user,
             password,
             echo,
-        } => { *conn == number && user.is_like(name) && password.is_like(word) && *echo == own }
+        } => { *conn == number && user.is_like(name) && password.is_like(secret) && *echo == own }
         _ => false,
     }
 }

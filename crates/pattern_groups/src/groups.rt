@@ -3,8 +3,8 @@ ghost use Rattle.std.specs.List.{range_with_len};
 ghost use Rattle.subjects.specs.Subject.{tokens_of};
 ghost use Rattle.pattern_groups.specs.Links.{AreFound, AreLinks, PassesBehind};
 
-use crate::links::{Links, links_of};
 use crate::hash::{NONE, past_token, with_token};
+use crate::links::{Links, links_of};
 use crate::patterns::Patterns;
 use base::NoMemory;
 use std::alloc::Global;

@@ -2,13 +2,13 @@
 #![tactic(auto)]
 
 mod groups;
+mod hash;
 mod index;
 mod links;
-mod hash;
 mod patterns;
 mod places;
 
 pub use groups::Groups;
-pub use index::PatternIndex;
 pub use hash::hash_under;
+pub use index::PatternIndex;
 pub use patterns::Patterns;

@@ -12,7 +12,7 @@ use crate::key::CacheKey;
 use base::NoMemory;
 use events::{Addressed, Message};
 use permissions::By;
-use receiver_views::{CachedView, Whom, address_chosen, address_each, address_cached, whom_of};
+use receiver_views::{CachedView, Whom, address_cached, address_chosen, address_each, whom_of};
 use std::alloc::Global;
 use world_subscriptions::SharedSubscription;
 

@@ -194,7 +194,12 @@ fn drop_if_dead(
 }
 
 /// Drops the grants behind the first so many that aren't live. Returns how many are dropped then.
-pub(crate) fn drop_dead(table: &mut GrantTable, gone: usize, now: u64, terms: Option<Terms>) -> usize
+pub(crate) fn drop_dead(
+    table: &mut GrantTable,
+    gone: usize,
+    now: u64,
+    terms: Option<Terms>,
+) -> usize
     requires { gone ≤ length table.old.entries }
     ensures window { window result table.new.entries ≡ filter (grants.is_live now terms) (window gone table.old.entries) }
     ensures dropped { (gone ≤ result) × (result ≤ length table.new.entries) }

@@ -1,4 +1,6 @@
-use crate::grant_table::{MOST, Granted, GrantTable, count_response, drop_dead, drop_one, dropped, is_live, put};
+use crate::grant_table::{
+    GrantTable, Granted, MOST, count_response, drop_dead, drop_one, dropped, is_live, put,
+};
 use crate::plain::{PlainGrant, plain_grants};
 use base::{Items, NoMemory};
 use indexmap::IndexMap;

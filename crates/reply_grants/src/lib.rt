@@ -1,8 +1,8 @@
 //! The reply subjects on which a user may respond: since when, and how many responses have passed.
 #![tactic(auto)]
 
-mod grants;
 mod grant_table;
+mod grants;
 mod plain;
 mod replies;
 mod subject_key;

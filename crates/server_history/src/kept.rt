@@ -98,7 +98,9 @@ impl Kept {
     /// Notes that the history was rotated, and returns how often it was.
     pub(crate) fn note_rotation(&self) -> u64 {
         self.bytes.store(0, Ordering::SeqCst);
-        self.rotations.fetch_add(1, Ordering::SeqCst).saturating_add(1)
+        self.rotations
+            .fetch_add(1, Ordering::SeqCst)
+            .saturating_add(1)
     }
 
     /// Looks whether the history was rotated since the look before. If it wasn't, whoever looks rotates it, and the next look is
@@ -107,7 +109,8 @@ impl Kept {
         let rotations = self.rotations.load(Ordering::SeqCst);
         let before = self.looked.swap(rotations, Ordering::SeqCst);
         if rotations == before {
-            self.looked.store(rotations.saturating_add(1), Ordering::SeqCst);
+            self.looked
+                .store(rotations.saturating_add(1), Ordering::SeqCst);
         }
         Look { rotations, before }
     }

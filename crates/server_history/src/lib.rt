@@ -5,5 +5,5 @@ mod kept;
 mod own;
 mod rotation;
 
-pub use kept::{Kept, Look, Added};
+pub use kept::{Added, Kept, Look};
 pub use rotation::Rotation;

@@ -1,6 +1,6 @@
 ghost use Rattle.std.specs.Prelude.{◌≡◌};
 
-use crate::kept::{Kept, Look, Added};
+use crate::kept::{Added, Kept, Look};
 use crate::own::own_of;
 use events::{Answer, Outcome};
 use std::alloc::Global;

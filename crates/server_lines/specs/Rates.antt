@@ -24,12 +24,12 @@ abbrev pub let_through : ℕ → Rate → Option ℕ
 let_through most r = let_through_if (nat_lt r.had most) r
 
 -- it is counted as one that the second had, or as left out
-abbrev pub passed_if : Bool → Rate → Rate
-passed_if true r = record { second = r.second; had = r.had + 1; left_out = 0 }
-passed_if false r = record { second = r.second; had = r.had; left_out = u64_saturate (r.left_out + 1) }
+abbrev pub admitted_if : Bool → Rate → Rate
+admitted_if true r = record { second = r.second; had = r.had + 1; left_out = 0 }
+admitted_if false r = record { second = r.second; had = r.had; left_out = u64_saturate (r.left_out + 1) }
 
-abbrev pub passed : ℕ → Rate → Rate
-passed most r = passed_if (nat_lt r.had most) r
+abbrev pub admitted : ℕ → Rate → Rate
+admitted most r = admitted_if (nat_lt r.had most) r
 
 -- lines were left out elsewhere
 abbrev pub added : ℕ → Rate → Rate

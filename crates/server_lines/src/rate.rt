@@ -1,5 +1,5 @@
 ghost use Rattle.std.specs.Prelude.{◌≡◌};
-ghost use Rattle.server_lines.specs.Rates.{added, fresh, in_second, let_through, passed};
+ghost use Rattle.server_lines.specs.Rates.{added, fresh, in_second, let_through, admitted};
 
 use std::mem;
 
@@ -28,9 +28,9 @@ impl Rate {
 
     /// Lets a line through, if its second had fewer than `most`, and returns how many were left out before it. Else it is
     /// counted as left out.
-    pub fn pass(&mut self, second: u64, most: u64) -> Option<u64>
+    pub fn admit(&mut self, second: u64, most: u64) -> Option<u64>
         ensures result { result ≡ let_through most (in_second second self.old) }
-        ensures counted { self.new ≡ passed most (in_second second self.old) }
+        ensures counted { self.new ≡ admitted most (in_second second self.old) }
     {
         if self.second != second {
             self.second = second;

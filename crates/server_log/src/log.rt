@@ -45,7 +45,7 @@ struct InForce {
 
 /// When a line is told, and how many were left out before it.
 #[derive(Clone, Copy)]
-struct Passed {
+struct Admitted {
     at: u64,
     left_out: u64,
 }
@@ -210,22 +210,22 @@ impl<'a> ServerLog<'a> {
     }
 
     /// Lets a line of a connection through, if it and all have had few enough in this second.
-    fn pass<R: Wait + Clock>(&self, rt: &R, rate: &mut Rate) -> Option<Passed> {
+    fn admit<R: Wait + Clock>(&self, rt: &R, rate: &mut Rate) -> Option<Admitted> {
         let at = self.moment(rt);
-        let before = rate.pass(at / 1000, MOST_OF_ONE)?;
-        self.pass_all(rt, at, before)
+        let before = rate.admit(at / 1000, MOST_OF_ONE)?;
+        self.admit_all(rt, at, before)
     }
 
     /// Lets a line through, if all have had few enough in this second. `before` are those of its connection that were left
     /// out.
-    fn pass_all<R: Wait>(&self, rt: &R, at: u64, before: u64) -> Option<Passed> {
+    fn admit_all<R: Wait>(&self, rt: &R, at: u64, before: u64) -> Option<Admitted> {
         let mut total = self.total.lock(rt);
-        match total.pass(at / 1000, MOST_OF_ALL) {
+        match total.admit(at / 1000, MOST_OF_ALL) {
             None => {
                 total.add_left_out(before);
                 None
             }
-            Some(others) => Some(Passed {
+            Some(others) => Some(Admitted {
                 at,
                 left_out: before.saturating_add(others),
             }),
@@ -255,19 +255,19 @@ impl<'a> ServerLog<'a> {
             return;
         }
         let at = self.moment(rt);
-        let Some(passed) = self.pass_all(rt, at, 0) else {
+        let Some(admitted) = self.admit_all(rt, at, 0) else {
             return;
         };
         self.put(
             rt,
             &Notice {
-                at: passed.at,
+                at: admitted.at,
                 conn: None,
                 peer: None,
                 user: None,
                 account: None,
                 what,
-                left_out: passed.left_out,
+                left_out: admitted.left_out,
             },
         );
     }
@@ -298,19 +298,19 @@ impl<'a> ServerLog<'a> {
         if self.level == LogLevel::None {
             return;
         }
-        let Some(passed) = self.pass(rt, &mut party.rate) else {
+        let Some(admitted) = self.admit(rt, &mut party.rate) else {
             return;
         };
-        self.put_of(rt, party, passed, what);
+        self.put_of(rt, party, admitted, what);
     }
 
     /// Hands over the line of a connection, with what is known of its client.
-    fn put_of<R: Wait>(&self, rt: &R, party: &Party, passed: Passed, what: What<'_>) {
+    fn put_of<R: Wait>(&self, rt: &R, party: &Party, admitted: Admitted, what: What<'_>) {
         let account = match &party.account {
             None => None,
             Some(account) => Some(account.as_slice()),
         };
-        self.put_named(rt, party, passed, (name_in(&party.user), account), what);
+        self.put_named(rt, party, admitted, (name_in(&party.user), account), what);
     }
 
     /// Hands over the line of a connection, with the names of its user and account, as far as they are known.
@@ -318,7 +318,7 @@ impl<'a> ServerLog<'a> {
         &self,
         rt: &R,
         party: &Party,
-        passed: Passed,
+        admitted: Admitted,
         names: (Option<&[u8]>, Option<&[u8]>),
         what: What<'_>,
     ) {
@@ -327,7 +327,7 @@ impl<'a> ServerLog<'a> {
             Some(peer) => format!(in self.alloc; "{peer}").ok(),
         };
         let notice = Notice {
-            at: passed.at,
+            at: admitted.at,
             conn: Some(party.conn),
             peer: match &peer {
                 None => None,
@@ -336,7 +336,7 @@ impl<'a> ServerLog<'a> {
             user: names.0,
             account: names.1,
             what,
-            left_out: passed.left_out,
+            left_out: admitted.left_out,
         };
         self.put(rt, &notice);
     }
@@ -410,14 +410,14 @@ impl<'a> ServerLog<'a> {
 
     /// Tells that no user has the name and password of a CONNECT.
     fn tell_failure<R: Wait + Clock>(&self, rt: &R, party: &mut Party, entry: &Entry) {
-        let Some(passed) = self.pass(rt, &mut party.rate) else {
+        let Some(admitted) = self.admit(rt, &mut party.rate) else {
             return;
         };
         let name = match &entry.event.what {
             Command::Connect { user, .. } => name_in(user),
             _ => None,
         };
-        self.put_named(rt, party, passed, (name, None), What::AuthFailed);
+        self.put_named(rt, party, admitted, (name, None), What::AuthFailed);
     }
 
     /// Tells what a user's permissions have refused, by the entry of the policy in force at it.
@@ -428,7 +428,7 @@ impl<'a> ServerLog<'a> {
         entry: &Entry,
         verdict: Verdict,
     ) {
-        let Some(passed) = self.pass(rt, &mut party.rate) else {
+        let Some(admitted) = self.admit(rt, &mut party.rate) else {
             return;
         };
         let policy = self.policy_of(rt, entry.epoch);
@@ -444,7 +444,7 @@ impl<'a> ServerLog<'a> {
                     verdict,
                     entry: bytes_of(&rule),
                 };
-                self.put_of(rt, party, passed, What::Denied(denial));
+                self.put_of(rt, party, admitted, What::Denied(denial));
             }
             Command::Sub { subject, queue, .. } => {
                 let rule = text_of(self.alloc, entry_of(user, false, verdict));
@@ -456,7 +456,7 @@ impl<'a> ServerLog<'a> {
                     verdict,
                     entry: bytes_of(&rule),
                 };
-                self.put_of(rt, party, passed, What::Denied(denial));
+                self.put_of(rt, party, admitted, What::Denied(denial));
             }
             _ => {}
         }
@@ -496,7 +496,7 @@ impl<'a> ServerLog<'a> {
         if self.level == LogLevel::None {
             return;
         }
-        let Some(passed) = self.pass(rt, &mut party.rate) else {
+        let Some(admitted) = self.admit(rt, &mut party.rate) else {
             return;
         };
         let policy = self.policy_of(rt, epoch);
@@ -510,7 +510,7 @@ impl<'a> ServerLog<'a> {
             verdict: removed.verdict,
             entry: bytes_of(&rule),
         };
-        self.put_of(rt, party, passed, What::Removed(denial));
+        self.put_of(rt, party, admitted, What::Removed(denial));
     }
 
     /// Tells the errors among the texts that a client was sent, but for those that are told of its answers.

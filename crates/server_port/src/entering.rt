@@ -8,7 +8,7 @@ use events::{
     Answer, Event, HubRefusal, InvalidFrame, Message, Port, PublishRefusal, RunEnd, Words,
 };
 use server_gates::{Gate, Point};
-use server_history::{Look, Added};
+use server_history::{Added, Look};
 use shared_hub::Run;
 use shared_runs::Posts;
 use std::collections::VecDeque;

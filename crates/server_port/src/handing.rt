@@ -5,7 +5,7 @@ use crate::port::ServerPort;
 use events::Answer;
 use hub::Segment;
 use server_gates::Gate;
-use server_history::{Look, Added};
+use server_history::{Added, Look};
 use shared_hub::Run;
 use std::sync::Wait;
 

@@ -6,16 +6,16 @@ mod blocked;
 mod closing;
 mod connection;
 mod counted;
+mod fresh;
 mod heard;
 mod queue;
 mod reading;
-mod fresh;
 mod writing;
 
 pub use blocked::Blocked;
 pub use closing::Input;
 pub use connection::{Connection, Queued};
+pub use fresh::is_fresh;
 pub use queue::Queue;
 pub use reading::ConnectionTurn;
-pub use fresh::is_fresh;
 pub use writing::Written;

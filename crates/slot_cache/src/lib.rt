@@ -1,8 +1,8 @@
 //! A cache in slots, each found by a plain hash of what is asked for.
 #![tactic(auto)]
 
-mod slots;
 mod hash;
+mod slots;
 
-pub use slots::SlotCache;
 pub use hash::{hash_of_number, hash_of_texts};
+pub use slots::SlotCache;

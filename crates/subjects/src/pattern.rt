@@ -30,7 +30,10 @@ pub struct Pattern {
 impl Drop for Pattern {
     #[inline(always)]
     fn drop(self) {
-        let Self { text: _, fingerprint: _ } = self;
+        let Self {
+            text: _,
+            fingerprint: _,
+        } = self;
     }
 }
 

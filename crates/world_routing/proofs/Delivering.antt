@@ -17,7 +17,7 @@ use Rattle.world_rows.specs.declared.subscription.Subscription.{Subscription}
 use Rattle.world_subscriptions.proofs.Apart.{counted_for, apart_changed, bumped-leaves}
 use Rattle.receiver_cache.proofs.Stays.{AreSeated, seats_with, seats_after, seats_delivered}
 use Rattle.world_routing.specs.Handing.{handed_over}
-use Rattle.world_routing.specs.declared.answered.Answered.{Answered}
+use Rattle.world_routing.specs.declared.granted_response.GrantedResponse.{GrantedResponse}
 
 -- ---- one after the other
 
@@ -112,7 +112,7 @@ counted_left zs m p items subs apart going tell =
 -- ---- sessions
 
 -- what is handed over leaves each session its user and its echo
-pub seated_handed : (now : ℕ) (answered : Option Answered) (all : List Addressed) (zs : List Session) → AreSeated zs (handed_over now answered all zs)
+pub seated_handed : (now : ℕ) (answered : Option GrantedResponse) (all : List Addressed) (zs : List Session) → AreSeated zs (handed_over now answered all zs)
 seated_handed now None all zs = seats_delivered now all zs
 seated_handed now (Some a) all zs =
     let counting : List Session = with_session (responding a.message.subject) a.conn zs in

@@ -45,7 +45,7 @@ use Rattle.account_mappings.specs.declared.drawing.Mapped.{Mapped}
 use Rattle.account_mappings.specs.declared.drawing.Mapped.TheVariants.{Same, To, Unmapped, TooLong}
 use Rattle.base.specs.declared.no_memory.NoMemory.{NoMemory}
 use Rattle.events.specs.declared.refusal.HubRefusal.{HubRefusal}
-use Rattle.world_routing.specs.declared.answered.Answered.{Answered}
+use Rattle.world_routing.specs.declared.granted_response.GrantedResponse.{GrantedResponse}
 use Rattle.world_routing.specs.declared.planning.Plan.{Plan}
 use Rattle.world_routing.specs.declared.planning.Plan.TheVariants.{ToNobody, ToSome}
 use Rattle.world_routing.proofs.Views.{sent}
@@ -249,11 +249,11 @@ module _ (t : Tables) (conn : ℕ) (m : Message) (word : ℕ) (z : Session) (ask
   changed_to = spent z.user.account m.subject (opened_each after.openings t.routes)
 
   -- its outcome and the world after it
-  abbrev IsCarriedOut : World → Option Answered → List Addressed → List Item → Type 0
+  abbrev IsCarriedOut : World → Option GrantedResponse → List Addressed → List Item → Type 0
   IsCarriedOut w answered all items =
       (come_of w ≡ Ok (Published by items, record (carried w answered all items) { routes = changed_to })) × (of_deliveries items ≡ met w all)
 
-  allowed_of : (w : World) → tables_of w ≡ t → (answered : Option Answered) (all : List Addressed) (reports : List Report) (items : List Item) → answered ≡ answered_by by z.conn asked →
+  allowed_of : (w : World) → tables_of w ≡ t → (answered : Option GrantedResponse) (all : List Addressed) (reports : List Report) (items : List Item) → answered ≡ answered_by by z.conn asked →
       all ≡ map (noted_for t.sessions) after.deliveries → reports ≡ reports_after t p (addressing [] []) vs → items ≡ with_reports 0 (met w all) reports →
       IsCarriedOut w answered all items
   allowed_of w of answered all reports items noted addressed rows told = subst P of own is apart going addressed rows
@@ -280,12 +280,12 @@ module _ (t : Tables) (conn : ℕ) (m : Message) (word : ℕ) (z : Session) (ask
           let made = seen_is w z m word by asked a (in_tables (tables_of w)) all reports items apart going refl refl addressed rows told in (
             ap (λ (o : Option Session). in_session o (λ z. seen_as w z by asked.subject m word)) (sym found)
                 ∙ ap (λ (r : Outcome × World). Ok r) made.0
-                ∙ ap (λ (x : Option Answered). Ok (Published by items, record (carried w x all items) { routes = spent z.user.account m.subject (opened_each a.openings w.routes) })) (sym noted),
+                ∙ ap (λ (x : Option GrantedResponse). Ok (Published by items, record (carried w x all items) { routes = spent z.user.account m.subject (opened_each a.openings w.routes) })) (sym noted),
             made.1,
           )
 
   -- what is planned where more is told, or not
-  module _ (answered : Option Answered) (noted : answered ≡ answered_by by z.conn asked) (told : Option Told) (rows : reports_in told ≡ reports_after t p (addressing [] []) vs)
+  module _ (answered : Option GrantedResponse) (noted : answered ≡ answered_by by z.conn asked) (told : Option Told) (rows : reports_in told ≡ reports_after t p (addressing [] []) vs)
       (routes : routes_after told t.routes ≡ changed_to) (opened : AreNotedIn t.now told) (w : World) (of : tables_of w ≡ t) where
     pub planned_by : (all : List Addressed) (plain : List Item) (plan : Plan) → all ≡ map (noted_for t.sessions) after.deliveries → ((n : ℕ) → plain ≡ (delivered n all t.sessions).1) →
         IsPlanOf by plain (record { all = all; answered = answered }) told plan → IsPlanned w (come_of w) (Ok plan)
@@ -328,11 +328,11 @@ module _ (t : Tables) (conn : ℕ) (m : Message) (word : ℕ) (z : Session) (ask
         (allowed_of w of answered all (reports_in told) [] noted addressed rows nobody).0
         ∙ ap (λ (rs : List (Name × Exporter)). Ok (Published by [], record (carried w answered all []) { routes = rs })) same_routes
         ∙ ap (λ (ds : List Addressed). Ok (Published by [], carried w answered ds [])) empty
-        ∙ ap (λ (x : Option Answered). Ok (Published by [], carried w x [] [])) none
+        ∙ ap (λ (x : Option GrantedResponse). Ok (Published by [], carried w x [] [])) none
 
 -- what is planned by what is told comes to the same
 pub planned_told : (t : Tables) (conn : ℕ) (m : Message) (word : ℕ) (z : Session) (asked : Message) → Some z ≡ session_of t.sessions conn → (by : By) → Apart t.subscriptions →
-    unended t.subscriptions ≡ t.subscriptions → (answered : Option Answered) → answered ≡ answered_by by z.conn asked → (told : Option Told) →
+    unended t.subscriptions ≡ t.subscriptions → (answered : Option GrantedResponse) → answered ≡ answered_by by z.conn asked → (told : Option Told) →
     reports_in told ≡ reports_after t (publication z m word) (addressing [] []) (views t.policy z.user.account m.subject (responses_on t.routes z.user.account m.subject)) →
     routes_after told t.routes ≡ spent z.user.account m.subject (opened_each (addressed_after t (publication z m word) (addressing [] []) (views t.policy z.user.account m.subject (responses_on t.routes z.user.account m.subject))).openings t.routes) →
     AreNotedIn t.now told → (all : List Addressed) →
@@ -352,7 +352,7 @@ planned_told t conn m word z asked is by apart going answered noted told rows ro
         planned_by t conn m word z asked is by apart going answered noted told rows routes opened w of (noting all) plain plan (ap noting addressed) meets of_plan
 
 -- a message that is seen nowhere has its item, and nothing is handed over
-pub planned_nowhere : (conn : ℕ) (m : Message) (z : Session) (by : By) (item : Item) (answered : Option Answered) → is_of_delivery item ≡ false → answered ≡ answered_by by z.conn m →
+pub planned_nowhere : (conn : ℕ) (m : Message) (z : Session) (by : By) (item : Item) (answered : Option GrantedResponse) → is_of_delivery item ≡ false → answered ≡ answered_by by z.conn m →
     (w : World) → Some z ≡ session_of w.sessions conn → (plan : Plan) → plan ≡ ToSome by (item ∷ []) (record { all = []; answered = answered }) →
     IsPlanned w (in_session (session_of w.sessions conn) (λ z. seen_nowhere w z by m.subject item)) (Ok plan)
 planned_nowhere conn m z by item answered plain noted w found plan is =
@@ -360,6 +360,6 @@ planned_nowhere conn m z by item answered plain noted w found plan is =
     subst (λ (x : Plan). IsPlanned w come (Ok x)) (sym is) (
       ap (λ (o : Option Session). in_session o (λ z. seen_nowhere w z by m.subject item)) (sym found)
           ∙ ap (λ (zs : List Session). Ok (Published by (item ∷ []), record w { sessions = zs })) (same_handed by z.conn m w.moment [] w.sessions)
-          ∙ ap (λ (x : Option Answered). Ok (Published by (item ∷ []), carried w x [] (item ∷ []))) (sym noted),
+          ∙ ap (λ (x : Option GrantedResponse). Ok (Published by (item ∷ []), carried w x [] (item ∷ []))) (sym noted),
       ap (λ (b : Bool). cond b (item ∷ []) []) plain,
     )

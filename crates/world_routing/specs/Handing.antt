@@ -13,7 +13,7 @@ use Rattle.world_deliveries.specs.declared.session.Session.{Session}
 use Rattle.world_subscriptions.specs.Counting.{entered_ids, in_turn}
 use Rattle.world_rows.specs.declared.subscription.Subscription.{Subscription}
 use Rattle.world_routing.specs.World.{World}
-use Rattle.world_routing.specs.declared.answered.Answered.{Answered}
+use Rattle.world_routing.specs.declared.granted_response.GrantedResponse.{GrantedResponse}
 
 -- what deliveries meet, handed over in turn
 abbrev pub met : World → List Addressed → List Item
@@ -36,16 +36,16 @@ abbrev pub left_by : World → List Addressed → List Subscription
 left_by w all = in_turn (entered_ids all (met w all)) w.subscriptions
 
 -- a publish that is to be counted, if a grant has allowed it
-abbrev pub answered_by : By → ℕ → Message → Option Answered
+abbrev pub answered_by : By → ℕ → Message → Option GrantedResponse
 answered_by AllowsAll conn m = None
 answered_by (Index i) conn m = None
 answered_by Grant conn m = Some record { conn = conn; message = m }
 
 -- deliveries are handed over; an answer is counted on its grant before, and may end it after
-abbrev pub handed_over : ℕ → Option Answered → List Addressed → List Session → List Session
+abbrev pub handed_over : ℕ → Option GrantedResponse → List Addressed → List Session → List Session
 handed_over now None all zs = (delivered now all zs).0
 handed_over now (Some a) all zs = with_session (ending a.message.subject) a.conn (delivered now all (with_session (responding a.message.subject) a.conn zs)).0
 
 -- the world once deliveries are handed over, and counted where these items tell that they have entered
-abbrev pub carried : World → Option Answered → List Addressed → List Item → World
+abbrev pub carried : World → Option GrantedResponse → List Addressed → List Item → World
 carried w answered all items = record w { sessions = handed_over w.moment answered all w.sessions; subscriptions = in_turn (entered_ids all items) w.subscriptions }

@@ -37,7 +37,7 @@ use Rattle.world_views.specs.declared.across.Told.{Told}
 use Rattle.world_routing.specs.declared.carrying.Deliveries.{Deliveries}
 use Rattle.world_routing.specs.declared.planning.Elsewhere.{Elsewhere}
 use Rattle.world_routing.specs.declared.planning.Elsewhere.TheVariants.{Under, Nowhere}
-use Rattle.world_routing.specs.declared.answered.Answered.{Answered}
+use Rattle.world_routing.specs.declared.granted_response.GrantedResponse.{GrantedResponse}
 use Rattle.world_deliveries.specs.Delivered.{delivered}
 use Rattle.world_deliveries.specs.Replying.{noted_for}
 use Rattle.world_routing.specs.declared.planning.Plan.{Plan}
@@ -114,7 +114,7 @@ IsPlanned w t (Err r) = IsRefusal t r
 
 -- What is planned for deliveries of a message that is allowed, by what is told between them: nobody, where there are none of either
 -- and it is no answer; or what they meet, each with what its session is to note.
-abbrev pub IsToldPlan : List Session → By → Option Answered → Option Told → List Addressed → Plan → Type 0
+abbrev pub IsToldPlan : List Session → By → Option GrantedResponse → Option Told → List Addressed → Plan → Type 0
 IsToldPlan zs by answered told all plan =
     ((plan ≡ ToNobody by) × (all ≡ []) × (told ≡ None) × (answered ≡ None))
     ⊎ ((met : List Item) × ((n : ℕ) → met ≡ (delivered n (map (noted_for zs) all) zs).1) × IsPlanOf by met (record { all = map (noted_for zs) all; answered = answered }) told plan)

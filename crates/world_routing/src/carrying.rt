@@ -5,7 +5,7 @@ ghost use Rattle.receiver_cache.specs.Cached.{IsCurrent, IsEmpty};
 ghost use Rattle.world_subscriptions.specs.Counting.{entered_ids, in_turn};
 ghost use Rattle.world_routing.specs.Handing.{handed_over};
 
-use crate::answered::Answered;
+use crate::granted_response::GrantedResponse;
 use base::Items;
 use events::{Addressed, Item};
 use world_receivers::Receivers;
@@ -20,7 +20,7 @@ pub struct Deliveries {
     /// Each with what its session is to note.
     pub all: Items<Addressed>,
     /// The publish, where a grant has allowed it.
-    pub answered: Option<Answered>,
+    pub answered: Option<GrantedResponse>,
 }
 
 /// Deliveries of a message by which response routes may change.
@@ -72,7 +72,7 @@ fn hand_over(
     sessions: &mut Sessions,
     all: &mut Vec<Addressed>,
     now: u64,
-    answered: Option<Answered>,
+    answered: Option<GrantedResponse>,
 )
     ensures { sessions.new ≡ handed_over now answered all.old.items sessions.old }
 {

@@ -18,9 +18,9 @@ ghost use Rattle.world_routing.specs.Routing.{under_subject};
 ghost use Rattle.world_routing.specs.Publishing.{IsElsewhere, IsKept, IsPlanned, IsPlanOf, IsToldPlan, in_session, mapped_to, published_by, seen_as, seen_nowhere, tables_of};
 ghost use Rattle.imports.specs.Views.{is_route, rows_of};
 
-use crate::answered::{Answered, answered_by};
 use crate::caches::Caches;
 use crate::carrying::{Deliveries, Routing};
+use crate::granted_response::{GrantedResponse, answered_by};
 use crate::verdict::on_publish;
 use account_mappings::Mapped;
 use base::{Boxed, Items, NoMemory};
@@ -68,7 +68,7 @@ pub enum Plan {
 }
 
 /// Returns whether a message has no delivery and is no answer.
-fn is_for_nobody(all: &[Addressed], answered: &Option<Answered>) -> bool
+fn is_for_nobody(all: &[Addressed], answered: &Option<GrantedResponse>) -> bool
     ensures { IsTrue result → (all.now ≡ []) × (answered.now ≡ None) }
 {
     match answered {
@@ -81,7 +81,11 @@ fn is_for_nobody(all: &[Addressed], answered: &Option<Answered>) -> bool
 }
 
 /// Returns whether a message has no delivery, is no answer, and nothing more is told of it.
-fn is_silent(all: &[Addressed], told: &Option<Boxed<Told>>, answered: &Option<Answered>) -> bool
+fn is_silent(
+    all: &[Addressed],
+    told: &Option<Boxed<Told>>,
+    answered: &Option<GrantedResponse>,
+) -> bool
     ensures { IsTrue result → (all.now ≡ []) × (told.now ≡ None) × (answered.now ≡ None) }
 {
     match told {
@@ -155,7 +159,7 @@ fn plan_told(
     receivers: &mut Receivers,
     message: &Message,
     by: By,
-    answered: Option<Answered>,
+    answered: Option<GrantedResponse>,
     told: Option<Boxed<Told>>,
 ) -> Result<Plan, HubRefusal>
     requires { message.now.reply ≡ None → All (λ (a : AddressedModel). a.delivery.message.reply ≡ None) receivers.old.deliveries.items }
@@ -229,7 +233,7 @@ struct Permitted<'p> {
 }
 
 /// No deliveries, of a message that may be an answer.
-fn no_deliveries(alloc: Global, answered: Option<Answered>) -> Deliveries
+fn no_deliveries(alloc: Global, answered: Option<GrantedResponse>) -> Deliveries
     ensures all { result.all ≡ [] }
     ensures answered { result.answered ≡ answered }
 {

@@ -8,7 +8,7 @@ use permissions::By;
 
 /// A publish that a grant has allowed.
 #[derive(Drop)]
-pub struct Answered {
+pub struct GrantedResponse {
     /// The connection that publishes.
     pub conn: u64,
     /// What it publishes.
@@ -20,13 +20,13 @@ pub(crate) fn answered_by(
     by: By,
     conn: u64,
     message: &Message,
-) -> Result<Option<Answered>, NoMemory>
+) -> Result<Option<GrantedResponse>, NoMemory>
     ensures { IfOk result (λ answered. answered ≡ answered_by by conn message.now) }
 {
     match by {
         By::All => Ok(None),
         By::Index(_) => Ok(None),
-        By::Grant => Ok(Some(Answered {
+        By::Grant => Ok(Some(GrantedResponse {
             conn,
             message: message.again()?,
         })),
