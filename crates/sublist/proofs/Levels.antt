@@ -11,7 +11,7 @@ use Rattle.sublist.specs.declared.ids.Ids.{Ids}
 use Rattle.sublist.specs.declared.node.Node.{Node}
 use Rattle.sublist.specs.declared.node.Node.TheOpen.{Node-F}
 use Rattle.sublist.specs.declared.node.Node.TheViews.{out-Node, roll-Node, out-roll-Node, roll-out-Node}
-use Rattle.sublist.specs.Tree.{Entries, held, named, has, child_of, IsPut, below, at_end, ids_at, same_path, IsSame, IsChanged}
+use Rattle.sublist.specs.Tree.{Entries, held, named, has, IsPut, below, at_end, ids_at, same_path, IsSame, IsChanged}
 
 abbrev pub star_at : List Token → Node → List ℕ
 star_at ts n = below (ids_at ts) (out-Node n).star

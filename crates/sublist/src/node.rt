@@ -93,19 +93,10 @@ impl Node {
         ensures err { OnErr result (IsSame self.old self.new) }
     {
         match next_branch(&mut path) {
-            Branch::End => match self.ids.add(alloc, id) {
-                Ok(()) => Ok(()),
-                Err(refused) => Err(refused),
-            },
-            Branch::Tail => match self.tail.add(alloc, id) {
-                Ok(()) => Ok(()),
-                Err(refused) => Err(refused),
-            },
+            Branch::End => self.ids.add(alloc, id),
+            Branch::Tail => self.tail.add(alloc, id),
             Branch::Star => match &mut self.star {
-                Some(star) => match star.insert(alloc, keys, path, id) {
-                    Ok(()) => Ok(()),
-                    Err(refused) => Err(refused),
-                },
+                Some(star) => star.insert(alloc, keys, path, id),
                 None => {
                     self.star = Some(Node::grown(alloc, keys, path, id)?);
                     Ok(())
@@ -113,16 +104,10 @@ impl Node {
             },
             Branch::Literal(token) => match &mut self.children {
                 Some(children) => match children.get_mut(token) {
-                    Some(child) => match child.insert(alloc, keys, path, id) {
-                        Ok(()) => Ok(()),
-                        Err(refused) => Err(refused),
-                    },
+                    Some(child) => child.insert(alloc, keys, path, id),
                     None => {
                         let child = Node::grown(alloc, keys, path, id)?;
-                        match put(alloc, children, token, child) {
-                            Ok(()) => Ok(()),
-                            Err(refused) => Err(refused),
-                        }
+                        put(alloc, children, token, child)
                     }
                 },
                 None => {
