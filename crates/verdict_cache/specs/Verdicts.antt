@@ -42,8 +42,8 @@ AreCurrent verdict_of epoch cache = All (IsCurrent verdict_of epoch) cache.verdi
 -- ---- the verdicts under the policy in force
 
 -- each verdict that is remembered under this policy is its question's
-abbrev pub AreRemembered : Judgement → Verdicts → Type 0
-AreRemembered verdict_of verdicts = IfSome verdicts.cache (AreCurrent verdict_of verdicts.epoch)
+abbrev pub AreJudged : Judgement → Verdicts → Type 0
+AreJudged verdict_of verdicts = IfSome verdicts.cache (AreCurrent verdict_of verdicts.epoch)
 
 -- the question of a user's publish
 abbrev pub publish_question : List ℕ → List Token → Question

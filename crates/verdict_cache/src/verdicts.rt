@@ -25,11 +25,11 @@ pub struct Verdicts {
 impl Verdicts {
     ghost use Rattle.std.specs.Prelude.{◌≡◌, IfSome};
     ghost use Rattle.permissions.specs.Verdicts.{publish_verdict, IsJustifiedPublish};
-    ghost use Rattle.verdict_cache.specs.Verdicts.{AreRemembered, Judges, Judgement, asked_by};
+    ghost use Rattle.verdict_cache.specs.Verdicts.{AreJudged, Judges, Judgement, asked_by};
 
     /// Remembers nothing yet. It takes no memory.
     pub fn new(alloc: Global, keys: RandomState) -> Verdicts
-        ensures { (verdict_of : Judgement) → AreRemembered verdict_of result }
+        ensures { (verdict_of : Judgement) → AreJudged verdict_of result }
     {
         Verdicts {
             alloc,
@@ -41,7 +41,7 @@ impl Verdicts {
 
     /// Tells that another policy is in force. No verdict that is remembered is answered from now on.
     pub fn next_policy(&mut self)
-        ensures { (old new : Judgement) → AreRemembered old self.old → AreRemembered new self.new }
+        ensures { (old new : Judgement) → AreJudged old self.old → AreJudged new self.new }
     {
         if self.epoch == u64::MAX {
             self.cache = None;
@@ -61,8 +61,8 @@ impl Verdicts {
         rules: &Compiled,
         subject: &'q SubjectRef<'_>,
     ) -> Verdict
-        ensures verdict { (verdict_of : Judgement) → AreRemembered verdict_of self.old → Judges verdict_of user.now rules.now → result ≡ publish_verdict rules.now subject.now }
-        ensures kept { (verdict_of : Judgement) → AreRemembered verdict_of self.old → Judges verdict_of user.now rules.now → AreRemembered verdict_of self.new }
+        ensures verdict { (verdict_of : Judgement) → AreJudged verdict_of self.old → Judges verdict_of user.now rules.now → result ≡ publish_verdict rules.now subject.now }
+        ensures kept { (verdict_of : Judgement) → AreJudged verdict_of self.old → Judges verdict_of user.now rules.now → AreJudged verdict_of self.new }
         ensures justified { IsJustifiedPublish subject.now rules.now.publish (publish_verdict rules.now subject.now) }
     {
         // The tokens tell the prover that they are those of a subject.
@@ -83,8 +83,8 @@ impl Verdicts {
     /// Returns the verdict that is remembered. Apart, since few questions come here.
     #[inline(never)]
     fn find(&mut self, asking: Asking<'_>) -> Option<Verdict>
-        ensures found { (verdict_of : Judgement) → AreRemembered verdict_of self.old → IfSome result (λ verdict. verdict ≡ verdict_of (asked_by asking.entry)) }
-        ensures kept { (verdict_of : Judgement) → AreRemembered verdict_of self.old → AreRemembered verdict_of self.new }
+        ensures found { (verdict_of : Judgement) → AreJudged verdict_of self.old → IfSome result (λ verdict. verdict ≡ verdict_of (asked_by asking.entry)) }
+        ensures kept { (verdict_of : Judgement) → AreJudged verdict_of self.old → AreJudged verdict_of self.new }
     {
         match &mut self.cache {
             None => None,
@@ -95,7 +95,7 @@ impl Verdicts {
     /// Remembers a verdict, if memory can be had for it.
     #[inline(never)]
     fn put(&mut self, asking: Asking<'_>, verdict: Verdict)
-        ensures { (verdict_of : Judgement) → AreRemembered verdict_of self.old → verdict ≡ verdict_of (asked_by asking.entry) → AreRemembered verdict_of self.new }
+        ensures { (verdict_of : Judgement) → AreJudged verdict_of self.old → verdict ≡ verdict_of (asked_by asking.entry) → AreJudged verdict_of self.new }
     {
         match &mut self.cache {
             Some(cache) => {

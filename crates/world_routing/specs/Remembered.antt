@@ -10,7 +10,7 @@ use Rattle.permissions.specs.declared.verdict.Verdict.TheVariants.{NoAllow}
 use Rattle.policy_doc.specs.declared.document.PolicyDoc.{PolicyDoc}
 use Rattle.policy_ready.specs.Users.{user_named}
 use Rattle.policy_ready.specs.declared.ready.User.{User}
-use Rattle.verdict_cache.specs.Verdicts.{AreRemembered, Judgement, Question}
+use Rattle.verdict_cache.specs.Verdicts.{AreJudged, Judgement, Question}
 use Rattle.verdict_cache.specs.declared.asked.Action.{Action}
 use Rattle.verdict_cache.specs.declared.asked.Action.TheVariants.{Publish, Subscribe, Deliver}
 use Rattle.verdict_cache.specs.declared.verdicts.Verdicts.{Verdicts}
@@ -33,7 +33,7 @@ judged_by doc asked = by_user (user_named doc asked.user) asked
 
 -- the verdicts that are remembered are the policy's
 abbrev pub AreRemembered : PolicyDoc → Verdicts → Type 0
-AreRemembered doc verdicts = AreRemembered (judged_by doc) verdicts
+AreRemembered doc verdicts = AreJudged (judged_by doc) verdicts
 
 -- the user of each session is whom the policy has under its name
 abbrev pub AreOfPolicy : PolicyDoc → List Session → Type 0
