@@ -10,7 +10,7 @@ use subjects::Subject;
 
 /// A grant as it was at a moment. A clause sees the grant.
 pub struct PlainGrant {
-    /// The subject of its responses.
+    /// The reply subject.
     pub subject: Subject,
     /// The moment when it was noted.
     pub noted: u64,

@@ -13,10 +13,10 @@ pub struct Replies {
     table: Option<Box<Grants>>,
 }
 
-/// What is noted where a request is handed over: the subject of its responses, and an empty table for whoever has none.
+/// What is noted where a request is handed over: its reply subject, and an empty table for whoever has none.
 #[derive(Drop)]
 pub struct Note {
-    /// The subject of its responses.
+    /// The reply subject.
     pub subject: Subject,
     /// The table, which is dropped where there is one already.
     pub table: Replies,

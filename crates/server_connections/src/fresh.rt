@@ -1,4 +1,4 @@
-// Connections whose CONNECT wasn't accepted yet: how much of theirs is kept, and which of them gives way to others.
+// Fresh clients, of which no CONNECT was accepted: how much of theirs is kept, and which of them gives way to others.
 ghost use Rattle.std.specs.Prelude.{◌≡◌, false};
 
 use crate::connections::Connections;

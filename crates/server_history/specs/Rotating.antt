@@ -1,11 +1,11 @@
--- When the history is handed out, and what of it is still to be dropped.
+-- When the history is rotated, and which of its entries are still to be dropped.
 use Rattle.std.specs.Prelude.{ℕ, ◌+◌, ◌-◌, ◌%◌, ◌/◌, ◌&&◌, Bool, cond, not, nat_eq, nat_lt, length, take, List, []}
 use Rattle.std.specs.Io.Iter.{u64_saturate}
 use Rattle.events.specs.declared.answer.Entry.{Entry}
 
 -- half of what the history holds at most; below which number nothing is due; what was handed out and is still to be dropped;
 -- how many blocks of those that were dropped no new entry has yet; how many bytes were counted and not told of; how often the
--- history had been handed out by all once this port did so last; how often this port tried to
+-- history had been rotated by all once this port did so last; how often this port tried to
 pub record Rotating : Type 0 where
   pub half : ℕ
   pub due : ℕ
@@ -48,6 +48,6 @@ next_due half number = cond (nat_eq half 0) number (u64_saturate ((number - numb
 abbrev pub looked : ℕ → Rotating → Rotating
 looked number r = record r { due = next_due r.half number }
 
--- whether the history was not handed out between two looks, by how often it was
+-- whether the history was not rotated between two looks, by how often it was
 abbrev pub is_same : ℕ → ℕ → Bool
 is_same rotations before = nat_eq rotations before

@@ -1,4 +1,4 @@
--- When a port hands the history out.
+-- When a port rotates the history.
 use Rattle.std.specs.Prelude.{ℕ, ◌+◌, ◌≡◌, ◌&&◌, Bool, true, false, Option, None, Some, nat_le}
 use Rattle.std.specs.Io.Iter.{u64_saturate}
 use Rattle.hub.specs.Segments.{HistoryPart, IsHistoryPart}
@@ -17,16 +17,16 @@ abbrev pub tried : Bool → ℕ → ℕ
 tried true n = u64_saturate (n + 1)
 tried false n = n
 
--- whether the port that told is to hand it out
+-- whether the port that added is to rotate it
 abbrev pub passed : Option Added → Bool
 passed None = false
 passed (Some t) = is_passed t.half t.before t.bytes t.taken
 
--- whether a port looks at a number whether it is to be handed out
+-- whether a port looks at a number whether it is to be rotated
 abbrev pub falls_due : Rotating → ℕ → Bool
 falls_due r number = nat_le r.due number && is_due r.half number
 
--- whether the port that looked is to hand it out: nobody has since the look before
+-- whether the port that looked is to rotate it: nobody has since the look before
 abbrev pub was_same : Option Look → Bool
 was_same None = false
 was_same (Some look) = is_same look.rotations look.before
@@ -36,7 +36,7 @@ abbrev pub IsTried : Bool → Rotating → Rotating → Type 0
 IsTried is_tried before after =
     (after.tries ≡ tried is_tried before.tries) × (after.uncounted ≡ before.uncounted) × (after.due ≡ before.due) × (after.half ≡ before.half)
 
--- how often a seat hands it out: once, if it is to
+-- how often a seat rotates it: once, if it is to
 abbrev pub once : Bool → ℕ
 once true = 1
 once false = 0

@@ -28,8 +28,7 @@ fn is_beyond(conn: &Conn) -> bool
 }
 
 impl Connection {
-    /// Returns its turn. Where too much is kept of a fresh client, it writes the client an error and
-    /// returns `Closed`.
+    /// Returns its turn. Where too much is kept of a fresh client, it writes the client an error and returns `Closed`.
     pub fn close_if_beyond(&self, alloc: Global, turn: Turn) -> Turn
         ensures { is_over result ≡ false → IsBounded self.now.client.conn }
     {
